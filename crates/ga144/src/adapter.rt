@@ -1,6 +1,6 @@
 //! `ga144 dap`: a session of an editor over the standard streams.
 
-use crate::files::{LONGEST_FILE, read_file};
+use crate::files::{MAX_FILE_BYTES, read_file};
 use ga_dap::{PendingInput, ProgramFiles, SessionEnd, SourceError, serve_client};
 use std::alloc::Global;
 use std::io::{ErrorKind, Read};
@@ -19,7 +19,7 @@ impl ProgramFiles for Files<'_> {
     fn read(&mut self, _: Global, path: &str) -> Result<Vec<u8>, SourceError> {
         match read_file(self.rt, path) {
             Ok(text) => {
-                if text.len() as u64 > LONGEST_FILE {
+                if text.len() as u64 > MAX_FILE_BYTES {
                     return Err(SourceError::TooLong);
                 }
                 Ok(text)
@@ -39,7 +39,7 @@ fn cause_of(kind: ErrorKind) -> SourceError {
 }
 
 /// Reports that there is no memory.
-pub fn out_of_memory(rt: &HostRuntime) -> ExitCode {
+pub fn report_adapter_out_of_memory(rt: &HostRuntime) -> ExitCode {
     let _ = eprintln!(rt; "ga144: out of memory");
     ExitCode::from(1)
 }
@@ -54,7 +54,7 @@ pub fn serve_editor<R: Read, A: PendingInput>(
     let mut writer = rt.stdout();
     match serve_client(rt.alloc(), &mut sources, arrivals, reader, &mut writer) {
         SessionEnd::Done => ExitCode::from(0),
-        SessionEnd::Memory => out_of_memory(rt),
+        SessionEnd::Memory => report_adapter_out_of_memory(rt),
         SessionEnd::Broken(why) => {
             let _ = eprintln!(rt; "ga144: {why}");
             ExitCode::from(2)

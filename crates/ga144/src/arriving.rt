@@ -26,7 +26,7 @@ enum Part {
 
 /// What comes of an input.
 #[derive(Drop)]
-pub struct Arriving<R> {
+pub struct BackgroundReader<R> {
     rt: R,
     parts: Receiver<Part, Global>,
     /// The bytes of the last part, and how many of them were taken.
@@ -37,7 +37,7 @@ pub struct Arriving<R> {
 
 /// Whether more of it has come.
 #[derive(Drop)]
-pub struct Arrived {
+pub struct InputProbe {
     parts: Receiver<Part, Global>,
 }
 
@@ -45,25 +45,25 @@ pub struct Arrived {
 ///
 /// # Errors
 /// Memory or a thread was refused.
-pub fn begin_reading<R: Threads + Wait + Copy + Send + 'static>(
+pub fn spawn_reader<R: Threads + Wait + Copy + Send + 'static>(
     rt: R,
     alloc: Global,
     input: Stdin,
-) -> Result<(Arriving<R>, Arrived), AllocError> {
+) -> Result<(BackgroundReader<R>, InputProbe), AllocError> {
     let (to, from) = bounded(alloc, WAITING)?;
     let parts = from.clone()?;
     match thread::spawn(&rt, move || hand_over(&rt, input, to)) {
         Ok(_) => {}
         Err(_) => return Err(AllocError),
     }
-    let arriving = Arriving {
+    let arriving = BackgroundReader {
         rt,
         parts: from,
         bytes: [0; BLOCK],
         count: 0,
         taken: 0,
     };
-    Ok((arriving, Arrived { parts }))
+    Ok((arriving, InputProbe { parts }))
 }
 
 /// Reads an input to its end, and hands over what comes.
@@ -86,7 +86,7 @@ fn next_part<R: Read>(input: &mut R) -> (Part, bool) {
     }
 }
 
-impl<R: Wait> Read for Arriving<R> {
+impl<R: Wait> Read for BackgroundReader<R> {
     fn read(&mut self, buf: &mut [u8]) -> io::Result<usize> {
         if self.taken >= self.count {
             match self.parts.recv(&self.rt) {
@@ -109,7 +109,7 @@ impl<R: Wait> Read for Arriving<R> {
     }
 }
 
-impl PendingInput for Arrived {
+impl PendingInput for InputProbe {
     // When input comes can't be specified here.
     ghost tells = { λ host told after. Unit {0} };
 

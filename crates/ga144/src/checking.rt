@@ -1,8 +1,8 @@
 //! `ga144 check`: the search for the ends of a program, beside a clock that stops it and reports how far it is.
 
-use crate::files::Front;
+use crate::files::InputPrefix;
 use ga_check_report::{CheckBounds, Verdict, check_ends};
-use ga_state_search::SearchWatch;
+use ga_state_search::SearchControl;
 use std::sync::atomic::{AtomicBool, Ordering};
 use std::thread::{Threads, join};
 use std::time::{Duration, Instant};
@@ -20,7 +20,7 @@ const TICKS: u64 = 50;
 /// How far to search, whether the idle nodes come to rest first, the number of the kind of end whose session is asked for, if it isn't 0, and
 /// whether the progress is reported.
 #[derive(Clone, Copy)]
-pub struct CheckWork {
+pub struct CheckOptions {
     pub bounds: CheckBounds,
     pub settled: bool,
     pub asked: u32,
@@ -32,10 +32,10 @@ pub struct CheckWork {
 pub fn find_verdict<T: Threads + Sync>(
     threads: &T,
     rt: &HostRuntime,
-    work: CheckWork,
-    front: &Front,
+    work: CheckOptions,
+    front: &InputPrefix,
 ) -> Verdict {
-    let watch = SearchWatch::new();
+    let watch = SearchControl::new();
     if !work.progress && work.bounds.seconds == 0 {
         return search(rt, work, front, &watch);
     }
@@ -53,7 +53,12 @@ pub fn find_verdict<T: Threads + Sync>(
 }
 
 /// Tells the ends of the program that is read.
-fn search(rt: &HostRuntime, work: CheckWork, front: &Front, watch: &SearchWatch) -> Verdict {
+fn search(
+    rt: &HostRuntime,
+    work: CheckOptions,
+    front: &InputPrefix,
+    watch: &SearchControl,
+) -> Verdict {
     let mut reader = front.reader(rt);
     let (mut writer, mut errors) = (rt.stdout(), rt.stderr());
     check_ends(
@@ -70,7 +75,7 @@ fn search(rt: &HostRuntime, work: CheckWork, front: &Front, watch: &SearchWatch)
 }
 
 /// Looks at the clock until the search is done: stops it when its time is over, and reports each second how many states there are, if it is to.
-fn attend(rt: &HostRuntime, work: CheckWork, watch: &SearchWatch, is_done: &AtomicBool) {
+fn attend(rt: &HostRuntime, work: CheckOptions, watch: &SearchControl, is_done: &AtomicBool) {
     let begun = Instant::now(rt);
     for tick in 1..u64::MAX {
         thread::sleep(rt, Duration::from_millis(TICK));

@@ -7,25 +7,25 @@ use std::io::{Chain, ErrorKind, Read, Stdin, Take};
 use std::process::ExitCode;
 
 /// The most bytes of a file: the bound of an input.
-pub const LONGEST_FILE: u64 = 16_777_216;
+pub const MAX_FILE_BYTES: u64 = 16_777_216;
 
 /// The bytes of a file, as far as one more than the bound.
 pub fn read_file(rt: &HostRuntime, path: &str) -> io::Result<Vec<u8>> {
     let mut text = Vec::new(rt.alloc());
     File::open(rt, path)?
-        .take(LONGEST_FILE + 1)
+        .take(MAX_FILE_BYTES + 1)
         .read_to_end(&mut text)?;
     Ok(text)
 }
 
 /// The text before standard input, and how many bytes may be read after it.
 #[derive(Drop)]
-pub struct Front {
+pub struct InputPrefix {
     text: Vec<u8>,
     behind: u64,
 }
 
-impl Front {
+impl InputPrefix {
     /// What is read: the text, and then standard input.
     pub fn reader(&self, rt: &HostRuntime) -> Chain<&[u8], Take<Stdin>> {
         self.text.as_slice().chain(rt.stdin().take(self.behind))
@@ -37,9 +37,9 @@ impl Front {
 ///
 /// # Errors
 /// The file can't be read, which was reported.
-pub fn front_of(rt: &HostRuntime, file: &Option<String>) -> Result<Front, ExitCode> {
+pub fn read_input_prefix(rt: &HostRuntime, file: &Option<String>) -> Result<InputPrefix, ExitCode> {
     let Some(name) = file else {
-        return Ok(Front {
+        return Ok(InputPrefix {
             text: Vec::new(rt.alloc()),
             behind: u64::MAX,
         });
@@ -47,10 +47,10 @@ pub fn front_of(rt: &HostRuntime, file: &Option<String>) -> Result<Front, ExitCo
     let name = name.as_str();
     let mut text = text_of(rt, name)?;
     if lacks_end_line(text.as_slice()) {
-        return Ok(Front { text, behind: 0 });
+        return Ok(InputPrefix { text, behind: 0 });
     }
     match append_end_line(&mut text) {
-        Ok(()) => Ok(Front {
+        Ok(()) => Ok(InputPrefix {
             text,
             behind: u64::MAX,
         }),
@@ -65,7 +65,7 @@ pub fn front_of(rt: &HostRuntime, file: &Option<String>) -> Result<Front, ExitCo
 fn text_of(rt: &HostRuntime, name: &str) -> Result<Vec<u8>, ExitCode> {
     match read_file(rt, name) {
         Ok(text) => {
-            if text.len() as u64 > LONGEST_FILE {
+            if text.len() as u64 > MAX_FILE_BYTES {
                 return Err(unread(rt, name, "more than 16777216 bytes", 1));
             }
             Ok(text)
@@ -78,7 +78,10 @@ fn text_of(rt: &HostRuntime, name: &str) -> Result<Vec<u8>, ExitCode> {
 ///
 /// # Errors
 /// The file can't be read, which was reported.
-pub fn chip_of(rt: &HostRuntime, file: &Option<String>) -> Result<Option<Vec<u8>>, ExitCode> {
+pub fn read_chip_file(
+    rt: &HostRuntime,
+    file: &Option<String>,
+) -> Result<Option<Vec<u8>>, ExitCode> {
     match file {
         None => Ok(None),
         Some(name) => Ok(Some(text_of(rt, name.as_str())?)),

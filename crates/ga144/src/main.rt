@@ -13,15 +13,15 @@ mod files;
 ghost use Rattle.std.specs.Prelude.{IfOk};
 ghost use Rattle.ga_console.specs.Settings.{AreInRange};
 
-use adapter::{out_of_memory, serve_editor};
-use arriving::begin_reading;
-use checking::{CheckWork, find_verdict};
-use files::{chip_of, front_of};
+use adapter::{report_adapter_out_of_memory, serve_editor};
+use arriving::spawn_reader;
+use checking::{CheckOptions, find_verdict};
+use files::{read_chip_file, read_input_prefix};
 use ga_asm_text::{assemble_source, disassemble, list_source};
 use ga_check_report::{CheckBounds, Verdict};
-use ga_console::{LineFault, Settings, Status, arguments, race_report, session};
-use ga_explorer::{Usage, explore};
-use ga_picture::{View, draw_session};
+use ga_console::{CommandLineFault, Settings, Status, arguments, race_report, session};
+use ga_explorer::{QueryUsage, explore};
+use ga_picture::{PictureView, draw_session};
 use std::env;
 use std::io::IsTerminal;
 use std::process::ExitCode;
@@ -65,7 +65,7 @@ fn main(rt: HostRuntime) -> ExitCode {
                 seconds: seconds.unwrap_or(0),
             };
             let asked = session.unwrap_or(0);
-            let work = CheckWork {
+            let work = CheckOptions {
                 bounds,
                 settled,
                 asked,
@@ -73,9 +73,9 @@ fn main(rt: HostRuntime) -> ExitCode {
             };
             checked(&rt, &rt, work, &file)
         }
-        Ok(Settings::Dap) => match begin_reading(rt, rt.alloc(), rt.stdin()) {
+        Ok(Settings::Dap) => match spawn_reader(rt, rt.alloc(), rt.stdin()) {
             Ok((mut reader, mut arrivals)) => serve_editor(&rt, &mut reader, &mut arrivals),
-            Err(_) => out_of_memory(&rt),
+            Err(_) => report_adapter_out_of_memory(&rt),
         },
         Ok(Settings::Explore { limit, chip, file }) => {
             served(&rt, Work::Explore { limit }, &chip, &file)
@@ -98,7 +98,7 @@ fn main(rt: HostRuntime) -> ExitCode {
                 file,
             },
         ) => {
-            let view = View {
+            let view = PictureView {
                 cause,
                 rewind,
                 from: from - 1,
@@ -110,28 +110,28 @@ fn main(rt: HostRuntime) -> ExitCode {
             };
             served(&rt, Work::Draw { view, limit }, &chip, &file)
         }
-        Err(LineFault::Refused(why)) => refused(&rt, why.as_str()),
-        Err(LineFault::Memory) => refused(&rt, ""),
-        Err(LineFault::Help(text)) => help(&rt, text.as_str()),
+        Err(CommandLineFault::Refused(why)) => refused(&rt, why.as_str()),
+        Err(CommandLineFault::Memory) => refused(&rt, ""),
+        Err(CommandLineFault::Help(text)) => help(&rt, text.as_str()),
     }
 }
 
 /// What the words of the command line ask for.
-fn settings(rt: &HostRuntime) -> Result<Settings, LineFault>
+fn settings(rt: &HostRuntime) -> Result<Settings, CommandLineFault>
     ensures { IfOk result AreInRange }
 {
     let Ok(words) = env::args(rt) else {
-        return Err(LineFault::Memory);
+        return Err(CommandLineFault::Memory);
     };
     let Ok(words) = words.collect::<Vec<String>>(rt.alloc()) else {
-        return Err(LineFault::Memory);
+        return Err(CommandLineFault::Memory);
     };
     let Ok(texts) = words
         .iter()
         .map(|word| word.as_str())
         .collect::<Vec<&str>>(rt.alloc())
     else {
-        return Err(LineFault::Memory);
+        return Err(CommandLineFault::Memory);
     };
     arguments(rt.alloc(), texts.as_slice())
 }
@@ -150,16 +150,16 @@ enum Work {
     Assemble,
     List,
     Disassemble,
-    Draw { view: View, limit: u32 },
+    Draw { view: PictureView, limit: u32 },
 }
 
 /// Reads a file, if one is named, followed by standard input, and does the work; on the chip of another file, if one is named.
 fn served(rt: &HostRuntime, work: Work, chip: &Option<String>, file: &Option<String>) -> ExitCode {
-    let front = match front_of(rt, file) {
+    let front = match read_input_prefix(rt, file) {
         Ok(front) => front,
         Err(code) => return code,
     };
-    let chip = match chip_of(rt, chip) {
+    let chip = match read_chip_file(rt, chip) {
         Ok(chip) => chip,
         Err(code) => return code,
     };
@@ -190,10 +190,10 @@ fn is_at_terminal(rt: &HostRuntime) -> bool {
 fn checked<T: Threads + Sync>(
     threads: &T,
     rt: &HostRuntime,
-    work: CheckWork,
+    work: CheckOptions,
     file: &Option<String>,
 ) -> ExitCode {
-    match front_of(rt, file) {
+    match read_input_prefix(rt, file) {
         Ok(front) => exit_with(rt, find_verdict(threads, rt, work, &front)),
         Err(code) => code,
     }
@@ -213,7 +213,7 @@ fn exit_with(rt: &HostRuntime, verdict: Verdict) -> ExitCode {
 /// Writes the requested help. That of `explore` has a line in the place of the commands that a session lists.
 fn help(rt: &HostRuntime, text: &str) -> ExitCode {
     let written = match text.split_once("{commands}\n") {
-        Some((above, below)) => print!(rt; "{above}{}{below}", Usage),
+        Some((above, below)) => print!(rt; "{above}{}{below}", QueryUsage),
         None => print!(rt; "{text}"),
     };
     match written {

@@ -2,11 +2,11 @@
 use Rattle.std.proofs.Common.{◌≡◌, ◌∙◌, ℕ, suc, ◌+◌, ◌<◌, ◌≤◌, Bool, true, false, true≢false, List, [], ◌∷◌, ◌++◌, length, get_or, drop, map, cond, Option, Some, None, refl, sym, ap, subst, append_assoc, append-nil, arith}
 use Rattle.std.proofs.lemmas.List.{drop_more, drop_all}
 use Rattle.std.specs.List.{dedup, dedup_from}
-use Rattle.ga_parser.specs.declared.fault.Fault.{Fault}
-use Rattle.ga_parser.specs.contracts.fault.FaultPartialEq.TheImpl.{ghosts as faults_compare}
+use Rattle.ga_parser.specs.declared.fault.SourceFault.{SourceFault}
+use Rattle.ga_parser.specs.contracts.fault.SourceFaultPartialEq.TheImpl.{ghosts as faults_compare}
 use Rattle.ga_parser.specs.declared.scan.Token.{Token}
-use Rattle.ga_source.specs.Recovery.{fault_at_line, faults_by_line, or_first}
-use Rattle.ga_asm_text.specs.Source.{listed_fault, AreAmong}
+use Rattle.ga_source.specs.Recovery.{fault_at_line, faults_by_line, faults_or_first}
+use Rattle.ga_asm_text.specs.Source.{listed_fault_text, HasPartsInOrder}
 use Rattle.ga_asm_text.specs.inner.{is_repeated, news, lines_of, Grows, Tells}
 
 -- ---- texts that grow
@@ -22,24 +22,24 @@ grows_both a b c first second = record { added = first.added ++ second.added; te
 
 -- ---- parts among a text
 
-among_front : (parts : List (List ℕ)) (front text : List ℕ) → AreAmong parts text → AreAmong parts (front ++ text)
-unfolding AreAmong
+among_front : (parts : List (List ℕ)) (front text : List ℕ) → HasPartsInOrder parts text → HasPartsInOrder parts (front ++ text)
+unfolding HasPartsInOrder
 among_front [] front text are = tt
 among_front (part ∷ parts) front text are =
     (front ++ are.0, are.1, ap (λ (l : List ℕ). front ++ l) are.2 ∙ (sym (append_assoc front (are.0 ++ part) are.1) ∙ ap (λ (l : List ℕ). l ++ are.1) (sym (append_assoc front are.0 part))), are.3)
 
-among_both : (parts others : List (List ℕ)) (text after : List ℕ) → AreAmong parts text → AreAmong others after → AreAmong (parts ++ others) (text ++ after)
-unfolding AreAmong
+among_both : (parts others : List (List ℕ)) (text after : List ℕ) → HasPartsInOrder parts text → HasPartsInOrder others after → HasPartsInOrder (parts ++ others) (text ++ after)
+unfolding HasPartsInOrder
 among_both [] others text after are rest = among_front others text after rest
 among_both (part ∷ parts) others text after are rest =
     (are.0, are.1 ++ after, ap (λ (l : List ℕ). l ++ after) are.2 ∙ append_assoc (are.0 ++ part) are.1 after, among_both parts others are.1 after are.3 rest)
 
-none_among : (text : List ℕ) → AreAmong [] text
-unfolding AreAmong
+none_among : (text : List ℕ) → HasPartsInOrder [] text
+unfolding HasPartsInOrder
 none_among text = tt
 
-one_among : (part : List ℕ) → AreAmong (part ∷ []) part
-unfolding AreAmong
+one_among : (part : List ℕ) → HasPartsInOrder (part ∷ []) part
+unfolding HasPartsInOrder
 one_among part = ([], [], sym (append-nil part), tt)
 
 -- ---- a listing
@@ -66,69 +66,69 @@ pub tells_one : (old new part : List ℕ) (before left : List (List ℕ)) → ne
 tells_one old new part before left pushed is = record { added = part; lines = part ∷ []; text = pushed; told = is; among = one_among part }
 
 -- all lines were told
-pub all_told : (text : List ℕ) (before : List (List ℕ)) → Tells [] text before [] → AreAmong before text
+pub all_told : (text : List ℕ) (before : List (List ℕ)) → Tells [] text before [] → HasPartsInOrder before text
 all_told text before tells =
-    subst (λ (l : List (List ℕ)). AreAmong l text) (sym (tells.told ∙ append-nil tells.lines)) (subst (AreAmong tells.lines) (sym tells.text) tells.among)
+    subst (λ (l : List (List ℕ)). HasPartsInOrder l text) (sym (tells.told ∙ append-nil tells.lines)) (subst (HasPartsInOrder tells.lines) (sym tells.text) tells.among)
 
 -- ---- faults that are new
 
-first_by : (b : Bool) (fault next : Fault) (faults : List Fault) → dedup_from faults_compare.eq fault faults ≡ fault ∷ drop 1 (dedup_from faults_compare.eq fault faults)
+first_by : (b : Bool) (fault next : SourceFault) (faults : List SourceFault) → dedup_from faults_compare.eq fault faults ≡ fault ∷ drop 1 (dedup_from faults_compare.eq fault faults)
     → cond b (dedup_from faults_compare.eq fault faults) (fault ∷ dedup_from faults_compare.eq next faults) ≡ fault ∷ drop 1 (cond b (dedup_from faults_compare.eq fault faults) (fault ∷ dedup_from faults_compare.eq next faults))
 first_by true fault next faults before = before
 first_by false fault next faults before = refl
 
-first_of : (fault : Fault) (faults : List Fault) → dedup_from faults_compare.eq fault faults ≡ fault ∷ drop 1 (dedup_from faults_compare.eq fault faults)
+first_of : (fault : SourceFault) (faults : List SourceFault) → dedup_from faults_compare.eq fault faults ≡ fault ∷ drop 1 (dedup_from faults_compare.eq fault faults)
 first_of fault [] = refl
 first_of fault (next ∷ faults) = first_by (faults_compare.eq next fault) fault next faults (first_of fault faults)
 
-same_by : (b : Bool) (last next : Fault) (faults : List Fault) → b ≡ true
+same_by : (b : Bool) (last next : SourceFault) (faults : List SourceFault) → b ≡ true
     → drop 1 (cond b (dedup_from faults_compare.eq last faults) (last ∷ dedup_from faults_compare.eq next faults)) ≡ drop 1 (dedup_from faults_compare.eq last faults)
 same_by true last next faults is = refl
 same_by false last next faults is = absurd (true≢false (sym is))
 
-other_by : (b : Bool) (last next : Fault) (faults : List Fault) → b ≡ false
+other_by : (b : Bool) (last next : SourceFault) (faults : List SourceFault) → b ≡ false
     → drop 1 (cond b (dedup_from faults_compare.eq last faults) (last ∷ dedup_from faults_compare.eq next faults)) ≡ dedup_from faults_compare.eq next faults
 other_by false last next faults is = refl
 other_by true last next faults is = absurd (true≢false is)
 
-news_same : (last : Option Fault) (next : Fault) (faults : List Fault) → is_repeated last next ≡ true → news last (next ∷ faults) ≡ news last faults
+news_same : (last : Option SourceFault) (next : SourceFault) (faults : List SourceFault) → is_repeated last next ≡ true → news last (next ∷ faults) ≡ news last faults
 news_same None next faults is = absurd (true≢false (sym is))
 news_same (Some last) next faults is = same_by (faults_compare.eq next last) last next faults is
 
-news_other : (last : Option Fault) (next : Fault) (faults : List Fault) → is_repeated last next ≡ false → news last (next ∷ faults) ≡ next ∷ news (Some next) faults
+news_other : (last : Option SourceFault) (next : SourceFault) (faults : List SourceFault) → is_repeated last next ≡ false → news last (next ∷ faults) ≡ next ∷ news (Some next) faults
 news_other None next faults is = first_of next faults
 news_other (Some last) next faults is = other_by (faults_compare.eq next last) last next faults is ∙ first_of next faults
 
 -- the next fault is repeated, or it is listed
-next_is : (words : List Token) (faults : List Fault) (told : ℕ) (d fault : Fault) → told < length faults → fault ≡ fault_at_line words (get_or faults told d) → map (fault_at_line words) (drop told faults) ≡ fault ∷ map (fault_at_line words) (drop (told + 1) faults)
+next_is : (words : List Token) (faults : List SourceFault) (told : ℕ) (d fault : SourceFault) → told < length faults → fault ≡ fault_at_line words (get_or faults told d) → map (fault_at_line words) (drop told faults) ≡ fault ∷ map (fault_at_line words) (drop (told + 1) faults)
 next_is words faults told d fault within is =
-    ap (map (fault_at_line words)) (drop_more faults told d within) ∙ ap (λ (f : Fault). f ∷ map (fault_at_line words) (drop (told + 1) faults)) (sym is)
+    ap (map (fault_at_line words)) (drop_more faults told d within) ∙ ap (λ (f : SourceFault). f ∷ map (fault_at_line words) (drop (told + 1) faults)) (sym is)
 
-pub left_repeated : (source : List ℕ) (words : List Token) (last : Option Fault) (faults : List Fault) (told : ℕ) (d fault : Fault) → told < length faults → fault ≡ fault_at_line words (get_or faults told d) → is_repeated last fault ≡ true
+pub left_repeated : (source : List ℕ) (words : List Token) (last : Option SourceFault) (faults : List SourceFault) (told : ℕ) (d fault : SourceFault) → told < length faults → fault ≡ fault_at_line words (get_or faults told d) → is_repeated last fault ≡ true
     → lines_of source words last (drop told faults) ≡ lines_of source words last (drop (told + 1) faults)
 left_repeated source words last faults told d fault within is repeated =
-    ap (λ (l : List Fault). map (listed_fault source) (news last l)) (next_is words faults told d fault within is)
-    ∙ ap (map (listed_fault source)) (news_same last fault (map (fault_at_line words) (drop (told + 1) faults)) repeated)
+    ap (λ (l : List SourceFault). map (listed_fault_text source) (news last l)) (next_is words faults told d fault within is)
+    ∙ ap (map (listed_fault_text source)) (news_same last fault (map (fault_at_line words) (drop (told + 1) faults)) repeated)
 
-pub left_listed : (source : List ℕ) (words : List Token) (last : Option Fault) (faults : List Fault) (told : ℕ) (d fault : Fault) → told < length faults → fault ≡ fault_at_line words (get_or faults told d) → is_repeated last fault ≡ false
-    → lines_of source words last (drop told faults) ≡ listed_fault source fault ∷ lines_of source words (Some fault) (drop (told + 1) faults)
+pub left_listed : (source : List ℕ) (words : List Token) (last : Option SourceFault) (faults : List SourceFault) (told : ℕ) (d fault : SourceFault) → told < length faults → fault ≡ fault_at_line words (get_or faults told d) → is_repeated last fault ≡ false
+    → lines_of source words last (drop told faults) ≡ listed_fault_text source fault ∷ lines_of source words (Some fault) (drop (told + 1) faults)
 left_listed source words last faults told d fault within is other =
-    ap (λ (l : List Fault). map (listed_fault source) (news last l)) (next_is words faults told d fault within is)
-    ∙ ap (map (listed_fault source)) (news_other last fault (map (fault_at_line words) (drop (told + 1) faults)) other)
+    ap (λ (l : List SourceFault). map (listed_fault_text source) (news last l)) (next_is words faults told d fault within is)
+    ∙ ap (map (listed_fault_text source)) (news_other last fault (map (fault_at_line words) (drop (told + 1) faults)) other)
 
 -- none is left
-news_none : (last : Option Fault) → news last [] ≡ []
+news_none : (last : Option SourceFault) → news last [] ≡ []
 news_none None = refl
 news_none (Some last) = refl
 
-pub left_none : (source : List ℕ) (words : List Token) (last : Option Fault) (faults : List Fault) (told : ℕ) → length faults ≤ told → lines_of source words last (drop told faults) ≡ []
+pub left_none : (source : List ℕ) (words : List Token) (last : Option SourceFault) (faults : List SourceFault) (told : ℕ) → length faults ≤ told → lines_of source words last (drop told faults) ≡ []
 left_none source words last faults told end =
-    ap (λ (l : List Fault). map (listed_fault source) (news last (map (fault_at_line words) l))) (drop_all told faults end) ∙ ap (map (listed_fault source)) (news_none last)
+    ap (λ (l : List SourceFault). map (listed_fault_text source) (news last (map (fault_at_line words) l))) (drop_all told faults end) ∙ ap (map (listed_fault_text source)) (news_none last)
 
 -- the first fault alone, if there is no other
-pub first_alone : (words : List Token) (faults : List Fault) (first : Fault) → faults_by_line words (or_first faults first) ≡ or_first (faults_by_line words faults) (fault_at_line words first)
+pub first_alone : (words : List Token) (faults : List SourceFault) (first : SourceFault) → faults_by_line words (faults_or_first faults first) ≡ faults_or_first (faults_by_line words faults) (fault_at_line words first)
 first_alone words [] first = refl
 first_alone words (fault ∷ faults) first =
     let all = map (fault_at_line words) faults in
     let is = first_of (fault_at_line words fault) all in
-    is ∙ ap (λ (l : List Fault). or_first l (fault_at_line words first)) (sym is)
+    is ∙ ap (λ (l : List SourceFault). faults_or_first l (fault_at_line words first)) (sym is)

@@ -8,9 +8,9 @@ use Rattle.std.proofs.lemmas.Nat.{pow-add, and_mask, shr-shr}
 use Rattle.std.proofs.lemmas.Bool.{and_parts, and_from, lt-ltb, cond-true, eqb-true}
 use Rattle.hex.specs.Hex.{lower_digits}
 use Rattle.ga_word.specs.Word.{hex_digit}
-use Rattle.ga_ports.specs.Address.{set_number}
-use Rattle.ga_parser.specs.Vocabulary.{is_numeral, digits_in, set_in, number_by_word}
-use Rattle.ga_parser.specs.Plain.{by_number}
+use Rattle.ga_ports.specs.Address.{parse_side_set}
+use Rattle.ga_parser.specs.Vocabulary.{is_numeral, value_of_digits, named_port_set, number_of_word}
+use Rattle.ga_parser.specs.Plain.{if_number}
 use Rattle.ga_asm_text.specs.inner.{hex_of, number_word}
 
 -- ---- written
@@ -82,19 +82,19 @@ digits_back (suc k) n =
     ap (λ (d : ℕ). digits_value_after 16 (n / 16 ^ suc k * 16 + d) (hex_of k n)) (digit_right n k).0
     ∙ (ap (λ (m : ℕ). digits_value_after 16 m (hex_of k n)) (higher n k) ∙ digits_back k n)
 
-none_in : (rest : List ℕ) → set_in (48 ∷ rest) ≡ None
-unfolding set_number
+none_in : (rest : List ℕ) → named_port_set (48 ∷ rest) ≡ None
+unfolding parse_side_set
 none_in [] = refl
 none_in (a ∷ []) = refl
 none_in (a ∷ b ∷ []) = refl
 none_in (a ∷ b ∷ c ∷ []) = refl
 none_in (a ∷ b ∷ c ∷ d ∷ rest) = refl
 
-digits_read : (k n : ℕ) → n / 16 ^ suc k ≡ 0 → digits_in 16 (hex_of (suc k) n) ≡ Some n
+digits_read : (k n : ℕ) → n / 16 ^ suc k ≡ 0 → value_of_digits 16 (hex_of (suc k) n) ≡ Some n
 digits_read k n below =
     cond-true (is_numeral 16 (hex_of (suc k) n)) (Some (digits_value 16 (hex_of (suc k) n))) None (all_digits (suc k) n)
     ∙ ap Some (ap (λ (m : ℕ). digits_value_after 16 m (hex_of (suc k) n)) (sym below) ∙ digits_back (suc k) n)
 
 -- a number is read as it is written
-pub number_read : {X : Type 0} (k n : ℕ) (asks : ℕ → Option X) → n / 16 ^ suc k ≡ 0 → n < 262144 → by_number (number_by_word (number_word (suc k) n)) asks ≡ asks n
+pub number_read : {X : Type 0} (k n : ℕ) (asks : ℕ → Option X) → n / 16 ^ suc k ≡ 0 → n < 262144 → if_number (number_of_word (number_word (suc k) n)) asks ≡ asks n
 number_read k n asks below small = rw (none_in (120 ∷ hex_of (suc k) n), digits_read k n below, lt-ltb n 262144 small) refl

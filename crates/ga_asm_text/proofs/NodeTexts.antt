@@ -9,13 +9,13 @@ use Rattle.ga_grid.specs.Grid.{yxx_of}
 use Rattle.ga_grid.specs.Chip.{node_at, nowhere}
 use Rattle.ga_text.specs.Lines.{Text}
 use Rattle.ga_text.specs.Digits.{decimal3_of}
-use Rattle.ga_parser.specs.Saying.{TokenContent, parted, said_from, source_lines}
+use Rattle.ga_parser.specs.Saying.{TokenContent, parts_ended_by, tokens_of_lines, source_lines}
 use Rattle.ga_asm_text.specs.inner.{Word, Says, Adds, holds_words, registers_words, memory_words, node_words, named_words, source_words, HasRegisters, IsFit}
 use Rattle.ga_asm_text.proofs.Telling.{says_nothing, says_both}
 use Rattle.ga_asm_text.proofs.SourceLines.{nothing_added, both_added}
 
-no_lines : (said : List TokenContent) (line next : ℕ) → said_from line (source_lines []) ≡ said ++ said_from next (source_lines []) → said ≡ []
-unfolding parted said_from
+no_lines : (said : List TokenContent) (line next : ℕ) → tokens_of_lines line (source_lines []) ≡ said ++ tokens_of_lines next (source_lines []) → said ≡ []
+unfolding parts_ended_by tokens_of_lines
 no_lines said line next e = sym (append-nil said) ∙ sym e
 
 -- an empty text says nothing

@@ -7,20 +7,20 @@ use Rattle.std.proofs.lemmas.List.{append-nil}
 use Rattle.std.proofs.lemmas.List.Folds.{list_any-append}
 use Rattle.std.proofs.lemmas.Bool.{cases_Bool, eqb-true}
 use Rattle.ga_ports.specs.declared.address.Target.TheVariants.{Ram, Rom}
-use Rattle.ga_ports.specs.Address.{classified, advanced}
+use Rattle.ga_ports.specs.Address.{address_target, advanced_address}
 use Rattle.ga_node.specs.Record.{NodeState}
 use Rattle.ga_parser.specs.declared.item.Operand.TheVariants.{Number}
 use Rattle.ga_parser.specs.declared.item.Item.TheVariants.{Cell}
-use Rattle.ga_parser.specs.declared.item.Request.{Request}
-use Rattle.ga_parser.specs.declared.item.Request.TheVariants.{Put}
-use Rattle.ga_source.specs.Programs.{is_item}
+use Rattle.ga_parser.specs.declared.item.AssemblyRequest.{AssemblyRequest}
+use Rattle.ga_parser.specs.declared.item.AssemblyRequest.TheVariants.{Put}
+use Rattle.ga_source.specs.Programs.{is_item_request}
 use Rattle.ga_source.specs.Made.{with_cell, with_requests}
 use Rattle.ga_asm_text.specs.inner.{next_of, next_behind, holds_word, IsFit}
 use Rattle.ga_asm_text.proofs.PlainWords.{address_requests, cell_requests, cells_requests, node_requests, IsCellAddress, IsWithin, first_within, rest_within}
 
 -- ---- addresses
 
-pub counts_up : (address : ℕ) → IsCellAddress address → advanced address ≡ address + 1
+pub counts_up : (address : ℕ) → IsCellAddress address → advanced_address address ≡ address + 1
 counts_up address (inl ram) =
     let bit : address / 2 ^ 8 % 2 ≡ 0 = omega (arith, ram) in
     rw (bit) (omega (arith, ram))
@@ -28,14 +28,14 @@ counts_up address (inr rom) =
     let bit : address / 2 ^ 8 % 2 ≡ 0 = omega (arith, rom.0, rom.1) in
     rw (bit) (omega (arith, rom.0, rom.1))
 
-ram_at : (address : ℕ) → address < 64 → classified address ≡ Ram address
+ram_at : (address : ℕ) → address < 64 → address_target address ≡ Ram address
 ram_at address small =
     let one : address % 2 ^ 9 / 2 ^ 8 ≡ 0 = omega (arith, small) in
     let two : address % 2 ^ 9 / 2 ^ 7 ≡ 0 = omega (arith, small) in
     let three : address % 2 ^ 9 % 64 ≡ address = omega (arith, small) in
     rw (one, two, three) refl
 
-rom_at : (cell : ℕ) → cell < 64 → classified (0x80 + cell) ≡ Rom cell
+rom_at : (cell : ℕ) → cell < 64 → address_target (0x80 + cell) ≡ Rom cell
 rom_at cell small =
     let one : (0x80 + cell) % 2 ^ 9 / 2 ^ 8 ≡ 0 = omega (arith, small) in
     let two : (0x80 + cell) % 2 ^ 9 / 2 ^ 7 ≡ 1 = omega (arith, small) in
@@ -74,31 +74,31 @@ memory_filled words size = ap (λ (n : ℕ). filled (replicate n 0) 0 words) (sy
 -- a node with the words that aren't 0 in its cells, from an address on
 unfoldable with_cells : NodeState → ℕ → List ℕ → NodeState
 with_cells node address [] = node
-with_cells node address (word ∷ words) = with_cells (if word == 0 then node else with_cell node (classified address) word) (address + 1) words
+with_cells node address (word ∷ words) = with_cells (if word == 0 then node else with_cell node (address_target address) word) (address + 1) words
 
-gone : (node : NodeState) (address next : ℕ) (rest : List Request) → with_requests node next (address_requests address next ++ rest) ≡ with_requests node address rest
+gone : (node : NodeState) (address next : ℕ) (rest : List AssemblyRequest) → with_requests node next (address_requests address next ++ rest) ≡ with_requests node address rest
 unfolding with_requests
 gone node address next rest = elim (cases_Bool (address == next)) [
   | inl same ↦ rw same (ap (λ (at : ℕ). with_requests node at rest) (sym (eqb-true address next same)))
   | inr differs ↦ rw differs refl
 ]
 
-put : (node : NodeState) (address word : ℕ) (rest : List Request) → with_requests node address (Put (Cell (Number word)) ∷ rest) ≡ with_requests (with_cell node (classified address) word) (advanced address) rest
+put : (node : NodeState) (address word : ℕ) (rest : List AssemblyRequest) → with_requests node address (Put (Cell (Number word)) ∷ rest) ≡ with_requests (with_cell node (address_target address) word) (advanced_address address) rest
 unfolding with_requests
 put node address word rest = refl
 
-one_written : (node : NodeState) (word address next : ℕ) (rest : List Request) → IsCellAddress address
-    → with_requests node next (cell_requests word address next ++ rest) ≡ with_requests (if word == 0 then node else with_cell node (classified address) word) (next_of word address next) rest
+one_written : (node : NodeState) (word address next : ℕ) (rest : List AssemblyRequest) → IsCellAddress address
+    → with_requests node next (cell_requests word address next ++ rest) ≡ with_requests (if word == 0 then node else with_cell node (address_target address) word) (next_of word address next) rest
 one_written node word address next rest is = elim (cases_Bool (word == 0)) [
   | inl none ↦ rw none refl
   | inr some ↦ rw some
       (ap (with_requests node next) (append_assoc (address_requests address next) (Put (Cell (Number word)) ∷ []) rest)
       ∙ (gone node address next (Put (Cell (Number word)) ∷ rest)
       ∙ (put node address word rest
-      ∙ ap (λ (at : ℕ). with_requests (with_cell node (classified address) word) at rest) (counts_up address is))))
+      ∙ ap (λ (at : ℕ). with_requests (with_cell node (address_target address) word) at rest) (counts_up address is))))
 ]
 
-cells_written : (node : NodeState) (address next : ℕ) (words : List ℕ) (rest : List Request) → IsWithin address (length words)
+cells_written : (node : NodeState) (address next : ℕ) (words : List ℕ) (rest : List AssemblyRequest) → IsWithin address (length words)
     → with_requests node next (cells_requests address next words ++ rest) ≡ with_requests (with_cells node address words) (next_behind address next words) rest
 unfolding cells_requests with_cells next_behind
 cells_written node address next [] rest within = refl
@@ -107,9 +107,9 @@ cells_written node address next (word ∷ words) rest within =
     let after = cells_requests (address + 1) behind words in
     ap (with_requests node next) (append_assoc (cell_requests word address next) after rest)
     ∙ (one_written node word address next (after ++ rest) (first_within address (length words) within)
-    ∙ cells_written (if word == 0 then node else with_cell node (classified address) word) (address + 1) behind words rest (rest_within address (length words) within))
+    ∙ cells_written (if word == 0 then node else with_cell node (address_target address) word) (address + 1) behind words rest (rest_within address (length words) within))
 
-one_ram : (node : NodeState) (cell word : ℕ) → cell < 64 → (if word == 0 then node else with_cell node (classified cell) word) ≡ record node { ram = if word == 0 then node.ram else set node.ram cell word }
+one_ram : (node : NodeState) (cell word : ℕ) → cell < 64 → (if word == 0 then node else with_cell node (address_target cell) word) ≡ record node { ram = if word == 0 then node.ram else set node.ram cell word }
 one_ram node cell word small = elim (cases_Bool (word == 0)) [
   | inl none ↦ rw none refl
   | inr some ↦ rw (some, ram_at cell small) refl
@@ -122,7 +122,7 @@ ram_cells node cell (word ∷ words) within =
     ap (λ (next : NodeState). with_cells next (cell + 1) words) (one_ram node cell word (omega arith))
     ∙ ram_cells (record node { ram = if word == 0 then node.ram else set node.ram cell word }) (cell + 1) words (omega arith)
 
-one_rom : (node : NodeState) (cell word : ℕ) → cell < 64 → (if word == 0 then node else with_cell node (classified (0x80 + cell)) word) ≡ record node { rom = if word == 0 then node.rom else set node.rom cell word }
+one_rom : (node : NodeState) (cell word : ℕ) → cell < 64 → (if word == 0 then node else with_cell node (address_target (0x80 + cell)) word) ≡ record node { rom = if word == 0 then node.rom else set node.rom cell word }
 one_rom node cell word small = elim (cases_Bool (word == 0)) [
   | inl none ↦ rw none refl
   | inr some ↦ rw (some, rom_at cell small) refl
@@ -156,7 +156,7 @@ memories_written empty node fit no_ram no_rom =
 
 -- ---- whether there are cells
 
-one_item : (word address next : ℕ) → list_any is_item (cell_requests word address next) ≡ not (word == 0)
+one_item : (word address next : ℕ) → list_any is_item_request (cell_requests word address next) ≡ not (word == 0)
 one_item word address next = elim (cases_Bool (word == 0)) [
   | inl none ↦ rw none refl
   | inr some ↦ elim (cases_Bool (address == next)) [
@@ -165,18 +165,18 @@ one_item word address next = elim (cases_Bool (word == 0)) [
   ]
 ]
 
-cell_items : (address next : ℕ) (words : List ℕ) → list_any is_item (cells_requests address next words) ≡ holds_word words
+cell_items : (address next : ℕ) (words : List ℕ) → list_any is_item_request (cells_requests address next words) ≡ holds_word words
 unfolding cells_requests holds_word
 cell_items address next [] = refl
 cell_items address next (word ∷ words) =
     let behind = next_of word address next in
-    list_any-append is_item (cell_requests word address next) (cells_requests (address + 1) behind words)
-    ∙ (ap (λ (b : Bool). b || list_any is_item (cells_requests (address + 1) behind words)) (one_item word address next)
+    list_any-append is_item_request (cell_requests word address next) (cells_requests (address + 1) behind words)
+    ∙ (ap (λ (b : Bool). b || list_any is_item_request (cells_requests (address + 1) behind words)) (one_item word address next)
     ∙ ap (λ (b : Bool). not (word == 0) || b) (cell_items (address + 1) behind words))
 
-pub node_items : (node : NodeState) → list_any is_item (node_requests node) ≡ (holds_word node.ram || holds_word node.rom)
+pub node_items : (node : NodeState) → list_any is_item_request (node_requests node) ≡ (holds_word node.ram || holds_word node.rom)
 node_items node =
     let behind = next_behind 0 0 node.ram in
-    list_any-append is_item (cells_requests 0 0 node.ram) (cells_requests 0x80 behind node.rom)
-    ∙ (ap (λ (b : Bool). b || list_any is_item (cells_requests 0x80 behind node.rom)) (cell_items 0 0 node.ram)
+    list_any-append is_item_request (cells_requests 0 0 node.ram) (cells_requests 0x80 behind node.rom)
+    ∙ (ap (λ (b : Bool). b || list_any is_item_request (cells_requests 0x80 behind node.rom)) (cell_items 0 0 node.ram)
     ∙ ap (λ (b : Bool). holds_word node.ram || b) (cell_items 0x80 behind node.rom))

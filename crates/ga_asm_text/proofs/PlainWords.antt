@@ -9,43 +9,43 @@ use Rattle.ga_node.specs.Record.{NodeState}
 use Rattle.ga_parser.specs.declared.item.Operand.{Operand}
 use Rattle.ga_parser.specs.declared.item.Operand.TheVariants.{Number}
 use Rattle.ga_parser.specs.declared.item.Item.TheVariants.{Cell}
-use Rattle.ga_parser.specs.declared.item.Request.{Request}
-use Rattle.ga_parser.specs.declared.item.Request.TheVariants.{Put, Go}
-use Rattle.ga_parser.specs.Plain.{Plain, no_request, with_request, only_if, is_cell, may_be, plain_from, plain_of}
+use Rattle.ga_parser.specs.declared.item.AssemblyRequest.{AssemblyRequest}
+use Rattle.ga_parser.specs.declared.item.AssemblyRequest.TheVariants.{Put, Go}
+use Rattle.ga_parser.specs.Plain.{Plain, no_request, with_request, value_if, is_cell_address, may_set_register, plain_requests_from, plain_requests_of}
 use Rattle.ga_asm_text.specs.inner.{Word, number_word, register_words, address_words, cell_words, next_of, cells_words, next_behind, usual_p, holds_words, node_words, IsCell, IsFit}
 use Rattle.ga_asm_text.proofs.HexLemmas.{number_read}
 
 -- ---- cells
 
 -- what the words of a cell ask for
-abbrev pub address_requests : ℕ → ℕ → List Request
+abbrev pub address_requests : ℕ → ℕ → List AssemblyRequest
 address_requests address next = if address == next then [] else Go address ∷ []
 
-abbrev pub cell_requests : ℕ → ℕ → ℕ → List Request
+abbrev pub cell_requests : ℕ → ℕ → ℕ → List AssemblyRequest
 cell_requests word address next = if word == 0 then [] else address_requests address next ++ Put (Cell (Number word)) ∷ []
 
-unfoldable pub cells_requests : ℕ → ℕ → List ℕ → List Request
+unfoldable pub cells_requests : ℕ → ℕ → List ℕ → List AssemblyRequest
 cells_requests address next [] = []
 cells_requests address next (word ∷ words) = cell_requests word address next ++ cells_requests (address + 1) (next_of word address next) words
 
-abbrev with_all : Plain → List Request → Plain
+abbrev with_all : Plain → List AssemblyRequest → Plain
 with_all plain requests = record plain { requests = plain.requests ++ requests }
 
 none_more : (plain : Plain) → with_all plain [] ≡ plain
-none_more plain = ap (λ (l : List Request). record plain { requests = l }) (append-nil plain.requests)
+none_more plain = ap (λ (l : List AssemblyRequest). record plain { requests = l }) (append-nil plain.requests)
 
-all_more : (plain : Plain) (some more : List Request) → with_all (with_all plain some) more ≡ with_all plain (some ++ more)
-all_more plain some more = ap (λ (l : List Request). record plain { requests = l }) (append_assoc plain.requests some more)
+all_more : (plain : Plain) (some more : List AssemblyRequest) → with_all (with_all plain some) more ≡ with_all plain (some ++ more)
+all_more plain some more = ap (λ (l : List AssemblyRequest). record plain { requests = l }) (append_assoc plain.requests some more)
 
-one_number : (plain : Plain) (word : ℕ) (rest : List Word) → word < 262144 → plain_from plain (number_word 6 word ∷ codes "," ∷ rest) ≡ plain_from (with_all plain (Put (Cell (Number word)) ∷ [])) rest
-unfolding plain_from
+one_number : (plain : Plain) (word : ℕ) (rest : List Word) → word < 262144 → plain_requests_from plain (number_word 6 word ∷ codes "," ∷ rest) ≡ plain_requests_from (with_all plain (Put (Cell (Number word)) ∷ [])) rest
+unfolding plain_requests_from
 one_number plain word rest small =
     rw (number_read 5 word (λ n. Some (with_request plain (Put (Cell (Number n))))) (omega arith) small) refl
 
 abbrev pub IsCellAddress : ℕ → Type 0
 IsCellAddress address = (address < 64) ⊎ ((128 ≤ address) × (address < 192))
 
-cell_address : (address : ℕ) → IsCellAddress address → is_cell address ≡ true
+cell_address : (address : ℕ) → IsCellAddress address → is_cell_address address ≡ true
 cell_address address (inl ram) = rw (lt-ltb address 0x40 ram) refl
 cell_address address (inr rom) =
     rw (le-leb 0x80 address rom.0, lt-ltb address 0xc0 rom.1) (or_true (nat_lt address 0x40))
@@ -54,29 +54,29 @@ cell_address address (inr rom) =
     or_true true = refl
     or_true false = refl
 
-one_address : (plain : Plain) (address : ℕ) (rest : List Word) → IsCellAddress address → plain_from plain (codes "org" ∷ number_word 2 address ∷ rest) ≡ plain_from (with_all plain (Go address ∷ [])) rest
-unfolding plain_from
+one_address : (plain : Plain) (address : ℕ) (rest : List Word) → IsCellAddress address → plain_requests_from plain (codes "org" ∷ number_word 2 address ∷ rest) ≡ plain_requests_from (with_all plain (Go address ∷ [])) rest
+unfolding plain_requests_from
 one_address plain address rest is =
-    rw (number_read 1 address (λ n. only_if (is_cell n) (with_request plain (Go n))) (omega (arith, below address is)) (omega (arith, below address is)), cell_address address is) refl
+    rw (number_read 1 address (λ n. value_if (is_cell_address n) (with_request plain (Go n))) (omega (arith, below address is)) (omega (arith, below address is)), cell_address address is) refl
   where
     below : (a : ℕ) → IsCellAddress a → a < 192
     below a (inl ram) = omega arith
     below a (inr rom) = rom.1
 
-address_asks : (plain : Plain) (address next : ℕ) (rest : List Word) → IsCellAddress address → plain_from plain (address_words address next ++ rest) ≡ plain_from (with_all plain (address_requests address next)) rest
-address_asks plain address next rest is = elim (cases_Bool (address == next)) [
-  | inl same ↦ rw same (ap (λ (p : Plain). plain_from p rest) (sym (none_more plain)))
+org_requests : (plain : Plain) (address next : ℕ) (rest : List Word) → IsCellAddress address → plain_requests_from plain (address_words address next ++ rest) ≡ plain_requests_from (with_all plain (address_requests address next)) rest
+org_requests plain address next rest is = elim (cases_Bool (address == next)) [
+  | inl same ↦ rw same (ap (λ (p : Plain). plain_requests_from p rest) (sym (none_more plain)))
   | inr differs ↦ rw differs (one_address plain address rest is)
 ]
 
-cell_asks : (plain : Plain) (word address next : ℕ) (rest : List Word) → word < 262144 → IsCellAddress address → plain_from plain (cell_words word address next ++ rest) ≡ plain_from (with_all plain (cell_requests word address next)) rest
+cell_asks : (plain : Plain) (word address next : ℕ) (rest : List Word) → word < 262144 → IsCellAddress address → plain_requests_from plain (cell_words word address next ++ rest) ≡ plain_requests_from (with_all plain (cell_requests word address next)) rest
 cell_asks plain word address next rest small is = elim (cases_Bool (word == 0)) [
-  | inl none ↦ rw none (ap (λ (p : Plain). plain_from p rest) (sym (none_more plain)))
+  | inl none ↦ rw none (ap (λ (p : Plain). plain_requests_from p rest) (sym (none_more plain)))
   | inr some ↦ rw some
-      (ap (plain_from plain) (append_assoc (address_words address next) (number_word 6 word ∷ codes "," ∷ []) rest)
-      ∙ (address_asks plain address next (number_word 6 word ∷ codes "," ∷ rest) is
+      (ap (plain_requests_from plain) (append_assoc (address_words address next) (number_word 6 word ∷ codes "," ∷ []) rest)
+      ∙ (org_requests plain address next (number_word 6 word ∷ codes "," ∷ rest) is
       ∙ (one_number (with_all plain (address_requests address next)) word rest small
-      ∙ ap (λ (p : Plain). plain_from p rest) (all_more plain (address_requests address next) (Put (Cell (Number word)) ∷ [])))))
+      ∙ ap (λ (p : Plain). plain_requests_from p rest) (all_more plain (address_requests address next) (Put (Cell (Number word)) ∷ [])))))
 ]
 
 -- `count` cells from an address on are within a memory
@@ -91,17 +91,17 @@ pub rest_within : (address count : ℕ) → IsWithin address (suc count) → IsW
 rest_within address count (inl ram) = inl (omega arith)
 rest_within address count (inr rom) = inr (omega (arith, rom.0), omega (arith, rom.1))
 
-cells_ask : (plain : Plain) (address next : ℕ) (cells : List ℕ) (rest : List Word) → All IsCell cells → IsWithin address (length cells) → plain_from plain (cells_words address next cells ++ rest) ≡ plain_from (with_all plain (cells_requests address next cells)) rest
+cells_ask : (plain : Plain) (address next : ℕ) (cells : List ℕ) (rest : List Word) → All IsCell cells → IsWithin address (length cells) → plain_requests_from plain (cells_words address next cells ++ rest) ≡ plain_requests_from (with_all plain (cells_requests address next cells)) rest
 unfolding cells_words cells_requests
-cells_ask plain address next [] rest small within = ap (λ (p : Plain). plain_from p rest) (sym (none_more plain))
+cells_ask plain address next [] rest small within = ap (λ (p : Plain). plain_requests_from p rest) (sym (none_more plain))
 cells_ask plain address next (word ∷ words) rest small within =
     let behind = next_of word address next in
     let asked = cell_requests word address next in
     let after = cells_words (address + 1) behind words in
-    ap (plain_from plain) (append_assoc (cell_words word address next) after rest)
+    ap (plain_requests_from plain) (append_assoc (cell_words word address next) after rest)
     ∙ (cell_asks plain word address next (after ++ rest) (All-head IsCell word words small) (first_within address (length words) within)
     ∙ (cells_ask (with_all plain asked) (address + 1) behind words rest (All-tail IsCell word words small) (rest_within address (length words) within)
-    ∙ ap (λ (p : Plain). plain_from p rest) (all_more plain asked (cells_requests (address + 1) behind words))))
+    ∙ ap (λ (p : Plain). plain_requests_from p rest) (all_more plain asked (cells_requests (address + 1) behind words))))
 
 -- ---- registers
 
@@ -112,30 +112,30 @@ given value usual = if value == usual then None else Some (Number value)
 abbrev registers_of : Option Operand → Option Operand → Option Operand → Plain
 registers_of p a b = record { requests = []; p = p; a = a; b = b }
 
-p_asks : (value usual : ℕ) (rest : List Word) → value < 0x400 → plain_from no_request (register_words (codes "/p") value usual ++ rest) ≡ plain_from (registers_of (given value usual) None None) rest
-unfolding plain_from
+p_asks : (value usual : ℕ) (rest : List Word) → value < 0x400 → plain_requests_from no_request (register_words (codes "/p") value usual ++ rest) ≡ plain_requests_from (registers_of (given value usual) None None) rest
+unfolding plain_requests_from
 p_asks value usual rest small = elim (cases_Bool (value == usual)) [
   | inl same ↦ rw same refl
-  | inr differs ↦ rw (differs, number_read 4 value (λ n. only_if (may_be None n 0x400) (registers_of (Some (Number n)) None None)) (omega arith) (omega arith), lt-ltb value 0x400 small) refl
+  | inr differs ↦ rw (differs, number_read 4 value (λ n. value_if (may_set_register None n 0x400) (registers_of (Some (Number n)) None None)) (omega arith) (omega arith), lt-ltb value 0x400 small) refl
 ]
 
-a_asks : (p : Option Operand) (value usual : ℕ) (rest : List Word) → value < 0x40000 → plain_from (registers_of p None None) (register_words (codes "/a") value usual ++ rest) ≡ plain_from (registers_of p (given value usual) None) rest
-unfolding plain_from
+a_asks : (p : Option Operand) (value usual : ℕ) (rest : List Word) → value < 0x40000 → plain_requests_from (registers_of p None None) (register_words (codes "/a") value usual ++ rest) ≡ plain_requests_from (registers_of p (given value usual) None) rest
+unfolding plain_requests_from
 a_asks p value usual rest small = elim (cases_Bool (value == usual)) [
   | inl same ↦ rw same refl
-  | inr differs ↦ rw (differs, number_read 4 value (λ n. only_if (may_be None n 0x40000) (registers_of p (Some (Number n)) None)) (omega arith) small, lt-ltb value 0x40000 small) refl
+  | inr differs ↦ rw (differs, number_read 4 value (λ n. value_if (may_set_register None n 0x40000) (registers_of p (Some (Number n)) None)) (omega arith) small, lt-ltb value 0x40000 small) refl
 ]
 
-b_asks : (p a : Option Operand) (value usual : ℕ) (rest : List Word) → value < 0x200 → plain_from (registers_of p a None) (register_words (codes "/b") value usual ++ rest) ≡ plain_from (registers_of p a (given value usual)) rest
-unfolding plain_from
+b_asks : (p a : Option Operand) (value usual : ℕ) (rest : List Word) → value < 0x200 → plain_requests_from (registers_of p a None) (register_words (codes "/b") value usual ++ rest) ≡ plain_requests_from (registers_of p a (given value usual)) rest
+unfolding plain_requests_from
 b_asks p a value usual rest small = elim (cases_Bool (value == usual)) [
   | inl same ↦ rw same refl
-  | inr differs ↦ rw (differs, number_read 4 value (λ n. only_if (may_be None n 0x200) (registers_of p a (Some (Number n)))) (omega arith) (omega arith), lt-ltb value 0x200 small) refl
+  | inr differs ↦ rw (differs, number_read 4 value (λ n. value_if (may_set_register None n 0x200) (registers_of p a (Some (Number n)))) (omega arith) (omega arith), lt-ltb value 0x200 small) refl
 ]
 
 -- ---- a node
 
-abbrev pub node_requests : NodeState → List Request
+abbrev pub node_requests : NodeState → List AssemblyRequest
 node_requests node = cells_requests 0 0 node.ram ++ cells_requests 0x80 (next_behind 0 0 node.ram) node.rom
 
 -- what the words of a node ask for
@@ -147,11 +147,11 @@ plain_by n node = record {
   b = given node.b 0x15d;
 }
 
-pub nothing_asks : (plain : Plain) → plain_from plain [] ≡ Some plain
-unfolding plain_from
+pub nothing_asks : (plain : Plain) → plain_requests_from plain [] ≡ Some plain
+unfolding plain_requests_from
 nothing_asks plain = refl
 
-memories_ask : (plain : Plain) (node : NodeState) → IsFit node → plain_from plain (cells_words 0 0 node.ram ++ cells_words 0x80 (next_behind 0 0 node.ram) node.rom) ≡ Some (with_all plain (node_requests node))
+memories_ask : (plain : Plain) (node : NodeState) → IsFit node → plain_requests_from plain (cells_words 0 0 node.ram ++ cells_words 0x80 (next_behind 0 0 node.ram) node.rom) ≡ Some (with_all plain (node_requests node))
 memories_ask plain node fit =
     let behind = next_behind 0 0 node.ram in
     let more = with_all plain (cells_requests 0 0 node.ram) in
@@ -159,12 +159,12 @@ memories_ask plain node fit =
     let rom = fit.memories.rom in
     let rom_words = cells_words 0x80 behind node.rom in
     cells_ask plain 0 0 node.ram rom_words ram.words (inl (omega (arith, ram.size)))
-    ∙ (ap (plain_from more) (sym (append-nil rom_words))
+    ∙ (ap (plain_requests_from more) (sym (append-nil rom_words))
     ∙ (cells_ask more 0x80 behind node.rom [] rom.words (inr (omega arith, omega (arith, rom.size)))
     ∙ (nothing_asks (with_all more (cells_requests 0x80 behind node.rom))
     ∙ ap Some (all_more plain (cells_requests 0 0 node.ram) (cells_requests 0x80 behind node.rom)))))
 
-pub node_asks : (n : ℕ) (node : NodeState) → IsFit node → plain_of (node_words n node) ≡ Some (plain_by n node)
+pub node_asks : (n : ℕ) (node : NodeState) → IsFit node → plain_requests_of (node_words n node) ≡ Some (plain_by n node)
 node_asks n node fit =
     let usual = usual_p n (holds_words node) in
     let p = register_words (codes "/p") node.p usual in
@@ -172,7 +172,7 @@ node_asks n node fit =
     let b = register_words (codes "/b") node.b 0x15d in
     let cells = cells_words 0 0 node.ram ++ cells_words 0x80 (next_behind 0 0 node.ram) node.rom in
     let has = fit.registers in
-    ap plain_of (append_assoc (p ++ a) b cells ∙ append_assoc p a (b ++ cells))
+    ap plain_requests_of (append_assoc (p ++ a) b cells ∙ append_assoc p a (b ++ cells))
     ∙ (p_asks node.p usual (a ++ (b ++ cells)) has.p
     ∙ (a_asks (given node.p usual) node.a 0 (b ++ cells) has.a
     ∙ (b_asks (given node.p usual) (given node.a 0) node.b 0x15d cells has.b

@@ -6,7 +6,7 @@ use Rattle.std.proofs.lemmas.List.{append-nil}
 use Rattle.std.proofs.lemmas.List.Folds.{list_all-append}
 use Rattle.std.proofs.lemmas.Bool.{and_from, cond-true, cond-false, eq-eqb, ne_eqb}
 use Rattle.ga_text.specs.Lines.{Text}
-use Rattle.ga_parser.specs.Saying.{source_words, TokenContent, a_word, spoken}
+use Rattle.ga_parser.specs.Saying.{source_words, TokenContent, word_token, tokens_of_words}
 use Rattle.ga_asm_text.specs.inner.{Word, Says, Adds, AddsRemark, IsOrdinary, IsUnmarked, is_inner, hex_of, number_word, register_words, address_words, cell_words}
 use Rattle.ga_asm_text.proofs.HexLemmas.{all_shown}
 use Rattle.ga_asm_text.proofs.Telling.{says_nothing, says_both, says_line, says_two, no_end, word_first, remark_last, all_inner, plain_word, grown}
@@ -60,11 +60,11 @@ address_usual old address next same = nothing_added old (address_words address n
 abbrev behind : Text → Text
 behind remark = 44 ∷ 32 ∷ 92 ∷ 32 ∷ remark
 
-cell_says : (w : ℕ) (remark : Text) (line : ℕ) → spoken line false (source_words (number_word 6 w ++ 32 ∷ behind remark)) ≡ map (a_word line) (number_word 6 w ∷ codes "," ∷ [])
+cell_says : (w : ℕ) (remark : Text) (line : ℕ) → tokens_of_words line false (source_words (number_word 6 w ++ 32 ∷ behind remark)) ≡ map (word_token line) (number_word 6 w ∷ codes "," ∷ [])
 cell_says w remark line =
     word_first line (number_word 6 w) (behind remark) (number_ordinary 6 w)
-    ∙ ap (λ (l : List TokenContent). a_word line (number_word 6 w) ∷ l) (word_first line (codes ",") (92 ∷ 32 ∷ remark) (plain_word (codes ",") refl refl refl refl)
-    ∙ ap (λ (l : List TokenContent). a_word line (codes ",") ∷ l) (remark_last line remark))
+    ∙ ap (λ (l : List TokenContent). word_token line (number_word 6 w) ∷ l) (word_first line (codes ",") (92 ∷ 32 ∷ remark) (plain_word (codes ",") refl refl refl refl)
+    ∙ ap (λ (l : List TokenContent). word_token line (codes ",") ∷ l) (remark_last line remark))
 
 cell_line : (w : ℕ) (remark : Text) → list_all is_inner remark ≡ true → length remark ≤ 80 → Says ((number_word 6 w ++ 32 ∷ behind remark) ++ 10 ∷ []) (number_word 6 w ∷ codes "," ∷ [])
 cell_line w remark inner short =

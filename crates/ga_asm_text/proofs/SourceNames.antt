@@ -6,11 +6,11 @@ use Rattle.std.proofs.lemmas.Bool.{cases_Bool, eqb-true}
 use Rattle.std.proofs.lemmas.Option.{same_Some}
 use Rattle.ga_node.specs.Record.{NodeState, fresh_node}
 use Rattle.ga_grid.specs.Grid.{load_p_of, default_chip, yxx_of}
-use Rattle.ga_parser.specs.Plain.{no_request, plain_of, body_in, bodies_in, yxx_in}
-use Rattle.ga_parser.specs.Words.{words_in}
-use Rattle.ga_source.specs.Programs.{is_item}
-use Rattle.ga_source.specs.Made.{with_requests, number_or, plain_node, IsNode, HasPlain, IsSoundBody, node_number_of_words}
-use Rattle.ga_asm_text.specs.Source.{IsLoadedAs, IsSourceOf}
+use Rattle.ga_parser.specs.Plain.{no_request, plain_requests_of, body_words, body_word_lists, named_node_number}
+use Rattle.ga_parser.specs.Words.{source_word_texts}
+use Rattle.ga_source.specs.Programs.{is_item_request}
+use Rattle.ga_source.specs.Made.{with_requests, number_or, node_with_plain_requests, IsSameNode, HasPlainNode, IsSoundBody, node_number_of_words}
+use Rattle.ga_asm_text.specs.Source.{HasSameLoad, IsSourceOfChip}
 use Rattle.ga_asm_text.specs.inner.{usual_p, holds_words, node_words, IsFit, Word, Says, source_words}
 use Rattle.ga_asm_text.proofs.PlainWords.{given, node_requests, plain_by, node_asks, nothing_asks}
 use Rattle.ga_asm_text.proofs.PlainCells.{memories_written, node_items}
@@ -31,7 +31,7 @@ number_back value usual = elim (cases_Bool (value == usual)) [
 ]
 
 -- P is as usual where it isn't given
-p_back : (n : ℕ) (node : NodeState) → number_or (plain_by n node).p (if list_any is_item (node_requests node) then 0 else load_p_of n) ≡ node.p
+p_back : (n : ℕ) (node : NodeState) → number_or (plain_by n node).p (if list_any is_item_request (node_requests node) then 0 else load_p_of n) ≡ node.p
 p_back n node =
     ap (λ (has : Bool). number_or (plain_by n node).p (usual_p n has)) (node_items node) ∙ number_back node.p (usual_p n (holds_words node))
 
@@ -39,7 +39,7 @@ p_back n node =
 abbrev IsAlike : NodeState → NodeState → Type 0
 IsAlike made node = (made.ram ≡ node.ram) × (made.rom ≡ node.rom) × (made.a ≡ node.a) × (made.b ≡ node.b) × (made.p ≡ node.p)
 
-alike : (n : ℕ) (node : NodeState) → IsFit node → IsAlike (plain_node (fresh_node (load_p_of n)) (plain_by n node)) node
+alike : (n : ℕ) (node : NodeState) → IsFit node → IsAlike (node_with_plain_requests (fresh_node (load_p_of n)) (plain_by n node)) node
 unfolding fresh_node
 alike n node fit =
     let cells = memories_written (fresh_node (load_p_of n)) node fit refl refl in (
@@ -51,7 +51,7 @@ alike n node fit =
     )
 
 -- what is made cell by cell
-pub named_loaded : (n : ℕ) (node made : NodeState) → IsFit node → IsNode (plain_node (fresh_node (load_p_of n)) (plain_by n node)) made → IsLoadedAs node made
+pub named_loaded : (n : ℕ) (node made : NodeState) → IsFit node → IsSameNode (node_with_plain_requests (fresh_node (load_p_of n)) (plain_by n node)) made → HasSameLoad node made
 named_loaded n node made fit is =
     let same = alike n node fit in
     record {
@@ -62,19 +62,19 @@ named_loaded n node made fit is =
       p = ap (λ (one : NodeState). one.p) is.rest ∙ same.4;
     }
 
-unasked : (node : NodeState) → plain_node node no_request ≡ node
+unasked : (node : NodeState) → node_with_plain_requests node no_request ≡ node
 unfolding with_requests
 unasked node = refl
 
 nothing_by : (n : ℕ) (node : NodeState) → IsFit node → node_words n node ≡ [] → plain_by n node ≡ no_request
-nothing_by n node fit none = same_Some (plain_by n node) no_request (sym (node_asks n node fit) ∙ (ap plain_of none ∙ nothing_asks no_request))
+nothing_by n node fit none = same_Some (plain_by n node) no_request (sym (node_asks n node fit) ∙ (ap plain_requests_of none ∙ nothing_asks no_request))
 
 -- a node that isn't named is as at load
-pub unnamed_loaded : (n : ℕ) (node made : NodeState) → IsFit node → node_words n node ≡ [] → made ≡ fresh_node (load_p_of n) → IsLoadedAs node made
+pub unnamed_loaded : (n : ℕ) (node made : NodeState) → IsFit node → node_words n node ≡ [] → made ≡ fresh_node (load_p_of n) → HasSameLoad node made
 unnamed_loaded n node made fit none is =
     let fresh = fresh_node (load_p_of n) in
     let same = alike n node fit in
-    let e : made ≡ plain_node fresh (plain_by n node) = is ∙ (sym (unasked fresh) ∙ ap (plain_node fresh) (sym (nothing_by n node fit none))) in
+    let e : made ≡ node_with_plain_requests fresh (plain_by n node) = is ∙ (sym (unasked fresh) ∙ ap (node_with_plain_requests fresh) (sym (nothing_by n node fit none))) in
     record {
       ram = λ k small. ap (λ (one : NodeState). slice_index one.ram k) e ∙ ap (λ (l : List ℕ). slice_index l k) same.0;
       rom = λ k small. ap (λ (one : NodeState). slice_index one.rom k) e ∙ ap (λ (l : List ℕ). slice_index l k) same.1;
@@ -175,7 +175,7 @@ there P n (node ∷ nodes) (suc k) within all =
 
 -- the words after a `node` name another node
 abbrev IsOther : ℕ → List Word → Type 0
-IsOther n words = yxx_in (slice_index_or words 0 []) ≢ Some n
+IsOther n words = named_node_number (slice_index_or words 0 []) ≢ Some n
 
 other_body : (n m : ℕ) (words : List Word) (rest : List (List Word)) → m < 144 → (m ≡ n → words ≡ []) → All (IsOther n) rest → All (IsOther n) (body_of m words ++ rest)
 other_body n m [] rest within none all = all
@@ -197,35 +197,35 @@ unnamed n chip size none =
 
 -- ---- the chip that the source makes
 
-source_loaded : (chip made : List NodeState) (n : ℕ) → length chip ≡ 144 → n < 144 → All IsFit chip → All (HasPlain made) (bodies_of 0 chip)
-    → (All (IsOther n) (bodies_of 0 chip) → node_at made n ≡ node_at default_chip n) → IsLoadedAs (node_at chip n) (node_at made n)
+source_loaded : (chip made : List NodeState) (n : ℕ) → length chip ≡ 144 → n < 144 → All IsFit chip → All (HasPlainNode made) (bodies_of 0 chip)
+    → (All (IsOther n) (bodies_of 0 chip) → node_at made n ≡ node_at default_chip n) → HasSameLoad (node_at chip n) (node_at made n)
 source_loaded chip made n size within fit named others =
     let node = node_at chip n in
     let is_fit = All-get_or IsFit chip n nowhere (omega (arith, size)) fit in
     let fresh = node_at-default_chip n within in
     let same : 0 + n ≡ n = omega arith in
-    let found : NoneOr (HasPlain made) n node = subst (λ (m : ℕ). NoneOr (HasPlain made) m node) same (there (HasPlain made) 0 chip n (omega (arith, size)) named) in
+    let found : NoneOr (HasPlainNode made) n node = subst (λ (m : ℕ). NoneOr (HasPlainNode made) m node) same (there (HasPlainNode made) 0 chip n (omega (arith, size)) named) in
     elim found [
       | inl none ↦ unnamed_loaded n node (node_at made n) is_fit none (others (unnamed n chip size none) ∙ fresh)
       | inr plain ↦ named_loaded n node (node_at made n) is_fit
-          (subst (λ (first : NodeState). IsNode (plain_node first (plain_by n node)) (node_at made n)) fresh (plain n (plain_by n node) (name_back n within) (node_asks n node is_fit)))
+          (subst (λ (first : NodeState). IsSameNode (node_with_plain_requests first (plain_by n node)) (node_at made n)) fresh (plain n (plain_by n node) (name_back n within) (node_asks n node is_fit)))
     ]
 
 -- no line has a fault, the words begin with `node`, and each names a node of its own and asks for what it has
-pub is_source : (chip : List NodeState) (text : Text) → length chip ≡ 144 → All IsFit chip → Says text (source_words 0 chip) → IsSourceOf chip text
+pub is_source : (chip : List NodeState) (text : Text) → length chip ≡ 144 → All IsFit chip → Says text (source_words 0 chip) → IsSourceOfChip chip text
 unfolding AreApart
 is_source chip text size fit says =
     let single = all_single 0 chip (omega (arith, size)) in
     let words = says_words text (source_words 0 chip) single says in
-    let bodies : bodies_in (words_in text) ≡ bodies_of 0 chip = ap bodies_in words ∙ all_bodies 0 chip (omega (arith, size)) in
+    let bodies : body_word_lists (source_word_texts text) ≡ bodies_of 0 chip = ap body_word_lists words ∙ all_bodies 0 chip (omega (arith, size)) in
     record {
       sound = record {
         whole = says_whole text (source_words 0 chip) single says;
-        begins = ap body_in words ∙ starts 0 chip;
+        begins = ap body_words words ∙ starts 0 chip;
         bodies = subst (All IsSoundBody) (sym bodies) (all_sound 0 chip (omega (arith, size)) fit);
         apart = subst (λ (l : List (List Word)). (j k : ℕ) → j < k → k < length l → node_number_of_words l j ≢ node_number_of_words l k) (sym bodies) (all_apart 0 chip (omega (arith, size)));
       };
       same = λ made is n within.
-          source_loaded chip made n size within fit (subst (All (HasPlain made)) bodies is.named)
+          source_loaded chip made n size within fit (subst (All (HasPlainNode made)) bodies is.named)
           (λ other. is.others n (subst (All (IsOther n)) (sym bodies) other));
     }

@@ -6,13 +6,13 @@ use Rattle.std.proofs.lemmas.List.{map-append, append-nil}
 use Rattle.std.proofs.lemmas.List.Folds.{list_all-append}
 use Rattle.std.proofs.lemmas.Slice.Eq.{bytes_eq-Decides}
 use Rattle.std.proofs.lemmas.Bool.{cases_Bool, and_parts, and_from, cond-false, ltb-true, lt-ltb, ne_eqb, false≢true}
-use Rattle.ga_text.specs.Lines.{Text, Bytes, Line, HasNoFeed, ended, text_of, ends_line, with_byte}
+use Rattle.ga_text.specs.Lines.{Text, Bytes, Line, HasNoLineFeed, ended, text_of, ends_line, with_byte}
 use Rattle.ga_text.specs.Digits.{decimal3_of}
-use Rattle.ga_parser.specs.Saying.{parted, is_feed, is_blank, source_lines, has_bytes, source_words, order_mark, without_return, bare, TokenContent, a_word, is_word, spoken, said_by, next_line, said_from, up_to_fault, PlacedToken, at_columns, columns_by, columns_from, scanned_in}
-use Rattle.ga_parser.specs.Words.{said_in, placed_in}
+use Rattle.ga_parser.specs.Saying.{parts_ended_by, is_line_feed, is_blank, source_lines, has_bytes, source_words, byte_order_mark, without_carriage_return, stripped_source_line, TokenContent, word_token, is_word, tokens_of_words, tokens_of_line, next_line_number, tokens_of_lines, tokens_until_fault, PlacedToken, with_columns, columns_of_line, columns_of_lines, scanned_tokens}
+use Rattle.ga_parser.specs.Words.{source_tokens_until_fault, placed_source_tokens}
 use Rattle.ga_parser.specs.Constants.{without_definitions}
-use Rattle.ga_parser.specs.Groups.{grouped}
-use Rattle.ga_parser.specs.Groups.Beginning.{Nothing}
+use Rattle.ga_parser.specs.Groups.{expand_node_groups}
+use Rattle.ga_parser.specs.Groups.NodeNaming.{Nothing}
 use Rattle.ga_asm_text.specs.inner.{Word, Says, IsOrdinary, IsUnmarked, is_inner, is_shown}
 use Rattle.ga_asm_text.proofs.Unchanged.{not_true}
 use Rattle.ga_parser.proofs.Scanning.{short_line}
@@ -20,24 +20,24 @@ use Rattle.std.proofs.lemmas.List.Elements.{All-head, All-tail}
 use Rattle.ga_node.specs.Record.{NodeState}
 use Rattle.ga_grid.specs.Chip.{node_at}
 use Rattle.ga_grid.specs.Grid.{default_chip}
-use Rattle.ga_parser.specs.Plain.{bodies_in, yxx_in}
-use Rattle.ga_source.specs.Made.{HasPlain, IsChipOfSource}
-use Rattle.ga_text.specs.Image.{IsBodyLine, EndsAtEnd, end_line}
+use Rattle.ga_parser.specs.Plain.{body_word_lists, named_node_number}
+use Rattle.ga_source.specs.Made.{HasPlainNode, IsChipOfSource}
+use Rattle.ga_text.specs.Image.{IsBodyLine, EndsWithEndLine, end_line}
 use Rattle.ga_text.specs.Output.{IsReadWhole}
 
 -- ---- parts of texts
 
 -- what follows a part
-pub part_behind : (ends : ℕ → Bool) (part : List ℕ) (byte : ℕ) (rest : List ℕ) → list_all (λ b. not (ends b)) part ≡ true → ends byte ≡ true → parted ends (part ++ byte ∷ rest) ≡ part ∷ parted ends rest
-unfolding parted
+pub part_behind : (ends : ℕ → Bool) (part : List ℕ) (byte : ℕ) (rest : List ℕ) → list_all (λ b. not (ends b)) part ≡ true → ends byte ≡ true → parts_ended_by ends (part ++ byte ∷ rest) ≡ part ∷ parts_ended_by ends rest
+unfolding parts_ended_by
 part_behind ends [] byte rest inner end = rw end refl
 part_behind ends (b ∷ part) byte rest inner end =
     let parts = and_parts (not (ends b)) (list_all (λ b. not (ends b)) part) inner in
     rw (not_true (ends b) parts.0) (ap (with_byte b) (part_behind ends part byte rest parts.1 end))
 
 -- the last part
-pub part_last : (ends : ℕ → Bool) (byte : ℕ) (part : List ℕ) → list_all (λ b. not (ends b)) (byte ∷ part) ≡ true → parted ends (byte ∷ part) ≡ (byte ∷ part) ∷ []
-unfolding parted
+pub part_last : (ends : ℕ → Bool) (byte : ℕ) (part : List ℕ) → list_all (λ b. not (ends b)) (byte ∷ part) ≡ true → parts_ended_by ends (byte ∷ part) ≡ (byte ∷ part) ∷ []
+unfolding parts_ended_by
 part_last ends byte [] inner = rw (not_true (ends byte) (and_parts (not (ends byte)) true inner).0) refl
 part_last ends byte (b ∷ part) inner =
     let parts = and_parts (not (ends byte)) (list_all (λ b. not (ends b)) (b ∷ part)) inner in
@@ -76,26 +76,26 @@ no_bytes : false ≡ true → ⊥
 no_bytes e = false≢true e
 
 -- a word with others after it
-pub word_first : (line : ℕ) (word rest : List ℕ) → IsOrdinary word → spoken line false (source_words (word ++ 32 ∷ rest)) ≡ a_word line word ∷ spoken line false (source_words rest)
-unfolding spoken
+pub word_first : (line : ℕ) (word rest : List ℕ) → IsOrdinary word → tokens_of_words line false (source_words (word ++ 32 ∷ rest)) ≡ word_token line word ∷ tokens_of_words line false (source_words rest)
+unfolding tokens_of_words
 word_first line [] rest is = absurd (no_bytes is.bytes)
 word_first line (b ∷ word) rest is =
-    ap (λ (parts : List (List ℕ)). spoken line false (filter has_bytes parts)) (part_behind is_blank (b ∷ word) 32 rest (no_blank (b ∷ word) is.shown) refl)
+    ap (λ (parts : List (List ℕ)). tokens_of_words line false (filter has_bytes parts)) (part_behind is_blank (b ∷ word) 32 rest (no_blank (b ∷ word) is.shown) refl)
     ∙ (cond-false (bytes_eq (b ∷ word) (codes "\\")) [] _ is.no_remark
-    ∙ cond-false (bytes_eq (b ∷ word) (codes "(")) (spoken line true (source_words rest)) _ is.no_opening)
+    ∙ cond-false (bytes_eq (b ∷ word) (codes "(")) (tokens_of_words line true (source_words rest)) _ is.no_opening)
 
 -- the last word
-pub word_last : (line : ℕ) (word : List ℕ) → IsOrdinary word → spoken line false (source_words word) ≡ a_word line word ∷ []
-unfolding spoken
+pub word_last : (line : ℕ) (word : List ℕ) → IsOrdinary word → tokens_of_words line false (source_words word) ≡ word_token line word ∷ []
+unfolding tokens_of_words
 word_last line [] is = absurd (no_bytes is.bytes)
 word_last line (b ∷ word) is =
-    ap (λ (parts : List (List ℕ)). spoken line false (filter has_bytes parts)) (part_last is_blank b word (no_blank (b ∷ word) is.shown))
+    ap (λ (parts : List (List ℕ)). tokens_of_words line false (filter has_bytes parts)) (part_last is_blank b word (no_blank (b ∷ word) is.shown))
     ∙ (cond-false (bytes_eq (b ∷ word) (codes "\\")) [] _ is.no_remark
-    ∙ cond-false (bytes_eq (b ∷ word) (codes "(")) (spoken line true []) _ is.no_opening)
+    ∙ cond-false (bytes_eq (b ∷ word) (codes "(")) (tokens_of_words line true []) _ is.no_opening)
 
 -- a comment
-pub remark_last : (line : ℕ) (rest : List ℕ) → spoken line false (source_words (92 ∷ 32 ∷ rest)) ≡ []
-unfolding spoken parted
+pub remark_last : (line : ℕ) (rest : List ℕ) → tokens_of_words line false (source_words (92 ∷ 32 ∷ rest)) ≡ []
+unfolding tokens_of_words parts_ended_by
 remark_last line rest = refl
 
 -- ---- lines
@@ -115,7 +115,7 @@ none_second (word ∷ words) more none = cc
 none_both : (first second : Text) → first ≡ [] → second ≡ [] → first ++ second ≡ []
 none_both first second one two = rw (one, two) refl
 
-inner_no_feed : (b : ℕ) → is_inner b ≡ true → not (is_feed b) ≡ true
+inner_no_feed : (b : ℕ) → is_inner b ≡ true → not (is_line_feed b) ≡ true
 inner_no_feed b inner = (and_parts (not (b == 10)) (not (b == 13)) inner).0
 
 inner_no_return : (b : ℕ) → is_inner b ≡ true → (b == 13) ≡ false
@@ -126,7 +126,7 @@ none_and true b none = absurd (false≢true (sym none))
 none_and false b none = refl
 
 -- a text that doesn't begin as a mark does has none
-no_mark : (text : List ℕ) → IsUnmarked text → bytes_eq (take 3 text) order_mark ≡ false
+no_mark : (text : List ℕ) → IsUnmarked text → bytes_eq (take 3 text) byte_order_mark ≡ false
 no_mark [] start = refl
 no_mark (b ∷ text) start = none_and (b == 0xef) (bytes_eq (take 2 text) (0xbb ∷ 0xbf ∷ [])) start
 
@@ -144,18 +144,18 @@ and_none true b none = none
 and_none false b none = refl
 
 -- so such a line has nothing that an editor added
-pub own_line : (line : ℕ) (text : List ℕ) → IsUnmarked text → list_all is_inner text ≡ true → bare line text ≡ text
+pub own_line : (line : ℕ) (text : List ℕ) → IsUnmarked text → list_all is_inner text ≡ true → stripped_source_line line text ≡ text
 own_line line text start inner =
-    ap without_return (cond-false (line == 1 && bytes_eq (take 3 text) order_mark) (drop 3 text) text (and_none (line == 1) (bytes_eq (take 3 text) order_mark) (no_mark text start)))
+    ap without_carriage_return (cond-false (line == 1 && bytes_eq (take 3 text) byte_order_mark) (drop 3 text) text (and_none (line == 1) (bytes_eq (take 3 text) byte_order_mark) (no_mark text start)))
     ∙ cond-false (slice_index text (length text - 1) == 13) (take (length text - 1) text) text (no_return text inner)
 
-pub line_first : (line : ℕ) (text rest : Text) → IsUnmarked text → list_all is_inner text ≡ true → bytes_eq text (codes "end") ≡ false → said_from line (source_lines ((text ++ 10 ∷ []) ++ rest)) ≡ said_by line text ++ said_from (next_line line) (source_lines rest)
-unfolding said_from
+pub line_first : (line : ℕ) (text rest : Text) → IsUnmarked text → list_all is_inner text ≡ true → bytes_eq text (codes "end") ≡ false → tokens_of_lines line (source_lines ((text ++ 10 ∷ []) ++ rest)) ≡ tokens_of_line line text ++ tokens_of_lines (next_line_number line) (source_lines rest)
+unfolding tokens_of_lines
 line_first line text rest start inner other =
-    ap (λ (t : Text). said_from line (source_lines t)) (append_assoc text (10 ∷ []) rest)
-    ∙ (ap (said_from line) (part_behind is_feed text 10 rest (weaker is_inner (λ b. not (is_feed b)) text inner_no_feed inner) refl)
-    ∙ (ap (λ (own : List ℕ). if bytes_eq own (codes "end") then [] else said_by line own ++ said_from (next_line line) (source_lines rest)) (own_line line text start inner)
-    ∙ cond-false (bytes_eq text (codes "end")) [] (said_by line text ++ said_from (next_line line) (source_lines rest)) other))
+    ap (λ (t : Text). tokens_of_lines line (source_lines t)) (append_assoc text (10 ∷ []) rest)
+    ∙ (ap (tokens_of_lines line) (part_behind is_line_feed text 10 rest (weaker is_inner (λ b. not (is_line_feed b)) text inner_no_feed inner) refl)
+    ∙ (ap (λ (own : List ℕ). if bytes_eq own (codes "end") then [] else tokens_of_line line own ++ tokens_of_lines (next_line_number line) (source_lines rest)) (own_line line text start inner)
+    ∙ cond-false (bytes_eq text (codes "end")) [] (tokens_of_line line text ++ tokens_of_lines (next_line_number line) (source_lines rest)) other))
 
 -- lines are none yet
 pub says_nothing : Says [] []
@@ -172,25 +172,25 @@ says_both first second words more one two = record {
       let b = two.says a.1 rest in (
         a.0 ++ b.0,
         b.1,
-        ap (λ (text : Text). said_from line (source_lines text)) (append_assoc first second rest)
-            ∙ (a.2 ∙ (ap (λ (l : List TokenContent). a.0 ++ l) b.2 ∙ sym (append_assoc a.0 b.0 (said_from b.1 (source_lines rest))))),
+        ap (λ (text : Text). tokens_of_lines line (source_lines text)) (append_assoc first second rest)
+            ∙ (a.2 ∙ (ap (λ (l : List TokenContent). a.0 ++ l) b.2 ∙ sym (append_assoc a.0 b.0 (tokens_of_lines b.1 (source_lines rest))))),
         map-append (λ (said : TokenContent). said.text) a.0 b.0 ∙ (ap (λ (l : List Word). l ++ map (λ (said : TokenContent). said.text) b.0) a.3 ∙ ap (λ (l : List Word). words ++ l) b.3),
         list_all-append is_word a.0 b.0 ∙ and_from (list_all is_word a.0) (list_all is_word b.0) a.4 b.4,
       );
   nothing = λ none. none_both first second (one.nothing (none_first words more none)) (two.nothing (none_second words more none));
 }
 
-all_words : (line : ℕ) (words : List Word) → (map (λ (said : TokenContent). said.text) (map (a_word line) words) ≡ words) × (list_all is_word (map (a_word line) words) ≡ true)
+all_words : (line : ℕ) (words : List Word) → (map (λ (said : TokenContent). said.text) (map (word_token line) words) ≡ words) × (list_all is_word (map (word_token line) words) ≡ true)
 all_words line [] = (refl, refl)
 all_words line (word ∷ words) = let more = all_words line words in (ap (λ (l : List Word). word ∷ l) more.0, more.1)
 
 -- one line
-pub says_line : (text : Text) (words : List Word) → IsUnmarked text → list_all is_inner text ≡ true → length text ≤ 200 → bytes_eq text (codes "end") ≡ false → (words ≡ [] → ⊥) → ((line : ℕ) → spoken line false (source_words text) ≡ map (a_word line) words) → Says (text ++ 10 ∷ []) words
+pub says_line : (text : Text) (words : List Word) → IsUnmarked text → list_all is_inner text ≡ true → length text ≤ 200 → bytes_eq text (codes "end") ≡ false → (words ≡ [] → ⊥) → ((line : ℕ) → tokens_of_words line false (source_words text) ≡ map (word_token line) words) → Says (text ++ 10 ∷ []) words
 says_line text words start inner short other some says = record {
   says = λ line rest. (
-    map (a_word line) words,
-    next_line line,
-    line_first line text rest start inner other ∙ ap (λ (l : List TokenContent). l ++ said_from (next_line line) (source_lines rest)) (short_line line text short ∙ says line),
+    map (word_token line) words,
+    next_line_number line,
+    line_first line text rest start inner other ∙ ap (λ (l : List TokenContent). l ++ tokens_of_lines (next_line_number line) (source_lines rest)) (short_line line text short ∙ says line),
     (all_words line words).0,
     (all_words line words).1,
   );
@@ -220,7 +220,7 @@ says_two first second start one two short =
     (omega (arith, length-append first (32 ∷ second)))
     (no_end first second)
     (λ none. cc)
-    (λ line. word_first line first second one ∙ ap (λ (l : List TokenContent). a_word line first ∷ l) (word_last line second two))
+    (λ line. word_first line first second one ∙ ap (λ (l : List TokenContent). word_token line first ∷ l) (word_last line second two))
 
 -- ---- the name of a node
 
@@ -252,92 +252,92 @@ grown old first second a b e f = f ∙ (ap (λ (l : Text). l ++ b) e ∙ append_
 -- ---- source that is read up to its line `end` says what the whole text says
 
 -- no byte of a line ends it
-inner_of : (line : Line) → HasNoFeed line → list_all (λ b. not (is_feed b)) line ≡ true
+inner_of : (line : Line) → HasNoLineFeed line → list_all (λ b. not (is_line_feed b)) line ≡ true
 inner_of [] none = refl
 inner_of (b ∷ line) none =
     and_from
-    (not (is_feed b))
-    (list_all (λ b. not (is_feed b)) line)
+    (not (is_line_feed b))
+    (list_all (λ b. not (is_line_feed b)) line)
     (ap not (All-head (λ b. ends_line b ≡ false) b line none))
     (inner_of line (All-tail (λ b. ends_line b ≡ false) b line none))
 
 -- nothing counts from a line `end` on
-end_last : (line : ℕ) (rest : Bytes) → said_from line (source_lines (ended end_line ++ rest)) ≡ []
-unfolding said_from
+end_last : (line : ℕ) (rest : Bytes) → tokens_of_lines line (source_lines (ended end_line ++ rest)) ≡ []
+unfolding tokens_of_lines
 end_last line rest =
-    ap (said_from line) (part_behind is_feed end_line 10 rest refl refl)
-    ∙ ap (λ (own : List ℕ). if bytes_eq own (codes "end") then [] else said_by line own ++ said_from (next_line line) (source_lines rest)) (own_line line end_line refl refl)
+    ap (tokens_of_lines line) (part_behind is_line_feed end_line 10 rest refl refl)
+    ∙ ap (λ (own : List ℕ). if bytes_eq own (codes "end") then [] else tokens_of_line line own ++ tokens_of_lines (next_line_number line) (source_lines rest)) (own_line line end_line refl refl)
 
 -- a line, and the words of those after it
-line_then : (line : ℕ) (first rest : Text) → HasNoFeed first → said_from line (source_lines (ended first ++ rest)) ≡ (if bytes_eq (bare line first) (codes "end") then [] else said_by line (bare line first) ++ said_from (next_line line) (source_lines rest))
-unfolding said_from
+line_then : (line : ℕ) (first rest : Text) → HasNoLineFeed first → tokens_of_lines line (source_lines (ended first ++ rest)) ≡ (if bytes_eq (stripped_source_line line first) (codes "end") then [] else tokens_of_line line (stripped_source_line line first) ++ tokens_of_lines (next_line_number line) (source_lines rest))
+unfolding tokens_of_lines
 line_then line first rest none =
-    ap (λ (t : Text). said_from line (source_lines t)) (append_assoc first (10 ∷ []) rest)
-    ∙ ap (said_from line) (part_behind is_feed first 10 rest (inner_of first none) refl)
+    ap (λ (t : Text). tokens_of_lines line (source_lines t)) (append_assoc first (10 ∷ []) rest)
+    ∙ ap (tokens_of_lines line) (part_behind is_line_feed first 10 rest (inner_of first none) refl)
 
 -- lines after a line `end` have no words
-to_end : (lines : List Line) → AllByRecursion IsBodyLine lines → (line : ℕ) (rest : Bytes) → said_from line (source_lines ((text_of lines ++ ended end_line) ++ rest)) ≡ said_from line (source_lines (text_of lines ++ ended end_line))
+to_end : (lines : List Line) → AllByRecursion IsBodyLine lines → (line : ℕ) (rest : Bytes) → tokens_of_lines line (source_lines ((text_of lines ++ ended end_line) ++ rest)) ≡ tokens_of_lines line (source_lines (text_of lines ++ ended end_line))
 to_end [] body line rest = end_last line rest ∙ sym (end_last line [])
 to_end (first ∷ lines) body line rest =
     let behind : Text = text_of lines ++ ended end_line in
     let whole : (text_of (first ∷ lines) ++ ended end_line) ++ rest ≡ ended first ++ (behind ++ rest) =
     ap (λ (t : Text). t ++ rest) (append_assoc (ended first) (text_of lines) (ended end_line)) ∙ append_assoc (ended first) behind rest in
-    ap (λ (t : Text). said_from line (source_lines t)) whole
+    ap (λ (t : Text). tokens_of_lines line (source_lines t)) whole
     ∙ (line_then line first (behind ++ rest) body.0.no_feed
-    ∙ (ap (λ (l : List TokenContent). if bytes_eq (bare line first) (codes "end") then [] else said_by line (bare line first) ++ l) (to_end lines body.1 (next_line line) rest)
+    ∙ (ap (λ (l : List TokenContent). if bytes_eq (stripped_source_line line first) (codes "end") then [] else tokens_of_line line (stripped_source_line line first) ++ l) (to_end lines body.1 (next_line_number line) rest)
     ∙ (sym (line_then line first behind body.0.no_feed)
-    ∙ ap (λ (t : Text). said_from line (source_lines t)) (sym (append_assoc (ended first) (text_of lines) (ended end_line))))))
+    ∙ ap (λ (t : Text). tokens_of_lines line (source_lines t)) (sym (append_assoc (ended first) (text_of lines) (ended end_line))))))
 
 -- nor columns
-end_last_column : (line : ℕ) (rest : Bytes) → columns_from line (source_lines (ended end_line ++ rest)) ≡ []
-unfolding columns_from
+end_last_column : (line : ℕ) (rest : Bytes) → columns_of_lines line (source_lines (ended end_line ++ rest)) ≡ []
+unfolding columns_of_lines
 end_last_column line rest =
-    ap (columns_from line) (part_behind is_feed end_line 10 rest refl refl)
-    ∙ ap (λ (own : List ℕ). if bytes_eq own (codes "end") then [] else columns_by own ++ columns_from (next_line line) (source_lines rest)) (own_line line end_line refl refl)
+    ap (columns_of_lines line) (part_behind is_line_feed end_line 10 rest refl refl)
+    ∙ ap (λ (own : List ℕ). if bytes_eq own (codes "end") then [] else columns_of_line own ++ columns_of_lines (next_line_number line) (source_lines rest)) (own_line line end_line refl refl)
 
-column_then : (line : ℕ) (first rest : Text) → HasNoFeed first → columns_from line (source_lines (ended first ++ rest)) ≡ (if bytes_eq (bare line first) (codes "end") then [] else columns_by (bare line first) ++ columns_from (next_line line) (source_lines rest))
-unfolding columns_from
+column_then : (line : ℕ) (first rest : Text) → HasNoLineFeed first → columns_of_lines line (source_lines (ended first ++ rest)) ≡ (if bytes_eq (stripped_source_line line first) (codes "end") then [] else columns_of_line (stripped_source_line line first) ++ columns_of_lines (next_line_number line) (source_lines rest))
+unfolding columns_of_lines
 column_then line first rest none =
-    ap (λ (t : Text). columns_from line (source_lines t)) (append_assoc first (10 ∷ []) rest)
-    ∙ ap (columns_from line) (part_behind is_feed first 10 rest (inner_of first none) refl)
+    ap (λ (t : Text). columns_of_lines line (source_lines t)) (append_assoc first (10 ∷ []) rest)
+    ∙ ap (columns_of_lines line) (part_behind is_line_feed first 10 rest (inner_of first none) refl)
 
-columns_to_end : (lines : List Line) → AllByRecursion IsBodyLine lines → (line : ℕ) (rest : Bytes) → columns_from line (source_lines ((text_of lines ++ ended end_line) ++ rest)) ≡ columns_from line (source_lines (text_of lines ++ ended end_line))
+columns_to_end : (lines : List Line) → AllByRecursion IsBodyLine lines → (line : ℕ) (rest : Bytes) → columns_of_lines line (source_lines ((text_of lines ++ ended end_line) ++ rest)) ≡ columns_of_lines line (source_lines (text_of lines ++ ended end_line))
 columns_to_end [] body line rest = end_last_column line rest ∙ sym (end_last_column line [])
 columns_to_end (first ∷ lines) body line rest =
     let behind : Text = text_of lines ++ ended end_line in
     let whole : (text_of (first ∷ lines) ++ ended end_line) ++ rest ≡ ended first ++ (behind ++ rest) =
     ap (λ (t : Text). t ++ rest) (append_assoc (ended first) (text_of lines) (ended end_line)) ∙ append_assoc (ended first) behind rest in
-    ap (λ (t : Text). columns_from line (source_lines t)) whole
+    ap (λ (t : Text). columns_of_lines line (source_lines t)) whole
     ∙ (column_then line first (behind ++ rest) body.0.no_feed
-    ∙ (ap (λ (l : List ℕ). if bytes_eq (bare line first) (codes "end") then [] else columns_by (bare line first) ++ l) (columns_to_end lines body.1 (next_line line) rest)
+    ∙ (ap (λ (l : List ℕ). if bytes_eq (stripped_source_line line first) (codes "end") then [] else columns_of_line (stripped_source_line line first) ++ l) (columns_to_end lines body.1 (next_line_number line) rest)
     ∙ (sym (column_then line first behind body.0.no_feed)
-    ∙ ap (λ (t : Text). columns_from line (source_lines t)) (sym (append_assoc (ended first) (text_of lines) (ended end_line))))))
+    ∙ ap (λ (t : Text). columns_of_lines line (source_lines t)) (sym (append_assoc (ended first) (text_of lines) (ended end_line))))))
 
 -- so a source up to its line `end` says what the whole text says
-scanned_all : (source rest : Text) → EndsAtEnd source → scanned_in (source ++ rest) ≡ scanned_in source
+scanned_all : (source rest : Text) → EndsWithEndLine source → scanned_tokens (source ++ rest) ≡ scanned_tokens source
 scanned_all source rest ends =
-    ap (λ (t : Text). scanned_in (t ++ rest)) ends.splits
-    ∙ (ap₂ at_columns (to_end ends.lines ends.before 1 rest) (columns_to_end ends.lines ends.before 1 rest)
-    ∙ ap scanned_in (sym ends.splits))
+    ap (λ (t : Text). scanned_tokens (t ++ rest)) ends.splits
+    ∙ (ap₂ with_columns (to_end ends.lines ends.before 1 rest) (columns_to_end ends.lines ends.before 1 rest)
+    ∙ ap scanned_tokens (sym ends.splits))
 
-says_all : (source rest : Text) → EndsAtEnd source → said_in (source ++ rest) ≡ said_in source
-unfolding said_in placed_in
+says_all : (source rest : Text) → EndsWithEndLine source → source_tokens_until_fault (source ++ rest) ≡ source_tokens_until_fault source
+unfolding source_tokens_until_fault placed_source_tokens
 says_all source rest ends =
-    ap (λ (words : List PlacedToken). up_to_fault (map (λ (one : PlacedToken). one.said) (grouped true Nothing (without_definitions words)))) (scanned_all source rest ends)
+    ap (λ (words : List PlacedToken). tokens_until_fault (map (λ (one : PlacedToken). one.said) (expand_node_groups true Nothing (without_definitions words)))) (scanned_all source rest ends)
 
 -- what was read of a text, as a source, says what the text says
-pub read_says : (text read rest source ahead : Text) → text ≡ read ++ rest → read ≡ source ++ ahead → IsReadWhole source ahead rest → said_in source ≡ said_in text
+pub read_says : (text read rest source ahead : Text) → text ≡ read ++ rest → read ≡ source ++ ahead → IsReadWhole source ahead rest → source_tokens_until_fault source ≡ source_tokens_until_fault text
 read_says text read rest source ahead input parts (inl ends) =
-    sym (ap said_in (input ∙ (ap (λ (t : Text). t ++ rest) parts ∙ append_assoc source ahead rest)) ∙ says_all source (ahead ++ rest) ends.0)
+    sym (ap source_tokens_until_fault (input ∙ (ap (λ (t : Text). t ++ rest) parts ∙ append_assoc source ahead rest)) ∙ says_all source (ahead ++ rest) ends.0)
 read_says text read rest source ahead input parts (inr all) =
-    sym (ap said_in (input
+    sym (ap source_tokens_until_fault (input
     ∙ (ap (λ (t : Text). t ++ rest) parts
     ∙ (ap (λ (t : Text). (source ++ ahead) ++ t) all.1
     ∙ (append-nil (source ++ ahead) ∙ (ap (λ (t : Text). source ++ t) all.0 ∙ append-nil source))))))
 
 -- so texts that say the same make the same chips
-pub made_of_same : (source text : Text) (chip : List NodeState) → said_in source ≡ said_in text → IsChipOfSource source chip → IsChipOfSource text chip
+pub made_of_same : (source text : Text) (chip : List NodeState) → source_tokens_until_fault source ≡ source_tokens_until_fault text → IsChipOfSource source chip → IsChipOfSource text chip
 made_of_same source text chip same made = record {
-  named = subst (λ (said : List TokenContent). All (HasPlain chip) (bodies_in (map (λ (one : TokenContent). one.text) said))) same made.named;
-  others = subst (λ (said : List TokenContent). (n : ℕ) → All (λ words. yxx_in (slice_index_or words 0 []) ≢ Some n) (bodies_in (map (λ (one : TokenContent). one.text) said)) → node_at chip n ≡ node_at default_chip n) same made.others;
+  named = subst (λ (said : List TokenContent). All (HasPlainNode chip) (body_word_lists (map (λ (one : TokenContent). one.text) said))) same made.named;
+  others = subst (λ (said : List TokenContent). (n : ℕ) → All (λ words. named_node_number (slice_index_or words 0 []) ≢ Some n) (body_word_lists (map (λ (one : TokenContent). one.text) said)) → node_at chip n ≡ node_at default_chip n) same made.others;
 }

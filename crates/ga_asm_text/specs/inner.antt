@@ -6,21 +6,21 @@ use Rattle.ga_grid.specs.Grid.{yxx_of, load_p_of}
 use Rattle.ga_node.specs.Record.{NodeState}
 use Rattle.ga_text.specs.Lines.{Bytes, Text}
 use Rattle.ga_text.specs.Digits.{decimal3_of}
-use Rattle.ga_parser.specs.Saying.{has_bytes, TokenContent, is_word, source_lines, said_from}
-use Rattle.ga_parser.specs.declared.fault.Fault.{Fault}
-use Rattle.ga_parser.specs.contracts.fault.FaultPartialEq.TheImpl.{ghosts as faults_compare}
+use Rattle.ga_parser.specs.Saying.{has_bytes, TokenContent, is_word, source_lines, tokens_of_lines}
+use Rattle.ga_parser.specs.declared.fault.SourceFault.{SourceFault}
+use Rattle.ga_parser.specs.contracts.fault.SourceFaultPartialEq.TheImpl.{ghosts as faults_compare}
 use Rattle.ga_parser.specs.declared.scan.Token.{Token}
 use Rattle.ga_source.specs.Recovery.{fault_at_line}
 use Rattle.ga_asm_text.specs.declared.fault_lines.FaultLines.{FaultLines}
 use Rattle.ga_image.specs.declared.fault.ImageFault.{ImageFault}
-use Rattle.ga_text.specs.Image.{HasNoEnd}
+use Rattle.ga_text.specs.Image.{HasNoEndLine}
 use Rattle.ga_text.specs.Output.{TextHasPrefix}
 use Rattle.ga_display.specs.Texts.{image_fault_text}
-use Rattle.ga_console.specs.Run.{IsFault}
-use Rattle.ga_console.specs.Race.{IsCutShort}
+use Rattle.ga_console.specs.Run.{IsFaultOfImage}
+use Rattle.ga_console.specs.Race.{IsTruncationOf}
 use Rattle.ga_console.specs.declared.run.Status.{Status}
 use Rattle.ga_console.specs.declared.run.Status.TheVariants.{Done, ImageRefused, StreamFault, NotFinished}
-use Rattle.ga_asm_text.specs.Source.{IsAssembly, IsAccepted, IsListedOf, IsFaulty, listed_fault, AreAmong, ListsFaults}
+use Rattle.ga_asm_text.specs.Source.{IsAssembledImage, IsDisassembly, HasAssembledChip, IsUnsoundSource, listed_fault_text, HasPartsInOrder, HasListedFaults}
 
 -- ---- what the source of an image says, line by line (docs/REFERENCE.md, "Source"; this project's own)
 
@@ -32,7 +32,7 @@ Word = Bytes
 
 -- The text is whole lines that say these words: before any lines, from any number on. Without a word it is empty.
 pub record Says (text : Text) (words : List Word) : Type 0 where
-  pub says : (line : ℕ) (rest : Text) → (said : List TokenContent) × (next : ℕ) × (said_from line (source_lines (text ++ rest)) ≡ said ++ said_from next (source_lines rest))
+  pub says : (line : ℕ) (rest : Text) → (said : List TokenContent) × (next : ℕ) × (tokens_of_lines line (source_lines (text ++ rest)) ≡ said ++ tokens_of_lines next (source_lines rest))
       × (map (λ one. one.text) said ≡ words) × (list_all is_word said ≡ true)
   pub nothing : words ≡ [] → text ≡ []
 
@@ -169,15 +169,15 @@ pub record IsFit (node : NodeState) : Type 0 where
 
 -- What may be written once the source was read: nothing where it is refused.
 abbrev pub Assembly : Text → Text → Status → Type 0
-Assembly source text Done = IsAssembly source text
+Assembly source text Done = IsAssembledImage source text
 Assembly source text ImageRefused = text ≡ []
-Assembly source text StreamFault = IsCutShort (IsAssembly source) text
+Assembly source text StreamFault = IsTruncationOf (IsAssembledImage source) text
 Assembly source text NotFinished = ⊥
 
 -- a listing of the source, with a fault or without
 abbrev pub IsListed : Text → Bool → Text → Type 0
-IsListed source false text = IsListedOf source
-IsListed source true text = IsFaulty source × ListsFaults source text
+IsListed source false text = HasAssembledChip source
+IsListed source true text = IsUnsoundSource source × HasListedFaults source text
 
 -- the status after a listing with a fault
 abbrev pub with_fault : Status → Status
@@ -193,39 +193,39 @@ behind_listing status true = with_fault status
 
 -- What may be written of a listing once the source was read: nothing where memory was refused. Of the text only the faults are defined.
 abbrev pub Listing : Text → Text → Status → Type 0
-Listing source text Done = IsListedOf source
-Listing source text ImageRefused = (text ≡ []) ⊎ (IsFaulty source × ListsFaults source text)
+Listing source text Done = HasAssembledChip source
+Listing source text ImageRefused = (text ≡ []) ⊎ (IsUnsoundSource source × HasListedFaults source text)
 Listing source text StreamFault = Unit {0}
 Listing source text NotFinished = ⊥
 
 -- What may be written once an image was read: its source or its refusal.
 abbrev pub Disassembly : Text → Text → Status → Type 0
-Disassembly image text Done = IsAccepted image text
-Disassembly image text ImageRefused = (fault : ImageFault) × IsFault image fault × (text ≡ image_fault_text fault)
-Disassembly image text StreamFault = IsCutShort (IsAccepted image) text ⊎ ((fault : ImageFault) × IsFault image fault × TextHasPrefix (image_fault_text fault) text)
+Disassembly image text Done = IsDisassembly image text
+Disassembly image text ImageRefused = (fault : ImageFault) × IsFaultOfImage image fault × (text ≡ image_fault_text fault)
+Disassembly image text StreamFault = IsTruncationOf (IsDisassembly image) text ⊎ ((fault : ImageFault) × IsFaultOfImage image fault × TextHasPrefix (image_fault_text fault) text)
 Disassembly image text NotFinished = ⊥
 
 -- the status to end with where source wasn't read whole
 abbrev pub IsUnread : Bytes → Status → Type 0
 IsUnread read ImageRefused = Unit {0}
-IsUnread read StreamFault = HasNoEnd read
+IsUnread read StreamFault = HasNoEndLine read
 IsUnread read Done = ⊥
 IsUnread read NotFinished = ⊥
 
 -- ---- a listing with faults, as it is made
 
-abbrev pub is_repeated : Option Fault → Fault → Bool
+abbrev pub is_repeated : Option SourceFault → SourceFault → Bool
 is_repeated None fault = false
 is_repeated (Some last) fault = faults_compare.eq fault last
 
 -- the faults that are listed after this last one: none that is equal to the one before
-abbrev pub news : Option Fault → List Fault → List Fault
+abbrev pub news : Option SourceFault → List SourceFault → List SourceFault
 news None faults = dedup faults_compare.eq faults
 news (Some last) faults = drop 1 (dedup_from faults_compare.eq last faults)
 
 -- the lines of faults at the numbers of words, after this last one
-abbrev pub lines_of : Text → List Token → Option Fault → List Fault → List Text
-lines_of source words last faults = map (listed_fault source) (news last (map (fault_at_line words) faults))
+abbrev pub lines_of : Text → List Token → Option SourceFault → List SourceFault → List Text
+lines_of source words last faults = map (listed_fault_text source) (news last (map (fault_at_line words) faults))
 
 -- the lines that are still to be listed
 abbrev pub lines_left : FaultLines → List Text
@@ -242,4 +242,4 @@ pub record Tells (old new : Text) (before left : List Text) : Type 0 where
   pub lines : List Text
   pub text : new ≡ old ++ added
   pub told : before ≡ lines ++ left
-  pub among : AreAmong lines added
+  pub among : HasPartsInOrder lines added

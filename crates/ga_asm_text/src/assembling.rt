@@ -3,7 +3,7 @@ ghost use Rattle.ga_text.specs.Output.{ReadsAndWrites};
 ghost use Rattle.std.specs.Prelude.{◌≡◌, ◌++◌, Some, IfSome};
 ghost use Rattle.ga_text.specs.Lines.{Bytes};
 ghost use Rattle.ga_console.specs.inner.Run.{Writes};
-ghost use Rattle.ga_asm_text.specs.Source.{IsAssembly, Assembles};
+ghost use Rattle.ga_asm_text.specs.Source.{IsAssembledImage, WritesAssembly};
 
 use super::reading::read_source;
 use ga_console::Status;
@@ -24,7 +24,7 @@ pub fn assemble_source<R: Read, W: Write, E: Write>(
     errors: &mut E,
 ) -> Status
     // Where the streams tell their bytes: what was read, and what was written for it by the status.
-    ensures { ReadsAndWrites (λ read rest text. Assembles read rest text result)
+    ensures { ReadsAndWrites (λ read rest text. WritesAssembly read rest text result)
         (R.remaining reader.old) (R.remaining reader.new) (W.contents writer.old) (W.contents writer.new) }
 {
     match read_source(alloc, reader, errors) {
@@ -49,7 +49,7 @@ pub fn write_text<W: Write>(writer: &mut W, text: Vec<u8>) -> Status
 
 /// The image of a source, and on `errors` its stores over code; or none, and a fault is written there.
 fn image_of<E: Write>(alloc: Global, errors: &mut E, source: Vec<u8>) -> Option<Vec<u8>>
-    ensures { IfSome result (λ image. IsAssembly source.items image.items) }
+    ensures { IfSome result (λ image. IsAssembledImage source.items image.items) }
 {
     match assemble(alloc, source.as_slice()) {
         Ok(assembled) => {

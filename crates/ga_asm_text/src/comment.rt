@@ -2,7 +2,7 @@
 
 use arrayvec::ArrayVec;
 use ga_node::{Node, Place};
-use ga_ports::{Target, advance_p, classify};
+use ga_ports::{Target, advance_p, classify_address};
 use ga_slots::{Op, opcode, target};
 use ga_word::Word18;
 use std::io::Write;
@@ -160,10 +160,10 @@ impl CellRoles {
         let _ = write!(remark, "{:03x}{} ", address, mark);
         match role {
             Role::Literal | Role::Zero => push_literal(&mut remark, word),
-            Role::Unreached => push_opcodes(&mut remark, Word18::truncated(word), address),
+            Role::Unreached => push_opcodes(&mut remark, Word18::from_low_bits(word), address),
             Role::Code | Role::Label => {
-                push_opcodes(&mut remark, Word18::truncated(word), address);
-                self.push_zeros(&mut remark, Word18::truncated(word), address);
+                push_opcodes(&mut remark, Word18::from_low_bits(word), address);
+                self.push_zeros(&mut remark, Word18::from_low_bits(word), address);
             }
         }
         remark
@@ -200,7 +200,7 @@ fn literal_role(node: &Node, address: u32) -> Role {
 
 /// The number of the cell that an address names, where it names one.
 fn cell_of(address: u32) -> Option<usize> {
-    match classify(address) {
+    match classify_address(address) {
         Target::Ram(cell) => Some(usize::from(cell)),
         Target::Rom(cell) => Some(128 + usize::from(cell)),
         _ => None,
@@ -209,7 +209,7 @@ fn cell_of(address: u32) -> Option<usize> {
 
 /// The word of the cell at an address, 0 where it names none.
 fn word_at(node: &Node, address: u32) -> Word18 {
-    Word18::truncated(match classify(address) {
+    Word18::from_low_bits(match classify_address(address) {
         Target::Ram(cell) => node.get(Place::Ram(cell)),
         Target::Rom(cell) => node.get(Place::Rom(cell)),
         _ => 0,

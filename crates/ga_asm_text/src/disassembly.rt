@@ -2,22 +2,22 @@
 ghost use Rattle.ga_text.specs.Output.{WritesText, ReadsAndWrites};
 ghost use Rattle.std.specs.Prelude.{◌≡◌, ◌⊎◌, ◌<◌, ◌≤◌, [], ◌∷◌, length, codes, IfOk, IfErr, OnOk};
 ghost use Rattle.std.specs.List.{All};
-ghost use Rattle.ga_image.specs.FirstFault.{no_memory, IsFirstFault};
+ghost use Rattle.ga_image.specs.FirstFault.{memory_fault, IsFirstFault};
 ghost use Rattle.ga_image.specs.Grammar.{IsImage};
 ghost use Rattle.ga_text.specs.Lines.{lines_of};
-ghost use Rattle.ga_console.specs.Run.{IsFault};
-ghost use Rattle.ga_asm_text.specs.Source.{IsAccepted, Disassembles};
+ghost use Rattle.ga_console.specs.Run.{IsFaultOfImage};
+ghost use Rattle.ga_asm_text.specs.Source.{IsDisassembly, WritesDisassembly};
 ghost use Rattle.ga_asm_text.specs.inner.{Disassembly, IsOrdinary, IsUnmarked, Says, Adds, AddsRemark, number_word, register_words, address_words, cell_words, next_of, cells_words, next_behind, holds_words as holds_words_of, usual_p as usual_p_of, registers_words, memory_words, node_words, named_words, source_words, AreCells, HasRegisters, HasMemories, IsFit};
 
 use super::assembling::write_text;
 use super::comment::CellRoles;
 use super::listing::{push_hex, push_node};
 use ga_console::{Status, refuse};
-use ga_debug_info::{edited_image, report_editor_artifact, report_unrepresented};
-use ga_grid::{Chip, NODES, NodeId, load_p};
+use ga_debug_info::{find_image_artifact, report_editor_artifact, report_unrepresented};
+use ga_grid::{CHIP_NODES, Chip, NodeId, load_p};
 use ga_image::{ImageCause, ImageFault, parse};
 use ga_node::{Node, Place};
-use ga_text::{WholeRead, read_whole};
+use ga_text::{WholeRead, read_whole_input};
 use std::alloc::{AllocError, Global};
 use std::io::{Read, Write};
 
@@ -37,10 +37,10 @@ pub fn disassemble<R: Read, W: Write, E: Write>(
     errors: &mut E,
 ) -> Status
     // Where the streams tell their bytes: what was read, and what was written for it by the status.
-    ensures { ReadsAndWrites (λ read rest text. Disassembles read rest text result)
+    ensures { ReadsAndWrites (λ read rest text. WritesDisassembly read rest text result)
         (R.remaining reader.old) (R.remaining reader.new) (W.contents writer.old) (W.contents writer.new) }
 {
-    match read_whole(alloc, reader) {
+    match read_whole_input(alloc, reader) {
         WholeRead::Whole(image) => disassemble_text(alloc, writer, errors, image),
         // No image that is accepted is so long.
         WholeRead::TooLong(image) => disassemble_text(alloc, writer, errors, image),
@@ -70,8 +70,8 @@ fn source_for<E: Write>(
     errors: &mut E,
     image: Vec<u8>,
 ) -> Result<Vec<u8>, ImageFault>
-    ensures ok { IfOk result (λ text. IsAccepted image.items text.items) }
-    ensures err { IfErr result (λ fault. IsFault image.items fault) }
+    ensures ok { IfOk result (λ text. IsDisassembly image.items text.items) }
+    ensures err { IfErr result (λ fault. IsFaultOfImage image.items fault) }
 {
     let chip = parse_told(alloc, errors, image.as_slice())?;
     match source_of(alloc, &chip) {
@@ -88,11 +88,11 @@ fn source_for<E: Write>(
 /// The chip of an image. For a refused one, `errors` gets what an editor wrote into it.
 fn parse_told<E: Write>(alloc: Global, errors: &mut E, image: &[u8]) -> Result<Chip, ImageFault>
     ensures found { IfOk result (λ chip. IsImage (lines_of image.now) chip) }
-    ensures refused { IfErr result (λ fault. (fault ≡ no_memory) ⊎ IsFirstFault (lines_of image.now) fault) }
+    ensures refused { IfErr result (λ fault. (fault ≡ memory_fault) ⊎ IsFirstFault (lines_of image.now) fault) }
 {
     let parsed = parse(alloc, image);
     if parsed.is_err() {
-        let _written = report_editor_artifact(errors, edited_image(image));
+        let _written = report_editor_artifact(errors, find_image_artifact(image));
     }
     parsed
 }
@@ -104,7 +104,7 @@ fn source_of(alloc: Global, chip: &Chip) -> Result<Vec<u8>, AllocError>
     ensures fit { OnOk result (All IsFit chip.now) }
 {
     let mut text = Vec::new(alloc);
-    for number in 0..NODES as u8 {
+    for number in 0..CHIP_NODES as u8 {
         let node = NodeId::new(number);
         push_program(&mut text, node, chip.node(node))?;
     }

@@ -2,11 +2,11 @@
 
 ghost use Rattle.std.specs.Prelude.{◌≡◌, ◌+◌, ◌<◌, ◌++◌, [], true, length, map, OnOk};
 ghost use Rattle.ga_source.specs.Recovery.{faults_by_line};
-ghost use Rattle.ga_asm_text.specs.Source.{fault_before, listed_fault};
+ghost use Rattle.ga_asm_text.specs.Source.{fault_line_text, listed_fault_text};
 ghost use Rattle.ga_asm_text.specs.inner.{is_repeated as is_repeated_by, lines_left, Tells};
 
 use ga_debug_info::{Lines, push_fault};
-use ga_source::{Fault, Token, fault_on_line, line_of_number};
+use ga_source::{SourceFault, Token, fault_on_line, line_of_number};
 use std::alloc::AllocError;
 
 /// The words of a source by their numbers, and its faults in the order of their words.
@@ -16,17 +16,21 @@ pub(crate) struct FaultLines<'a, 's> {
     words: &'a [Token<'s>],
     lines: Lines<'s>,
     /// The faults. The line of each is the number of a word.
-    faults: Vec<Fault<'s>>,
+    faults: Vec<SourceFault<'s>>,
     /// How many faults were listed or left out.
     told: usize,
     /// The last fault that was listed, with its line.
-    last: Option<Fault<'s>>,
+    last: Option<SourceFault<'s>>,
 }
 
 impl<'a, 's> FaultLines<'a, 's> {
     /// The lines of faults of a source, its words and its faults in their order.
-    pub(crate) fn new(source: &'s [u8], words: &'a [Token<'s>], faults: Vec<Fault<'s>>) -> Self
-        ensures { lines_left result ≡ map (listed_fault source.now) (faults_by_line words.now faults.entry.items) }
+    pub(crate) fn new(
+        source: &'s [u8],
+        words: &'a [Token<'s>],
+        faults: Vec<SourceFault<'s>>,
+    ) -> Self
+        ensures { lines_left result ≡ map (listed_fault_text source.now) (faults_by_line words.now faults.entry.items) }
     {
         FaultLines {
             words,
@@ -96,7 +100,7 @@ impl<'a, 's> FaultLines<'a, 's> {
 }
 
 /// Whether a fault is equal to the last one.
-fn is_repeated(last: Option<Fault<'_>>, fault: Fault<'_>) -> bool
+fn is_repeated(last: Option<SourceFault<'_>>, fault: SourceFault<'_>) -> bool
     ensures { result ≡ is_repeated_by last.entry fault.entry }
 {
     match last {
@@ -106,8 +110,8 @@ fn is_repeated(last: Option<Fault<'_>>, fault: Fault<'_>) -> bool
 }
 
 /// Adds a fault before its line.
-fn push_listed(text: &mut Vec<u8>, fault: Fault<'_>, line: &[u8]) -> Result<(), AllocError>
-    ensures { OnOk result (text.new.items ≡ text.old.items ++ fault_before fault.entry line.now) }
+fn push_listed(text: &mut Vec<u8>, fault: SourceFault<'_>, line: &[u8]) -> Result<(), AllocError>
+    ensures { OnOk result (text.new.items ≡ text.old.items ++ fault_line_text fault.entry line.now) }
 {
     push_fault(text, fault)?;
     text.extend_from_slice(b" \\ ")?;

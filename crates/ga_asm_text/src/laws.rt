@@ -5,8 +5,8 @@ ghost use Rattle.ga_node.specs.Record.{NodeState};
 ghost use Rattle.ga_grid.specs.Chip.{node_at, records_of};
 ghost use Rattle.ga_text.specs.Lines.{Text, lines_of};
 ghost use Rattle.ga_image.specs.Grammar.{IsImage};
-ghost use Rattle.ga_image.specs.Printing.{Describes};
-ghost use Rattle.ga_asm_text.specs.Source.{IsAssembly, IsLoadedAs, IsAccepted, Assembles};
+ghost use Rattle.ga_image.specs.Printing.{IsImageOfRecords};
+ghost use Rattle.ga_asm_text.specs.Source.{IsAssembledImage, HasSameLoad, IsDisassembly, WritesAssembly};
 ghost use Rattle.ga_console.specs.declared.run.Status.TheVariants.{Done};
 ghost use Rattle.ga_source.specs.Made.{IsChipOfSource};
 
@@ -14,10 +14,10 @@ ghost use Rattle.ga_source.specs.Made.{IsChipOfSource};
 /// which is written of this source, and that of the image which `asm` writes where this source is its input, of which it may read a
 /// part.
 pub fn disassembly_round_trips()
-    ensures made { (image text : Text) (made : List NodeState) → IsAccepted image text → IsChipOfSource text made →
-        (chip : List NodeState) × IsImage (lines_of image) chip × ((n : ℕ) → n < 144 → IsLoadedAs (node_at chip n) (node_at made n)) }
-    ensures written { (image text again : Text) → IsAccepted image text → IsAssembly text again →
-        (chip made : List NodeState) × IsImage (lines_of image) chip × Describes (lines_of again) (records_of made) × ((n : ℕ) → n < 144 → IsLoadedAs (node_at chip n) (node_at made n)) }
-    ensures read { (image text read rest again : Text) → IsAccepted image text → text ≡ read ++ rest → Assembles read rest again Done →
-        (chip made : List NodeState) × IsImage (lines_of image) chip × Describes (lines_of again) (records_of made) × ((n : ℕ) → n < 144 → IsLoadedAs (node_at chip n) (node_at made n)) }
+    ensures made { (image text : Text) (made : List NodeState) → IsDisassembly image text → IsChipOfSource text made →
+        (chip : List NodeState) × IsImage (lines_of image) chip × ((n : ℕ) → n < 144 → HasSameLoad (node_at chip n) (node_at made n)) }
+    ensures written { (image text again : Text) → IsDisassembly image text → IsAssembledImage text again →
+        (chip made : List NodeState) × IsImage (lines_of image) chip × IsImageOfRecords (lines_of again) (records_of made) × ((n : ℕ) → n < 144 → HasSameLoad (node_at chip n) (node_at made n)) }
+    ensures read { (image text read rest again : Text) → IsDisassembly image text → text ≡ read ++ rest → WritesAssembly read rest again Done →
+        (chip made : List NodeState) × IsImage (lines_of image) chip × IsImageOfRecords (lines_of again) (records_of made) × ((n : ℕ) → n < 144 → HasSameLoad (node_at chip n) (node_at made n)) }
 {}

@@ -9,8 +9,8 @@ ghost use Rattle.ga_asm_text.specs.inner.{Adds, hex_of, Listing, IsListed, with_
 ghost use Rattle.ga_parser.specs.declared.fault.SourceCause.TheVariants.{Memory};
 ghost use Rattle.ga_source.specs.Made.{IsSoundSource};
 ghost use Rattle.ga_source.specs.Recovery.{faults_by_line};
-ghost use Rattle.ga_debug_info.specs.Faults.{faults_text, program_name};
-ghost use Rattle.ga_asm_text.specs.Source.{Lists, AreAmong};
+ghost use Rattle.ga_debug_info.specs.Faults.{faults_text, error_prefix};
+ghost use Rattle.ga_asm_text.specs.Source.{WritesListing, HasPartsInOrder};
 
 use super::assembling::write_text;
 use super::fault_lines::FaultLines;
@@ -19,11 +19,12 @@ use ga_console::Status;
 use ga_debug_info::{push_faults, report_out_of_memory};
 use ga_grid::{Chip, NodeId};
 use ga_node::Place;
-use ga_ports::{Target, advance_p, classify};
+use ga_ports::{Target, advance_p, classify_address};
 use ga_slots::Op;
 use ga_source::{
-    Assembled, Fault, Group, Item, Operand, Program, RecoveredSource, Request, SourceCause, Token,
-    assemble_by_word_number, faults_on_lines, or_first, recover_words, source_words, words_once,
+    AssembledChip, AssemblyRequest, CellGroup, Item, Operand, Program, RecoveredPrograms,
+    SourceCause, SourceFault, Token, assemble_by_word_number, faults_on_lines, faults_or_first,
+    recover_words, source_words, source_words_without_copies,
 };
 use ga_text::write_all;
 use std::alloc::{AllocError, Global};
@@ -39,7 +40,7 @@ pub fn list_source<R: Read, W: Write, E: Write>(
     errors: &mut E,
 ) -> Status
     // Where the streams tell their bytes: what was read, and what was written for it by the status.
-    ensures { ReadsAndWrites (λ read rest text. Lists read rest text result)
+    ensures { ReadsAndWrites (λ read rest text. WritesListing read rest text result)
         (R.remaining reader.old) (R.remaining reader.new) (W.contents writer.old) (W.contents writer.new) }
 {
     match read_source(alloc, reader, errors) {
@@ -100,7 +101,7 @@ struct Listed {
 ///
 /// # Errors
 /// Out of memory.
-fn listing_of(alloc: Global, source: &[u8]) -> Result<Listed, Fault<'_>>
+fn listing_of(alloc: Global, source: &[u8]) -> Result<Listed, SourceFault<'_>>
     ensures { IfOk result (λ listed. IsListed source.now listed.is_faulty listed.text.items) }
 {
     let words = source_words(alloc, source)?;
@@ -126,18 +127,18 @@ fn listing_of(alloc: Global, source: &[u8]) -> Result<Listed, Fault<'_>>
 fn faulty_listing<'s>(
     alloc: Global,
     source: &'s [u8],
-    fault: Fault<'s>,
-) -> Result<Listed, Fault<'s>>
+    fault: SourceFault<'s>,
+) -> Result<Listed, SourceFault<'s>>
     requires { IsSoundSource source.now → fault.cause ≡ Memory }
     ensures { IfOk result (λ listed. IsListed source.now listed.is_faulty listed.text.items) }
 {
     if fault.cause == SourceCause::Memory {
         return Err(fault);
     }
-    let all = words_once(alloc, source)?;
+    let all = source_words_without_copies(alloc, source)?;
     let words = all.as_slice();
-    let RecoveredSource { assembled, faults } = recover_words(alloc, words)?;
-    let faults = or_first(faults, fault)?;
+    let RecoveredPrograms { assembled, faults } = recover_words(alloc, words)?;
+    let faults = faults_or_first(faults, fault)?;
     let report = report_of(alloc, words, faults.as_slice())?;
     let lines = FaultLines::new(source, words, faults);
     let text = listing(alloc, &assembled, lines)?;
@@ -152,9 +153,9 @@ fn faulty_listing<'s>(
 fn report_of(
     alloc: Global,
     words: &[Token<'_>],
-    faults: &[Fault<'_>],
+    faults: &[SourceFault<'_>],
 ) -> Result<Vec<u8>, AllocError>
-    ensures { IfOk result (λ report. report.items ≡ faults_text program_name (faults_by_line words.now faults.now)) }
+    ensures { IfOk result (λ report. report.items ≡ faults_text error_prefix (faults_by_line words.now faults.now)) }
 {
     let faults = faults_on_lines(alloc, words, faults)?;
     let mut report = Vec::new(alloc);
@@ -166,10 +167,10 @@ fn report_of(
 #[tactic(auto, using(crate::proofs::FaultListing::tells_same, crate::proofs::FaultListing::tells_both, crate::proofs::FaultListing::all_told))]
 fn listing(
     alloc: Global,
-    assembled: &Assembled<'_>,
+    assembled: &AssembledChip<'_>,
     mut lines: FaultLines<'_, '_>,
 ) -> Result<Vec<u8>, AllocError>
-    ensures { IfOk result (λ text. AreAmong (lines_left lines.entry) text.items) }
+    ensures { IfOk result (λ text. HasPartsInOrder (lines_left lines.entry) text.items) }
 {
     let mut text = Vec::new(alloc);
     for program in &assembled.programs {
@@ -279,7 +280,7 @@ fn push_labels(
         if asked.line >= number {
             return Ok(told);
         }
-        if let Request::Mark(label) = asked.request {
+        if let AssemblyRequest::Mark(label) = asked.request {
             push_label(text, program, label, asked.line, lines)?;
         }
         told = told.saturating_add(1);
@@ -346,7 +347,7 @@ fn push_literals(
     text: &mut Vec<u8>,
     chip: &Chip,
     program: &Program<'_>,
-    group: &Group,
+    group: &CellGroup,
 ) -> Result<(), AllocError>
     ensures { OnOk result (Grows text.old.items text.new.items) }
 {
@@ -366,7 +367,7 @@ fn push_group(
     text: &mut Vec<u8>,
     chip: &Chip,
     program: &Program<'_>,
-    group: &Group,
+    group: &CellGroup,
     lines: &mut FaultLines<'_, '_>,
 ) -> Result<(), AllocError>
     ensures { OnOk result (Tells text.old.items text.new.items (lines_left lines.old) (lines_left lines.new)) }
@@ -395,7 +396,7 @@ fn push_line(text: &mut Vec<u8>, line: &[u8]) -> Result<(), AllocError>
 fn push_cell(text: &mut Vec<u8>, chip: &Chip, node: NodeId, address: u32) -> Result<(), AllocError>
     ensures { OnOk result (Grows text.old.items text.new.items) }
 {
-    let place = match classify(address) {
+    let place = match classify_address(address) {
         Target::Rom(cell) => Place::Rom(cell),
         Target::Ram(cell) => Place::Ram(cell),
         _ => return Ok(()),

@@ -6,7 +6,7 @@ ghost use Rattle.ga_asm_text.specs.inner.{IsUnread};
 
 use ga_console::Status;
 use ga_debug_info::{report_input_too_long, report_out_of_memory};
-use ga_text::{WholeRead, read_whole};
+use ga_text::{WholeRead, read_whole_input};
 use std::alloc::Global;
 use std::io::{Read, Write};
 
@@ -21,7 +21,7 @@ pub(crate) fn read_source<R: Read, E: Write>(
         (read rest : Bytes) × (left ≡ read ++ rest) × (R.remaining reader.new ≡ Some rest)
         × IfOk result (λ source. IsWholeText read rest source.items) × IfErr result (IsUnread read) }
 {
-    match read_whole(alloc, reader) {
+    match read_whole_input(alloc, reader) {
         WholeRead::Whole(source) => Ok(source),
         WholeRead::TooLong(_) => {
             let _written = report_input_too_long(errors);

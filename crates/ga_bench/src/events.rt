@@ -1,7 +1,7 @@
 //! The events of a node.
 
 use crate::programs::load;
-use ga_node::{Kind, Node, Saved, Seen};
+use ga_node::{Node, OwnEventKind, Saved, Seen};
 use std::io;
 use std::time::Instant;
 
@@ -14,7 +14,11 @@ fn sum_kinds(node: &mut Node, count: u32) -> u32 {
         if node.not_ready().is_none() {
             saved = Saved::new();
             let due = node.due();
-            if let Kind::Run(code) = node.execute_logged(due, Seen::nobody(), &mut saved) {
+            if let OwnEventKind::Run(code) = node.execute_logged(
+                due,
+                Seen::no_neighbours(),
+                &mut saved,
+            ) {
                 sum = sum.wrapping_add(u32::from(code));
             }
         }
@@ -31,10 +35,10 @@ fn sum_backs(node: &mut Node, count: u32) -> u32 {
         if node.not_ready().is_none() {
             let mut saved = Saved::new();
             let due = node.due();
-            let _ = node.execute_logged(due, Seen::nobody(), &mut saved);
+            let _ = node.execute_logged(due, Seen::no_neighbours(), &mut saved);
             node.restore(&saved);
         }
-        if let Ok((Kind::Run(code), _)) = node.own(Seen::nobody()) {
+        if let Ok((OwnEventKind::Run(code), _)) = node.own(Seen::no_neighbours()) {
             sum = sum.wrapping_add(u32::from(code));
         }
     }

@@ -1,6 +1,6 @@
 //! The steps and undos of a lab.
 
-use crate::programs::{BUSY, load};
+use crate::programs::{ADDING_LOOP, load};
 use ga_grid::{Chip, NodeId};
 use ga_lab::Lab;
 use std::alloc::Global;
@@ -8,11 +8,11 @@ use std::io;
 use std::time::Instant;
 
 /// A lab in which each of the first `nodes` nodes sums without end.
-pub fn adding(alloc: Global, nodes: u8) -> Option<Lab> {
+pub fn lab_of_adders(alloc: Global, nodes: u8) -> Option<Lab> {
     let mut chip = Chip::new(alloc).ok()?;
     for number in 0..144u8 {
         if number < nodes {
-            load(chip.node_mut(NodeId::new(number)), BUSY);
+            load(chip.node_mut(NodeId::new(number)), ADDING_LOOP);
         }
     }
     Lab::new(alloc, chip, u32::MAX).ok()
@@ -45,36 +45,36 @@ fn steps<const IS_INLINED: bool>(lab: &mut Lab, nodes: u8, count: u32) -> u32 {
 /// Undoes `count` events, and counts them.
 #[inline(never)]
 fn undos(lab: &mut Lab, count: u32) -> u32 {
-    let mut undone = 0u32;
+    let mut state_after_undo = 0u32;
     for _ in 0..count {
         if lab.undo().is_ok() {
-            undone = undone.wrapping_add(1);
+            state_after_undo = state_after_undo.wrapping_add(1);
         }
     }
-    undone
+    state_after_undo
 }
 
 /// What is made of a lab.
 #[derive(Clone, Copy)]
-pub enum Act {
+pub enum LabOperation {
     Step,
     StepInlined,
     Undo,
 }
 
 /// The nanoseconds of a number of steps of the first nodes in turn, or of as many undos, and how many were made.
-pub fn time_act(
+pub fn time_lab_operations(
     rt: &HostRuntime,
     lab: &mut Lab,
-    act: Act,
+    act: LabOperation,
     nodes: u8,
     count: u32,
 ) -> io::Result<(u128, u32)> {
     let start = Instant::now(rt)?;
     let made = match act {
-        Act::Step => steps::<false>(lab, nodes, count),
-        Act::StepInlined => steps::<true>(lab, nodes, count),
-        Act::Undo => undos(lab, count),
+        LabOperation::Step => steps::<false>(lab, nodes, count),
+        LabOperation::StepInlined => steps::<true>(lab, nodes, count),
+        LabOperation::Undo => undos(lab, count),
     };
     Ok((start.elapsed(rt)?.as_nanos(), made))
 }

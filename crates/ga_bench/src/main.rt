@@ -4,7 +4,7 @@
 //! Timed, by the best of the rounds:
 //!
 //! - `busy-into EVENTS ROUNDS`, `busy-back`, `mixed-into` and `mixed-back`: events of a node
-//! - `lab NODES STEPS`: steps of the first nodes of a lab in turn, all undone and made again; `lab-inlined` makes them by
+//! - `lab CHIP_NODES STEPS`: steps of the first nodes of a lab in turn, all undone and made again; `lab-inlined` makes them by
 //!   `Lab::step_inlined`
 //! - `rewind EVENTS ROUNDS`: rollbacks that remove three entries from a history of EVENTS events; `foretell` queries what they
 //!   would remove
@@ -28,10 +28,12 @@ mod shared;
 
 use events::time_events;
 use ga_lab::Lab;
-use labs::{Act, adding, time_act};
-use programs::{BUSY, MIXED};
-use refused::{print_outcome, tried};
-use rewinds::{Goes, about_to_look, passed, passed_late, time_rollback};
+use labs::{LabOperation, lab_of_adders, time_lab_operations};
+use programs::{ADDING_LOOP, MIXED_OPCODES};
+use refused::{print_outcome, run_with_failed_allocation};
+use rewinds::{
+    RollbackCase, lab_after_transfers, lab_before_look, lab_with_late_transfer, time_rollback,
+};
 use std::io;
 use std::io::Read;
 
@@ -47,7 +49,11 @@ fn main(rt: HostRuntime) -> io::Result<()> {
         let count = number(words.next(), 0);
         let rounds = number(words.next(), 1);
         if !is_timed(&rt, name, count, rounds)? {
-            print_outcome(&rt, tried(&rt, rt.alloc(), name, count), count)?;
+            print_outcome(
+                &rt,
+                run_with_failed_allocation(&rt, rt.alloc(), name, count),
+                count,
+            )?;
         }
     }
     Ok(())
@@ -66,22 +72,40 @@ fn is_timed(rt: &HostRuntime, name: &str, count: u32, rounds: u32) -> io::Result
     let nodes = count.clamp(1, 144) as u8;
     let is_done = name.as_bytes().starts_with(b"rewind");
     match name {
-        "busy-into" => print_events(rt, BUSY, false, count, rounds)?,
-        "busy-back" => print_events(rt, BUSY, true, count, rounds)?,
-        "mixed-into" => print_events(rt, MIXED, false, count, rounds)?,
-        "mixed-back" => print_events(rt, MIXED, true, count, rounds)?,
-        "lab" => print_lab(rt, nodes, rounds, Act::Step)?,
-        "lab-inlined" => print_lab(rt, nodes, rounds, Act::StepInlined)?,
+        "busy-into" => print_events(rt, ADDING_LOOP, false, count, rounds)?,
+        "busy-back" => print_events(rt, ADDING_LOOP, true, count, rounds)?,
+        "mixed-into" => print_events(rt, MIXED_OPCODES, false, count, rounds)?,
+        "mixed-back" => print_events(rt, MIXED_OPCODES, true, count, rounds)?,
+        "lab" => print_lab(rt, nodes, rounds, LabOperation::Step)?,
+        "lab-inlined" => print_lab(rt, nodes, rounds, LabOperation::StepInlined)?,
         "rewind" | "foretell" => {
-            print_rollback(rt, passed(alloc, count), Goes::Pairs, rounds, is_done)?
+            print_rollback(
+                rt,
+                lab_after_transfers(alloc, count),
+                RollbackCase::Pairs,
+                rounds,
+                is_done,
+            )?
         }
         "rewind-beside" | "foretell-beside" => {
-            print_rollback(rt, passed_late(alloc, count), Goes::Word, rounds, is_done)?
+            print_rollback(
+                rt,
+                lab_with_late_transfer(alloc, count),
+                RollbackCase::Word,
+                rounds,
+                is_done,
+            )?
         }
-        "rewind-all" => print_rollback(rt, passed(alloc, count), Goes::All, 1, is_done)?,
+        "rewind-all" => print_rollback(
+            rt,
+            lab_after_transfers(alloc, count),
+            RollbackCase::All,
+            1,
+            is_done,
+        )?,
         "rewind-looks" => {
-            let looks = Goes::Looks(count);
-            print_rollback(rt, about_to_look(alloc), looks, rounds, is_done)?
+            let looks = RollbackCase::Looks(count);
+            print_rollback(rt, lab_before_look(alloc), looks, rounds, is_done)?
         }
         _ => return Ok(false),
     }
@@ -95,16 +119,16 @@ fn print(rt: &HostRuntime, what: &str, timed: (u128, u32), count: u32, of: &str)
     eprintln!(rt; "{hundredths} hundredths of a nanosecond {of}")
 }
 
-fn print_lab(rt: &HostRuntime, nodes: u8, count: u32, act: Act) -> io::Result<()> {
-    let Some(mut lab) = adding(rt.alloc(), nodes) else {
+fn print_lab(rt: &HostRuntime, nodes: u8, count: u32, act: LabOperation) -> io::Result<()> {
+    let Some(mut lab) = lab_of_adders(rt.alloc(), nodes) else {
         return eprintln!(rt; "no memory");
     };
     for (act, what, of) in [
         (act, "made", "a step into fresh memory"),
-        (Act::Undo, "undone", "an undo"),
+        (LabOperation::Undo, "undone", "an undo"),
         (act, "made", "a step again"),
     ] {
-        let timed = time_act(rt, &mut lab, act, nodes, count)?;
+        let timed = time_lab_operations(rt, &mut lab, act, nodes, count)?;
         print(rt, what, timed, count, of)?;
     }
     Ok(())
@@ -113,7 +137,7 @@ fn print_lab(rt: &HostRuntime, nodes: u8, count: u32, act: Act) -> io::Result<()
 fn print_rollback(
     rt: &HostRuntime,
     lab: Option<Lab>,
-    goes: Goes,
+    goes: RollbackCase,
     rounds: u32,
     is_done: bool,
 ) -> io::Result<()> {

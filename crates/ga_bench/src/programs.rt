@@ -3,10 +3,10 @@
 use ga_node::{Node, Place};
 
 /// `@p push . .`, a count, `dup + . unext` and `jump 0`: sums without end.
-pub const BUSY: &[u32] = &[0x048b2, 0x3ffff, 0x241b4, 0x10000];
+pub const ADDING_LOOP: &[u32] = &[0x048b2, 0x3ffff, 0x241b4, 0x10000];
 
 /// Stack and memory words, a literal and `jump 0`: `dup 2* over +`, `push a a! .`, `pop and 2/ .`, `@p drop or .`, the literal, `@ ! . +`.
-pub const MIXED: &[u32] = &[
+pub const MIXED_OPCODES: &[u32] = &[
     0x24480, 0x2eeaa, 0x260c2, 0x042e2, 0x12345, 0x03ab0, 0x10000,
 ];
 
@@ -14,10 +14,10 @@ pub const MIXED: &[u32] = &[
 pub const SENDER: &[u32] = &[0x4b12, 0x1d5, 0x2a, 0x89b2];
 
 /// `@p b! @b .` with the port to the right: a word is taken from there.
-pub const TAKER: &[u32] = &[0x4b02, 0x1d5];
+pub const RECEIVER: &[u32] = &[0x4b02, 0x1d5];
 
 /// `@b @b @b unext` and `jump 0`: three reads of `io`, again and again.
-pub const LOOKER: &[u32] = &[0x1f04, 0x10000];
+pub const IO_READER: &[u32] = &[0x1f04, 0x10000];
 
 /// `jump 0`.
 pub const JUMP: &[u32] = &[0x10000];

@@ -6,7 +6,7 @@
 
 use crate::causes::causes;
 use crate::messages::messages;
-use crate::shared::{calls_of_one, race_of_one};
+use crate::shared::{run_one_worker_race, run_shared_calls};
 use std::alloc::Global;
 use std::io;
 use std::sync::Wait;
@@ -46,9 +46,9 @@ fn run_of<R: Threads + Wait + Sync>(rt: &R, alloc: Global, run: &str) -> Outcome
     match run {
         "causes" => causes(alloc),
         "messages" => messages(alloc),
-        "shared" => calls_of_one(rt, alloc, true),
-        "shared-broken-off" => calls_of_one(rt, alloc, false),
-        "race" => race_of_one(rt, alloc),
+        "shared" => run_shared_calls(rt, alloc, true),
+        "shared-broken-off" => run_shared_calls(rt, alloc, false),
+        "race" => run_one_worker_race(rt, alloc),
         _ => Outcome::Wrong("there is no such run"),
     }
 }
@@ -64,7 +64,7 @@ fn grow(alloc: Global, count: u32) -> bool {
 }
 
 /// Makes a run, of which this growth is to be refused, or none where it is 0: how it came out, and whether the refusal is still ahead.
-pub fn tried<R: Threads + Wait + Sync>(
+pub fn run_with_failed_allocation<R: Threads + Wait + Sync>(
     rt: &R,
     alloc: Global,
     run: &str,

@@ -1,6 +1,6 @@
 //! Rollbacks of a lab.
 
-use crate::programs::{JUMP, LOOKER, SENDER, TAKER, load};
+use crate::programs::{IO_READER, JUMP, RECEIVER, SENDER, load};
 use ga_grid::{Chip, NodeId};
 use ga_lab::Lab;
 use std::alloc::Global;
@@ -23,11 +23,11 @@ fn steps(lab: &mut Lab, node: NodeId, count: u32) -> u32 {
 
 /// A lab in which the last node has made `own` own events, and then each pair has passed its word: the first node of a pair
 /// sends a literal to the right, and the second receives it. None if fewer events were made.
-pub fn passed(alloc: Global, own: u32) -> Option<Lab> {
+pub fn lab_after_transfers(alloc: Global, own: u32) -> Option<Lab> {
     let mut chip = Chip::new(alloc).ok()?;
     for pair in 0..PAIRS {
         load(chip.node_mut(NodeId::new(2 * pair)), SENDER);
-        load(chip.node_mut(NodeId::new(2 * pair + 1)), TAKER);
+        load(chip.node_mut(NodeId::new(2 * pair + 1)), RECEIVER);
     }
     load(chip.node_mut(NodeId::new(143)), JUMP);
     let mut lab = Lab::new(alloc, chip, u32::MAX).ok()?;
@@ -42,10 +42,10 @@ pub fn passed(alloc: Global, own: u32) -> Option<Lab> {
 }
 
 /// A lab in which node 001 has fetched, and node 000 has come to where its next step posts a wait.
-pub fn about_to_look(alloc: Global) -> Option<Lab> {
+pub fn lab_before_look(alloc: Global) -> Option<Lab> {
     let mut chip = Chip::new(alloc).ok()?;
     load(chip.node_mut(NodeId::new(0)), SENDER);
-    load(chip.node_mut(NodeId::new(1)), LOOKER);
+    load(chip.node_mut(NodeId::new(1)), IO_READER);
     let mut lab = Lab::new(alloc, chip, u32::MAX).ok()?;
     let _fetched = steps(&mut lab, NodeId::new(1), 1);
     let _sent = steps(&mut lab, NodeId::new(0), 6);
@@ -54,7 +54,7 @@ pub fn about_to_look(alloc: Global) -> Option<Lab> {
 
 /// A lab in which node 100 looked at its neighbours again and again, and then node 000 and node 001 made own events, each of
 /// the three four times `count` events, before node 000 sent a word to node 001. None if fewer were made.
-pub fn passed_late(alloc: Global, count: u32) -> Option<Lab> {
+pub fn lab_with_late_transfer(alloc: Global, count: u32) -> Option<Lab> {
     // `@p push . .`, then the count, and `. . . unext`: four events for each of the count and four more. Then what a sender or
     // a receiver does.
     let sender = [0x48b2, count, 0x2c9b4, 0x4b12, 0x1d5, 0x2a, 0x89b2];
@@ -62,7 +62,7 @@ pub fn passed_late(alloc: Global, count: u32) -> Option<Lab> {
     let mut chip = Chip::new(alloc).ok()?;
     load(chip.node_mut(NodeId::new(0)), &sender);
     load(chip.node_mut(NodeId::new(1)), &taker);
-    load(chip.node_mut(NodeId::new(18)), LOOKER);
+    load(chip.node_mut(NodeId::new(18)), IO_READER);
     let mut lab = Lab::new(alloc, chip, u32::MAX).ok()?;
     let own = count.saturating_mul(4);
     let looked = steps(&mut lab, NodeId::new(18), own);
@@ -76,7 +76,7 @@ pub fn passed_late(alloc: Global, count: u32) -> Option<Lab> {
 
 /// What is rolled back.
 #[derive(Clone, Copy)]
-pub enum Goes {
+pub enum RollbackCase {
     /// The word of each pair, with the wait to send it: three entries of two nodes.
     Pairs,
     /// The word of node 000 and the wait to send it.
@@ -92,7 +92,7 @@ fn taken(lab: &mut Lab, node: NodeId, step: u32, is_done: bool) -> u32 {
     if is_done {
         return lab.rewind(node, step).unwrap_or(0);
     }
-    match lab.would_rewind(node, step) {
+    match lab.forecast_rollback(node, step) {
         Ok(going) => going.events,
         Err(_) => 0,
     }
@@ -109,32 +109,32 @@ fn taken_of_pairs(lab: &mut Lab, is_done: bool) -> u32 {
 
 /// Rolls back what is to go, or asks what that would take: the events that go.
 #[inline(never)]
-fn go(lab: &mut Lab, goes: Goes, wait: u32, is_done: bool) -> u32 {
+fn go(lab: &mut Lab, goes: RollbackCase, wait: u32, is_done: bool) -> u32 {
     match goes {
-        Goes::Pairs => taken_of_pairs(lab, is_done),
-        Goes::Word => taken(lab, NodeId::new(0), wait, is_done),
-        Goes::Looks(_) => taken(lab, NodeId::new(0), 7, is_done),
-        Goes::All => taken(lab, NodeId::new(143), 1, is_done),
+        RollbackCase::Pairs => taken_of_pairs(lab, is_done),
+        RollbackCase::Word => taken(lab, NodeId::new(0), wait, is_done),
+        RollbackCase::Looks(_) => taken(lab, NodeId::new(0), 7, is_done),
+        RollbackCase::All => taken(lab, NodeId::new(143), 1, is_done),
     }
 }
 
 /// Makes the looks that are to go.
-fn look(lab: &mut Lab, goes: Goes) {
-    if let Goes::Looks(looks) = goes {
+fn look(lab: &mut Lab, goes: RollbackCase) {
+    if let RollbackCase::Looks(looks) = goes {
         let _waits = steps(lab, NodeId::new(0), 1);
         let _looked = steps(lab, NodeId::new(1), looks.saturating_add(looks / 3));
     }
 }
 
 /// Passes again what went.
-fn pass_again(lab: &mut Lab, goes: Goes) {
+fn pass_again(lab: &mut Lab, goes: RollbackCase) {
     match goes {
-        Goes::Pairs => {
+        RollbackCase::Pairs => {
             for pair in 0..PAIRS {
                 let _made = steps(lab, NodeId::new(2 * pair), 2);
             }
         }
-        Goes::Word => {
+        RollbackCase::Word => {
             let _made = steps(lab, NodeId::new(0), 2);
         }
         _ => {}
@@ -145,7 +145,7 @@ fn pass_again(lab: &mut Lab, goes: Goes) {
 pub fn time_rollback(
     rt: &HostRuntime,
     lab: &mut Lab,
-    goes: Goes,
+    goes: RollbackCase,
     rounds: u32,
     is_done: bool,
 ) -> io::Result<(u128, u32)> {
@@ -162,7 +162,7 @@ pub fn time_rollback(
         }
     }
     Ok(match goes {
-        Goes::Pairs => (best / u128::from(PAIRS), removed),
+        RollbackCase::Pairs => (best / u128::from(PAIRS), removed),
         _ => (best, removed),
     })
 }

@@ -6,8 +6,10 @@ use crate::programs::{SENDER, load};
 use crate::refused::Outcome;
 use ga_grid::{Chip, Memory, NodeId};
 use ga_lab::Made;
-use ga_node::Kind;
-use ga_shared::{Answer, Call, Closed, Free, RaceFault, Receipt, Seat, Shared, race};
+use ga_node::OwnEventKind;
+use ga_shared::{
+    Call, CallAnswer, ClosedLab, OpenGate, RaceFault, Receipt, SharedChip, WorkerSeat, race,
+};
 use std::alloc::{AllocError, Global};
 use std::marker::Brand;
 use std::sync::Wait;
@@ -38,17 +40,17 @@ fn calls() -> [Call; CALLS] {
     [step, step, step, step, third, step, step, ninth, first]
 }
 
-fn answers() -> [Answer; CALLS] {
+fn answers() -> [CallAnswer; CALLS] {
     [
-        made(1, Kind::Fetch),
-        made(2, Kind::Run(0x08)),
-        made(3, Kind::Run(0x1e)),
-        made(4, Kind::Run(0x08)),
-        Answer::Removed(2),
-        made(3, Kind::Run(0x1e)),
-        made(4, Kind::Run(0x08)),
-        Answer::Refused(6),
-        Answer::Removed(4),
+        made(1, OwnEventKind::Fetch),
+        made(2, OwnEventKind::Run(0x08)),
+        made(3, OwnEventKind::Run(0x1e)),
+        made(4, OwnEventKind::Run(0x08)),
+        CallAnswer::Removed(2),
+        made(3, OwnEventKind::Run(0x1e)),
+        made(4, OwnEventKind::Run(0x08)),
+        CallAnswer::Refused(6),
+        CallAnswer::Removed(4),
     ]
 }
 
@@ -58,13 +60,13 @@ static KEPT: [u32; 10] = [0, 1, 2, 3, 4, 2, 3, 4, 4, 0];
 /// The number of events made before the first call, and after each.
 static MADE: [u64; 10] = [0, 1, 2, 3, 4, 4, 5, 6, 6, 6];
 
-fn made(step: u32, kind: Kind) -> Answer {
+fn made(step: u32, kind: OwnEventKind) -> CallAnswer {
     let node = NodeId::new(0);
-    Answer::Made(Made::Own { node, step, kind })
+    CallAnswer::Made(Made::Own { node, step, kind })
 }
 
 /// The calls and then the closing. After an allocation failure a call is repeated, or no call follows it.
-pub fn calls_of_one<R: Wait>(rt: &R, alloc: Global, goes_on: bool) -> Outcome {
+pub fn run_shared_calls<R: Wait>(rt: &R, alloc: Global, goes_on: bool) -> Outcome {
     opened::<Brand, R>(rt, alloc, Blank::new(1), goes_on)
 }
 
@@ -76,7 +78,7 @@ fn opened<L: Ledger, R: Wait>(rt: &R, alloc: Global, blank: Blank, goes_on: bool
     let Ok(chip) = linked(alloc) else {
         return Outcome::Refused("chip");
     };
-    let Ok((shared, mut seats)) = Shared::<L>::new(alloc, blank, chip, LIMIT, 1) else {
+    let Ok((shared, mut seats)) = SharedChip::<L>::new(alloc, blank, chip, LIMIT, 1) else {
         return Outcome::Refused("new");
     };
     let Some(seat) = seats.first_mut() else {
@@ -92,8 +94,8 @@ fn opened<L: Ledger, R: Wait>(rt: &R, alloc: Global, blank: Blank, goes_on: bool
 /// Makes the calls, and says how many were made.
 fn called<L: Ledger, R: Wait>(
     rt: &R,
-    shared: &Shared<L>,
-    seat: &mut Seat<L>,
+    shared: &SharedChip<L>,
+    seat: &mut WorkerSeat<L>,
     goes_on: bool,
 ) -> (usize, Outcome) {
     let mut outcome = Outcome::Answered;
@@ -126,8 +128,8 @@ fn called<L: Ledger, R: Wait>(
 /// Makes a call; none where memory was refused.
 fn make<L: Ledger, R: Wait>(
     rt: &R,
-    shared: &Shared<L>,
-    seat: &mut Seat<L>,
+    shared: &SharedChip<L>,
+    seat: &mut WorkerSeat<L>,
     call: Call,
 ) -> Option<Receipt> {
     match call {
@@ -137,7 +139,7 @@ fn make<L: Ledger, R: Wait>(
 }
 
 /// Whether the log is that of `count` calls, and the lab the one after them.
-fn is_closed(closed: &Closed, count: usize) -> Outcome {
+fn is_closed(closed: &ClosedLab, count: usize) -> Outcome {
     let calls = calls();
     let answers = answers();
     let wanted = calls.iter().zip(&answers).take(count);
@@ -159,14 +161,14 @@ fn is_closed(closed: &Closed, count: usize) -> Outcome {
 }
 
 /// A race of one worker, which takes its own step back.
-pub fn race_of_one<R: Threads + Wait + Sync>(rt: &R, alloc: Global) -> Outcome {
+pub fn run_one_worker_race<R: Threads + Wait + Sync>(rt: &R, alloc: Global) -> Outcome {
     let Ok(chip) = linked(alloc) else {
         return Outcome::Refused("chip");
     };
     let Ok(lists) = one_list(alloc) else {
         return Outcome::Refused("list of calls");
     };
-    match race(rt, alloc, chip, LIMIT, lists, &Free) {
+    match race(rt, alloc, chip, LIMIT, lists, &OpenGate) {
         Ok(closed) => is_closed(&closed, CALLS),
         Err(RaceFault::Memory) => Outcome::Refused("race, for want of memory"),
         Err(RaceFault::NotStarted) => Outcome::Refused("race, not started"),

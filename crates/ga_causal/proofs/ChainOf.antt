@@ -2,13 +2,13 @@
 use Rattle.std.proofs.Common.{◌≡◌, ℕ, ◌<◌, ◌≤◌, ◌≢◌, ◌⊎◌, List, [], ◌∷◌, ◌++◌, length, refl, sym, ◌∙◌, ap, ap₂, subst, inl, inr, ⊎_elim, arith, zero, suc, ◌==◌, Bool, true, false, not, cond, ◌+◌, ◌-◌, drop, Some, None, option_map, length-drop, Option, Result, Ok, Err, IfOk}
 use Rattle.ga_event.specs.declared.event.Cause.{Cause}
 use Rattle.ga_causal.specs.declared.chain.Link.{Link}
-use Rattle.ga_causal.specs.Dependence.{rule_between, event_at, dependents, DependsOn, itself, through, no_cause, rule_of, IsDirect, cause_touches, position_of_step}
-use Rattle.ga_causal.specs.Chains.{IsNext, IsLinked, IsChain, IsOldest, IsChainTo, alone, longer, IsFound, leads_to, least_below, oldest_cause, links_to, chain_of}
+use Rattle.ga_causal.specs.Dependence.{dependence_rule_at, event_at, dependent_flags, DependsOn, itself, through, default_cause, dependence_rule, DependsDirectly, cause_touches, position_of_step}
+use Rattle.ga_causal.specs.Chains.{IsNextLink, AreConsecutiveLinks, IsChain, IsOldestCause, IsChainTo, alone, longer, IsChainAnswer, is_causal_predecessor, least_passing_below, oldest_cause, links_to, chain_of}
 use Rattle.std.specs.Prelude.{nat_lt, slice_index_or}
 use Rattle.std.proofs.lemmas.Bool.{cases_Bool, cases_lt, cases_eq, both_ways, cond-true, cond-false, le-ltb, lt-ltb, eq-eqb, ne_eqb, and_from, and_parts}
 use Rattle.ga_causal.proofs.Exact.{meets_rule, why_dependent, DependsOn_from_flag, flag_from_DependsOn, flagged_within, Earlier}
 use Rattle.std.proofs.lemmas.List.{get_or-drop}
-use Rattle.ga_causal.specs.Steps.{touching}
+use Rattle.ga_causal.specs.Steps.{count_touching_events}
 use Rattle.ga_causal.proofs.Oldest.{DependsOn-order}
 use Rattle.ga_causal.proofs.LocalHistories.{place-other, place-touched}
 use Rattle.ga_causal.proofs.Places.{on_by, on_by-zero, touching_yes, touching_no}
@@ -19,13 +19,13 @@ abbrev first_link : ℕ → Link
 first_link i = record { place = i; rule = 0 }
 
 abbrev last_link : List Cause → ℕ → ℕ → Link
-last_link es before place = record { place = place; rule = rule_between es before place }
+last_link es before place = record { place = place; rule = dependence_rule_at es before place }
 
 record EndsBy (es : List Cause) (i place : ℕ) (links : List Link) : Type 0 where
   before : ℕ
   others : List Link
   differs : place ≢ i
-  oldest : IsOldest es i place before
+  oldest : IsOldestCause es i place before
   chain : IsChainTo es i before others
   is : links ≡ others ++ last_link es before place ∷ []
 
@@ -33,7 +33,7 @@ taken_apart : (es : List Cause) (i place : ℕ) (links : List Link) → IsChainT
 taken_apart es i place links alone = inl (refl, refl)
 taken_apart es i place links (longer {before} {links = others} ne o h) = inr (record { before = before; others = others; differs = ne; oldest = o; chain = h; is = refl })
 
-same_before : (es : List Cause) (i place a b : ℕ) → IsOldest es i place a → IsOldest es i place b → a ≡ b
+same_before : (es : List Cause) (i place a b : ℕ) → IsOldestCause es i place a → IsOldestCause es i place b → a ≡ b
 same_before es i place a b x y =
     let p : a ≤ b = x.oldest b y.dependent y.direct in
     let q : b ≤ a = y.oldest a x.dependent x.direct in
@@ -52,7 +52,7 @@ abbrev place_after : ℕ → List Link → ℕ
 place_after place [] = place
 place_after place (link ∷ links) = place_after link.place links
 
-linked_more : (es : List Cause) (b : ℕ) (links : List Link) (link : Link) → IsLinked es b links → IsNext es (place_after b links) link → IsLinked es b (links ++ link ∷ [])
+linked_more : (es : List Cause) (b : ℕ) (links : List Link) (link : Link) → AreConsecutiveLinks es b links → IsNextLink es (place_after b links) link → AreConsecutiveLinks es b (links ++ link ∷ [])
 linked_more es b [] link h n = (n, tt)
 linked_more es b (x ∷ links) link h n = (h.0, linked_more es x.place links link h.1 n)
 
@@ -63,7 +63,7 @@ after_more b (x ∷ links) link = after_more x.place links link
 record BeginsAt (es : List Cause) (i place : ℕ) (links : List Link) : Type 0 where
   others : List Link
   is : links ≡ first_link i ∷ others
-  linked : IsLinked es i others
+  linked : AreConsecutiveLinks es i others
   ends : place_after i others ≡ place
 
 begins_at : (es : List Cause) (i place : ℕ) (links : List Link) → IsChainTo es i place links → BeginsAt es i place links
@@ -73,7 +73,7 @@ begins_at es i place links (longer {before} {links = others} ne o h) =
     record {
       others = w.others ++ last_link es before place ∷ [];
       is = ap (λ z. z ++ last_link es before place ∷ []) w.is;
-      linked = linked_more es i w.others (last_link es before place) w.linked (subst (λ z. IsNext es z (last_link es before place)) (sym w.ends) (o.direct, refl));
+      linked = linked_more es i w.others (last_link es before place) w.linked (subst (λ z. IsNextLink es z (last_link es before place)) (sym w.ends) (o.direct, refl));
       ends = after_more i w.others (last_link es before place);
     }
 
@@ -114,9 +114,9 @@ least_more test n least h = ⊎_elim
           (cases_lt m n);
     }
 
-least_is : (test : ℕ → Bool) (n : ℕ) → IsLeast test n (least_below test n)
+least_is : (test : ℕ → Bool) (n : ℕ) → IsLeast test n (least_passing_below test n)
 least_is test zero = record { within = omega arith; passes = λ l. absurd (omega (arith, l)); first = λ m l t. absurd (omega (arith, l)) }
-least_is test (suc n) = least_more test n (least_below test n) (least_is test n)
+least_is test (suc n) = least_more test n (least_passing_below test n) (least_is test n)
 
 -- the test is that of the definition
 not_zero : (n : ℕ) → n ≢ 0 → not (n == 0) ≡ true
@@ -125,73 +125,73 @@ not_zero n h = ap not (ne_eqb n 0 h)
 not_zero_of : (n : ℕ) → not (n == 0) ≡ true → n ≢ 0
 not_zero_of n h e = both_ways false refl (subst (λ z. not z ≡ true) (eq-eqb n 0 e) h)
 
-leads_from : (es : List Cause) (i q p : ℕ) → slice_index_or (dependents es i) p false ≡ true → rule_between es p q ≢ 0 → leads_to es i q p ≡ true
-leads_from es i q p f r = and_from (slice_index_or (dependents es i) p false) (not (rule_between es p q == 0)) f (not_zero (rule_between es p q) r)
+leads_from : (es : List Cause) (i q p : ℕ) → slice_index_or (dependent_flags es i) p false ≡ true → dependence_rule_at es p q ≢ 0 → is_causal_predecessor es i q p ≡ true
+leads_from es i q p f r = and_from (slice_index_or (dependent_flags es i) p false) (not (dependence_rule_at es p q == 0)) f (not_zero (dependence_rule_at es p q) r)
 
 -- the oldest cause of a dependent event that is not the first
-oldest_is : (es : List Cause) (i q : ℕ) → i < length es → q < length es → q ≢ i → slice_index_or (dependents es i) q false ≡ true → IsOldest es i q (oldest_cause es i q)
+oldest_is : (es : List Cause) (i q : ℕ) → i < length es → q < length es → q ≢ i → slice_index_or (dependent_flags es i) q false ≡ true → IsOldestCause es i q (oldest_cause es i q)
 oldest_is es i q k l ne f = ⊎_elim (λ e. absurd (ne e)) (λ w. found w) (why_dependent es i q f)
   where
-    found : Earlier es (dependents es i) q → IsOldest es i q (oldest_cause es i q)
+    found : Earlier es (dependent_flags es i) q → IsOldestCause es i q (oldest_cause es i q)
     found w =
-        let h : IsLeast (leads_to es i q) q (oldest_cause es i q) = least_is (leads_to es i q) q in
+        let h : IsLeast (is_causal_predecessor es i q) q (oldest_cause es i q) = least_is (is_causal_predecessor es i q) q in
         let a : oldest_cause es i q ≤ w.place = h.first w.place w.before (leads_from es i q w.place w.flagged (meets_rule (event_at es w.place) (event_at es q) w.direct)) in
         let b : oldest_cause es i q < q = omega (arith, w.before) in
-        let t = and_parts (slice_index_or (dependents es i) (oldest_cause es i q) false) (not (rule_between es (oldest_cause es i q) q == 0)) (h.passes b) in
+        let t = and_parts (slice_index_or (dependent_flags es i) (oldest_cause es i q) false) (not (dependence_rule_at es (oldest_cause es i q) q == 0)) (h.passes b) in
         record {
           dependent = DependsOn_from_flag es i (oldest_cause es i q) (omega arith) t.0;
-          direct = record { before = b; within = l; by_rule = not_zero_of (rule_between es (oldest_cause es i q) q) t.1 };
+          direct = record { before = b; within = l; by_rule = not_zero_of (dependence_rule_at es (oldest_cause es i q) q) t.1 };
           oldest = λ other d s. h.first other s.before (leads_from es i q other (flag_from_DependsOn es i other k d) s.by_rule);
         }
 
-links_chain : (most : ℕ) (es : List Cause) (i q : ℕ) → q < most → i < length es → q < length es → slice_index_or (dependents es i) q false ≡ true → IsChainTo es i q (links_to most es i q)
+links_chain : (most : ℕ) (es : List Cause) (i q : ℕ) → q < most → i < length es → q < length es → slice_index_or (dependent_flags es i) q false ≡ true → IsChainTo es i q (links_to most es i q)
 unfolding links_to
 links_chain zero es i q u k l f = absurd (omega arith)
 links_chain (suc most) es i q u k l f = ⊎_elim
     (λ e. subst (λ z. IsChainTo es i q z) (sym (cond-true (q == i) (record { place = i; rule = 0 } ∷ []) _ (eq-eqb q i e)))
     (subst (λ z. IsChainTo es i z (record { place = i; rule = 0 } ∷ [])) (sym e) alone))
-    (λ ne. let o : IsOldest es i q (oldest_cause es i q) = oldest_is es i q k l ne f in
+    (λ ne. let o : IsOldestCause es i q (oldest_cause es i q) = oldest_is es i q k l ne f in
     let b : oldest_cause es i q < q = o.direct.before in
     subst (λ z. IsChainTo es i q z) (sym (cond-false (q == i) (record { place = i; rule = 0 } ∷ []) _ (ne_eqb q i ne)))
     (longer ne o (links_chain most es i (oldest_cause es i q) (omega arith) k (omega arith) (flag_from_DependsOn es i (oldest_cause es i q) k o.dependent))))
     (cases_eq q i)
 
-pub chain_found : (es : List Cause) (i q : ℕ) → i < length es → IsFound es i q (chain_of es i q)
+pub chain_found : (es : List Cause) (i q : ℕ) → i < length es → IsChainAnswer es i q (chain_of es i q)
 unfolding chain_of
 chain_found es i q k = ⊎_elim
-    (λ f. subst (λ z. IsFound es i q z) (sym (cond-true (slice_index_or (dependents es i) q false) (Some (links_to (suc q) es i q)) None f)) (links_chain (suc q) es i q (omega arith) k (flagged_within es i q f) f))
-    (λ f. subst (λ z. IsFound es i q z) (sym (cond-false (slice_index_or (dependents es i) q false) (Some (links_to (suc q) es i q)) None f))
-    (λ d. both_ways (slice_index_or (dependents es i) q false) f (flag_from_DependsOn es i q k d)))
-    (cases_Bool (slice_index_or (dependents es i) q false))
+    (λ f. subst (λ z. IsChainAnswer es i q z) (sym (cond-true (slice_index_or (dependent_flags es i) q false) (Some (links_to (suc q) es i q)) None f)) (links_chain (suc q) es i q (omega arith) k (flagged_within es i q f) f))
+    (λ f. subst (λ z. IsChainAnswer es i q z) (sym (cond-false (slice_index_or (dependent_flags es i) q false) (Some (links_to (suc q) es i q)) None f))
+    (λ d. both_ways (slice_index_or (dependent_flags es i) q false) f (flag_from_DependsOn es i q k d)))
+    (cases_Bool (slice_index_or (dependent_flags es i) q false))
 
 -- an answer that is found is the one
 chained : (es : List Cause) (i q : ℕ) (links : List Link) → IsChainTo es i q links → DependsOn es i q
 chained es i q links alone = itself
 chained es i q links (longer ne o h) = through o.dependent o.direct
 
-found_one : (es : List Cause) (i q : ℕ) (x y : Option (List Link)) → IsFound es i q x → IsFound es i q y → x ≡ y
+found_one : (es : List Cause) (i q : ℕ) (x y : Option (List Link)) → IsChainAnswer es i q x → IsChainAnswer es i q y → x ≡ y
 found_one es i q None None f g = refl
 found_one es i q None (Some ys) f g = absurd (f (chained es i q ys g))
 found_one es i q (Some xs) None f g = absurd (g (chained es i q xs f))
 found_one es i q (Some xs) (Some ys) f g = ap Some (chain_one es i q xs ys f g)
 
-pub chain_is : (es : List Cause) (i q : ℕ) (answer : Option (List Link)) → i < length es → IsFound es i q answer → answer ≡ chain_of es i q
+pub chain_is : (es : List Cause) (i q : ℕ) (answer : Option (List Link)) → i < length es → IsChainAnswer es i q answer → answer ≡ chain_of es i q
 chain_is es i q answer k f = found_one es i q answer (chain_of es i q) f (chain_found es i q k)
 
 -- ---- Dependence in the last events of a list: what comes before the cause has no part in it.
 
 event_later : (es : List Cause) (k p : ℕ) → event_at (drop k es) p ≡ event_at es (k + p)
-event_later es k p = get_or-drop k es p no_cause
+event_later es k p = get_or-drop k es p default_cause
 
-rule_later : (es : List Cause) (k p q : ℕ) → rule_between (drop k es) p q ≡ rule_between es (k + p) (k + q)
-rule_later es k p q = ap₂ rule_of (event_later es k p) (event_later es k q)
+rule_later : (es : List Cause) (k p q : ℕ) → dependence_rule_at (drop k es) p q ≡ dependence_rule_at es (k + p) (k + q)
+rule_later es k p q = ap₂ dependence_rule (event_later es k p) (event_later es k q)
 
-direct_up : (es : List Cause) (k p q : ℕ) → IsDirect (drop k es) p q → IsDirect es (k + p) (k + q)
+direct_up : (es : List Cause) (k p q : ℕ) → DependsDirectly (drop k es) p q → DependsDirectly es (k + p) (k + q)
 direct_up es k p q s =
     let n : length (drop k es) ≡ length es - k = length-drop k es in
     record { before = omega (arith, s.before); within = omega (arith, n, s.within, s.before); by_rule = λ h. s.by_rule (rule_later es k p q ∙ h) }
 
-direct_down : (es : List Cause) (k p q : ℕ) → k ≤ p → IsDirect es p (k + q) → IsDirect (drop k es) (p - k) q
+direct_down : (es : List Cause) (k p q : ℕ) → k ≤ p → DependsDirectly es p (k + q) → DependsDirectly (drop k es) (p - k) q
 direct_down es k p q l s =
     let n : length (drop k es) ≡ length es - k = length-drop k es in
     let b : p < k + q = s.before in
@@ -199,7 +199,7 @@ direct_down es k p q l s =
     record {
       before = omega (arith, l, b);
       within = omega (arith, n, w);
-      by_rule = λ h. s.by_rule (ap (λ (z : ℕ). rule_between es z (k + q)) (let e : p ≡ k + (p - k) = omega (arith, l) in e) ∙ sym (rule_later es k (p - k) q) ∙ h);
+      by_rule = λ h. s.by_rule (ap (λ (z : ℕ). dependence_rule_at es z (k + q)) (let e : p ≡ k + (p - k) = omega (arith, l) in e) ∙ sym (rule_later es k (p - k) q) ∙ h);
     }
 
 depends_up : (es : List Cause) (k i j : ℕ) → DependsOn (drop k es) i j → DependsOn es (k + i) (k + j)
@@ -212,12 +212,12 @@ depends_down es k i j (through {middle} d s) =
     let l : k + i ≤ middle = DependsOn-order es (k + i) middle d in
     let b : middle < j = s.before in
     through (depends_down es k i middle d)
-    (direct_down es k middle (j - k) (omega (arith, l)) (subst (IsDirect es middle) (let e : j ≡ k + (j - k) = omega (arith, l, b) in e) s))
+    (direct_down es k middle (j - k) (omega (arith, l)) (subst (DependsDirectly es middle) (let e : j ≡ k + (j - k) = omega (arith, l, b) in e) s))
 
 -- the oldest cause stays the oldest
-pub oldest_later : (all es : List Cause) (k i at before : ℕ) → drop k all ≡ es → IsOldest es i at before → IsOldest all (k + i) (k + at) (k + before)
+pub oldest_later : (all es : List Cause) (k i at before : ℕ) → drop k all ≡ es → IsOldestCause es i at before → IsOldestCause all (k + i) (k + at) (k + before)
 oldest_later all es k i at before is found =
-    let o : IsOldest (drop k all) i at before = subst (λ z. IsOldest z i at before) (sym is) found in
+    let o : IsOldestCause (drop k all) i at before = subst (λ z. IsOldestCause z i at before) (sym is) found in
     record {
       dependent = depends_up all k i before o.dependent;
       direct = direct_up all k before at o.direct;
@@ -232,14 +232,14 @@ pub none_later : (all es : List Cause) (k i at : ℕ) → drop k all ≡ es → 
 none_later all es k i at is none d =
     none (subst (λ z. DependsOn z i at) is (subst (DependsOn (drop k all) i) (let e : k + at - k ≡ at = omega arith in e) (depends_down all k i (k + at) d)))
 
-pub rule_there : (all es : List Cause) (k p q : ℕ) → drop k all ≡ es → rule_between es p q ≡ rule_between all (k + p) (k + q)
-rule_there all es k p q is = ap (λ z. rule_between z p q) (sym is) ∙ rule_later all k p q
+pub rule_there : (all es : List Cause) (k p q : ℕ) → drop k all ≡ es → dependence_rule_at es p q ≡ dependence_rule_at all (k + p) (k + q)
+rule_there all es k p q is = ap (λ z. dependence_rule_at z p q) (sym is) ∙ rule_later all k p q
 
 -- nothing comes before the whole list
 pub in_whole : {E : Type 0} → (es : List Cause) (i at : ℕ) (answer : Result (Option (List Link)) E)
-    → IfOk answer (λ found. (all : List Cause) → drop 0 all ≡ es → IsFound all (0 + i) (0 + at) found) → IfOk answer (IsFound es i at)
+    → IfOk answer (λ found. (all : List Cause) → drop 0 all ≡ es → IsChainAnswer all (0 + i) (0 + at) found) → IfOk answer (IsChainAnswer es i at)
 in_whole es i at (Ok found) h =
-    subst (λ (z : ℕ). IsFound es z at found) (let e : 0 + i ≡ i = omega arith in e) (subst (λ (z : ℕ). IsFound es (0 + i) z found) (let e : 0 + at ≡ at = omega arith in e) (h es refl))
+    subst (λ (z : ℕ). IsChainAnswer es z at found) (let e : 0 + i ≡ i = omega arith in e) (subst (λ (z : ℕ). IsChainAnswer es (0 + i) z found) (let e : 0 + at ≡ at = omega arith in e) (h es refl))
 in_whole es i at (Err why) h = h
 
 -- a step that is not in the first part of a list is in the second, with the number that remains
@@ -247,24 +247,24 @@ on_suc : (k : ℕ) (o : Option ℕ) → option_map suc (on_by k o) ≡ on_by (su
 on_suc k None = refl
 on_suc k (Some q) = ap Some (let e : suc (k + q) ≡ suc k + q = omega arith in e)
 
-later_from : (m j : ℕ) (xs ys : List Cause) → touching m xs ≤ j → position_of_step (xs ++ ys) m (suc j) ≡ on_by (length xs) (position_of_step ys m (suc (j - touching m xs)))
+later_from : (m j : ℕ) (xs ys : List Cause) → count_touching_events m xs ≤ j → position_of_step (xs ++ ys) m (suc j) ≡ on_by (length xs) (position_of_step ys m (suc (j - count_touching_events m xs)))
 later_from m j [] ys l = sym (on_by-zero (position_of_step ys m (suc (j - 0))) ∙ ap (λ (z : ℕ). position_of_step ys m (suc z)) (let e : j - 0 ≡ j = omega arith in e))
 later_from m zero (e ∷ es) ys l = ⊎_elim
     (λ yes. absurd (let a = touching_yes m e es yes in omega (arith, a, l)))
     (λ no. let a = touching_no m e es no in
-    place-other e (es ++ ys) m 0 no ∙ ap (option_map suc) (later_from m 0 es ys (omega (arith, a, l))) ∙ on_suc (length es) (position_of_step ys m (suc (0 - touching m es)))
+    place-other e (es ++ ys) m 0 no ∙ ap (option_map suc) (later_from m 0 es ys (omega (arith, a, l))) ∙ on_suc (length es) (position_of_step ys m (suc (0 - count_touching_events m es)))
     ∙ ap (λ (z : ℕ). on_by (suc (length es)) (position_of_step ys m (suc (0 - z)))) (sym a))
     (cases_Bool (cause_touches e m))
 later_from m (suc j) (e ∷ es) ys l = ⊎_elim
     (λ yes. let a = touching_yes m e es yes in
-    place-touched e (es ++ ys) m j yes ∙ ap (option_map suc) (later_from m j es ys (omega (arith, a, l))) ∙ on_suc (length es) (position_of_step ys m (suc (j - touching m es)))
-    ∙ ap (λ (z : ℕ). on_by (suc (length es)) (position_of_step ys m (suc z))) (let h : j - touching m es ≡ suc j - touching m (e ∷ es) = omega (arith, a) in h))
+    place-touched e (es ++ ys) m j yes ∙ ap (option_map suc) (later_from m j es ys (omega (arith, a, l))) ∙ on_suc (length es) (position_of_step ys m (suc (j - count_touching_events m es)))
+    ∙ ap (λ (z : ℕ). on_by (suc (length es)) (position_of_step ys m (suc z))) (let h : j - count_touching_events m es ≡ suc j - count_touching_events m (e ∷ es) = omega (arith, a) in h))
     (λ no. let a = touching_no m e es no in
-    place-other e (es ++ ys) m (suc j) no ∙ ap (option_map suc) (later_from m (suc j) es ys (omega (arith, a, l))) ∙ on_suc (length es) (position_of_step ys m (suc (suc j - touching m es)))
+    place-other e (es ++ ys) m (suc j) no ∙ ap (option_map suc) (later_from m (suc j) es ys (omega (arith, a, l))) ∙ on_suc (length es) (position_of_step ys m (suc (suc j - count_touching_events m es)))
     ∙ ap (λ (z : ℕ). on_by (suc (length es)) (position_of_step ys m (suc (suc j - z)))) (sym a))
     (cases_Bool (cause_touches e m))
 
-pub place_later : (m j : ℕ) (xs ys : List Cause) → touching m xs < j → position_of_step (xs ++ ys) m j ≡ on_by (length xs) (position_of_step ys m (j - touching m xs))
+pub place_later : (m j : ℕ) (xs ys : List Cause) → count_touching_events m xs < j → position_of_step (xs ++ ys) m j ≡ on_by (length xs) (position_of_step ys m (j - count_touching_events m xs))
 place_later m zero xs ys l = absurd (omega (arith, l))
 place_later m (suc j) xs ys l =
-    later_from m j xs ys (omega (arith, l)) ∙ ap (λ (z : ℕ). on_by (length xs) (position_of_step ys m z)) (let h : suc (j - touching m xs) ≡ suc j - touching m xs = omega (arith, l) in h)
+    later_from m j xs ys (omega (arith, l)) ∙ ap (λ (z : ℕ). on_by (length xs) (position_of_step ys m z)) (let h : suc (j - count_touching_events m xs) ≡ suc j - count_touching_events m xs = omega (arith, l) in h)

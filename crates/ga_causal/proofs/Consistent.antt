@@ -6,13 +6,13 @@ use Rattle.std.proofs.lemmas.Option.{same_Some}
 use Rattle.std.proofs.lemmas.List.Sorted.{IsPermutation-refl, IsPermutation-sym, IsPermutation-trans, IsPermutation-cons, IsPermutation-append_left, IsPermutation-to_front, Contains-permutation}
 use Rattle.ga_event.specs.declared.event.Event.{Event}
 use Rattle.ga_event.specs.declared.event.Cause.{Cause}
-use Rattle.ga_causal.specs.Dependence.{cause_touches, unflagged}
-use Rattle.ga_event.specs.Told.{events_in}
+use Rattle.ga_causal.specs.Dependence.{cause_touches, without_flagged}
+use Rattle.ga_event.specs.Told.{events_of_causes}
 use Rattle.ga_event.specs.Apply.{EventOutcome, apply, cause_of, run}
 use Rattle.ga_node.specs.Record.{NodeRecord}
-use Rattle.ga_event.proofs.Locality.{Agree-sym, cause_alike}
-use Rattle.ga_causal.specs.Equivalence.{AreIndependent, AreEquivalent, same, swapped, later, joined, recorded, local_history, local_history_told}
-use Rattle.ga_causal.specs.Steps.{counted, numbered_seen}
+use Rattle.ga_event.proofs.Locality.{AgreeOutsideMarks-sym, cause_alike}
+use Rattle.ga_causal.specs.Equivalence.{AreIndependent, AreEquivalent, same, swapped, later, joined, numbered_outcomes, local_history, local_history_outcomes}
+use Rattle.ga_causal.specs.Steps.{counted, numbered_with_observed}
 use Rattle.ga_causal.proofs.Runs.{causes, run_more, first_of_run, keeps_of, same_of, same_chip}
 use Rattle.ga_causal.proofs.Equivalences.{IsSwapOf, stays, flipped, after, chained, AreApart-sym, independent_on_all, numbers, entries, entries_flipped, sees_touched, In, shuffled_of, touched_of}
 
@@ -26,7 +26,7 @@ pub record Turned (c d p : List NodeRecord) (e f : Event) (t u : EventOutcome) :
 
 pub turned : (c d p : List NodeRecord) (e f : Event) (t u : EventOutcome) → apply c e ≡ Some (d, t) → apply d f ≡ Some (p, u) → AreIndependent (cause_of c e) (cause_of d f) → Turned c d p e f t u
 turned c d p e f t u h k a =
-    let s = same_of (cause_touches (cause_of c e)) f d p c u (Agree-sym (cause_touches (cause_of c e)) c d (keeps_of c e d t h)) (independent_on_all (cause_of c e) (cause_of d f) a) k in
+    let s = same_of (cause_touches (cause_of c e)) f d p c u (AgreeOutsideMarks-sym (cause_touches (cause_of c e)) c d (keeps_of c e d t h)) (independent_on_all (cause_of c e) (cause_of d f) a) k in
     let b : AreIndependent (cause_of c e) (cause_of c f) = subst (AreIndependent (cause_of c e)) s.cause a in
     let z = same_of (cause_touches (cause_of c f)) e c d s.mid t (keeps_of c f s.mid u s.done) (independent_on_all (cause_of c f) (cause_of c e) (AreApart-sym (cause_of c e) (cause_of c f) b)) h in
     let x = same_of (cause_touches (cause_of c e)) f c s.mid d u (keeps_of c e d t h) (independent_on_all (cause_of c e) (cause_of c f) b) s.done in
@@ -150,20 +150,20 @@ abbrev pub Made : List NodeRecord → List Cause → Type 0
 Made c [] = Unit {0}
 Made c (e ∷ es) = (d : List NodeRecord) × (t : EventOutcome) × (apply c e.event ≡ Some (d, t)) × (cause_of c e.event ≡ e) × Made d es
 
-pub made_of : (c last : List NodeRecord) (es : List Event) (ts : List (Cause × EventOutcome)) → run c es ≡ Some (last, ts) → Made c (causes ts) × (events_in (causes ts) ≡ es)
+pub made_of : (c last : List NodeRecord) (es : List Event) (ts : List (Cause × EventOutcome)) → run c es ≡ Some (last, ts) → Made c (causes ts) × (events_of_causes (causes ts) ≡ es)
 made_of c last [] ts is =
-    subst (λ (z : List NodeRecord × List (Cause × EventOutcome)). Made c (causes z.1) × (events_in (causes z.1) ≡ [])) (same_Some (c, []) (last, ts) is) (tt, refl)
+    subst (λ (z : List NodeRecord × List (Cause × EventOutcome)). Made c (causes z.1) × (events_of_causes (causes z.1) ≡ [])) (same_Some (c, []) (last, ts) is) (tt, refl)
 made_of c last (e ∷ es) ts is =
     let m = first_of_run c e es last ts is in
     let r = made_of m.mid last es m.others m.then in
-    subst (λ (z : List (Cause × EventOutcome)). Made c (causes z) × (events_in (causes z) ≡ e ∷ es)) (sym m.all)
+    subst (λ (z : List (Cause × EventOutcome)). Made c (causes z) × (events_of_causes (causes z) ≡ e ∷ es)) (sym m.all)
     ((m.mid, m.told, m.first, refl, r.0), ap (λ z. e ∷ z) r.1)
 
 -- and such causes run
 pub record MadeRun (c : List NodeRecord) (es : List Cause) : Type 0 where
   pub last : List NodeRecord
   pub told : List (Cause × EventOutcome)
-  pub run_is : run c (events_in es) ≡ Some (last, told)
+  pub run_is : run c (events_of_causes es) ≡ Some (last, told)
   pub same : causes told ≡ es
 
 pub run_made : (c : List NodeRecord) (es : List Cause) → Made c es → MadeRun c es
@@ -173,11 +173,11 @@ run_made c (e ∷ es) (d, t, done, is, m) =
     record {
       last = r.last;
       told = (cause_of c e.event, t) ∷ r.told;
-      run_is = run_more c e.event (events_in es) d r.last t r.told done r.run_is;
+      run_is = run_more c e.event (events_of_causes es) d r.last t r.told done r.run_is;
       same = ap (λ z. z ∷ causes r.told) is ∙ ap (λ z. e ∷ z) r.same;
     }
 
-pub causes_without : (flags : List Bool) (ts : List (Cause × EventOutcome)) → causes (unflagged flags ts) ≡ unflagged flags (causes ts)
+pub causes_without : (flags : List Bool) (ts : List (Cause × EventOutcome)) → causes (without_flagged flags ts) ≡ without_flagged flags (causes ts)
 causes_without [] ts = refl
 causes_without (true ∷ flags) [] = refl
 causes_without (false ∷ flags) [] = refl
@@ -185,7 +185,7 @@ causes_without (true ∷ flags) (x ∷ ts) = causes_without flags ts
 causes_without (false ∷ flags) (x ∷ ts) = ap (λ z. x.0 ∷ z) (causes_without flags ts)
 
 -- lists of causes that differ by swaps can both be made, and their events are equivalent
-pub made_shuffled : (c : List NodeRecord) (xs ys : List Cause) → IsSwapOf xs ys → Made c xs → AreEquivalent c (events_in xs) (events_in ys) × Made c ys
+pub made_shuffled : (c : List NodeRecord) (xs ys : List Cause) → IsSwapOf xs ys → Made c xs → AreEquivalent c (events_of_causes xs) (events_of_causes ys) × Made c ys
 made_shuffled c xs ys stays m = (same, m)
 made_shuffled c xs ys (flipped {e} {f} {xs = zs} h) (d, t, done, is, (p, u, next, so, m)) =
     let a : AreIndependent (cause_of c e.event) (cause_of d f.event) = subst (AreIndependent (cause_of c e.event)) (sym so) (subst (λ z. AreIndependent z f) (sym is) h) in
@@ -204,7 +204,7 @@ equivalent_of : (c last now : List NodeRecord) (es fs : List Event) (ts us : Lis
 equivalent_of c last now es fs ts us is so h =
     let m = made_of c last es ts is in
     let k = made_of c now fs us so in
-    subst (λ z. AreEquivalent c z fs) m.1 (subst (λ z. AreEquivalent c (events_in (causes ts)) z) k.1 ((made_shuffled c (causes ts) (causes us) h m.0).0))
+    subst (λ z. AreEquivalent c z fs) m.1 (subst (λ z. AreEquivalent c (events_of_causes (causes ts)) z) k.1 ((made_shuffled c (causes ts) (causes us) h m.0).0))
 
 -- and the other way round
 pub shuffled_by : (c last now : List NodeRecord) (es fs : List Event) (ts us : List (Cause × EventOutcome)) → run c es ≡ Some (last, ts) → run c fs ≡ Some (now, us) → AreEquivalent c es fs → IsSwapOf (causes ts) (causes us)
@@ -245,17 +245,17 @@ in_filtered test (y ∷ ys) x i = two (test y) i (λ j. in_filtered test ys x j)
     two false i h = inr (h i)
 
 -- the same events, with the same numbers
-pub same_events : (c last now : List NodeRecord) (es fs : List Event) (ts us : List (Cause × EventOutcome)) → run c es ≡ Some (last, ts) → run c fs ≡ Some (now, us) → AreEquivalent c es fs ↔ IsPermutation (numbered_seen (causes ts)) (numbered_seen (causes us))
+pub same_events : (c last now : List NodeRecord) (es fs : List Event) (ts us : List (Cause × EventOutcome)) → run c es ≡ Some (last, ts) → run c fs ≡ Some (now, us) → AreEquivalent c es fs ↔ IsPermutation (numbered_with_observed (causes ts)) (numbered_with_observed (causes us))
 same_events c last now es fs ts us is so = (to, from)
   where
-    to : AreEquivalent c es fs → IsPermutation (numbered_seen (causes ts)) (numbered_seen (causes us))
+    to : AreEquivalent c es fs → IsPermutation (numbered_with_observed (causes ts)) (numbered_with_observed (causes us))
     to h = permuted (λ n. 0) (causes ts) (causes us) (shuffled_by c last now es fs ts us is so h)
 
-    from : IsPermutation (numbered_seen (causes ts)) (numbered_seen (causes us)) → AreEquivalent c es fs
+    from : IsPermutation (numbered_with_observed (causes ts)) (numbered_with_observed (causes us)) → AreEquivalent c es fs
     from h = equivalent_of c last now es fs ts us is so
         (shuffled_of (λ n. 0) (causes ts) (causes us)
-        (λ x i. in_moved (numbered_seen (causes ts)) (numbered_seen (causes us)) x h i)
-        (λ x i. in_moved (numbered_seen (causes us)) (numbered_seen (causes ts)) x (IsPermutation-sym (numbered_seen (causes ts)) (numbered_seen (causes us)) h) i))
+        (λ x i. in_moved (numbered_with_observed (causes ts)) (numbered_with_observed (causes us)) x h i)
+        (λ x i. in_moved (numbered_with_observed (causes us)) (numbered_with_observed (causes ts)) x (IsPermutation-sym (numbered_with_observed (causes ts)) (numbered_with_observed (causes us)) h) i))
 
 -- each node has the same local history
 pub same_accounts : (c last now : List NodeRecord) (es fs : List Event) (ts us : List (Cause × EventOutcome)) → run c es ≡ Some (last, ts) → run c fs ≡ Some (now, us) → AreEquivalent c es fs ↔ ((n : ℕ) → local_history n (causes ts) ≡ local_history n (causes us))
@@ -264,18 +264,18 @@ same_accounts c last now es fs ts us is so = (to, from)
     to : AreEquivalent c es fs → (n : ℕ) → local_history n (causes ts) ≡ local_history n (causes us)
     to h n = filtered (λ k. 0) n (causes ts) (causes us) (shuffled_by c last now es fs ts us is so h)
 
-    each : (xs ys : List Cause) → ((n : ℕ) → local_history n xs ≡ local_history n ys) → (x : Cause × List ℕ) → In x (numbered_seen xs) → In x (numbered_seen ys)
+    each : (xs ys : List Cause) → ((n : ℕ) → local_history n xs ≡ local_history n ys) → (x : Cause × List ℕ) → In x (numbered_with_observed xs) → In x (numbered_with_observed ys)
     each xs ys h x i =
         let t = touched_of x.0.event in
-        in_filtered (λ e. cause_touches e.0 t.node) (numbered_seen ys) x
-        (subst (In x) (h t.node) (in_filter (λ e. cause_touches e.0 t.node) (numbered_seen xs) x i t.is))
+        in_filtered (λ e. cause_touches e.0 t.node) (numbered_with_observed ys) x
+        (subst (In x) (h t.node) (in_filter (λ e. cause_touches e.0 t.node) (numbered_with_observed xs) x i t.is))
 
     from : ((n : ℕ) → local_history n (causes ts) ≡ local_history n (causes us)) → AreEquivalent c es fs
     from h = equivalent_of c last now es fs ts us is so
         (shuffled_of (λ n. 0) (causes ts) (causes us) (each (causes ts) (causes us) h) (each (causes us) (causes ts) (λ n. sym (h n))))
 
 -- what equivalent lists keep
-pub kept_alike : (c last : List NodeRecord) (es fs : List Event) (ts : List (Cause × EventOutcome)) → run c es ≡ Some (last, ts) → AreEquivalent c es fs → (us : List (Cause × EventOutcome)) × (run c fs ≡ Some (last, us)) × IsPermutation (recorded ts) (recorded us) × ((n : ℕ) → local_history_told n ts ≡ local_history_told n us)
+pub kept_alike : (c last : List NodeRecord) (es fs : List Event) (ts : List (Cause × EventOutcome)) → run c es ≡ Some (last, ts) → AreEquivalent c es fs → (us : List (Cause × EventOutcome)) × (run c fs ≡ Some (last, us)) × IsPermutation (numbered_outcomes ts) (numbered_outcomes us) × ((n : ℕ) → local_history_outcomes n ts ≡ local_history_outcomes n us)
 kept_alike c last es fs ts is h =
     let r = follows c es fs h last ts is in
     (r.told, r.run_is, r.alike (λ n. 0), λ n. r.nodes (λ k. 0) n)

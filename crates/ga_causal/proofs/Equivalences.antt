@@ -3,10 +3,10 @@ use Rattle.std.proofs.Common.{◌≡◌, ℕ, zero, suc, ◌+◌, Bool, false, �
 use Rattle.std.proofs.lemmas.Bool.{or_parts, cases_Bool, cond-false, both_ways, cond-true, or_cases, or_left, false_from_ne_true}
 use Rattle.ga_event.specs.declared.event.Cause.{Cause}
 use Rattle.std.specs.List.{list_any}
-use Rattle.ga_event.proofs.Locality.{touched_free, meets-touched}
-use Rattle.ga_causal.specs.Dependence.{cause_nodes, cause_touches, dependents_after, dependents, unflagged, rest}
-use Rattle.ga_event.specs.Touches.{seen_by, meets, touches as event_touches}
-use Rattle.ga_causal.specs.Steps.{counted, numbered_by, numbered, numbered_seen}
+use Rattle.ga_event.proofs.Locality.{touched_free, has_common_node-touched}
+use Rattle.ga_causal.specs.Dependence.{touched_nodes, cause_touches, dependent_flags_after, dependent_flags, without_flagged, rest}
+use Rattle.ga_event.specs.Touches.{observed_by, has_common_node, touches as event_touches}
+use Rattle.ga_causal.specs.Steps.{counted, numbered_events_by, numbered_events, numbered_with_observed}
 use Rattle.ga_causal.proofs.Runs.{kept, apart_meets}
 use mathlib.Core.Path.{fun_ext}
 use Rattle.ga_event.specs.declared.event.Event.{Event}
@@ -31,7 +31,7 @@ AgreeOn-kept marks s z e a n free = ap (λ (k : ℕ). cond (cause_touches e n) (
 
 -- an event sees these nodes
 abbrev AreSeen : (Cause → List ℕ) → Type 0
-AreSeen nodes = (marks : ℕ → Bool) (e : Cause) → meets marks e ≡ false → list_any marks (nodes e) ≡ false
+AreSeen nodes = (marks : ℕ → Bool) (e : Cause) → has_common_node marks e ≡ false → list_any marks (nodes e) ≡ false
 
 pub numbers_alike : (marks : ℕ → Bool) (s z : ℕ → ℕ) → AgreeOn marks s z → (ns : List ℕ) → list_any marks ns ≡ false → map (λ n. s n + 1) ns ≡ map (λ n. z n + 1) ns
 numbers_alike marks s z a [] free = refl
@@ -39,26 +39,26 @@ numbers_alike marks s z a (n ∷ ns) free =
     let p : (marks n ≡ false) × (list_any marks ns ≡ false) = or_parts (marks n) (list_any marks ns) free in
     ap₂ (λ (x : ℕ) (y : List ℕ). (x + 1) ∷ y) (a n p.0) (numbers_alike marks s z a ns p.1)
 
-numbered_kept : (nodes : Cause → List ℕ) → AreSeen nodes → (marks : ℕ → Bool) (es : List Cause) (s z : ℕ → ℕ) → AgreeOn marks s z → numbered_by nodes s (kept marks es) ≡ unflagged (dependents_after marks es) (numbered_by nodes z es)
+numbered_kept : (nodes : Cause → List ℕ) → AreSeen nodes → (marks : ℕ → Bool) (es : List Cause) (s z : ℕ → ℕ) → AgreeOn marks s z → numbered_events_by nodes s (kept marks es) ≡ without_flagged (dependent_flags_after marks es) (numbered_events_by nodes z es)
 numbered_kept nodes seen marks [] s z a = refl
 numbered_kept nodes seen marks (e ∷ es) s z a = ⊎_elim
     (λ m. rw m (numbered_kept nodes seen (λ n. marks n || cause_touches e n) es s (counted z e) (AgreeOn-dropped marks s z e a)))
     (λ m. rw m (ap₂ (λ (x : List ℕ) (y : List (Cause × List ℕ)). (e, x) ∷ y) (numbers_alike marks s z a (nodes e) (seen marks e m)) (numbered_kept nodes seen marks es (counted s e) (counted z e) (AgreeOn-kept marks s z e a))))
-    (cases_Bool (meets marks e))
+    (cases_Bool (has_common_node marks e))
 
 pub AgreeOn-first : (s : ℕ → ℕ) (e : Cause) → AgreeOn (cause_touches e) s (counted s e)
 AgreeOn-first s e n free = sym (cond-false (cause_touches e n) (s n + 1) (s n) free)
 
-numbered_rest : (nodes : Cause → List ℕ) → AreSeen nodes → (es : List Cause) (i : ℕ) (s : ℕ → ℕ) → numbered_by nodes s (rest es i) ≡ unflagged (dependents es i) (numbered_by nodes s es)
+numbered_rest : (nodes : Cause → List ℕ) → AreSeen nodes → (es : List Cause) (i : ℕ) (s : ℕ → ℕ) → numbered_events_by nodes s (rest es i) ≡ without_flagged (dependent_flags es i) (numbered_events_by nodes s es)
 numbered_rest nodes seen [] i s = refl
 numbered_rest nodes seen (e ∷ es) zero s = numbered_kept nodes seen (cause_touches e) es s (counted s e) (AgreeOn-first s e)
 numbered_rest nodes seen (e ∷ es) (suc i) s = ap (λ z. (e, map (λ n. s n + 1) (nodes e)) ∷ z) (numbered_rest nodes seen es i (counted s e))
 
-pub steps_rest : (events : List Cause) (i : ℕ) → numbered (rest events i) ≡ unflagged (dependents events i) (numbered events)
-steps_rest events i = numbered_rest cause_nodes touched_free events i (λ n. 0)
+pub steps_rest : (events : List Cause) (i : ℕ) → numbered_events (rest events i) ≡ without_flagged (dependent_flags events i) (numbered_events events)
+steps_rest events i = numbered_rest touched_nodes touched_free events i (λ n. 0)
 
-pub seen_rest : (events : List Cause) (i : ℕ) → numbered_seen (rest events i) ≡ unflagged (dependents events i) (numbered_seen events)
-seen_rest events i = numbered_rest seen_by (λ marks e free. free) events i (λ n. 0)
+pub seen_rest : (events : List Cause) (i : ℕ) → numbered_with_observed (rest events i) ≡ without_flagged (dependent_flags events i) (numbered_with_observed events)
+seen_rest events i = numbered_rest observed_by (λ marks e free. free) events i (λ n. 0)
 
 -- one list is made from the other by swaps of adjacent independent causes
 pub data IsSwapOf : List Cause → List Cause → Type 0 where
@@ -78,10 +78,10 @@ Shuffled-sym xs ys (chained {ys = zs} h k) = chained (Shuffled-sym zs ys k) (Shu
 
 -- the numbers of an event's next steps, after s n steps of each node n
 abbrev pub numbers : (ℕ → ℕ) → Cause → List ℕ
-numbers s e = map (λ n. s n + 1) (seen_by e)
+numbers s e = map (λ n. s n + 1) (observed_by e)
 
 abbrev pub entries : (ℕ → ℕ) → List Cause → List (Cause × List ℕ)
-entries s es = numbered_by seen_by s es
+entries s es = numbered_events_by observed_by s es
 
 pub counted_both : (s : ℕ → ℕ) (e f : Cause) → counted (counted s e) f ≡ counted (counted s f) e
 counted_both s e f = fun_ext (λ n. two (cause_touches e n) (cause_touches f n) (s n))
@@ -92,12 +92,12 @@ counted_both s e f = fun_ext (λ n. two (cause_touches e n) (cause_touches f n) 
     two false true x = refl
     two false false x = refl
 
-pub independent_on_all : (e f : Cause) → AreIndependent e f → meets (cause_touches e) f ≡ false
+pub independent_on_all : (e f : Cause) → AreIndependent e f → has_common_node (cause_touches e) f ≡ false
 independent_on_all e f h = apart_meets e f h.first
 
 -- an event has the same numbers after one that touches nothing that it sees
-pub numbers_after : (s : ℕ → ℕ) (e f : Cause) → meets (cause_touches e) f ≡ false → numbers s f ≡ numbers (counted s e) f
-numbers_after s e f free = numbers_alike (cause_touches e) s (counted s e) (AgreeOn-first s e) (seen_by f) free
+pub numbers_after : (s : ℕ → ℕ) (e f : Cause) → has_common_node (cause_touches e) f ≡ false → numbers s f ≡ numbers (counted s e) f
+numbers_after s e f free = numbers_alike (cause_touches e) s (counted s e) (AgreeOn-first s e) (observed_by f) free
 
 pub entries_flipped : (s : ℕ → ℕ) (e f : Cause) (xs : List Cause) → AreIndependent e f → entries s (f ∷ e ∷ xs) ≡ (f, numbers (counted s e) f) ∷ (e, numbers s e) ∷ entries (counted (counted s e) f) xs
 entries_flipped s e f xs h =
@@ -147,10 +147,10 @@ same_at a b n (m ∷ ns) h t =
 
 -- the numbers at a node that an event sees
 pub same_number : (a b : ℕ → ℕ) (e : Cause) (n : ℕ) → numbers a e ≡ numbers b e → observes e n ≡ true → a n ≡ b n
-same_number a b e n h t = same_at a b n (seen_by e) h t
+same_number a b e n h t = same_at a b n (observed_by e) h t
 
 pub sees_touched : (e : Cause) (n : ℕ) → cause_touches e n ≡ true → observes e n ≡ true
-sees_touched e n t = meets-touched (λ m. m == n) e t
+sees_touched e n t = has_common_node-touched (λ m. m == n) e t
 
 -- each event touches a node
 pub record Touched (e : Event) : Type 0 where

@@ -4,10 +4,10 @@ use Rattle.std.specs.Prelude.{slice_index_or}
 use Rattle.std.specs.List.{list_any}
 use Rattle.std.proofs.lemmas.Bool.{cases_lt, or_cases, cases_Bool, both_ways, false_from_ne_true}
 use Rattle.ga_event.specs.declared.event.Cause.{Cause}
-use Rattle.ga_causal.specs.Dependence.{cause_nodes, cause_touches, marked, dependents_after, dependents, unflagged, DependsOn, HasNoLooks}
-use Rattle.ga_event.specs.Touches.{seen_by, meets}
-use Rattle.ga_causal.specs.Steps.{counted, numbered_by, numbered, numbered_seen}
-use Rattle.ga_event.proofs.Locality.{touched-meets}
+use Rattle.ga_causal.specs.Dependence.{touched_nodes, cause_touches, marked_nodes, dependent_flags_after, dependent_flags, without_flagged, DependsOn, HasNoLooks}
+use Rattle.ga_event.specs.Touches.{observed_by, has_common_node}
+use Rattle.ga_causal.specs.Steps.{counted, numbered_events_by, numbered_events, numbered_with_observed}
+use Rattle.ga_event.proofs.Locality.{touched-has_common_node}
 use Rattle.ga_causal.proofs.Exact.{flag_from_DependsOn, past_alone}
 
 -- of each marked node fewer steps were counted than it made, and of no node more
@@ -36,13 +36,13 @@ less_dropped marks s z e l n m = ⊎_elim
     (λ t. let h : s n ≤ z n = l.most n in let k : z n < counted z e n = counted-more z e n t in omega arith)
     (or_cases (marks n) (cause_touches e n) m)
 
-Lacks-dropped : (marks : ℕ → Bool) (s z : ℕ → ℕ) (e : Cause) → Lacks marks s z → Lacks (marked marks e) s (counted z e)
+Lacks-dropped : (marks : ℕ → Bool) (s z : ℕ → ℕ) (e : Cause) → Lacks marks s z → Lacks (marked_nodes marks e) s (counted z e)
 Lacks-dropped marks s z e l = record {
   most = λ n. (let h : s n ≤ z n = l.most n in let k : z n ≤ counted z e n = counted-least z e n in omega arith);
   less = λ n m. ⊎_elim
       (λ t. less_dropped marks s z e l n (subst (λ b. cond b (λ n. marks n || cause_touches e n) marks n ≡ true) t m))
       (λ f. let h : s n < z n = l.less n (subst (λ b. cond b (λ n. marks n || cause_touches e n) marks n ≡ true) f m) in let k : z n ≤ counted z e n = counted-least z e n in omega arith)
-      (cases_Bool (meets marks e));
+      (cases_Bool (has_common_node marks e));
 }
 
 -- a node with the same number in both is not marked
@@ -59,28 +59,28 @@ numbers_of e a b x y h = let p : ◌≡◌ {A = Cause × List ℕ} (e, a) (e, b)
 others_of : (e : Cause) (a b : List ℕ) (x y : List (Cause × List ℕ)) → ◌≡◌ {A = List (Cause × List ℕ)} ((e, a) ∷ x) ((e, b) ∷ y) → x ≡ y
 others_of e a b x y h = cc
 
-marked-free : (marks : ℕ → Bool) (e : Cause) → meets marks e ≡ false → marked marks e ≡ marks
-marked-free marks e f = rw f refl
+marked_nodes-free : (marks : ℕ → Bool) (e : Cause) → has_common_node marks e ≡ false → marked_nodes marks e ≡ marks
+marked_nodes-free marks e f = rw f refl
 
 -- an event that sees a marked node has a marked one among these nodes of it
 abbrev ShowsAll : (Cause → List ℕ) → List Cause → Type 0
 ShowsAll nodes [] = Unit {0}
-ShowsAll nodes (e ∷ es) = ((marks : ℕ → Bool) → meets marks e ≡ true → list_any marks (nodes e) ≡ true) × ShowsAll nodes es
+ShowsAll nodes (e ∷ es) = ((marks : ℕ → Bool) → has_common_node marks e ≡ true → list_any marks (nodes e) ≡ true) × ShowsAll nodes es
 
-dropped_after : (nodes : Cause → List ℕ) (marks : ℕ → Bool) (es : List Cause) → ShowsAll nodes es → (fs : List Bool) (s z : ℕ → ℕ) → Lacks marks s z → numbered_by nodes s (unflagged fs es) ≡ unflagged fs (numbered_by nodes z es) → (p : ℕ) → slice_index_or (dependents_after marks es) p false ≡ true → slice_index_or fs p false ≡ true
+dropped_after : (nodes : Cause → List ℕ) (marks : ℕ → Bool) (es : List Cause) → ShowsAll nodes es → (fs : List Bool) (s z : ℕ → ℕ) → Lacks marks s z → numbered_events_by nodes s (without_flagged fs es) ≡ without_flagged fs (numbered_events_by nodes z es) → (p : ℕ) → slice_index_or (dependent_flags_after marks es) p false ≡ true → slice_index_or fs p false ≡ true
 dropped_after nodes marks [] q fs s z l h p t = absurd (both_ways false refl t)
 dropped_after nodes marks (e ∷ es) q [] s z l h zero t = absurd (none_marked marks s z l (nodes e) (numbers_of e _ _ _ _ h) (q.0 marks t))
 dropped_after nodes marks (e ∷ es) q [] s z l h (suc p) t =
-    let free : meets marks e ≡ false = false_from_ne_true (meets marks e) (λ t. none_marked marks s z l (nodes e) (numbers_of e _ _ _ _ h) (q.0 marks t)) in
+    let free : has_common_node marks e ≡ false = false_from_ne_true (has_common_node marks e) (λ t. none_marked marks s z l (nodes e) (numbers_of e _ _ _ _ h) (q.0 marks t)) in
     dropped_after nodes marks es q.1 [] (counted s e) (counted z e) (Lacks-kept marks s z e l) (others_of e _ _ _ _ h) p
-    (subst (λ m. slice_index_or (dependents_after m es) p false ≡ true) (marked-free marks e free) t)
+    (subst (λ m. slice_index_or (dependent_flags_after m es) p false ≡ true) (marked_nodes-free marks e free) t)
 dropped_after nodes marks (e ∷ es) q (true ∷ fs) s z l h zero t = refl
-dropped_after nodes marks (e ∷ es) q (true ∷ fs) s z l h (suc p) t = dropped_after nodes (marked marks e) es q.1 fs s (counted z e) (Lacks-dropped marks s z e l) h p t
+dropped_after nodes marks (e ∷ es) q (true ∷ fs) s z l h (suc p) t = dropped_after nodes (marked_nodes marks e) es q.1 fs s (counted z e) (Lacks-dropped marks s z e l) h p t
 dropped_after nodes marks (e ∷ es) q (false ∷ fs) s z l h zero t = absurd (none_marked marks s z l (nodes e) (numbers_of e _ _ _ _ h) (q.0 marks t))
 dropped_after nodes marks (e ∷ es) q (false ∷ fs) s z l h (suc p) t =
-    let free : meets marks e ≡ false = false_from_ne_true (meets marks e) (λ t. none_marked marks s z l (nodes e) (numbers_of e _ _ _ _ h) (q.0 marks t)) in
+    let free : has_common_node marks e ≡ false = false_from_ne_true (has_common_node marks e) (λ t. none_marked marks s z l (nodes e) (numbers_of e _ _ _ _ h) (q.0 marks t)) in
     dropped_after nodes marks es q.1 fs (counted s e) (counted z e) (Lacks-kept marks s z e l) (others_of e _ _ _ _ h) p
-    (subst (λ m. slice_index_or (dependents_after m es) p false ≡ true) (marked-free marks e free) t)
+    (subst (λ m. slice_index_or (dependent_flags_after m es) p false ≡ true) (marked_nodes-free marks e free) t)
 
 Lacks-first : (s z : ℕ → ℕ) (e : Cause) → ((n : ℕ) → s n ≤ z n) → Lacks (cause_touches e) s (counted z e)
 Lacks-first s z e l = record {
@@ -88,7 +88,7 @@ Lacks-first s z e l = record {
   less = λ n t. (let h : s n ≤ z n = l n in let k : z n < counted z e n = counted-more z e n t in omega arith);
 }
 
-dropped_rest : (nodes : Cause → List ℕ) (es : List Cause) → ShowsAll nodes es → (i : ℕ) (fs : List Bool) (s z : ℕ → ℕ) → ((n : ℕ) → s n ≤ z n) → slice_index_or fs i false ≡ true → numbered_by nodes s (unflagged fs es) ≡ unflagged fs (numbered_by nodes z es) → (p : ℕ) → slice_index_or (dependents es i) p false ≡ true → slice_index_or fs p false ≡ true
+dropped_rest : (nodes : Cause → List ℕ) (es : List Cause) → ShowsAll nodes es → (i : ℕ) (fs : List Bool) (s z : ℕ → ℕ) → ((n : ℕ) → s n ≤ z n) → slice_index_or fs i false ≡ true → numbered_events_by nodes s (without_flagged fs es) ≡ without_flagged fs (numbered_events_by nodes z es) → (p : ℕ) → slice_index_or (dependent_flags es i) p false ≡ true → slice_index_or fs p false ≡ true
 dropped_rest nodes [] q i fs s z l d h p t = absurd (both_ways false refl t)
 dropped_rest nodes (e ∷ es) q i [] s z l d h p t = absurd (both_ways false refl d)
 dropped_rest nodes (e ∷ es) q zero (false ∷ fs) s z l d h p t = absurd (both_ways false refl d)
@@ -100,22 +100,22 @@ dropped_rest nodes (e ∷ es) q (suc i) (true ∷ fs) s z l d h (suc p) t =
 dropped_rest nodes (e ∷ es) q (suc i) (false ∷ fs) s z l d h (suc p) t =
     dropped_rest nodes es q.1 i fs (counted s e) (counted z e) (λ n. counted-mono s z e n (l n)) d (others_of e _ _ _ _ h) p t
 
-dropped_all : (nodes : Cause → List ℕ) (events : List Cause) → ShowsAll nodes events → (i : ℕ) (dropped : List Bool) → IsTrue (slice_index_or dropped i false) → numbered_by nodes (λ n. 0) (unflagged dropped events) ≡ unflagged dropped (numbered_by nodes (λ n. 0) events) → (j : ℕ) → DependsOn events i j → IsTrue (slice_index_or dropped j false)
+dropped_all : (nodes : Cause → List ℕ) (events : List Cause) → ShowsAll nodes events → (i : ℕ) (dropped : List Bool) → IsTrue (slice_index_or dropped i false) → numbered_events_by nodes (λ n. 0) (without_flagged dropped events) ≡ without_flagged dropped (numbered_events_by nodes (λ n. 0) events) → (j : ℕ) → DependsOn events i j → IsTrue (slice_index_or dropped j false)
 dropped_all nodes events q i fs d h j x = elim (cases_lt i (length events)) [
   | inl l ↦ dropped_rest nodes events q i fs (λ n. 0) (λ n. 0) (λ n. omega arith) d h j (flag_from_DependsOn events i j l x)
   | inr l ↦ subst (λ (z : ℕ). slice_index_or fs z false ≡ true) (sym (past_alone events i j l x)) d
 ]
 
-shows_steps : (es : List Cause) → HasNoLooks es → ShowsAll cause_nodes es
+shows_steps : (es : List Cause) → HasNoLooks es → ShowsAll touched_nodes es
 shows_steps [] q = tt
-shows_steps (e ∷ es) q = (λ marks t. touched-meets marks e q.0 t, shows_steps es q.1)
+shows_steps (e ∷ es) q = (λ marks t. touched-has_common_node marks e q.0 t, shows_steps es q.1)
 
-shows_seen : (es : List Cause) → ShowsAll seen_by es
+shows_seen : (es : List Cause) → ShowsAll observed_by es
 shows_seen [] = tt
 shows_seen (e ∷ es) = (λ marks t. t, shows_seen es)
 
-pub largest : (events : List Cause) → HasNoLooks events → (i : ℕ) (dropped : List Bool) → IsTrue (slice_index_or dropped i false) → numbered (unflagged dropped events) ≡ unflagged dropped (numbered events) → (j : ℕ) → DependsOn events i j → IsTrue (slice_index_or dropped j false)
-largest events q = dropped_all cause_nodes events (shows_steps events q)
+pub largest : (events : List Cause) → HasNoLooks events → (i : ℕ) (dropped : List Bool) → IsTrue (slice_index_or dropped i false) → numbered_events (without_flagged dropped events) ≡ without_flagged dropped (numbered_events events) → (j : ℕ) → DependsOn events i j → IsTrue (slice_index_or dropped j false)
+largest events q = dropped_all touched_nodes events (shows_steps events q)
 
-pub largest_seen : (events : List Cause) (i : ℕ) (dropped : List Bool) → IsTrue (slice_index_or dropped i false) → numbered_seen (unflagged dropped events) ≡ unflagged dropped (numbered_seen events) → (j : ℕ) → DependsOn events i j → IsTrue (slice_index_or dropped j false)
-largest_seen events = dropped_all seen_by events (shows_seen events)
+pub largest_seen : (events : List Cause) (i : ℕ) (dropped : List Bool) → IsTrue (slice_index_or dropped i false) → numbered_with_observed (without_flagged dropped events) ≡ without_flagged dropped (numbered_with_observed events) → (j : ℕ) → DependsOn events i j → IsTrue (slice_index_or dropped j false)
+largest_seen events = dropped_all observed_by events (shows_seen events)

@@ -4,14 +4,14 @@ use Rattle.std.specs.List.{filter, zip}
 use Rattle.std.proofs.lemmas.Bool.{cases_Bool, or_left, or_right, both_ways, cond-true, cond-false, false_from_ne_true, ne_eqb, not-false}
 use Rattle.ga_event.specs.declared.event.Event.{Event}
 use Rattle.ga_event.specs.declared.event.Cause.{Cause}
-use Rattle.ga_event.specs.Touches.{meets}
+use Rattle.ga_event.specs.Touches.{has_common_node}
 use Rattle.ga_event.specs.Apply.{EventOutcome, run}
 use Rattle.ga_node.specs.Record.{NodeRecord}
-use Rattle.ga_event.proofs.Locality.{meets-touched}
-use Rattle.ga_causal.specs.Dependence.{cause_nodes, cause_touches, marked, dependents_after, dependents, unflagged, rest, position_of_step, rest_from, rewound_list, event_at, DependsOn}
-use Rattle.ga_event.specs.Told.{events_in}
-use Rattle.ga_causal.specs.Equivalence.{recorded, local_history, local_history_told}
-use Rattle.ga_causal.specs.Steps.{counted, numbered_seen}
+use Rattle.ga_event.proofs.Locality.{has_common_node-touched}
+use Rattle.ga_causal.specs.Dependence.{touched_nodes, cause_touches, marked_nodes, dependent_flags_after, dependent_flags, without_flagged, rest, position_of_step, rest_or_all, events_after_rewind, event_at, DependsOn}
+use Rattle.ga_event.specs.Told.{events_of_causes}
+use Rattle.ga_causal.specs.Equivalence.{numbered_outcomes, local_history, local_history_outcomes}
+use Rattle.ga_causal.specs.Steps.{counted, numbered_with_observed}
 use Rattle.ga_causal.proofs.Exact.{any-mono, flag_marked, DependsOn_from_flag, flag_from_DependsOn}
 use Rattle.ga_causal.proofs.Runs.{causes, kept, run_rest}
 use Rattle.ga_causal.proofs.Equivalences.{seen_rest, numbers, entries}
@@ -24,35 +24,35 @@ use Rattle.std.proofs.lemmas.Option.{same_Some}
 abbrev at_node : {X : Type 0} → (X → Cause) → ℕ → List X → List X
 at_node f m xs = filter (λ x. cause_touches (f x) m) xs
 
-pub marked-stays : (marks : ℕ → Bool) (e : Cause) (m : ℕ) → marks m ≡ true → marked marks e m ≡ true
-marked-stays marks e m h = go (meets marks e)
+pub marked_nodes-stays : (marks : ℕ → Bool) (e : Cause) (m : ℕ) → marks m ≡ true → marked_nodes marks e m ≡ true
+marked_nodes-stays marks e m h = go (has_common_node marks e)
   where
     go : (b : Bool) → cond b (λ n. marks n || cause_touches e n) marks m ≡ true
     go true = or_left (marks m) (cause_touches e m) h
     go false = h
 
-pub marked-touched : (marks : ℕ → Bool) (e : Cause) (m : ℕ) → meets marks e ≡ true → cause_touches e m ≡ true → marked marks e m ≡ true
-marked-touched marks e m t h = subst (λ b. cond b (λ n. marks n || cause_touches e n) marks m ≡ true) (sym t) (or_right (marks m) (cause_touches e m) h)
+pub marked_nodes-touched : (marks : ℕ → Bool) (e : Cause) (m : ℕ) → has_common_node marks e ≡ true → cause_touches e m ≡ true → marked_nodes marks e m ≡ true
+marked_nodes-touched marks e m t h = subst (λ b. cond b (λ n. marks n || cause_touches e n) marks m ≡ true) (sym t) (or_right (marks m) (cause_touches e m) h)
 
-pub touched-marked : (marks : ℕ → Bool) (e : Cause) (m : ℕ) → marks m ≡ true → cause_touches e m ≡ true → meets marks e ≡ true
-touched-marked marks e m h t = meets-touched marks e (any-mono (λ k. k == m) marks (λ k q. subst (λ z. marks z ≡ true) (sym (eqb-true k m q)) h) (cause_nodes e) t)
+pub touched-marked_nodes : (marks : ℕ → Bool) (e : Cause) (m : ℕ) → marks m ≡ true → cause_touches e m ≡ true → has_common_node marks e ≡ true
+touched-marked_nodes marks e m h t = has_common_node-touched marks e (any-mono (λ k. k == m) marks (λ k q. subst (λ z. marks z ≡ true) (sym (eqb-true k m q)) h) (touched_nodes e) t)
 
 -- the things that are left of one and more, by whether it is dropped
 abbrev pick : {X : Type 0} → (X → Cause) → ℕ → X → List X → Bool → List X
 pick f m x left b = at_node f m (cond b left (x ∷ left))
 
-none_step : {X : Type 0} (f : X → Cause) (m : ℕ) (marks : ℕ → Bool) (x : X) (left : List X) → marks m ≡ true → at_node f m left ≡ [] → pick f m x left (meets marks (f x)) ≡ []
+none_step : {X : Type 0} (f : X → Cause) (m : ℕ) (marks : ℕ → Bool) (x : X) (left : List X) → marks m ≡ true → at_node f m left ≡ [] → pick f m x left (has_common_node marks (f x)) ≡ []
 none_step f m marks x left h later = ⊎_elim
     (λ t. ap (pick f m x left) t ∙ later)
     (λ g. ap (pick f m x left) g
-    ∙ cond-false (cause_touches (f x) m) (x ∷ at_node f m left) (at_node f m left) (false_from_ne_true (cause_touches (f x) m) (λ t. both_ways (meets marks (f x)) g (touched-marked marks (f x) m h t))) ∙ later)
-    (cases_Bool (meets marks (f x)))
+    ∙ cond-false (cause_touches (f x) m) (x ∷ at_node f m left) (at_node f m left) (false_from_ne_true (cause_touches (f x) m) (λ t. both_ways (has_common_node marks (f x)) g (touched-marked_nodes marks (f x) m h t))) ∙ later)
+    (cases_Bool (has_common_node marks (f x)))
 
 -- of a marked node nothing is left
-none_left : {X : Type 0} (f : X → Cause) (m : ℕ) (marks : ℕ → Bool) (xs : List X) → marks m ≡ true → at_node f m (unflagged (dependents_after marks (map f xs)) xs) ≡ []
+none_left : {X : Type 0} (f : X → Cause) (m : ℕ) (marks : ℕ → Bool) (xs : List X) → marks m ≡ true → at_node f m (without_flagged (dependent_flags_after marks (map f xs)) xs) ≡ []
 none_left f m marks [] h = refl
 none_left f m marks (x ∷ xs) h =
-    none_step f m marks x (unflagged (dependents_after (marked marks (f x)) (map f xs)) xs) h (none_left f m (marked marks (f x)) xs (marked-stays marks (f x) m h))
+    none_step f m marks x (without_flagged (dependent_flags_after (marked_nodes marks (f x)) (map f xs)) xs) h (none_left f m (marked_nodes marks (f x)) xs (marked_nodes-stays marks (f x) m h))
 
 -- a list begins with another
 abbrev Begins : {X : Type 0} → List X → List X → Type 0
@@ -68,8 +68,8 @@ Begins-none xs ys q = (xs, ap (λ z. z ++ xs) (sym q))
 begins_skip : {X : Type 0} (f : X → Cause) (m : ℕ) (x : X) (xs ys : List X) → cause_touches (f x) m ≡ false → Begins (at_node f m xs) ys → Begins (at_node f m (x ∷ xs)) ys
 begins_skip f m x xs ys g h = subst (λ z. Begins z ys) (sym (cond-false (cause_touches (f x) m) (x ∷ at_node f m xs) (at_node f m xs) g)) h
 
-begins_step : {X : Type 0} (f : X → Cause) (m : ℕ) (marks : ℕ → Bool) (x : X) (xs left : List X) → (cause_touches (f x) m ≡ true → meets marks (f x) ≡ true → at_node f m left ≡ []) → Begins (at_node f m xs) (at_node f m left)
-    → Begins (at_node f m (x ∷ xs)) (pick f m x left (meets marks (f x)))
+begins_step : {X : Type 0} (f : X → Cause) (m : ℕ) (marks : ℕ → Bool) (x : X) (xs left : List X) → (cause_touches (f x) m ≡ true → has_common_node marks (f x) ≡ true → at_node f m left ≡ []) → Begins (at_node f m xs) (at_node f m left)
+    → Begins (at_node f m (x ∷ xs)) (pick f m x left (has_common_node marks (f x)))
 begins_step f m marks x xs left none ih = ⊎_elim
     (λ t. subst (Begins (at_node f m (x ∷ xs))) (sym (ap (pick f m x left) t))
     (⊎_elim
@@ -77,16 +77,16 @@ begins_step f m marks x xs left none ih = ⊎_elim
     (λ g. begins_skip f m x xs (at_node f m left) g ih)
     (cases_Bool (cause_touches (f x) m))))
     (λ t. subst (Begins (at_node f m (x ∷ xs))) (sym (ap (pick f m x left) t)) (Begins-both (cause_touches (f x) m) x (at_node f m xs) (at_node f m left) ih))
-    (cases_Bool (meets marks (f x)))
+    (cases_Bool (has_common_node marks (f x)))
 
-begins_kept : {X : Type 0} (f : X → Cause) (m : ℕ) (marks : ℕ → Bool) (xs : List X) → Begins (at_node f m xs) (at_node f m (unflagged (dependents_after marks (map f xs)) xs))
+begins_kept : {X : Type 0} (f : X → Cause) (m : ℕ) (marks : ℕ → Bool) (xs : List X) → Begins (at_node f m xs) (at_node f m (without_flagged (dependent_flags_after marks (map f xs)) xs))
 begins_kept f m marks [] = ([], refl)
 begins_kept f m marks (x ∷ xs) =
-    begins_step f m marks x xs (unflagged (dependents_after (marked marks (f x)) (map f xs)) xs)
-    (λ u t. none_left f m (marked marks (f x)) xs (marked-touched marks (f x) m t u))
-    (begins_kept f m (marked marks (f x)) xs)
+    begins_step f m marks x xs (without_flagged (dependent_flags_after (marked_nodes marks (f x)) (map f xs)) xs)
+    (λ u t. none_left f m (marked_nodes marks (f x)) xs (marked_nodes-touched marks (f x) m t u))
+    (begins_kept f m (marked_nodes marks (f x)) xs)
 
-begins_rest : {X : Type 0} (f : X → Cause) (m i : ℕ) (xs : List X) → Begins (at_node f m xs) (at_node f m (unflagged (dependents (map f xs) i) xs))
+begins_rest : {X : Type 0} (f : X → Cause) (m i : ℕ) (xs : List X) → Begins (at_node f m xs) (at_node f m (without_flagged (dependent_flags (map f xs) i) xs))
 begins_rest f m i [] = ([], refl)
 begins_rest f m zero (x ∷ xs) = ⊎_elim
     (λ u. Begins-none (at_node f m (x ∷ xs)) _ (none_left f m (cause_touches (f x)) xs u))
@@ -102,61 +102,61 @@ causes_zipped : (s : ℕ → ℕ) (ts : List (Cause × EventOutcome)) → map (�
 causes_zipped s [] = refl
 causes_zipped s (t ∷ ts) = ap (λ z. t.0 ∷ z) (causes_zipped (counted s t.0) ts)
 
-account_from : (es : List Cause) (o : Option ℕ) (m : ℕ) → Begins (local_history m es) (local_history m (rest_from es o))
+account_from : (es : List Cause) (o : Option ℕ) (m : ℕ) → Begins (local_history m es) (local_history m (rest_or_all es o))
 account_from es None m = ([], sym (append-nil (local_history m es)))
 account_from es (Some i) m =
     subst (λ z. Begins (local_history m es) (at_node (λ (x : Cause × List ℕ). x.0) m z))
-    (ap (λ z. unflagged (dependents z i) (numbered_seen es)) (causes_entries (λ n. 0) es) ∙ sym (seen_rest es i))
-    (begins_rest (λ (x : Cause × List ℕ). x.0) m i (numbered_seen es))
+    (ap (λ z. without_flagged (dependent_flags z i) (numbered_with_observed es)) (causes_entries (λ n. 0) es) ∙ sym (seen_rest es i))
+    (begins_rest (λ (x : Cause × List ℕ). x.0) m i (numbered_with_observed es))
 
 -- the local history of a node after a rollback is a prefix of the one before
-pub first_part : (events : List Cause) (n k m : ℕ) → (later : List (Cause × List ℕ)) × (local_history m events ≡ local_history m (rewound_list events n k) ++ later)
+pub first_part : (events : List Cause) (n k m : ℕ) → (later : List (Cause × List ℕ)) × (local_history m events ≡ local_history m (events_after_rewind events n k) ++ later)
 first_part events n k m = account_from events (position_of_step events n k) m
 
 zip_nil : {X Y : Type 0} (xs : List X) → zip xs (let ys : List Y = [] in ys) ≡ []
 zip_nil [] = refl
 zip_nil (x ∷ xs) = refl
 
-zip_without : {X Y : Type 0} (flags : List Bool) (xs : List X) (ys : List Y) → zip (unflagged flags xs) (unflagged flags ys) ≡ unflagged flags (zip xs ys)
+zip_without : {X Y : Type 0} (flags : List Bool) (xs : List X) (ys : List Y) → zip (without_flagged flags xs) (without_flagged flags ys) ≡ without_flagged flags (zip xs ys)
 zip_without [] xs ys = refl
 zip_without (b ∷ flags) [] ys = refl
-zip_without (b ∷ flags) (x ∷ xs) [] = zip_nil (unflagged (b ∷ flags) (x ∷ xs))
+zip_without (b ∷ flags) (x ∷ xs) [] = zip_nil (without_flagged (b ∷ flags) (x ∷ xs))
 zip_without (true ∷ flags) (x ∷ xs) (y ∷ ys) = zip_without flags xs ys
 zip_without (false ∷ flags) (x ∷ xs) (y ∷ ys) = ap (λ z. (x, y) ∷ z) (zip_without flags xs ys)
 
-tolds_without : (flags : List Bool) (ts : List (Cause × EventOutcome)) → map (λ x. x.1) (unflagged flags ts) ≡ unflagged flags (map (λ x. x.1) ts)
+tolds_without : (flags : List Bool) (ts : List (Cause × EventOutcome)) → map (λ x. x.1) (without_flagged flags ts) ≡ without_flagged flags (map (λ x. x.1) ts)
 tolds_without [] ts = refl
 tolds_without (true ∷ flags) [] = refl
 tolds_without (false ∷ flags) [] = refl
 tolds_without (true ∷ flags) (x ∷ ts) = tolds_without flags ts
 tolds_without (false ∷ flags) (x ∷ ts) = ap (λ z. x.1 ∷ z) (tolds_without flags ts)
 
-recorded_rest : (ts : List (Cause × EventOutcome)) (i : ℕ) → recorded (unflagged (dependents (causes ts) i) ts) ≡ unflagged (dependents (causes ts) i) (recorded ts)
+recorded_rest : (ts : List (Cause × EventOutcome)) (i : ℕ) → numbered_outcomes (without_flagged (dependent_flags (causes ts) i) ts) ≡ without_flagged (dependent_flags (causes ts) i) (numbered_outcomes ts)
 recorded_rest ts i =
-    ap (λ z. zip (numbered_seen z) (map (λ x. x.1) (unflagged (dependents (causes ts) i) ts))) (causes_without (dependents (causes ts) i) ts)
-    ∙ ap (λ z. zip (numbered_seen (rest (causes ts) i)) z) (tolds_without (dependents (causes ts) i) ts)
-    ∙ ap (λ z. zip z (unflagged (dependents (causes ts) i) (map (λ x. x.1) ts))) (seen_rest (causes ts) i)
-    ∙ zip_without (dependents (causes ts) i) (numbered_seen (causes ts)) (map (λ x. x.1) ts)
+    ap (λ z. zip (numbered_with_observed z) (map (λ x. x.1) (without_flagged (dependent_flags (causes ts) i) ts))) (causes_without (dependent_flags (causes ts) i) ts)
+    ∙ ap (λ z. zip (numbered_with_observed (rest (causes ts) i)) z) (tolds_without (dependent_flags (causes ts) i) ts)
+    ∙ ap (λ z. zip z (without_flagged (dependent_flags (causes ts) i) (map (λ x. x.1) ts))) (seen_rest (causes ts) i)
+    ∙ zip_without (dependent_flags (causes ts) i) (numbered_with_observed (causes ts)) (map (λ x. x.1) ts)
 
-told_rest : (ts : List (Cause × EventOutcome)) (i m : ℕ) → Begins (local_history_told m ts) (local_history_told m (unflagged (dependents (causes ts) i) ts))
+told_rest : (ts : List (Cause × EventOutcome)) (i m : ℕ) → Begins (local_history_outcomes m ts) (local_history_outcomes m (without_flagged (dependent_flags (causes ts) i) ts))
 told_rest ts i m =
-    subst (λ z. Begins (local_history_told m ts) (at_node (λ (x : (Cause × List ℕ) × EventOutcome). x.0.0) m z))
-    (ap (λ z. unflagged (dependents z i) (recorded ts)) (causes_zipped (λ n. 0) ts) ∙ sym (recorded_rest ts i))
-    (begins_rest (λ (x : (Cause × List ℕ) × EventOutcome). x.0.0) m i (recorded ts))
+    subst (λ z. Begins (local_history_outcomes m ts) (at_node (λ (x : (Cause × List ℕ) × EventOutcome). x.0.0) m z))
+    (ap (λ z. without_flagged (dependent_flags z i) (numbered_outcomes ts)) (causes_zipped (λ n. 0) ts) ∙ sym (recorded_rest ts i))
+    (begins_rest (λ (x : (Cause × List ℕ) × EventOutcome). x.0.0) m i (numbered_outcomes ts))
 
 -- the remaining events run, and the local history of each node with its outcomes is a prefix of the one before
 abbrev Leaves : List NodeRecord → List (Cause × EventOutcome) → List Event → Type 0
-Leaves chip ts es = (now : List NodeRecord) × (left : List (Cause × EventOutcome)) × (run chip es ≡ Some (now, left)) × ((m : ℕ) → Begins (local_history_told m ts) (local_history_told m left))
+Leaves chip ts es = (now : List NodeRecord) × (left : List (Cause × EventOutcome)) × (run chip es ≡ Some (now, left)) × ((m : ℕ) → Begins (local_history_outcomes m ts) (local_history_outcomes m left))
 
-leaves_from : (chip last : List NodeRecord) (es : List Event) (ts : List (Cause × EventOutcome)) (o : Option ℕ) → run chip es ≡ Some (last, ts) → events_in (causes ts) ≡ es → Leaves chip ts (events_in (rest_from (causes ts) o))
-leaves_from chip last es ts None is same = (last, ts, subst (λ z. run chip z ≡ Some (last, ts)) (sym same) is, λ m. ([], sym (append-nil (local_history_told m ts))))
+leaves_from : (chip last : List NodeRecord) (es : List Event) (ts : List (Cause × EventOutcome)) (o : Option ℕ) → run chip es ≡ Some (last, ts) → events_of_causes (causes ts) ≡ es → Leaves chip ts (events_of_causes (rest_or_all (causes ts) o))
+leaves_from chip last es ts None is same = (last, ts, subst (λ z. run chip z ≡ Some (last, ts)) (sym same) is, λ m. ([], sym (append-nil (local_history_outcomes m ts))))
 leaves_from chip last es ts (Some i) is same =
     let r = run_rest chip es i last ts is in
-    (r.0, unflagged (dependents (causes ts) i) ts, r.1, λ m. told_rest ts i m)
+    (r.0, without_flagged (dependent_flags (causes ts) i) ts, r.1, λ m. told_rest ts i m)
 
 pub first_part_told : (chip last : List NodeRecord) (events : List Event) (steps : List (Cause × EventOutcome)) (n k : ℕ) → run chip events ≡ Some (last, steps)
-    → (now : List NodeRecord) × (left : List (Cause × EventOutcome)) × (run chip (events_in (rewound_list (causes steps) n k)) ≡ Some (now, left))
-    × ((m : ℕ) → (later : List ((Cause × List ℕ) × EventOutcome)) × (local_history_told m steps ≡ local_history_told m left ++ later))
+    → (now : List NodeRecord) × (left : List (Cause × EventOutcome)) × (run chip (events_of_causes (events_after_rewind (causes steps) n k)) ≡ Some (now, left))
+    × ((m : ℕ) → (later : List ((Cause × List ℕ) × EventOutcome)) × (local_history_outcomes m steps ≡ local_history_outcomes m left ++ later))
 first_part_told chip last events steps n k is =
     leaves_from chip last events steps (position_of_step (causes steps) n k) is ((made_of chip last events steps is).1)
 
@@ -169,9 +169,9 @@ none_kept s marks n [] h = refl
 none_kept s marks n (e ∷ es) h = ⊎_elim
     (λ t. ap (entries_at n s) (kept-dropped marks e es t) ∙ none_kept s (λ m. marks m || cause_touches e m) n es (or_left (marks n) (cause_touches e n) h))
     (λ g. ap (entries_at n s) (kept-kept marks e es g)
-    ∙ cond-false (cause_touches e n) ((e, numbers s e) ∷ entries_at n (counted s e) (kept marks es)) (entries_at n (counted s e) (kept marks es)) (false_from_ne_true (cause_touches e n) (λ t. both_ways (meets marks e) g (touched-marked marks e n h t)))
+    ∙ cond-false (cause_touches e n) ((e, numbers s e) ∷ entries_at n (counted s e) (kept marks es)) (entries_at n (counted s e) (kept marks es)) (false_from_ne_true (cause_touches e n) (λ t. both_ways (has_common_node marks e) g (touched-marked_nodes marks e n h t)))
     ∙ none_kept (counted s e) marks n es h)
-    (cases_Bool (meets marks e))
+    (cases_Bool (has_common_node marks e))
 
 entries-skipped : (s : ℕ → ℕ) (n : ℕ) (e : Cause) (es : List Cause) → cause_touches e n ≡ false → entries_at n s (e ∷ es) ≡ entries_at n (counted s e) es
 entries-skipped s n e es f = cond-false (cause_touches e n) ((e, numbers s e) ∷ entries_at n (counted s e) es) (entries_at n (counted s e) es) f
@@ -179,27 +179,27 @@ entries-skipped s n e es f = cond-false (cause_touches e n) ((e, numbers s e) �
 entries-more : (s : ℕ → ℕ) (n : ℕ) (e : Cause) (es : List Cause) → cause_touches e n ≡ true → entries_at n s (e ∷ es) ≡ (e, numbers s e) ∷ entries_at n (counted s e) es
 entries-more s n e es t = cond-true (cause_touches e n) ((e, numbers s e) ∷ entries_at n (counted s e) es) (entries_at n (counted s e) es) t
 
-own_part : (s : ℕ → ℕ) (es : List Cause) (n k : ℕ) → entries_at n s (rewound_list es n (suc k)) ≡ take k (entries_at n s es)
+own_part : (s : ℕ → ℕ) (es : List Cause) (n k : ℕ) → entries_at n s (events_after_rewind es n (suc k)) ≡ take k (entries_at n s es)
 own_part s [] n zero = refl
 own_part s [] n (suc k) = refl
 own_part s (e ∷ es) n zero = ⊎_elim
     (λ t. ap (entries_at n s) (rewound-first e es n t) ∙ none_kept s (cause_touches e) n es t)
-    (λ f. ap (entries_at n s) (rewound-other e es n zero f) ∙ entries-skipped s n e (rewound_list es n 1) f
+    (λ f. ap (entries_at n s) (rewound-other e es n zero f) ∙ entries-skipped s n e (events_after_rewind es n 1) f
     ∙ own_part (counted s e) es n zero)
     (cases_Bool (cause_touches e n))
 own_part s (e ∷ es) n (suc k) = ⊎_elim
-    (λ t. ap (entries_at n s) (rewound-touched e es n k t) ∙ entries-more s n e (rewound_list es n (suc k)) t
+    (λ t. ap (entries_at n s) (rewound-touched e es n k t) ∙ entries-more s n e (events_after_rewind es n (suc k)) t
     ∙ ap (λ z. (e, numbers s e) ∷ z) (own_part (counted s e) es n k)
     ∙ sym (ap (take (suc k)) (entries-more s n e es t)))
-    (λ f. ap (entries_at n s) (rewound-other e es n (suc k) f) ∙ entries-skipped s n e (rewound_list es n (suc (suc k))) f
+    (λ f. ap (entries_at n s) (rewound-other e es n (suc k) f) ∙ entries-skipped s n e (events_after_rewind es n (suc (suc k))) f
     ∙ own_part (counted s e) es n (suc k)
     ∙ sym (ap (take (suc k)) (entries-skipped s n e es f)))
     (cases_Bool (cause_touches e n))
 
-pub own_part_of : (events : List Cause) (n k : ℕ) → local_history n (rewound_list events n (k + 1)) ≡ take k (local_history n events)
+pub own_part_of : (events : List Cause) (n k : ℕ) → local_history n (events_after_rewind events n (k + 1)) ≡ take k (local_history n events)
 own_part_of events n k =
     let q : k + 1 ≡ suc k = omega arith in
-    ap (λ (z : ℕ). local_history n (rewound_list events n z)) q ∙ own_part (λ i. 0) events n k
+    ap (λ (z : ℕ). local_history n (events_after_rewind events n z)) q ∙ own_part (λ i. 0) events n k
 
 -- ---- Whether a step still exists after a rollback.
 
@@ -230,22 +230,22 @@ some-shift None = refl
 some-shift (Some p) = refl
 
 -- the event there touches the node
-pub touching : (es : List Cause) (n k q : ℕ) → position_of_step es n k ≡ Some q → (q < length es) × (cause_touches (event_at es q) n ≡ true)
-touching [] n k q h = absurd (cc)
-touching (e ∷ es) n zero q h = absurd (cc)
-touching (e ∷ es) n (suc zero) q h = ⊎_elim
+pub count_touching_events : (es : List Cause) (n k q : ℕ) → position_of_step es n k ≡ Some q → (q < length es) × (cause_touches (event_at es q) n ≡ true)
+count_touching_events [] n k q h = absurd (cc)
+count_touching_events (e ∷ es) n zero q h = absurd (cc)
+count_touching_events (e ∷ es) n (suc zero) q h = ⊎_elim
     (λ t. let z : 0 ≡ q = same_Some 0 q (sym (place-first e es n t) ∙ h) in
     subst (λ w. (w < suc (length es)) × (cause_touches (event_at (e ∷ es) w) n ≡ true)) z (omega arith, t))
     (λ f. let s = shifted_of (position_of_step es n 1) q (sym (place-other e es n 0 f) ∙ h) in
-    let r = touching es n 1 s.place s.is in
+    let r = count_touching_events es n 1 s.place s.is in
     subst (λ w. (w < suc (length es)) × (cause_touches (event_at (e ∷ es) w) n ≡ true)) (sym s.shift) (omega (arith, r.0), r.1))
     (cases_Bool (cause_touches e n))
-touching (e ∷ es) n (suc (suc i)) q h = ⊎_elim
+count_touching_events (e ∷ es) n (suc (suc i)) q h = ⊎_elim
     (λ t. let s = shifted_of (position_of_step es n (suc i)) q (sym (place-touched e es n i t) ∙ h) in
-    let r = touching es n (suc i) s.place s.is in
+    let r = count_touching_events es n (suc i) s.place s.is in
     subst (λ w. (w < suc (length es)) × (cause_touches (event_at (e ∷ es) w) n ≡ true)) (sym s.shift) (omega (arith, r.0), r.1))
     (λ f. let s = shifted_of (position_of_step es n (suc (suc i))) q (sym (place-other e es n (suc i) f) ∙ h) in
-    let r = touching es n (suc (suc i)) s.place s.is in
+    let r = count_touching_events es n (suc (suc i)) s.place s.is in
     subst (λ w. (w < suc (length es)) × (cause_touches (event_at (e ∷ es) w) n ≡ true)) (sym s.shift) (omega (arith, r.0), r.1))
     (cases_Bool (cause_touches e n))
 
@@ -254,8 +254,8 @@ no_place_kept : (marks : ℕ → Bool) (es : List Cause) (n k : ℕ) → marks n
 no_place_kept marks [] n k m = refl
 no_place_kept marks (e ∷ es) n k m = ⊎_elim
     (λ t. ap (λ z. position_of_step z n k) (kept-dropped marks e es t) ∙ no_place_kept (λ a. marks a || cause_touches e a) es n k (or_left (marks n) (cause_touches e n) m))
-    (λ f. ap (λ z. position_of_step z n k) (kept-kept marks e es f) ∙ later k (false_from_ne_true (cause_touches e n) (λ t. both_ways (meets marks e) f (touched-marked marks e n m t))) (λ j. no_place_kept marks es n j m))
-    (cases_Bool (meets marks e))
+    (λ f. ap (λ z. position_of_step z n k) (kept-kept marks e es f) ∙ later k (false_from_ne_true (cause_touches e n) (λ t. both_ways (has_common_node marks e) f (touched-marked_nodes marks e n m t))) (λ j. no_place_kept marks es n j m))
+    (cases_Bool (has_common_node marks e))
   where
     later : (j : ℕ) → cause_touches e n ≡ false → ((i : ℕ) → position_of_step (kept marks es) n i ≡ None) → position_of_step (e ∷ kept marks es) n j ≡ None
     later zero f h = refl
@@ -305,47 +305,47 @@ found_at e es n (suc (suc i)) q h = ⊎_elim
 joined : (ℕ → Bool) → Cause → ℕ → Bool
 joined marks e n = marks n || cause_touches e n
 
-flag_of : (marks : ℕ → Bool) (es : List Cause) (n k q : ℕ) → marks n ≡ true → position_of_step es n k ≡ Some q → slice_index_or (dependents_after marks es) q false ≡ true
-flag_of marks es n k q m h = let r = touching es n k q h in flag_marked marks es q r.0 (touched-marked marks (event_at es q) n m r.1)
+flag_of : (marks : ℕ → Bool) (es : List Cause) (n k q : ℕ) → marks n ≡ true → position_of_step es n k ≡ Some q → slice_index_or (dependent_flags_after marks es) q false ≡ true
+flag_of marks es n k q m h = let r = count_touching_events es n k q h in flag_marked marks es q r.0 (touched-marked_nodes marks (event_at es q) n m r.1)
 
-after_drop : (marks : ℕ → Bool) (e : Cause) (es : List Cause) → meets marks e ≡ true → kept marks (e ∷ es) ≡ kept (marked marks e) es
-after_drop marks e es m = kept-dropped marks e es m ∙ ap (λ z. kept z es) (sym (cond-true (meets marks e) (λ n. marks n || cause_touches e n) marks m))
+after_drop : (marks : ℕ → Bool) (e : Cause) (es : List Cause) → has_common_node marks e ≡ true → kept marks (e ∷ es) ≡ kept (marked_nodes marks e) es
+after_drop marks e es m = kept-dropped marks e es m ∙ ap (λ z. kept z es) (sym (cond-true (has_common_node marks e) (λ n. marks n || cause_touches e n) marks m))
 
-after_keep : (marks : ℕ → Bool) (e : Cause) (es : List Cause) → meets marks e ≡ false → kept marks (e ∷ es) ≡ e ∷ kept (marked marks e) es
-after_keep marks e es f = kept-kept marks e es f ∙ ap (λ z. e ∷ kept z es) (sym (cond-false (meets marks e) (λ n. marks n || cause_touches e n) marks f))
+after_keep : (marks : ℕ → Bool) (e : Cause) (es : List Cause) → has_common_node marks e ≡ false → kept marks (e ∷ es) ≡ e ∷ kept (marked_nodes marks e) es
+after_keep marks e es f = kept-kept marks e es f ∙ ap (λ z. e ∷ kept z es) (sym (cond-false (has_common_node marks e) (λ n. marks n || cause_touches e n) marks f))
 
-kept_stands : (marks : ℕ → Bool) (es : List Cause) (n k q : ℕ) → position_of_step es n k ≡ Some q → Stands (kept marks es) (dependents_after marks es) n k q
+kept_stands : (marks : ℕ → Bool) (es : List Cause) (n k q : ℕ) → position_of_step es n k ≡ Some q → Stands (kept marks es) (dependent_flags_after marks es) n k q
 kept_stands marks [] n k q h = absurd (cc)
-kept_stands marks (e ∷ es) n k q h = go k q (found_at e es n k q h) (λ j p. kept_stands (marked marks e) es n j p)
+kept_stands marks (e ∷ es) n k q h = go k q (found_at e es n k q h) (λ j p. kept_stands (marked_nodes marks e) es n j p)
   where
-    go : (j p : ℕ) → FoundAt e es n j p → ((i r : ℕ) → position_of_step es n i ≡ Some r → Stands (kept (marked marks e) es) (dependents_after (marked marks e) es) n i r) → Stands (kept marks (e ∷ es)) (dependents_after marks (e ∷ es)) n j p
+    go : (j p : ℕ) → FoundAt e es n j p → ((i r : ℕ) → position_of_step es n i ≡ Some r → Stands (kept (marked_nodes marks e) es) (dependent_flags_after (marked_nodes marks e) es) n i r) → Stands (kept marks (e ∷ es)) (dependent_flags_after marks (e ∷ es)) n j p
     go j p (at_first t) ih = ⊎_elim
-        (λ m. stands_none (kept marks (e ∷ es)) (dependents_after marks (e ∷ es)) n 1 0 (ap (λ z. position_of_step z n 1) (after_drop marks e es m) ∙ no_place_kept (marked marks e) es n 1 (marked-touched marks e n m t)) m)
-        (λ f. subst (λ z. Stands z (dependents_after marks (e ∷ es)) n 1 0) (sym (after_keep marks e es f)) (stands_first e (kept (marked marks e) es) (dependents_after marks (e ∷ es)) n t f))
-        (cases_Bool (meets marks e))
+        (λ m. stands_none (kept marks (e ∷ es)) (dependent_flags_after marks (e ∷ es)) n 1 0 (ap (λ z. position_of_step z n 1) (after_drop marks e es m) ∙ no_place_kept (marked_nodes marks e) es n 1 (marked_nodes-touched marks e n m t)) m)
+        (λ f. subst (λ z. Stands z (dependent_flags_after marks (e ∷ es)) n 1 0) (sym (after_keep marks e es f)) (stands_first e (kept (marked_nodes marks e) es) (dependent_flags_after marks (e ∷ es)) n t f))
+        (cases_Bool (has_common_node marks e))
     go j p (after_touched {i} {q = r} t w) ih = ⊎_elim
-        (λ m. stands_none (kept marks (e ∷ es)) (dependents_after marks (e ∷ es)) n (suc (suc i)) (suc r) (ap (λ z. position_of_step z n (suc (suc i))) (after_drop marks e es m) ∙ no_place_kept (marked marks e) es n (suc (suc i)) (marked-touched marks e n m t)) (flag_of (marked marks e) es n (suc i) r (marked-touched marks e n m t) w))
-        (λ f. subst (λ z. Stands z (dependents_after marks (e ∷ es)) n (suc (suc i)) (suc r)) (sym (after_keep marks e es f)) (stands_touched e (kept (marked marks e) es) (meets marks e) (dependents_after (marked marks e) es) n i r t (ih (suc i) r w)))
-        (cases_Bool (meets marks e))
+        (λ m. stands_none (kept marks (e ∷ es)) (dependent_flags_after marks (e ∷ es)) n (suc (suc i)) (suc r) (ap (λ z. position_of_step z n (suc (suc i))) (after_drop marks e es m) ∙ no_place_kept (marked_nodes marks e) es n (suc (suc i)) (marked_nodes-touched marks e n m t)) (flag_of (marked_nodes marks e) es n (suc i) r (marked_nodes-touched marks e n m t) w))
+        (λ f. subst (λ z. Stands z (dependent_flags_after marks (e ∷ es)) n (suc (suc i)) (suc r)) (sym (after_keep marks e es f)) (stands_touched e (kept (marked_nodes marks e) es) (has_common_node marks e) (dependent_flags_after (marked_nodes marks e) es) n i r t (ih (suc i) r w)))
+        (cases_Bool (has_common_node marks e))
     go j p (after_other {i} {q = r} o w) ih = ⊎_elim
-        (λ m. subst (λ z. Stands z (dependents_after marks (e ∷ es)) n (suc i) (suc r)) (sym (after_drop marks e es m)) (stands_dropped (kept (marked marks e) es) (meets marks e) (dependents_after (marked marks e) es) n (suc i) r (ih (suc i) r w)))
-        (λ f. subst (λ z. Stands z (dependents_after marks (e ∷ es)) n (suc i) (suc r)) (sym (after_keep marks e es f)) (stands_other e (kept (marked marks e) es) (meets marks e) (dependents_after (marked marks e) es) n i r o (ih (suc i) r w)))
-        (cases_Bool (meets marks e))
+        (λ m. subst (λ z. Stands z (dependent_flags_after marks (e ∷ es)) n (suc i) (suc r)) (sym (after_drop marks e es m)) (stands_dropped (kept (marked_nodes marks e) es) (has_common_node marks e) (dependent_flags_after (marked_nodes marks e) es) n (suc i) r (ih (suc i) r w)))
+        (λ f. subst (λ z. Stands z (dependent_flags_after marks (e ∷ es)) n (suc i) (suc r)) (sym (after_keep marks e es f)) (stands_other e (kept (marked_nodes marks e) es) (has_common_node marks e) (dependent_flags_after (marked_nodes marks e) es) n i r o (ih (suc i) r w)))
+        (cases_Bool (has_common_node marks e))
 
-rest_stands : (es : List Cause) (i n k q : ℕ) → position_of_step es n k ≡ Some q → Stands (rest es i) (dependents es i) n k q
+rest_stands : (es : List Cause) (i n k q : ℕ) → position_of_step es n k ≡ Some q → Stands (rest es i) (dependent_flags es i) n k q
 rest_stands [] i n k q h = absurd (cc)
 rest_stands (e ∷ es) zero n k q h = go k q (found_at e es n k q h)
   where
-    go : (j p : ℕ) → FoundAt e es n j p → Stands (kept (cause_touches e) es) (true ∷ dependents_after (cause_touches e) es) n j p
-    go j p (at_first t) = stands_none (kept (cause_touches e) es) (true ∷ dependents_after (cause_touches e) es) n 1 0 (no_place_kept (cause_touches e) es n 1 t) refl
-    go j p (after_touched {i} {q = r} t w) = stands_none (kept (cause_touches e) es) (true ∷ dependents_after (cause_touches e) es) n (suc (suc i)) (suc r) (no_place_kept (cause_touches e) es n (suc (suc i)) t) (flag_of (cause_touches e) es n (suc i) r t w)
-    go j p (after_other {i} {q = r} o w) = stands_dropped (kept (cause_touches e) es) true (dependents_after (cause_touches e) es) n (suc i) r (kept_stands (cause_touches e) es n (suc i) r w)
+    go : (j p : ℕ) → FoundAt e es n j p → Stands (kept (cause_touches e) es) (true ∷ dependent_flags_after (cause_touches e) es) n j p
+    go j p (at_first t) = stands_none (kept (cause_touches e) es) (true ∷ dependent_flags_after (cause_touches e) es) n 1 0 (no_place_kept (cause_touches e) es n 1 t) refl
+    go j p (after_touched {i} {q = r} t w) = stands_none (kept (cause_touches e) es) (true ∷ dependent_flags_after (cause_touches e) es) n (suc (suc i)) (suc r) (no_place_kept (cause_touches e) es n (suc (suc i)) t) (flag_of (cause_touches e) es n (suc i) r t w)
+    go j p (after_other {i} {q = r} o w) = stands_dropped (kept (cause_touches e) es) true (dependent_flags_after (cause_touches e) es) n (suc i) r (kept_stands (cause_touches e) es n (suc i) r w)
 rest_stands (e ∷ es) (suc i) n k q h = go k q (found_at e es n k q h) (λ j p. rest_stands es i n j p)
   where
-    go : (j p : ℕ) → FoundAt e es n j p → ((j p : ℕ) → position_of_step es n j ≡ Some p → Stands (rest es i) (dependents es i) n j p) → Stands (e ∷ rest es i) (false ∷ dependents es i) n j p
-    go j p (at_first t) ih = stands_first e (rest es i) (false ∷ dependents es i) n t refl
-    go j p (after_touched {i = a} {q = r} t w) ih = stands_touched e (rest es i) false (dependents es i) n a r t (ih (suc a) r w)
-    go j p (after_other {i = a} {q = r} o w) ih = stands_other e (rest es i) false (dependents es i) n a r o (ih (suc a) r w)
+    go : (j p : ℕ) → FoundAt e es n j p → ((j p : ℕ) → position_of_step es n j ≡ Some p → Stands (rest es i) (dependent_flags es i) n j p) → Stands (e ∷ rest es i) (false ∷ dependent_flags es i) n j p
+    go j p (at_first t) ih = stands_first e (rest es i) (false ∷ dependent_flags es i) n t refl
+    go j p (after_touched {i = a} {q = r} t w) ih = stands_touched e (rest es i) false (dependent_flags es i) n a r t (ih (suc a) r w)
+    go j p (after_other {i = a} {q = r} o w) ih = stands_other e (rest es i) false (dependent_flags es i) n a r o (ih (suc a) r w)
 
 not_of : (b c : Bool) → c ≡ not b → ((c ≡ false) → (b ≡ true)) × ((b ≡ true) → (c ≡ false))
 not_of b c e = ((λ h. not-false b (sym e ∙ h)), (λ h. e ∙ ap not h))
@@ -354,8 +354,8 @@ not_of b c e = ((λ h. not-false b (sym e ∙ h)), (λ h. e ∙ ap not h))
 pub refused_exactly : (events : List Cause) (n k m j i q : ℕ) → position_of_step events n k ≡ Some i → position_of_step events m j ≡ Some q → IsNone (position_of_step (rest events i) m j) ↔ DependsOn events i q
 unfolding Stands
 refused_exactly es n k m j i q h g =
-    let u : i < length es = (touching es n k i h).0 in
-    let v : q < length es = (touching es m j q g).0 in
-    let w : is_some (position_of_step (rest es i) m j) ≡ not (slice_index_or (dependents es i) q false) = rest_stands es i m j q g in
-    let z = not_of (slice_index_or (dependents es i) q false) (is_some (position_of_step (rest es i) m j)) w in
+    let u : i < length es = (count_touching_events es n k i h).0 in
+    let v : q < length es = (count_touching_events es m j q g).0 in
+    let w : is_some (position_of_step (rest es i) m j) ≡ not (slice_index_or (dependent_flags es i) q false) = rest_stands es i m j q g in
+    let z = not_of (slice_index_or (dependent_flags es i) q false) (is_some (position_of_step (rest es i) m j)) w in
     ((λ x. DependsOn_from_flag es i q v (z.0 x)), (λ x. z.1 (flag_from_DependsOn es i q u x)))

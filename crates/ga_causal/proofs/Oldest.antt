@@ -4,11 +4,11 @@ use Rattle.std.specs.List.{list_any}
 use Rattle.ga_ports.specs.declared.side.Side.TheVariants.{Right, Down, Left, Up}
 use Rattle.ga_grid.specs.Grid.{neighbour_of}
 use Rattle.ga_event.specs.declared.event.Cause.{Cause}
-use Rattle.ga_event.specs.Touches.{with_some, neighbours, looked_at, seen_by, meets}
-use Rattle.ga_causal.specs.Dependence.{cause_nodes, cause_touches, event_at, dependents, DependsOn, itself, through, rule_of, rule_between, no_cause}
+use Rattle.ga_event.specs.Touches.{prepend_some, neighbours, looked_at_nodes, observed_by, has_common_node}
+use Rattle.ga_causal.specs.Dependence.{touched_nodes, cause_touches, event_at, dependent_flags, DependsOn, itself, through, dependence_rule, dependence_rule_at, default_cause}
 use Rattle.ga_causal.specs.inner.{any_of, least, least_with, IsFirsts, Oldest, first_at}
 use Rattle.std.proofs.lemmas.Bool.{or_left, or_right, or_cases, cases_Bool, cases_lt, cases_eq, both_ways, cond-true, cond-false, eqb-true}
-use Rattle.ga_causal.specs.Chains.{IsOldest, IsChainTo, alone, longer}
+use Rattle.ga_causal.specs.Chains.{IsOldestCause, IsChainTo, alone, longer}
 use Rattle.ga_causal.proofs.Exact.{any-mono, rule_meets, meets_rule, flag_direct, flag_itself, why_dependent, DependsOn_from_flag, flag_from_DependsOn, Earlier}
 use Rattle.std.proofs.lemmas.List.{get_or_default, reverse-append}
 use Rattle.ga_causal.specs.declared.chain.Link.{Link}
@@ -31,7 +31,7 @@ four_sides false false false false false = refl
 
 -- ---- the nodes at which a look looks, one side after another
 
-any_some : (marks : ℕ → Bool) (at : Option ℕ) (ns : List ℕ) → list_any marks (with_some at ns) ≡ (any_of marks at || list_any marks ns)
+any_some : (marks : ℕ → Bool) (at : Option ℕ) (ns : List ℕ) → list_any marks (prepend_some at ns) ≡ (any_of marks at || list_any marks ns)
 any_some marks None ns = refl
 any_some marks (Some n) ns = refl
 
@@ -44,7 +44,7 @@ any_neighbours marks n =
     ∙ ap (λ z. any_of marks (neighbour_of n Down) || z) (any_some marks (neighbour_of n Left) _
     ∙ ap (λ z. any_of marks (neighbour_of n Left) || z) (any_some marks (neighbour_of n Up) [])))
 
-least_some : (first : ℕ → ℕ) (none : ℕ) (at : Option ℕ) (ns : List ℕ) → least first none (with_some at ns) ≡ least_with first at (least first none ns)
+least_some : (first : ℕ → ℕ) (none : ℕ) (at : Option ℕ) (ns : List ℕ) → least first none (prepend_some at ns) ≡ least_with first at (least first none ns)
 least_some first none None ns = refl
 least_some first none (Some n) ns = refl
 
@@ -66,19 +66,19 @@ any-append marks [] b = refl
 any-append marks (n ∷ a) b = or_over (marks n) (list_any marks (a ++ b)) (list_any marks a) (list_any marks b) (any-append marks a b)
 
 -- what an event sees is what it touches, and at what it looks
-pub meets_parts : (marks : ℕ → Bool) (cause : Cause) → meets marks cause ≡ (list_any marks (cause_nodes cause) || list_any marks (looked_at cause.event cause.look))
-unfolding seen_by
-meets_parts marks cause = any-append marks (cause_nodes cause) (looked_at cause.event cause.look)
+pub meets_parts : (marks : ℕ → Bool) (cause : Cause) → has_common_node marks cause ≡ (list_any marks (touched_nodes cause) || list_any marks (looked_at_nodes cause.event cause.look))
+unfolding observed_by
+meets_parts marks cause = any-append marks (touched_nodes cause) (looked_at_nodes cause.event cause.look)
 
 -- among some nodes
 abbrev Among : List ℕ → ℕ → Type 0
 Among ns n = list_any (λ m. m == n) ns ≡ true
 
-least_below : (first : ℕ → ℕ) (none n : ℕ) (ns : List ℕ) → Among ns n → least first none ns ≤ first n
-least_below first none n [] t = absurd (both_ways false refl t)
-least_below first none n (m ∷ ns) t = ⊎_elim
+least_passing_below : (first : ℕ → ℕ) (none n : ℕ) (ns : List ℕ) → Among ns n → least first none ns ≤ first n
+least_passing_below first none n [] t = absurd (both_ways false refl t)
+least_passing_below first none n (m ∷ ns) t = ⊎_elim
     (λ u. let e : m ≡ n = eqb-true m n u in let h : first m ≡ first n = ap first e in omega arith)
-    (λ u. let h : least first none ns ≤ first n = least_below first none n ns u in omega arith)
+    (λ u. let h : least first none ns ≤ first n = least_passing_below first none n ns u in omega arith)
     (or_cases (m == n) (list_any (λ m. m == n) ns) t)
 
 -- a node with a place
@@ -103,63 +103,63 @@ least_found first none (m ∷ ns) l = ⊎_elim
 record Marked (marks : ℕ → Bool) (ns : List ℕ) : Type 0 where
   node : ℕ
   among : Among ns node
-  marked : marks node ≡ true
+  marked_nodes : marks node ≡ true
 
 marked_of : (marks : ℕ → Bool) (ns : List ℕ) → list_any marks ns ≡ true → Marked marks ns
 marked_of marks [] t = absurd (both_ways false refl t)
 marked_of marks (n ∷ ns) t = ⊎_elim
-    (λ u. record { node = n; among = or_left (n == n) (list_any (λ k. k == n) ns) (eq-eqb n n refl); marked = u })
-    (λ u. let w = marked_of marks ns u in record { node = w.node; among = or_right (n == w.node) (list_any (λ k. k == w.node) ns) w.among; marked = w.marked })
+    (λ u. record { node = n; among = or_left (n == n) (list_any (λ k. k == n) ns) (eq-eqb n n refl); marked_nodes = u })
+    (λ u. let w = marked_of marks ns u in record { node = w.node; among = or_right (n == w.node) (list_any (λ k. k == w.node) ns) w.among; marked_nodes = w.marked_nodes })
     (or_cases (marks n) (list_any marks ns) t)
 
 met_at : (marks : ℕ → Bool) (ns : List ℕ) (n : ℕ) → Among ns n → marks n ≡ true → list_any marks ns ≡ true
 met_at marks ns n t h = any-mono (λ k. k == n) marks (λ k q. subst (λ z. marks z ≡ true) (sym (eqb-true k n q)) h) ns t
 
 -- an event that sees a node of an older dependent one, below the limit, sees a node with no later place
-least_cause : (es : List Cause) (i limit none : ℕ) (first : ℕ → ℕ) (e : Cause) (q : ℕ) → IsFirsts es i limit none first → q < limit → slice_index_or (dependents es i) q false ≡ true → meets (cause_touches (event_at es q)) e ≡ true → least first none (seen_by e) ≤ q
+least_cause : (es : List Cause) (i limit none : ℕ) (first : ℕ → ℕ) (e : Cause) (q : ℕ) → IsFirsts es i limit none first → q < limit → slice_index_or (dependent_flags es i) q false ≡ true → has_common_node (cause_touches (event_at es q)) e ≡ true → least first none (observed_by e) ≤ q
 least_cause es i limit none first e q w l f m =
-    let k = marked_of (cause_touches (event_at es q)) (seen_by e) m in
-    let a : least first none (seen_by e) ≤ first k.node = least_below first none k.node (seen_by e) k.among in
-    let b : first k.node ≤ q = w.oldest k.node q l f k.marked in
+    let k = marked_of (cause_touches (event_at es q)) (observed_by e) m in
+    let a : least first none (observed_by e) ≤ first k.node = least_passing_below first none k.node (observed_by e) k.among in
+    let b : first k.node ≤ q = w.oldest k.node q l f k.marked_nodes in
     omega arith
 
 -- the least place, if there is one, is that of a dependent event below the limit, of which the event sees a node
 record IsCause (es : List Cause) (i limit : ℕ) (e : Cause) (place : ℕ) : Type 0 where
   below : place < limit
-  dependent : slice_index_or (dependents es i) place false ≡ true
-  direct : meets (cause_touches (event_at es place)) e ≡ true
+  dependent : slice_index_or (dependent_flags es i) place false ≡ true
+  direct : has_common_node (cause_touches (event_at es place)) e ≡ true
 
-cause_least : (es : List Cause) (i limit none : ℕ) (first : ℕ → ℕ) (e : Cause) → IsFirsts es i limit none first → least first none (seen_by e) < none → IsCause es i limit e (least first none (seen_by e))
+cause_least : (es : List Cause) (i limit none : ℕ) (first : ℕ → ℕ) (e : Cause) → IsFirsts es i limit none first → least first none (observed_by e) < none → IsCause es i limit e (least first none (observed_by e))
 cause_least es i limit none first e w l =
-    let k = least_found first none (seen_by e) l in
+    let k = least_found first none (observed_by e) l in
     let h : first k.node < none = subst (λ z. z < none) (sym k.at) l in
     subst (λ z. IsCause es i limit e z) k.at
     (record {
       below = w.noted k.node h;
       dependent = w.dependent k.node h;
-      direct = met_at (cause_touches (event_at es (first k.node))) (seen_by e) k.node k.among (w.touched k.node h);
+      direct = met_at (cause_touches (event_at es (first k.node))) (observed_by e) k.node k.among (w.touched k.node h);
     })
 
 -- an event after the cause depends on it exactly where a node that it sees has a place
-pub least_flag : (es : List Cause) (i place none : ℕ) (first : ℕ → ℕ) → IsFirsts es i place none first → place < length es → least first none (seen_by (event_at es place)) < none → slice_index_or (dependents es i) place false ≡ true
+pub least_flag : (es : List Cause) (i place none : ℕ) (first : ℕ → ℕ) → IsFirsts es i place none first → place < length es → least first none (observed_by (event_at es place)) < none → slice_index_or (dependent_flags es i) place false ≡ true
 least_flag es i place none first w l h =
     let k = cause_least es i place none first (event_at es place) w h in
     flag_direct es i _ place k.dependent k.below l k.direct
 
-pub flag_least : (es : List Cause) (i place none : ℕ) (first : ℕ → ℕ) → IsFirsts es i place none first → i < place → place ≤ none → slice_index_or (dependents es i) place false ≡ true → least first none (seen_by (event_at es place)) < none
+pub flag_least : (es : List Cause) (i place none : ℕ) (first : ℕ → ℕ) → IsFirsts es i place none first → i < place → place ≤ none → slice_index_or (dependent_flags es i) place false ≡ true → least first none (observed_by (event_at es place)) < none
 flag_least es i place none first w l m f = ⊎_elim
     (λ e. absurd (omega arith))
-    (λ k. let h : least first none (seen_by (event_at es place)) ≤ k.place = least_cause es i place none first (event_at es place) k.place w k.before k.flagged k.direct in
+    (λ k. let h : least first none (observed_by (event_at es place)) ≤ k.place = least_cause es i place none first (event_at es place) k.place w k.before k.flagged k.direct in
     let b : k.place < place = k.before in omega arith)
     (why_dependent es i place f)
 
 -- the least place is that of the oldest event on which it depends directly
-pub oldest_of : (es : List Cause) (i to place : ℕ) (first : ℕ → ℕ) → IsFirsts es i to to first → i < length es → place < length es → place ≤ to → place ≢ i → slice_index_or (dependents es i) place false ≡ true → IsOldest es i place (least first to (seen_by (event_at es place)))
+pub oldest_of : (es : List Cause) (i to place : ℕ) (first : ℕ → ℕ) → IsFirsts es i to to first → i < length es → place < length es → place ≤ to → place ≢ i → slice_index_or (dependent_flags es i) place false ≡ true → IsOldestCause es i place (least first to (observed_by (event_at es place)))
 oldest_of es i to place first w l k m ne f = ⊎_elim (λ e. absurd (ne e)) go (why_dependent es i place f)
   where
-    go : Earlier es (dependents es i) place → IsOldest es i place (least first to (seen_by (event_at es place)))
+    go : Earlier es (dependent_flags es i) place → IsOldestCause es i place (least first to (observed_by (event_at es place)))
     go u =
-        let before = least first to (seen_by (event_at es place)) in
+        let before = least first to (observed_by (event_at es place)) in
         let h : before ≤ u.place = least_cause es i to to first (event_at es place) u.place w (omega (arith, u.before)) u.flagged u.direct in
         let b : before < place = omega (arith, u.before) in
         let c = cause_least es i to to first (event_at es place) w (omega arith) in
@@ -178,39 +178,39 @@ DependsOn-order es i q (through {middle} d s) = let h : i ≤ middle = DependsOn
 pub IsFirsts-first : (es : List Cause) (i none : ℕ) (first : ℕ → ℕ) → i < none → i < length es → ((n : ℕ) → first n ≡ cond (cause_touches (event_at es i) n) (min none i) none) → IsFirsts es i (i + 1) none first
 IsFirsts-first es i none first l k is = record {
   noted = λ n h. (let e : first n ≡ i = at n h in omega arith);
-  dependent = λ n h. subst (λ z. slice_index_or (dependents es i) z false ≡ true) (sym (at n h)) (flag_itself es i k);
-  touched = λ n h. subst (λ z. cause_touches (event_at es z) n ≡ true) (sym (at n h)) (touching n h);
+  dependent = λ n h. subst (λ z. slice_index_or (dependent_flags es i) z false ≡ true) (sym (at n h)) (flag_itself es i k);
+  touched = λ n h. subst (λ z. cause_touches (event_at es z) n ≡ true) (sym (at n h)) (count_touching_events n h);
   oldest = λ n q m f t. (let e : q ≡ i = only q m f in let g : first n ≡ min none i = is n ∙ cond-true (cause_touches (event_at es i) n) (min none i) none (subst (λ z. cause_touches (event_at es z) n ≡ true) e t) in omega arith);
 }
   where
-    touching : (n : ℕ) → first n < none → cause_touches (event_at es i) n ≡ true
-    touching n h = ⊎_elim (λ t. t) (λ f. absurd (let e : first n ≡ none = is n ∙ cond-false (cause_touches (event_at es i) n) (min none i) none f in omega arith)) (cases_Bool (cause_touches (event_at es i) n))
+    count_touching_events : (n : ℕ) → first n < none → cause_touches (event_at es i) n ≡ true
+    count_touching_events n h = ⊎_elim (λ t. t) (λ f. absurd (let e : first n ≡ none = is n ∙ cond-false (cause_touches (event_at es i) n) (min none i) none f in omega arith)) (cases_Bool (cause_touches (event_at es i) n))
 
     at : (n : ℕ) → first n < none → first n ≡ i
-    at n h = let e : first n ≡ min none i = is n ∙ cond-true (cause_touches (event_at es i) n) (min none i) none (touching n h) in omega arith
+    at n h = let e : first n ≡ min none i = is n ∙ cond-true (cause_touches (event_at es i) n) (min none i) none (count_touching_events n h) in omega arith
 
-    only : (q : ℕ) → q < i + 1 → slice_index_or (dependents es i) q false ≡ true → q ≡ i
+    only : (q : ℕ) → q < i + 1 → slice_index_or (dependent_flags es i) q false ≡ true → q ≡ i
     only q m f = let h : i ≤ q = DependsOn-order es i q (DependsOn_from_flag es i q (omega arith) f) in omega arith
 
 -- an event that does not depend on the cause
-pub IsFirsts-other : (es : List Cause) (i place none : ℕ) (first : ℕ → ℕ) → slice_index_or (dependents es i) place false ≡ false → IsFirsts es i place none first → IsFirsts es i (place + 1) none first
+pub IsFirsts-other : (es : List Cause) (i place none : ℕ) (first : ℕ → ℕ) → slice_index_or (dependent_flags es i) place false ≡ false → IsFirsts es i place none first → IsFirsts es i (place + 1) none first
 IsFirsts-other es i place none first free w = record {
   noted = λ n h. (let k : first n < place = w.noted n h in omega arith);
   dependent = w.dependent;
   touched = w.touched;
   oldest = λ n q m f t. elim (cases_eq q place) [
-    | inl e ↦ absurd (both_ways (slice_index_or (dependents es i) place false) free (subst (λ z. slice_index_or (dependents es i) z false ≡ true) e f))
+    | inl e ↦ absurd (both_ways (slice_index_or (dependent_flags es i) place false) free (subst (λ z. slice_index_or (dependent_flags es i) z false ≡ true) e f))
     | inr ne ↦ w.oldest n q (omega arith) f t
   ];
 }
 
 -- one that does
-pub IsFirsts-noted : (es : List Cause) (i place none : ℕ) (first now : ℕ → ℕ) → place < none → slice_index_or (dependents es i) place false ≡ true → IsFirsts es i place none first → ((n : ℕ) → now n ≡ cond (cause_touches (event_at es place) n) (min (first n) place) (first n)) → IsFirsts es i (place + 1) none now
+pub IsFirsts-noted : (es : List Cause) (i place none : ℕ) (first now : ℕ → ℕ) → place < none → slice_index_or (dependent_flags es i) place false ≡ true → IsFirsts es i place none first → ((n : ℕ) → now n ≡ cond (cause_touches (event_at es place) n) (min (first n) place) (first n)) → IsFirsts es i (place + 1) none now
 IsFirsts-noted es i place none first now l f w is = record {
   noted = λ n h. elim (split n) [ inl e ↦ (let k : first n < place = w.noted n (subst (λ z. z < none) e h) in omega arith) | inr e ↦ (let g : now n ≡ place = e.1 in omega arith) ];
   dependent = λ n h. elim (split n) [
-    | inl e ↦ subst (λ z. slice_index_or (dependents es i) z false ≡ true) (sym e) (w.dependent n (subst (λ z. z < none) e h))
-    | inr e ↦ subst (λ z. slice_index_or (dependents es i) z false ≡ true) (sym e.1) f
+    | inl e ↦ subst (λ z. slice_index_or (dependent_flags es i) z false ≡ true) (sym e) (w.dependent n (subst (λ z. z < none) e h))
+    | inr e ↦ subst (λ z. slice_index_or (dependent_flags es i) z false ≡ true) (sym e.1) f
   ];
   touched = λ n h. elim (split n) [
     | inl e ↦ subst (λ z. cause_touches (event_at es z) n ≡ true) (sym e) (w.touched n (subst (λ z. z < none) e h))
@@ -240,9 +240,9 @@ IsFirsts-noted es i place none first now l f w is = record {
 -- ---- chains made from their end
 
 -- one link more, before those that were found
-pub goes_on_longer : (es : List Cause) (i to at before : ℕ) (link : Link) (found now : List Link) → at ≢ i → IsOldest es i at before → link ≡ record { place = at; rule = rule_between es before at } → now ≡ found ++ link ∷ [] → ((links : List Link) → IsChainTo es i at links → IsChainTo es i to (links ++ reverse found)) → (links : List Link) → IsChainTo es i before links → IsChainTo es i to (links ++ reverse now)
+pub goes_on_longer : (es : List Cause) (i to at before : ℕ) (link : Link) (found now : List Link) → at ≢ i → IsOldestCause es i at before → link ≡ record { place = at; rule = dependence_rule_at es before at } → now ≡ found ++ link ∷ [] → ((links : List Link) → IsChainTo es i at links → IsChainTo es i to (links ++ reverse found)) → (links : List Link) → IsChainTo es i before links → IsChainTo es i to (links ++ reverse now)
 goes_on_longer es i to at before link found now ne o e n goes links h =
-    let last : Link = record { place = at; rule = rule_between es before at } in
+    let last : Link = record { place = at; rule = dependence_rule_at es before at } in
     let p : reverse now ≡ last ∷ reverse found = ap reverse n ∙ reverse-append found (link ∷ []) ∙ ap (λ z. z ∷ reverse found) e in
     subst (λ z. IsChainTo es i to z) (append_assoc links (last ∷ []) (reverse found) ∙ ap (λ z. links ++ z) (sym p))
     (goes (links ++ last ∷ []) (longer ne o h))
@@ -254,18 +254,18 @@ goes_on_first es i to at found now all e n a goes =
     subst (λ z. IsChainTo es i to z) (sym (a ∙ ap reverse n ∙ reverse-append found (first ∷ [])))
     (goes (first ∷ []) (subst (λ z. IsChainTo es i z (first ∷ [])) (sym e) alone))
 
-pub rule_read : (es : List Cause) (before at rule : ℕ) (e f : Cause) → before < length es → at < length es → e ≡ get_or es before e → f ≡ get_or es at f → rule ≡ rule_of e f → rule ≡ rule_between es before at
+pub rule_read : (es : List Cause) (before at rule : ℕ) (e f : Cause) → before < length es → at < length es → e ≡ get_or es before e → f ≡ get_or es at f → rule ≡ dependence_rule e f → rule ≡ dependence_rule_at es before at
 rule_read es before at rule e f l k h j r =
-    let p : event_at es before ≡ e = get_or_default es before no_cause e l ∙ sym h in
-    let q : event_at es at ≡ f = get_or_default es at no_cause f k ∙ sym j in
-    r ∙ ap (λ z. rule_of z f) (sym p) ∙ ap (λ z. rule_of (event_at es before) z) (sym q)
+    let p : event_at es before ≡ e = get_or_default es before default_cause e l ∙ sym h in
+    let q : event_at es at ≡ f = get_or_default es at default_cause f k ∙ sym j in
+    r ∙ ap (λ z. dependence_rule z f) (sym p) ∙ ap (λ z. dependence_rule (event_at es before) z) (sym q)
 
 pub event_read : (es : List Cause) (place : ℕ) (e : Cause) → place < length es → e ≡ get_or es place e → event_at es place ≡ e
-event_read es place e l h = get_or_default es place no_cause e l ∙ sym h
+event_read es place e l h = get_or_default es place default_cause e l ∙ sym h
 
-least_read : (es : List Cause) (place to : ℕ) (firsts : Oldest) (e : Cause) (found : ℕ) → firsts.none ≡ to → place < length es → e ≡ get_or es place e → found ≡ least (first_at firsts) firsts.none (seen_by e) → found ≡ least (first_at firsts) to (seen_by (event_at es place))
+least_read : (es : List Cause) (place to : ℕ) (firsts : Oldest) (e : Cause) (found : ℕ) → firsts.none ≡ to → place < length es → e ≡ get_or es place e → found ≡ least (first_at firsts) firsts.none (observed_by e) → found ≡ least (first_at firsts) to (observed_by (event_at es place))
 least_read es place to firsts e found n l r f =
-    f ∙ ap (λ z. least (first_at firsts) z (seen_by e)) n ∙ ap (λ z. least (first_at firsts) to (seen_by z)) (sym (event_read es place e l r))
+    f ∙ ap (λ z. least (first_at firsts) z (observed_by e)) n ∙ ap (λ z. least (first_at firsts) to (observed_by z)) (sym (event_read es place e l r))
 
 least_most : (first : ℕ → ℕ) (none : ℕ) (ns : List ℕ) → least first none ns ≤ none
 least_most first none [] = omega arith
@@ -278,36 +278,36 @@ noted_first es i to fresh now e l k r none is =
     (λ n. is n ∙ ap (λ z. cond (cause_touches e n) (min z i) z) (none n) ∙ ap (λ z. cond (cause_touches z n) (min to i) to) (sym (event_read es i e k r)))
 
 -- an event that sees a node with a place is noted
-pub noted_more : (es : List Cause) (i place to : ℕ) (firsts now : Oldest) (e : Cause) (found : ℕ) → IsFirsts es i place to (first_at firsts) → firsts.none ≡ to → place < length es → place < to → e ≡ get_or es place e → found ≡ least (first_at firsts) firsts.none (seen_by e) → found < to → ((n : ℕ) → first_at now n ≡ cond (cause_touches e n) (min (first_at firsts n) place) (first_at firsts n)) → IsFirsts es i (place + 1) to (first_at now)
+pub noted_more : (es : List Cause) (i place to : ℕ) (firsts now : Oldest) (e : Cause) (found : ℕ) → IsFirsts es i place to (first_at firsts) → firsts.none ≡ to → place < length es → place < to → e ≡ get_or es place e → found ≡ least (first_at firsts) firsts.none (observed_by e) → found < to → ((n : ℕ) → first_at now n ≡ cond (cause_touches e n) (min (first_at firsts n) place) (first_at firsts n)) → IsFirsts es i (place + 1) to (first_at now)
 noted_more es i place to firsts now e found w n l k r f h is =
-    let low : least (first_at firsts) to (seen_by (event_at es place)) < to = subst (λ z. z < to) (least_read es place to firsts e found n l r f) h in
+    let low : least (first_at firsts) to (observed_by (event_at es place)) < to = subst (λ z. z < to) (least_read es place to firsts e found n l r f) h in
     IsFirsts-noted es i place to (first_at firsts) (first_at now) k (least_flag es i place to (first_at firsts) w l low) w
     (λ m. is m ∙ ap (λ z. cond (cause_touches z m) (min (first_at firsts m) place) (first_at firsts m)) (sym (event_read es place e l r)))
 
 -- another is not
-pub noted_none : (es : List Cause) (i place to : ℕ) (firsts : Oldest) (e : Cause) (found : ℕ) → IsFirsts es i place to (first_at firsts) → firsts.none ≡ to → i < place → place < length es → place < to → e ≡ get_or es place e → found ≡ least (first_at firsts) firsts.none (seen_by e) → to ≤ found → IsFirsts es i (place + 1) to (first_at firsts)
+pub noted_none : (es : List Cause) (i place to : ℕ) (firsts : Oldest) (e : Cause) (found : ℕ) → IsFirsts es i place to (first_at firsts) → firsts.none ≡ to → i < place → place < length es → place < to → e ≡ get_or es place e → found ≡ least (first_at firsts) firsts.none (observed_by e) → to ≤ found → IsFirsts es i (place + 1) to (first_at firsts)
 noted_none es i place to firsts e found w n a l k r f h = ⊎_elim
     (λ t. absurd (
-    let low : least (first_at firsts) to (seen_by (event_at es place)) < to = flag_least es i place to (first_at firsts) w a (omega arith) t in
-    let is : found ≡ least (first_at firsts) to (seen_by (event_at es place)) = least_read es place to firsts e found n l r f in
+    let low : least (first_at firsts) to (observed_by (event_at es place)) < to = flag_least es i place to (first_at firsts) w a (omega arith) t in
+    let is : found ≡ least (first_at firsts) to (observed_by (event_at es place)) = least_read es place to firsts e found n l r f in
     omega arith))
     (λ free. IsFirsts-other es i place to (first_at firsts) free w)
-    (cases_Bool (slice_index_or (dependents es i) place false))
+    (cases_Bool (slice_index_or (dependent_flags es i) place false))
 
 -- the place read is that of the oldest cause
-pub oldest_read : (es : List Cause) (i to at : ℕ) (firsts : Oldest) (e : Cause) (before : ℕ) → IsFirsts es i to to (first_at firsts) → firsts.none ≡ to → i < length es → at < length es → at ≤ to → at ≢ i → slice_index_or (dependents es i) at false ≡ true → e ≡ get_or es at e → before ≡ least (first_at firsts) firsts.none (seen_by e) → IsOldest es i at before
+pub oldest_read : (es : List Cause) (i to at : ℕ) (firsts : Oldest) (e : Cause) (before : ℕ) → IsFirsts es i to to (first_at firsts) → firsts.none ≡ to → i < length es → at < length es → at ≤ to → at ≢ i → slice_index_or (dependent_flags es i) at false ≡ true → e ≡ get_or es at e → before ≡ least (first_at firsts) firsts.none (observed_by e) → IsOldestCause es i at before
 oldest_read es i to at firsts e before w n l k m ne t r f =
-    subst (λ z. IsOldest es i at z) (sym (least_read es at to firsts e before n k r f)) (oldest_of es i to at (first_at firsts) w l k m ne t)
+    subst (λ z. IsOldestCause es i at z) (sym (least_read es at to firsts e before n k r f)) (oldest_of es i to at (first_at firsts) w l k m ne t)
 
 -- no place is read for an event that does not depend on the cause, and else one is
-pub none_read : (es : List Cause) (i to : ℕ) (firsts : Oldest) (e : Cause) (found : ℕ) → IsFirsts es i to to (first_at firsts) → firsts.none ≡ to → i < to → to < length es → e ≡ get_or es to e → found ≡ least (first_at firsts) firsts.none (seen_by e) → found ≡ to → DependsOn es i to → ⊥
+pub none_read : (es : List Cause) (i to : ℕ) (firsts : Oldest) (e : Cause) (found : ℕ) → IsFirsts es i to to (first_at firsts) → firsts.none ≡ to → i < to → to < length es → e ≡ get_or es to e → found ≡ least (first_at firsts) firsts.none (observed_by e) → found ≡ to → DependsOn es i to → ⊥
 none_read es i to firsts e found w n a l r f h d =
-    let low : least (first_at firsts) to (seen_by (event_at es to)) < to = flag_least es i to to (first_at firsts) w a (omega arith) (flag_from_DependsOn es i to (omega arith) d) in
-    let is : found ≡ least (first_at firsts) to (seen_by (event_at es to)) = least_read es to to firsts e found n l r f in
+    let low : least (first_at firsts) to (observed_by (event_at es to)) < to = flag_least es i to to (first_at firsts) w a (omega arith) (flag_from_DependsOn es i to (omega arith) d) in
+    let is : found ≡ least (first_at firsts) to (observed_by (event_at es to)) = least_read es to to firsts e found n l r f in
     omega arith
 
-pub some_read : (es : List Cause) (i to : ℕ) (firsts : Oldest) (e : Cause) (found : ℕ) → IsFirsts es i to to (first_at firsts) → firsts.none ≡ to → to < length es → e ≡ get_or es to e → found ≡ least (first_at firsts) firsts.none (seen_by e) → found ≢ to → slice_index_or (dependents es i) to false ≡ true
+pub some_read : (es : List Cause) (i to : ℕ) (firsts : Oldest) (e : Cause) (found : ℕ) → IsFirsts es i to to (first_at firsts) → firsts.none ≡ to → to < length es → e ≡ get_or es to e → found ≡ least (first_at firsts) firsts.none (observed_by e) → found ≢ to → slice_index_or (dependent_flags es i) to false ≡ true
 some_read es i to firsts e found w n l r f h =
-    let is : found ≡ least (first_at firsts) to (seen_by (event_at es to)) = least_read es to to firsts e found n l r f in
-    let most : least (first_at firsts) to (seen_by (event_at es to)) ≤ to = least_most (first_at firsts) to (seen_by (event_at es to)) in
+    let is : found ≡ least (first_at firsts) to (observed_by (event_at es to)) = least_read es to to firsts e found n l r f in
+    let most : least (first_at firsts) to (observed_by (event_at es to)) ≤ to = least_most (first_at firsts) to (observed_by (event_at es to)) in
     least_flag es i to to (first_at firsts) w l (omega arith)

@@ -8,12 +8,12 @@ use Rattle.std.proofs.lemmas.List.{drop_all}
 use Rattle.std.proofs.lemmas.List.Sums.{sum_by-cons}
 use Rattle.ga_event.specs.declared.event.Event.{Event}
 use Rattle.ga_event.specs.declared.event.Cause.{Cause}
-use Rattle.ga_event.specs.Touches.{touches as event_touches, meets}
-use Rattle.ga_causal.specs.Dependence.{cause_touches, event_at, position_of_step, cause_nodes, DependsOn, itself, through}
-use Rattle.ga_event.specs.Told.{events_in}
-use Rattle.ga_causal.specs.Steps.{touching, IsStep}
+use Rattle.ga_event.specs.Touches.{touches as event_touches, has_common_node}
+use Rattle.ga_causal.specs.Dependence.{cause_touches, event_at, position_of_step, touched_nodes, DependsOn, itself, through}
+use Rattle.ga_event.specs.Told.{events_of_causes}
+use Rattle.ga_causal.specs.Steps.{count_touching_events, IsKthStep}
 use Rattle.ga_causal.proofs.LocalHistories.{place-first, place-touched, place-other, some-shift, shifted_of}
-use Rattle.ga_event.proofs.Locality.{meets-touched}
+use Rattle.ga_event.proofs.Locality.{has_common_node-touched}
 use Rattle.ga_causal.proofs.Exact.{meets_rule, any-mono}
 
 -- a place that comes i later
@@ -60,37 +60,37 @@ pub on_end : (es : List Cause) (n i k : ℕ) → length es ≤ i → on_by i (po
 on_end es n i k l = ap (λ z. on_by i (position_of_step z n k)) (drop_all i es l)
 
 -- one event more
-pub touching-cons : (n : ℕ) (e : Cause) (es : List Cause) → touching n (e ∷ es) ≡ cond (cause_touches e n) 1 0 + touching n es
-touching-cons n e es = sum_by-cons (λ (x : Cause). cond (cause_touches x n) 1 0) e es
+pub count_touching_events-cons : (n : ℕ) (e : Cause) (es : List Cause) → count_touching_events n (e ∷ es) ≡ cond (cause_touches e n) 1 0 + count_touching_events n es
+count_touching_events-cons n e es = sum_by-cons (λ (x : Cause). cond (cause_touches x n) 1 0) e es
 
 -- whether an event looks is no matter
-pub touching_in : (n : ℕ) (es : List Cause) → touching n es ≡ count_by (λ e. event_touches e n) (events_in es)
+pub touching_in : (n : ℕ) (es : List Cause) → count_touching_events n es ≡ count_by (λ e. event_touches e n) (events_of_causes es)
 touching_in n [] = refl
 touching_in n (e ∷ es) =
-    touching-cons n e es ∙ ap (λ (z : ℕ). cond (cause_touches e n) 1 0 + z) (touching_in n es)
-    ∙ sym (sum_by-cons (λ (x : Event). cond (event_touches x n) 1 0) e.event (events_in es))
+    count_touching_events-cons n e es ∙ ap (λ (z : ℕ). cond (cause_touches e n) 1 0 + z) (touching_in n es)
+    ∙ sym (sum_by-cons (λ (x : Event). cond (event_touches x n) 1 0) e.event (events_of_causes es))
 
-pub touching_yes : (n : ℕ) (e : Cause) (es : List Cause) → cause_touches e n ≡ true → touching n (e ∷ es) ≡ suc (touching n es)
-touching_yes n e es t = sum _ _ (touching-cons n e es) (ap (λ (z : Bool). cond {A = ℕ} z 1 0) t)
+pub touching_yes : (n : ℕ) (e : Cause) (es : List Cause) → cause_touches e n ≡ true → count_touching_events n (e ∷ es) ≡ suc (count_touching_events n es)
+touching_yes n e es t = sum _ _ (count_touching_events-cons n e es) (ap (λ (z : Bool). cond {A = ℕ} z 1 0) t)
   where
-    sum : (a b : ℕ) → a ≡ b + touching n es → b ≡ 1 → a ≡ suc (touching n es)
+    sum : (a b : ℕ) → a ≡ b + count_touching_events n es → b ≡ 1 → a ≡ suc (count_touching_events n es)
     sum a b p q = omega arith
 
-pub touching_no : (n : ℕ) (e : Cause) (es : List Cause) → cause_touches e n ≡ false → touching n (e ∷ es) ≡ touching n es
-touching_no n e es t = sum _ _ (touching-cons n e es) (ap (λ (z : Bool). cond {A = ℕ} z 1 0) t)
+pub touching_no : (n : ℕ) (e : Cause) (es : List Cause) → cause_touches e n ≡ false → count_touching_events n (e ∷ es) ≡ count_touching_events n es
+touching_no n e es t = sum _ _ (count_touching_events-cons n e es) (ap (λ (z : Bool). cond {A = ℕ} z 1 0) t)
   where
-    sum : (a b : ℕ) → a ≡ b + touching n es → b ≡ 0 → a ≡ touching n es
+    sum : (a b : ℕ) → a ≡ b + count_touching_events n es → b ≡ 0 → a ≡ count_touching_events n es
     sum a b p q = omega arith
 
 -- a step exists up to the number of events that touch the node
-pub place_stands : (es : List Cause) (n k : ℕ) → is_some (position_of_step es n (suc k)) ≡ nat_lt k (touching n es)
+pub place_stands : (es : List Cause) (n k : ℕ) → is_some (position_of_step es n (suc k)) ≡ nat_lt k (count_touching_events n es)
 place_stands [] n k = sym (le-ltb k 0 (omega arith))
 place_stands (e ∷ es) n zero = ⊎_elim
-    (λ t. ap is_some (place-first e es n t) ∙ sym (lt-ltb 0 (touching n (e ∷ es)) (let h = touching_yes n e es t in omega (arith, h))))
+    (λ t. ap is_some (place-first e es n t) ∙ sym (lt-ltb 0 (count_touching_events n (e ∷ es)) (let h = touching_yes n e es t in omega (arith, h))))
     (λ f. ap is_some (place-other e es n 0 f) ∙ some-shift (position_of_step es n 1) ∙ place_stands es n 0 ∙ ap (nat_lt 0) (sym (touching_no n e es f)))
     (cases_Bool (cause_touches e n))
 place_stands (e ∷ es) n (suc k) = ⊎_elim
-    (λ t. ap is_some (place-touched e es n k t) ∙ some-shift (position_of_step es n (suc k)) ∙ place_stands es n k ∙ same_test k (touching n es) ∙ ap (nat_lt (suc k)) (sym (touching_yes n e es t)))
+    (λ t. ap is_some (place-touched e es n k t) ∙ some-shift (position_of_step es n (suc k)) ∙ place_stands es n k ∙ same_test k (count_touching_events n es) ∙ ap (nat_lt (suc k)) (sym (touching_yes n e es t)))
     (λ f. ap is_some (place-other e es n (suc k) f) ∙ some-shift (position_of_step es n (suc (suc k))) ∙ place_stands es n (suc k) ∙ ap (nat_lt (suc k)) (sym (touching_no n e es f)))
     (cases_Bool (cause_touches e n))
   where
@@ -100,41 +100,41 @@ place_stands (e ∷ es) n (suc k) = ⊎_elim
         (λ l. le-ltb a b l ∙ sym (le-ltb (suc a) (suc b) (omega arith)))
         (cases_lt a b)
 
-pub stands_exact : (es : List Cause) (n k : ℕ) → IsSome (position_of_step es n k) ↔ ((0 < k) × (k ≤ touching n es))
+pub stands_exact : (es : List Cause) (n k : ℕ) → IsSome (position_of_step es n k) ↔ ((0 < k) × (k ≤ count_touching_events n es))
 stands_exact es n zero = (λ h. absurd (both_ways false refl (sym (ap is_some (place-zero es n)) ∙ h)), λ p. absurd (omega (arith, p.0)))
 stands_exact es n (suc k) = (
-  λ h. let l : k < touching n es = ltb-true k (touching n es) (sym (place_stands es n k) ∙ h) in (omega arith, omega (arith, l)),
-  λ p. place_stands es n k ∙ lt-ltb k (touching n es) (omega (arith, p.1)),
+  λ h. let l : k < count_touching_events n es = ltb-true k (count_touching_events n es) (sym (place_stands es n k) ∙ h) in (omega arith, omega (arith, l)),
+  λ p. place_stands es n k ∙ lt-ltb k (count_touching_events n es) (omega (arith, p.1)),
 )
 
 -- and is one
-step_later : (e : Cause) (es : List Cause) (n k place : ℕ) → cause_touches e n ≡ true → IsStep es n k place → IsStep (e ∷ es) n (suc k) (suc place)
+step_later : (e : Cause) (es : List Cause) (n k place : ℕ) → cause_touches e n ≡ true → IsKthStep es n k place → IsKthStep (e ∷ es) n (suc k) (suc place)
 step_later e es n k place t s =
     let a = touching_yes n e (take place es) t in
     record { within = omega (arith, s.within); touched = s.touched; before = omega (arith, s.before, a) }
 
-step_past : (e : Cause) (es : List Cause) (n k place : ℕ) → cause_touches e n ≡ false → IsStep es n k place → IsStep (e ∷ es) n k (suc place)
+step_past : (e : Cause) (es : List Cause) (n k place : ℕ) → cause_touches e n ≡ false → IsKthStep es n k place → IsKthStep (e ∷ es) n k (suc place)
 step_past e es n k place f s =
     let a = touching_no n e (take place es) f in
     record { within = omega (arith, s.within); touched = s.touched; before = omega (arith, s.before, a) }
 
-pub place_step : (es : List Cause) (n k place : ℕ) → position_of_step es n k ≡ Some place → IsStep es n k place
+pub place_step : (es : List Cause) (n k place : ℕ) → position_of_step es n k ≡ Some place → IsKthStep es n k place
 place_step [] n k place h = absurd (cc)
 place_step (e ∷ es) n zero place h = absurd (cc)
 place_step (e ∷ es) n (suc zero) place h = ⊎_elim
-    (λ t. subst (IsStep (e ∷ es) n 1) (same_Some 0 place (sym (place-first e es n t) ∙ h)) (record { within = omega arith; touched = t; before = refl }))
+    (λ t. subst (IsKthStep (e ∷ es) n 1) (same_Some 0 place (sym (place-first e es n t) ∙ h)) (record { within = omega arith; touched = t; before = refl }))
     (λ f. let s = shifted_of (position_of_step es n 1) place (sym (place-other e es n 0 f) ∙ h) in
-    subst (IsStep (e ∷ es) n 1) (sym s.shift) (step_past e es n 1 s.place f (place_step es n 1 s.place s.is)))
+    subst (IsKthStep (e ∷ es) n 1) (sym s.shift) (step_past e es n 1 s.place f (place_step es n 1 s.place s.is)))
     (cases_Bool (cause_touches e n))
 place_step (e ∷ es) n (suc (suc i)) place h = ⊎_elim
     (λ t. let s = shifted_of (position_of_step es n (suc i)) place (sym (place-touched e es n i t) ∙ h) in
-    subst (IsStep (e ∷ es) n (suc (suc i))) (sym s.shift) (step_later e es n (suc i) s.place t (place_step es n (suc i) s.place s.is)))
+    subst (IsKthStep (e ∷ es) n (suc (suc i))) (sym s.shift) (step_later e es n (suc i) s.place t (place_step es n (suc i) s.place s.is)))
     (λ f. let s = shifted_of (position_of_step es n (suc (suc i))) place (sym (place-other e es n (suc i) f) ∙ h) in
-    subst (IsStep (e ∷ es) n (suc (suc i))) (sym s.shift) (step_past e es n (suc (suc i)) s.place f (place_step es n (suc (suc i)) s.place s.is)))
+    subst (IsKthStep (e ∷ es) n (suc (suc i))) (sym s.shift) (step_past e es n (suc (suc i)) s.place f (place_step es n (suc (suc i)) s.place s.is)))
     (cases_Bool (cause_touches e n))
 
 -- the place of a step in a list of two parts
-pub place_split : (n j : ℕ) (xs : List Cause) (x : Cause) (ys : List Cause) → touching n xs ≡ j → cause_touches x n ≡ true → position_of_step (xs ++ x ∷ ys) n (suc j) ≡ Some (length xs)
+pub place_split : (n j : ℕ) (xs : List Cause) (x : Cause) (ys : List Cause) → count_touching_events n xs ≡ j → cause_touches x n ≡ true → position_of_step (xs ++ x ∷ ys) n (suc j) ≡ Some (length xs)
 place_split n zero [] x ys q t = place-first x ys n t
 place_split n (suc j) [] x ys q t = absurd (zero_suc j q)
   where
@@ -149,7 +149,7 @@ place_split n (suc j) (e ∷ es) x ys q t = ⊎_elim
     (λ no. place-other e (es ++ x ∷ ys) n (suc j) no ∙ ap (option_map suc) (place_split n (suc j) es x ys (sym (touching_no n e es no) ∙ q) t))
     (cases_Bool (cause_touches e n))
 
-pub place_more : (n j : ℕ) (xs ys : List Cause) → j < touching n xs → position_of_step (xs ++ ys) n (suc j) ≡ position_of_step xs n (suc j)
+pub place_more : (n j : ℕ) (xs ys : List Cause) → j < count_touching_events n xs → position_of_step (xs ++ ys) n (suc j) ≡ position_of_step xs n (suc j)
 place_more n j [] ys l = absurd (omega (arith, l))
 place_more n zero (e ∷ es) ys l = ⊎_elim
     (λ yes. place-first e (es ++ ys) n yes ∙ sym (place-first e es n yes))
@@ -161,22 +161,22 @@ place_more n (suc j) (e ∷ es) ys l = ⊎_elim
     (cases_Bool (cause_touches e n))
 
 -- a step before a place counts there
-pub touching_before : (es : List Cause) (n q i : ℕ) → q < i → q < length es → cause_touches (event_at es q) n ≡ true → touching n (take q es) + 1 ≤ touching n (take i es)
+pub touching_before : (es : List Cause) (n q i : ℕ) → q < i → q < length es → cause_touches (event_at es q) n ≡ true → count_touching_events n (take q es) + 1 ≤ count_touching_events n (take i es)
 touching_before [] n q i l inside t = absurd (omega arith)
 touching_before (x ∷ xs) n q zero l inside t = absurd (omega arith)
 touching_before (x ∷ xs) n zero (suc i) l inside t = let a = touching_yes n x (take i xs) t in omega (arith, a)
 touching_before (x ∷ xs) n (suc q) (suc i) l inside t =
     let later = touching_before xs n q i (omega arith) (omega arith) t in
-    let a = touching-cons n x (take q xs) in
-    let b = touching-cons n x (take i xs) in
+    let a = count_touching_events-cons n x (take q xs) in
+    let b = count_touching_events-cons n x (take i xs) in
     omega (arith, later, a, b)
 
 -- ---- each step of a node is a cause of its later ones
 
 -- two events of one node
-both_touch : (d e : Cause) (n : ℕ) → cause_touches d n ≡ true → cause_touches e n ≡ true → meets (cause_touches d) e ≡ true
+both_touch : (d e : Cause) (n : ℕ) → cause_touches d n ≡ true → cause_touches e n ≡ true → has_common_node (cause_touches d) e ≡ true
 both_touch d e n first second =
-    meets-touched (cause_touches d) e (any-mono (λ m. m == n) (cause_touches d) (λ m at. subst (λ z. cause_touches d z ≡ true) (sym (eqb-true m n at)) first) (cause_nodes e) second)
+    has_common_node-touched (cause_touches d) e (any-mono (λ m. m == n) (cause_touches d) (λ m at. subst (λ z. cause_touches d z ≡ true) (sym (eqb-true m n at)) first) (touched_nodes e) second)
 
 pub older_step : (events : List Cause) (n k j i q : ℕ) → position_of_step events n k ≡ Some i → position_of_step events n j ≡ Some q → k ≤ j → DependsOn events i q
 older_step events n k j i q first second l = ⊎_elim
@@ -187,8 +187,8 @@ older_step events n k j i q first second l = ⊎_elim
     other)
     (cases_order i q)
   where
-    here : IsStep events n k i
+    here : IsKthStep events n k i
     here = place_step events n k i first
 
-    there : IsStep events n j q
+    there : IsKthStep events n j q
     there = place_step events n j q second

@@ -7,27 +7,27 @@ use Rattle.std.specs.List.Sorted.{IsPermutation}
 use Rattle.std.proofs.lemmas.List.Sorted.{list_any-IsPermutation}
 use Rattle.std.proofs.lemmas.Bool.{or_cases, or_parts, or_left, or_right, or_from, and_from, cases_Bool, both_ways, cond-true, cond-false, false_from_ne_true, eq-eqb, ne_eqb}
 use Rattle.ga_event.specs.declared.event.Cause.{Cause}
-use Rattle.ga_causal.specs.Dependence.{cause_nodes, cause_touches, position_of_step, rest_from, rewound_list, rewound_all}
-use Rattle.ga_event.specs.Touches.{seen_by, meets}
+use Rattle.ga_causal.specs.Dependence.{touched_nodes, cause_touches, position_of_step, rest_or_all, events_after_rewind, events_after_rewinds}
+use Rattle.ga_event.specs.Touches.{observed_by, has_common_node}
 use Rattle.ga_causal.specs.Steps.{counted}
-use Rattle.ga_event.proofs.Locality.{meets-touched}
-use Rattle.ga_causal.proofs.Exact.{any-mono, any-or, meets-mono, meets-or}
+use Rattle.ga_event.proofs.Locality.{has_common_node-touched}
+use Rattle.ga_causal.proofs.Exact.{any-mono, any-or, has_common_node-mono, has_common_node-or}
 use Rattle.ga_causal.proofs.Runs.{kept}
 
 -- one of the event's steps is among those to be removed, after c n steps of each node n
 abbrev pub is_cut : (ℕ → ℕ) → (ℕ → ℕ → Bool) → Cause → Bool
-is_cut c cut e = list_any (λ n. cut n (c n + 1)) (cause_nodes e)
+is_cut c cut e = list_any (λ n. cut n (c n + 1)) (touched_nodes e)
 
 -- the events that remain when all these steps are removed at once, with what depends on them
 abbrev pub walk : (ℕ → Bool) → (ℕ → ℕ) → (ℕ → ℕ → Bool) → List Cause → List Cause
 walk marks c cut [] = []
-walk marks c cut (e ∷ es) = cond (meets marks e || is_cut c cut e) (walk (λ n. marks n || cause_touches e n) c cut es) (e ∷ walk marks (counted c e) cut es)
+walk marks c cut (e ∷ es) = cond (has_common_node marks e || is_cut c cut e) (walk (λ n. marks n || cause_touches e n) c cut es) (e ∷ walk marks (counted c e) cut es)
 
-pub walk-dropped : (marks : ℕ → Bool) (c : ℕ → ℕ) (cut : ℕ → ℕ → Bool) (e : Cause) (es : List Cause) → (meets marks e || is_cut c cut e) ≡ true → walk marks c cut (e ∷ es) ≡ walk (λ n. marks n || cause_touches e n) c cut es
-walk-dropped marks c cut e es t = cond-true (meets marks e || is_cut c cut e) _ _ t
+pub walk-dropped : (marks : ℕ → Bool) (c : ℕ → ℕ) (cut : ℕ → ℕ → Bool) (e : Cause) (es : List Cause) → (has_common_node marks e || is_cut c cut e) ≡ true → walk marks c cut (e ∷ es) ≡ walk (λ n. marks n || cause_touches e n) c cut es
+walk-dropped marks c cut e es t = cond-true (has_common_node marks e || is_cut c cut e) _ _ t
 
-pub walk-kept : (marks : ℕ → Bool) (c : ℕ → ℕ) (cut : ℕ → ℕ → Bool) (e : Cause) (es : List Cause) → (meets marks e || is_cut c cut e) ≡ false → walk marks c cut (e ∷ es) ≡ e ∷ walk marks (counted c e) cut es
-walk-kept marks c cut e es f = cond-false (meets marks e || is_cut c cut e) _ _ f
+pub walk-kept : (marks : ℕ → Bool) (c : ℕ → ℕ) (cut : ℕ → ℕ → Bool) (e : Cause) (es : List Cause) → (has_common_node marks e || is_cut c cut e) ≡ false → walk marks c cut (e ∷ es) ≡ e ∷ walk marks (counted c e) cut es
+walk-kept marks c cut e es f = cond-false (has_common_node marks e || is_cut c cut e) _ _ f
 
 -- marks and counts of two walks, one over what the other leaves, and those of the one walk that does both
 record Joins (m k j : ℕ → Bool) (c d b : ℕ → ℕ) : Type 0 where
@@ -35,11 +35,11 @@ record Joins (m k j : ℕ → Bool) (c d b : ℕ → ℕ) : Type 0 where
   first : (n : ℕ) → j n ≡ false → c n ≡ b n
   second : (n : ℕ) → j n ≡ false → d n ≡ b n
 
-pub or-swap : (x y z : Bool) → ((x || y) || z) ≡ ((x || z) || y)
-or-swap true y z = refl
-or-swap false true true = refl
-or-swap false true false = refl
-or-swap false false z = grind arith
+pub or-independent_events_swap : (x y z : Bool) → ((x || y) || z) ≡ ((x || z) || y)
+or-independent_events_swap true y z = refl
+or-independent_events_swap false true true = refl
+or-independent_events_swap false true false = refl
+or-independent_events_swap false false z = grind arith
 
 or-join : (x y z : Bool) → ((x || y) || z) ≡ (x || (y || z))
 or-join true y z = refl
@@ -49,40 +49,40 @@ pub counted-other : (c : ℕ → ℕ) (e : Cause) (n : ℕ) → cause_touches e 
 counted-other c e n f = cond-false (cause_touches e n) (c n + 1) (c n) f
 
 -- a drop is a drop of the one walk too
-drop_one : (m j : ℕ → Bool) (c b : ℕ → ℕ) (x y : ℕ → ℕ → Bool) (e : Cause) → ((n : ℕ) → m n ≡ true → j n ≡ true) → ((n : ℕ) → j n ≡ false → c n ≡ b n) → ((n i : ℕ) → x n i ≡ true → y n i ≡ true) → (meets m e || is_cut c x e) ≡ true → (meets j e || is_cut b y e) ≡ true
+drop_one : (m j : ℕ → Bool) (c b : ℕ → ℕ) (x y : ℕ → ℕ → Bool) (e : Cause) → ((n : ℕ) → m n ≡ true → j n ≡ true) → ((n : ℕ) → j n ≡ false → c n ≡ b n) → ((n i : ℕ) → x n i ≡ true → y n i ≡ true) → (has_common_node m e || is_cut c x e) ≡ true → (has_common_node j e || is_cut b y e) ≡ true
 drop_one m j c b x y e h g k t = ⊎_elim
-    (λ u. or_left (meets j e) (is_cut b y e) (meets-mono m j e h u))
-    (λ u. ⊎_elim (λ v. or_left (meets j e) (is_cut b y e) (meets-touched j e v)) (λ v. or_right (meets j e) (is_cut b y e) v)
-    (any-or j (λ n. y n (b n + 1)) (cause_nodes e)
+    (λ u. or_left (has_common_node j e) (is_cut b y e) (has_common_node-mono m j e h u))
+    (λ u. ⊎_elim (λ v. or_left (has_common_node j e) (is_cut b y e) (has_common_node-touched j e v)) (λ v. or_right (has_common_node j e) (is_cut b y e) v)
+    (any-or j (λ n. y n (b n + 1)) (touched_nodes e)
     (any-mono (λ n. x n (c n + 1)) (λ n. j n || y n (b n + 1))
     (λ n q. ⊎_elim (λ v. or_left (j n) (y n (b n + 1)) v)
     (λ v. or_right (j n) (y n (b n + 1)) (k n (b n + 1) (subst (λ z. x n (z + 1) ≡ true) (g n v) q)))
     (cases_Bool (j n)))
-    (cause_nodes e) u)))
-    (or_cases (meets m e) (is_cut c x e) t)
+    (touched_nodes e) u)))
+    (or_cases (has_common_node m e) (is_cut c x e) t)
 
 -- a drop of the one walk is a drop of one of the two
-drop_two : (m k j : ℕ → Bool) (c d b : ℕ → ℕ) (x y : ℕ → ℕ → Bool) (e : Cause) → Joins m k j c d b → (meets j e || is_cut b (λ n i. x n i || y n i) e) ≡ true → ((meets m e || is_cut c x e) ≡ true) ⊎ ((meets k e || is_cut d y e) ≡ true)
-drop_two m k j c d b x y e w t = ⊎_elim by_mark by_cut (or_cases (meets j e) (is_cut b (λ n i. x n i || y n i) e) t)
+drop_two : (m k j : ℕ → Bool) (c d b : ℕ → ℕ) (x y : ℕ → ℕ → Bool) (e : Cause) → Joins m k j c d b → (has_common_node j e || is_cut b (λ n i. x n i || y n i) e) ≡ true → ((has_common_node m e || is_cut c x e) ≡ true) ⊎ ((has_common_node k e || is_cut d y e) ≡ true)
+drop_two m k j c d b x y e w t = ⊎_elim by_mark by_cut (or_cases (has_common_node j e) (is_cut b (λ n i. x n i || y n i) e) t)
   where
-    marks : (meets m e ≡ true) ⊎ (meets k e ≡ true) → ((meets m e || is_cut c x e) ≡ true) ⊎ ((meets k e || is_cut d y e) ≡ true)
-    marks = ⊎_elim (λ u. inl (or_left (meets m e) (is_cut c x e) u)) (λ u. inr (or_left (meets k e) (is_cut d y e) u))
+    marks : (has_common_node m e ≡ true) ⊎ (has_common_node k e ≡ true) → ((has_common_node m e || is_cut c x e) ≡ true) ⊎ ((has_common_node k e || is_cut d y e) ≡ true)
+    marks = ⊎_elim (λ u. inl (or_left (has_common_node m e) (is_cut c x e) u)) (λ u. inr (or_left (has_common_node k e) (is_cut d y e) u))
 
-    by_mark : meets j e ≡ true → ((meets m e || is_cut c x e) ≡ true) ⊎ ((meets k e || is_cut d y e) ≡ true)
-    by_mark u = marks (meets-or m k e (meets-mono j (λ n. m n || k n) e (λ n v. sym (w.both n) ∙ v) u))
+    by_mark : has_common_node j e ≡ true → ((has_common_node m e || is_cut c x e) ≡ true) ⊎ ((has_common_node k e || is_cut d y e) ≡ true)
+    by_mark u = marks (has_common_node-or m k e (has_common_node-mono j (λ n. m n || k n) e (λ n v. sym (w.both n) ∙ v) u))
 
-    cuts : (is_cut c x e ≡ true) ⊎ (is_cut d y e ≡ true) → ((meets m e || is_cut c x e) ≡ true) ⊎ ((meets k e || is_cut d y e) ≡ true)
-    cuts = ⊎_elim (λ u. inl (or_right (meets m e) (is_cut c x e) u)) (λ u. inr (or_right (meets k e) (is_cut d y e) u))
+    cuts : (is_cut c x e ≡ true) ⊎ (is_cut d y e ≡ true) → ((has_common_node m e || is_cut c x e) ≡ true) ⊎ ((has_common_node k e || is_cut d y e) ≡ true)
+    cuts = ⊎_elim (λ u. inl (or_right (has_common_node m e) (is_cut c x e) u)) (λ u. inr (or_right (has_common_node k e) (is_cut d y e) u))
 
     one : (n : ℕ) → (x n (b n + 1) || y n (b n + 1)) ≡ true → (j n || (x n (c n + 1) || y n (d n + 1))) ≡ true
     one n q = ⊎_elim (λ v. or_left (j n) _ v)
         (λ v. or_right (j n) (x n (c n + 1) || y n (d n + 1)) (subst (λ z. (x n (z + 1) || y n (d n + 1)) ≡ true) (sym (w.first n v)) (subst (λ z. (x n (b n + 1) || y n (z + 1)) ≡ true) (sym (w.second n v)) q)))
         (cases_Bool (j n))
 
-    by_cut : is_cut b (λ n i. x n i || y n i) e ≡ true → ((meets m e || is_cut c x e) ≡ true) ⊎ ((meets k e || is_cut d y e) ≡ true)
-    by_cut u = ⊎_elim (λ v. by_mark (meets-touched j e v))
-        (λ v. cuts (any-or (λ n. x n (c n + 1)) (λ n. y n (d n + 1)) (cause_nodes e) v))
-        (any-or j (λ n. x n (c n + 1) || y n (d n + 1)) (cause_nodes e) (any-mono (λ n. x n (b n + 1) || y n (b n + 1)) (λ n. j n || (x n (c n + 1) || y n (d n + 1))) one (cause_nodes e) u))
+    by_cut : is_cut b (λ n i. x n i || y n i) e ≡ true → ((has_common_node m e || is_cut c x e) ≡ true) ⊎ ((has_common_node k e || is_cut d y e) ≡ true)
+    by_cut u = ⊎_elim (λ v. by_mark (has_common_node-touched j e v))
+        (λ v. cuts (any-or (λ n. x n (c n + 1)) (λ n. y n (d n + 1)) (touched_nodes e) v))
+        (any-or j (λ n. x n (c n + 1) || y n (d n + 1)) (touched_nodes e) (any-mono (λ n. x n (b n + 1) || y n (b n + 1)) (λ n. j n || (x n (c n + 1) || y n (d n + 1))) one (touched_nodes e) u))
 
 Joins-second : (m k j : ℕ → Bool) (c d b : ℕ → ℕ) (e : Cause) → Joins m k j c d b → Joins m (λ n. k n || cause_touches e n) (λ n. j n || cause_touches e n) c d b
 Joins-second m k j c d b e w = record {
@@ -93,7 +93,7 @@ Joins-second m k j c d b e w = record {
 
 Joins-first : (m k j : ℕ → Bool) (c d b : ℕ → ℕ) (e : Cause) → Joins m k j c d b → Joins (λ n. m n || cause_touches e n) k (λ n. j n || cause_touches e n) c (counted d e) b
 Joins-first m k j c d b e w = record {
-  both = λ n. ap (λ z. z || cause_touches e n) (w.both n) ∙ or-swap (m n) (k n) (cause_touches e n);
+  both = λ n. ap (λ z. z || cause_touches e n) (w.both n) ∙ or-independent_events_swap (m n) (k n) (cause_touches e n);
   first = λ n f. w.first n ((or_parts (j n) (cause_touches e n) f).0);
   second = λ n f. counted-other d e n ((or_parts (j n) (cause_touches e n) f).1) ∙ w.second n ((or_parts (j n) (cause_touches e n) f).0);
 }
@@ -120,9 +120,9 @@ walk_twice m k j c d b x y (e ∷ es) w = ⊎_elim
     (λ g. ap (λ (z : List Cause). walk m c x z) (walk-kept k d y e es f)
     ∙ walk-kept m c x e (walk k (counted d e) y es) g
     ∙ ap (λ z. e ∷ z) (walk_twice m k j (counted c e) (counted d e) (counted b e) x y es (Joins-kept m k j c d b e w))
-    ∙ sym (walk-kept j b (λ n i. x n i || y n i) e es (false_from_ne_true (meets j e || is_cut b (λ n i. x n i || y n i) e) (λ t. ⊎_elim (λ v. both_ways _ g v) (λ v. both_ways _ f v) (drop_two m k j c d b x y e w t)))))
-    (cases_Bool (meets m e || is_cut c x e)))
-    (cases_Bool (meets k e || is_cut d y e))
+    ∙ sym (walk-kept j b (λ n i. x n i || y n i) e es (false_from_ne_true (has_common_node j e || is_cut b (λ n i. x n i || y n i) e) (λ t. ⊎_elim (λ v. both_ways _ g v) (λ v. both_ways _ f v) (drop_two m k j c d b x y e w t)))))
+    (cases_Bool (has_common_node m e || is_cut c x e)))
+    (cases_Bool (has_common_node k e || is_cut d y e))
 
 -- a step of one node
 abbrev pub single : ℕ → ℕ → ℕ → ℕ → Bool
@@ -131,9 +131,9 @@ single n k m i = (m == n) && (i == k)
 abbrev pub nowhere : ℕ → Bool
 nowhere n = false
 
-nowhere-meets : (ns : List ℕ) → list_any nowhere ns ≡ false
-nowhere-meets [] = refl
-nowhere-meets (n ∷ ns) = nowhere-meets ns
+nowhere-has_common_node : (ns : List ℕ) → list_any nowhere ns ≡ false
+nowhere-has_common_node [] = refl
+nowhere-has_common_node (n ∷ ns) = nowhere-has_common_node ns
 
 absorbs : (x y : Bool) → (x || (y && x)) ≡ x
 absorbs true y = refl
@@ -152,32 +152,32 @@ single_cut c n k (m ∷ ns) =
     (λ t. ap (λ (z : ℕ). (c z + 1) == k) (eqb-true m n t)) (single_cut c n k ns)
 
 -- the event is dropped only by that step
-single_drop : (c : ℕ → ℕ) (n k : ℕ) (e : Cause) → (meets nowhere e || is_cut c (single n k) e) ≡ (cause_touches e n && ((c n + 1) == k))
-single_drop c n k e = ap (λ z. z || is_cut c (single n k) e) (nowhere-meets (seen_by e)) ∙ single_cut c n k (cause_nodes e)
+single_drop : (c : ℕ → ℕ) (n k : ℕ) (e : Cause) → (has_common_node nowhere e || is_cut c (single n k) e) ≡ (cause_touches e n && ((c n + 1) == k))
+single_drop c n k e = ap (λ z. z || is_cut c (single n k) e) (nowhere-has_common_node (observed_by e)) ∙ single_cut c n k (touched_nodes e)
 
-pub kept-dropped : (marks : ℕ → Bool) (e : Cause) (es : List Cause) → meets marks e ≡ true → kept marks (e ∷ es) ≡ kept (λ n. marks n || cause_touches e n) es
+pub kept-dropped : (marks : ℕ → Bool) (e : Cause) (es : List Cause) → has_common_node marks e ≡ true → kept marks (e ∷ es) ≡ kept (λ n. marks n || cause_touches e n) es
 kept-dropped marks e es t = rw t refl
 
-pub kept-kept : (marks : ℕ → Bool) (e : Cause) (es : List Cause) → meets marks e ≡ false → kept marks (e ∷ es) ≡ e ∷ kept marks es
+pub kept-kept : (marks : ℕ → Bool) (e : Cause) (es : List Cause) → has_common_node marks e ≡ false → kept marks (e ∷ es) ≡ e ∷ kept marks es
 kept-kept marks e es f = rw f refl
 
 -- once its node is marked, the step cuts no more
 walk_marked : (marks : ℕ → Bool) (c : ℕ → ℕ) (n k : ℕ) (es : List Cause) → marks n ≡ true → walk marks c (single n k) es ≡ kept marks es
 walk_marked marks c n k [] h = refl
 walk_marked marks c n k (e ∷ es) h = ⊎_elim
-    (λ t. walk-dropped marks c (single n k) e es (or_left (meets marks e) (is_cut c (single n k) e) t)
+    (λ t. walk-dropped marks c (single n k) e es (or_left (has_common_node marks e) (is_cut c (single n k) e) t)
     ∙ walk_marked (λ m. marks m || cause_touches e m) c n k es (or_left (marks n) (cause_touches e n) h)
     ∙ sym (kept-dropped marks e es t))
-    (λ f. walk-kept marks c (single n k) e es (or_from (meets marks e) (is_cut c (single n k) e) f (not_cut f))
+    (λ f. walk-kept marks c (single n k) e es (or_from (has_common_node marks e) (is_cut c (single n k) e) f (not_cut f))
     ∙ ap (λ z. e ∷ z) (walk_marked marks (counted c e) n k es h)
     ∙ sym (kept-kept marks e es f))
-    (cases_Bool (meets marks e))
+    (cases_Bool (has_common_node marks e))
   where
-    touch_meets : cause_touches e n ≡ true → meets marks e ≡ true
-    touch_meets t = meets-touched marks e (any-mono (λ m. m == n) marks (λ m q. subst (λ z. marks z ≡ true) (sym (eqb-true m n q)) h) (cause_nodes e) t)
+    touch_meets : cause_touches e n ≡ true → has_common_node marks e ≡ true
+    touch_meets t = has_common_node-touched marks e (any-mono (λ m. m == n) marks (λ m q. subst (λ z. marks z ≡ true) (sym (eqb-true m n q)) h) (touched_nodes e) t)
 
-    not_cut : meets marks e ≡ false → is_cut c (single n k) e ≡ false
-    not_cut f = single_cut c n k (cause_nodes e) ∙ ap (λ z. z && ((c n + 1) == k)) (false_from_ne_true (cause_touches e n) (λ t. both_ways (meets marks e) f (touch_meets t)))
+    not_cut : has_common_node marks e ≡ false → is_cut c (single n k) e ≡ false
+    not_cut f = single_cut c n k (touched_nodes e) ∙ ap (λ z. z && ((c n + 1) == k)) (false_from_ne_true (cause_touches e n) (λ t. both_ways (has_common_node marks e) f (touch_meets t)))
 
 never : (x y : Bool) → y ≡ false → (x && y) ≡ false
 never true y h = h
@@ -194,28 +194,28 @@ walk_past c n k (e ∷ es) h =
     walk-other c n k e es (never (cause_touches e n) ((c n + 1) == k) (ne_eqb (c n + 1) k (λ q. omega arith)))
     ∙ ap (λ z. e ∷ z) (walk_past (counted c e) n k es (⊎_elim (λ t. rw t (omega arith)) (λ f. rw f h) (cases_Bool (cause_touches e n))))
 
-rest_later : (e : Cause) (es : List Cause) (o : Option ℕ) → rest_from (e ∷ es) (option_map suc o) ≡ e ∷ rest_from es o
+rest_later : (e : Cause) (es : List Cause) (o : Option ℕ) → rest_or_all (e ∷ es) (option_map suc o) ≡ e ∷ rest_or_all es o
 rest_later e es None = refl
 rest_later e es (Some i) = refl
 
-pub rewound-first : (e : Cause) (es : List Cause) (n : ℕ) → cause_touches e n ≡ true → rewound_list (e ∷ es) n 1 ≡ kept (cause_touches e) es
-rewound-first e es n t = ap (λ (o : Option ℕ). rest_from (e ∷ es) o) (cond-true (cause_touches e n) (Some 0) (option_map suc (position_of_step es n 1)) t)
+pub rewound-first : (e : Cause) (es : List Cause) (n : ℕ) → cause_touches e n ≡ true → events_after_rewind (e ∷ es) n 1 ≡ kept (cause_touches e) es
+rewound-first e es n t = ap (λ (o : Option ℕ). rest_or_all (e ∷ es) o) (cond-true (cause_touches e n) (Some 0) (option_map suc (position_of_step es n 1)) t)
 
-pub rewound-touched : (e : Cause) (es : List Cause) (n i : ℕ) → cause_touches e n ≡ true → rewound_list (e ∷ es) n (suc (suc i)) ≡ e ∷ rewound_list es n (suc i)
+pub rewound-touched : (e : Cause) (es : List Cause) (n i : ℕ) → cause_touches e n ≡ true → events_after_rewind (e ∷ es) n (suc (suc i)) ≡ e ∷ events_after_rewind es n (suc i)
 rewound-touched e es n i t =
-    ap (λ (o : Option ℕ). rest_from (e ∷ es) o)
+    ap (λ (o : Option ℕ). rest_or_all (e ∷ es) o)
     (cond-true (cause_touches e n) (cond (suc i == 0) (Some 0) (option_map suc (position_of_step es n (suc i)))) (option_map suc (position_of_step es n (suc (suc i)))) t
     ∙ cond-false (suc i == 0) (Some 0) (option_map suc (position_of_step es n (suc i))) (ne_eqb (suc i) 0 (λ q. omega arith)))
     ∙ rest_later e es (position_of_step es n (suc i))
 
-pub rewound-other : (e : Cause) (es : List Cause) (n j : ℕ) → cause_touches e n ≡ false → rewound_list (e ∷ es) n (suc j) ≡ e ∷ rewound_list es n (suc j)
-rewound-other e es n j f = ap (λ (o : Option ℕ). rest_from (e ∷ es) o) (cond-false (cause_touches e n) _ (option_map suc (position_of_step es n (suc j))) f) ∙ rest_later e es (position_of_step es n (suc j))
+pub rewound-other : (e : Cause) (es : List Cause) (n j : ℕ) → cause_touches e n ≡ false → events_after_rewind (e ∷ es) n (suc j) ≡ e ∷ events_after_rewind es n (suc j)
+rewound-other e es n j f = ap (λ (o : Option ℕ). rest_or_all (e ∷ es) o) (cond-false (cause_touches e n) _ (option_map suc (position_of_step es n (suc j))) f) ∙ rest_later e es (position_of_step es n (suc j))
 
 counted-touched : (c : ℕ → ℕ) (e : Cause) (n : ℕ) → cause_touches e n ≡ true → counted c e n ≡ c n + 1
 counted-touched c e n t = cond-true (cause_touches e n) (c n + 1) (c n) t
 
 -- a rollback is a walk that cuts one step
-pub rewound_walk : (c : ℕ → ℕ) (n k : ℕ) (es : List Cause) (j : ℕ) → k ≡ c n + j → walk nowhere c (single n k) es ≡ rewound_list es n j
+pub rewound_walk : (c : ℕ → ℕ) (n k : ℕ) (es : List Cause) (j : ℕ) → k ≡ c n + j → walk nowhere c (single n k) es ≡ events_after_rewind es n j
 rewound_walk c n k [] j q = refl
 rewound_walk c n k (e ∷ es) zero q = walk_past c n k (e ∷ es) (omega arith)
 rewound_walk c n k (e ∷ es) (suc zero) q = ⊎_elim
@@ -240,13 +240,13 @@ rewound_walk c n k (e ∷ es) (suc (suc i)) q = ⊎_elim
 walk_none : (c : ℕ → ℕ) (es : List Cause) → walk nowhere c (λ n k. false) es ≡ es
 walk_none c [] = refl
 walk_none c (e ∷ es) =
-    walk-kept nowhere c (λ n k. false) e es (or_from (meets nowhere e) _ (nowhere-meets (seen_by e)) (nowhere-meets (cause_nodes e)))
+    walk-kept nowhere c (λ n k. false) e es (or_from (has_common_node nowhere e) _ (nowhere-has_common_node (observed_by e)) (nowhere-has_common_node (touched_nodes e)))
     ∙ ap (λ z. e ∷ z) (walk_none (counted c e) es)
 
 Joins-none : Joins nowhere nowhere nowhere (λ n. 0) (λ n. 0) (λ n. 0)
 Joins-none = record { both = λ n. refl; first = λ n f. refl; second = λ n f. refl }
 
-at_once : (x : ℕ → ℕ → Bool) (es : List Cause) (n k : ℕ) → walk nowhere (λ n. 0) x (rewound_list es n k) ≡ walk nowhere (λ n. 0) (λ m i. x m i || single n k m i) es
+at_once : (x : ℕ → ℕ → Bool) (es : List Cause) (n k : ℕ) → walk nowhere (λ n. 0) x (events_after_rewind es n k) ≡ walk nowhere (λ n. 0) (λ m i. x m i || single n k m i) es
 at_once x es n k =
     ap (λ (z : List Cause). walk nowhere (λ n. 0) x z) (sym (rewound_walk (λ n. 0) n k es k (omega arith)))
     ∙ walk_twice nowhere nowhere nowhere (λ n. 0) (λ n. 0) (λ n. 0) x (single n k) es Joins-none
@@ -264,27 +264,27 @@ or-comm false false = refl
 same_cuts : (x y : ℕ → ℕ → Bool) (es : List Cause) → ((m i : ℕ) → x m i ≡ y m i) → walk nowhere (λ n. 0) x es ≡ walk nowhere (λ n. 0) y es
 same_cuts x y es h = ap (λ z. walk nowhere (λ n. 0) z es) (fun_ext (λ m. fun_ext (λ i. h m i)))
 
-rewound_all_walk : (steps : List (ℕ × ℕ)) (es : List Cause) → rewound_all es steps ≡ walk nowhere (λ n. 0) (among steps) es
+rewound_all_walk : (steps : List (ℕ × ℕ)) (es : List Cause) → events_after_rewinds es steps ≡ walk nowhere (λ n. 0) (among steps) es
 unfolding among
 rewound_all_walk [] es = sym (walk_none (λ n. 0) es)
 rewound_all_walk (step ∷ steps) es =
-    rewound_all_walk steps (rewound_list es step.0 step.1)
+    rewound_all_walk steps (events_after_rewind es step.0 step.1)
     ∙ at_once (among steps) es step.0 step.1
     ∙ same_cuts (λ m i. among steps m i || single step.0 step.1 m i) (among (step ∷ steps)) es (λ m i. or-comm (among steps m i) (single step.0 step.1 m i))
 
 -- the same steps, in any order
-pub rewound_any_order : (events : List Cause) (steps others : List (ℕ × ℕ)) → IsPermutation steps others → rewound_all events steps ≡ rewound_all events others
+pub rewound_any_order : (events : List Cause) (steps others : List (ℕ × ℕ)) → IsPermutation steps others → events_after_rewinds events steps ≡ events_after_rewinds events others
 unfolding among
 rewound_any_order es steps others h =
     rewound_all_walk steps es
     ∙ same_cuts (among steps) (among others) es (λ m i. list_any-IsPermutation (λ (step : ℕ × ℕ). single step.0 step.1 m i) steps others h)
     ∙ sym (rewound_all_walk others es)
 
-pub rewound_twice : (events : List Cause) (n k m j : ℕ) → rewound_list (rewound_list events n k) m j ≡ rewound_list (rewound_list events m j) n k
+pub rewound_twice : (events : List Cause) (n k m j : ℕ) → events_after_rewind (events_after_rewind events n k) m j ≡ events_after_rewind (events_after_rewind events m j) n k
 unfolding among
 rewound_twice es n k m j =
-    sym (rewound_walk (λ n. 0) m j (rewound_list es n k) j (omega arith))
+    sym (rewound_walk (λ n. 0) m j (events_after_rewind es n k) j (omega arith))
     ∙ at_once (single m j) es n k
     ∙ same_cuts (λ a b. single m j a b || single n k a b) (λ a b. single n k a b || single m j a b) es (λ a b. or-comm (single m j a b) (single n k a b))
     ∙ sym (at_once (single n k) es m j)
-    ∙ rewound_walk (λ n. 0) n k (rewound_list es m j) k (omega arith)
+    ∙ rewound_walk (λ n. 0) n k (events_after_rewind es m j) k (omega arith)

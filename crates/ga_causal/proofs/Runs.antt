@@ -5,19 +5,19 @@ use Rattle.std.proofs.lemmas.Bool.{or_parts, cases_Bool, or_from, or_left, or_ri
 use Rattle.std.proofs.lemmas.Option.{same_Some}
 use Rattle.ga_event.specs.declared.event.Event.{Event}
 use Rattle.ga_event.specs.declared.event.Cause.{Cause}
-use Rattle.ga_causal.specs.Dependence.{cause_touches, dependents_after, dependents, unflagged, rest}
-use Rattle.ga_event.specs.Told.{events_in}
-use Rattle.ga_event.specs.Touches.{meets, seen_by}
-use Rattle.ga_event.specs.Apply.{EventOutcome, apply, cause_of, run, Agree, BehaveAlike, replay}
+use Rattle.ga_causal.specs.Dependence.{cause_touches, dependent_flags_after, dependent_flags, without_flagged, rest}
+use Rattle.ga_event.specs.Told.{events_of_causes}
+use Rattle.ga_event.specs.Touches.{has_common_node, observed_by}
+use Rattle.ga_event.specs.Apply.{EventOutcome, apply, cause_of, run, AgreeOutsideMarks, BehaveAlike, replay}
 use Rattle.ga_node.specs.Record.{NodeRecord, record_of}
-use Rattle.ga_event.proofs.Locality.{Agree-sym, apply_alike, cause_alike, apply_keeps, meets-touched}
+use Rattle.ga_event.proofs.Locality.{AgreeOutsideMarks-sym, apply_alike, cause_alike, apply_keeps, has_common_node-touched}
 use Rattle.std.specs.List.{list_any}
 use Rattle.ga_grid.specs.Chip.{nowhere}
 use Rattle.ga_causal.specs.Equivalence.{observes, AreIndependent, AreEquivalent, same, swapped, later, joined}
 
 -- the events that meet no mark
 abbrev pub kept : (ℕ → Bool) → List Cause → List Cause
-kept marks es = unflagged (dependents_after marks es) es
+kept marks es = without_flagged (dependent_flags_after marks es) es
 
 abbrev pub causes : List (Cause × EventOutcome) → List Cause
 causes steps = map (λ s. s.0) steps
@@ -55,13 +55,13 @@ first_of_run c e es last ts = at_first (apply c e) refl
     at_first None h g = absurd (cc)
     at_first (Some done) h g = at_rest done h (run done.0 es) refl g
 
-pub keeps_of : (c : List NodeRecord) (e : Event) (d : List NodeRecord) (t : EventOutcome) → apply c e ≡ Some (d, t) → Agree (cause_touches (cause_of c e)) c d
-keeps_of c e d t h = subst (λ o. IfSome o (λ done. Agree (cause_touches (cause_of c e)) c done.0)) h (apply_keeps c e)
+pub keeps_of : (c : List NodeRecord) (e : Event) (d : List NodeRecord) (t : EventOutcome) → apply c e ≡ Some (d, t) → AgreeOutsideMarks (cause_touches (cause_of c e)) c d
+keeps_of c e d t h = subst (λ o. IfSome o (λ done. AgreeOutsideMarks (cause_touches (cause_of c e)) c done.0)) h (apply_keeps c e)
 
 -- the marks after an event
-pub Agree-marked : (marks : ℕ → Bool) (e : Event) (c d b : List NodeRecord) (t : EventOutcome) → Agree marks c b → apply c e ≡ Some (d, t) → Agree (λ n. marks n || cause_touches (cause_of c e) n) d b
-Agree-marked marks e c d b t a h =
-    let k : Agree (cause_touches (cause_of c e)) c d = keeps_of c e d t h in
+pub AgreeOutsideMarks-marked_nodes : (marks : ℕ → Bool) (e : Event) (c d b : List NodeRecord) (t : EventOutcome) → AgreeOutsideMarks marks c b → apply c e ≡ Some (d, t) → AgreeOutsideMarks (λ n. marks n || cause_touches (cause_of c e) n) d b
+AgreeOutsideMarks-marked_nodes marks e c d b t a h =
+    let k : AgreeOutsideMarks (cause_touches (cause_of c e)) c d = keeps_of c e d t h in
     record {
       size = sym k.size ∙ a.size;
       same = λ n free. let p : (marks n ≡ false) × (cause_touches (cause_of c e) n ≡ false) = or_parts (marks n) (cause_touches (cause_of c e) n) free in sym (k.same n p.1) ∙ a.same n p.0;
@@ -71,10 +71,10 @@ Agree-marked marks e c d b t a h =
 pub record Same (marks : ℕ → Bool) (e : Event) (c d b : List NodeRecord) (t : EventOutcome) : Type 0 where
   pub mid : List NodeRecord
   pub done : apply b e ≡ Some (mid, t)
-  pub agree : Agree marks d mid
+  pub agree : AgreeOutsideMarks marks d mid
   pub cause : cause_of c e ≡ cause_of b e
 
-pub same_of : (marks : ℕ → Bool) (e : Event) (c d b : List NodeRecord) (t : EventOutcome) → Agree marks c b → meets marks (cause_of c e) ≡ false → apply c e ≡ Some (d, t) → Same marks e c d b t
+pub same_of : (marks : ℕ → Bool) (e : Event) (c d b : List NodeRecord) (t : EventOutcome) → AgreeOutsideMarks marks c b → has_common_node marks (cause_of c e) ≡ false → apply c e ≡ Some (d, t) → Same marks e c d b t
 same_of marks e c d b t a free h = go (apply b e) refl (subst (λ o. BehaveAlike marks o (apply b e)) h (apply_alike marks c b e a free))
   where
     go : (o : Option (List NodeRecord × EventOutcome)) → apply b e ≡ o → BehaveAlike marks (Some (d, t)) o → Same marks e c d b t
@@ -83,30 +83,30 @@ same_of marks e c d b t a free h = go (apply b e) refl (subst (λ o. BehaveAlike
 
 -- the events that see no marked node run from a chip, each the same cause with the same outcome as among all
 abbrev KeepsRun : (ℕ → Bool) → List NodeRecord → List (Cause × EventOutcome) → Type 0
-KeepsRun marks b ts = (now : List NodeRecord) × (run b (events_in (kept marks (causes ts))) ≡ Some (now, unflagged (dependents_after marks (causes ts)) ts))
+KeepsRun marks b ts = (now : List NodeRecord) × (run b (events_of_causes (kept marks (causes ts))) ≡ Some (now, without_flagged (dependent_flags_after marks (causes ts)) ts))
 
-run_dropped : (marks : ℕ → Bool) (k : Cause) (b : List NodeRecord) (t : EventOutcome) (ts : List (Cause × EventOutcome)) → meets marks k ≡ true → KeepsRun (λ n. marks n || cause_touches k n) b ts → KeepsRun marks b ((k, t) ∷ ts)
+run_dropped : (marks : ℕ → Bool) (k : Cause) (b : List NodeRecord) (t : EventOutcome) (ts : List (Cause × EventOutcome)) → has_common_node marks k ≡ true → KeepsRun (λ n. marks n || cause_touches k n) b ts → KeepsRun marks b ((k, t) ∷ ts)
 run_dropped marks k b t ts m h = rw m h
 
-run_stays : (marks : ℕ → Bool) (e : Event) (c b mid : List NodeRecord) (t : EventOutcome) (ts : List (Cause × EventOutcome)) → cause_of c e ≡ cause_of b e → meets marks (cause_of c e) ≡ false → apply b e ≡ Some (mid, t) → KeepsRun marks mid ts → KeepsRun marks b ((cause_of c e, t) ∷ ts)
+run_stays : (marks : ℕ → Bool) (e : Event) (c b mid : List NodeRecord) (t : EventOutcome) (ts : List (Cause × EventOutcome)) → cause_of c e ≡ cause_of b e → has_common_node marks (cause_of c e) ≡ false → apply b e ≡ Some (mid, t) → KeepsRun marks mid ts → KeepsRun marks b ((cause_of c e, t) ∷ ts)
 run_stays marks e c b mid t ts q m h k =
-    rw m (k.0, run_more b e (events_in (kept marks (causes ts))) mid k.0 t _ h k.1 ∙ ap (λ (z : Cause). Some (k.0, (z, t) ∷ unflagged (dependents_after marks (causes ts)) ts)) (sym q))
+    rw m (k.0, run_more b e (events_of_causes (kept marks (causes ts))) mid k.0 t _ h k.1 ∙ ap (λ (z : Cause). Some (k.0, (z, t) ∷ without_flagged (dependent_flags_after marks (causes ts)) ts)) (sym q))
 
 -- the events that meet no mark do on a chip that agrees elsewhere what they did among all
-pub run_kept : (marks : ℕ → Bool) (es : List Event) (c b last : List NodeRecord) (ts : List (Cause × EventOutcome)) → Agree marks c b → run c es ≡ Some (last, ts) → KeepsRun marks b ts
+pub run_kept : (marks : ℕ → Bool) (es : List Event) (c b last : List NodeRecord) (ts : List (Cause × EventOutcome)) → AgreeOutsideMarks marks c b → run c es ≡ Some (last, ts) → KeepsRun marks b ts
 run_kept marks [] c b last ts a h =
     subst (λ z. KeepsRun marks b z) (ap (λ (z : List NodeRecord × List (Cause × EventOutcome)). z.1) (same_Some _ _ h)) (b, refl)
 run_kept marks (e ∷ es) c b last ts a h =
     let f = first_of_run c e es last ts h in
     subst (λ z. KeepsRun marks b z) (sym f.all)
     (⊎_elim
-    (λ m. run_dropped marks (cause_of c e) b f.told f.others m (run_kept (λ n. marks n || cause_touches (cause_of c e) n) es f.mid b last f.others (Agree-marked marks e c f.mid b f.told a f.first) f.then))
+    (λ m. run_dropped marks (cause_of c e) b f.told f.others m (run_kept (λ n. marks n || cause_touches (cause_of c e) n) es f.mid b last f.others (AgreeOutsideMarks-marked_nodes marks e c f.mid b f.told a f.first) f.then))
     (λ m. let s = same_of marks e c f.mid b f.told a m f.first in
     run_stays marks e c b s.mid f.told f.others s.cause m s.done (run_kept marks es f.mid s.mid last f.others s.agree f.then))
-    (cases_Bool (meets marks (cause_of c e))))
+    (cases_Bool (has_common_node marks (cause_of c e))))
 
 abbrev RestRuns : List NodeRecord → ℕ → List (Cause × EventOutcome) → Type 0
-RestRuns chip i ts = (now : List NodeRecord) × (run chip (events_in (rest (causes ts) i)) ≡ Some (now, unflagged (dependents (causes ts) i) ts))
+RestRuns chip i ts = (now : List NodeRecord) × (run chip (events_of_causes (rest (causes ts) i)) ≡ Some (now, without_flagged (dependent_flags (causes ts) i) ts))
 
 -- the list without what depends on a place runs too, with the same outcomes
 pub run_rest : (chip : List NodeRecord) (es : List Event) (i : ℕ) (last : List NodeRecord) (ts : List (Cause × EventOutcome)) → run chip es ≡ Some (last, ts) → RestRuns chip i ts
@@ -114,12 +114,12 @@ run_rest chip [] i last ts h = subst (λ z. RestRuns chip i z) (ap (λ (z : List
 run_rest chip (e ∷ es) zero last ts h =
     let f = first_of_run chip e es last ts h in
     subst (λ z. RestRuns chip zero z) (sym f.all)
-    (run_kept (cause_touches (cause_of chip e)) es f.mid chip last f.others (Agree-sym (cause_touches (cause_of chip e)) chip f.mid (keeps_of chip e f.mid f.told f.first)) f.then)
+    (run_kept (cause_touches (cause_of chip e)) es f.mid chip last f.others (AgreeOutsideMarks-sym (cause_touches (cause_of chip e)) chip f.mid (keeps_of chip e f.mid f.told f.first)) f.then)
 run_rest chip (e ∷ es) (suc i) last ts h =
     let f = first_of_run chip e es last ts h in
     let k = run_rest f.mid es i last f.others f.then in
     subst (λ z. RestRuns chip (suc i) z) (sym f.all)
-    (k.0, run_more chip e (events_in (rest (causes f.others) i)) f.mid k.0 f.told _ f.first k.1)
+    (k.0, run_more chip e (events_of_causes (rest (causes f.others) i)) f.mid k.0 f.told _ f.first k.1)
 
 -- ---- Neighbours of which neither can depend on the other.
 
@@ -127,26 +127,26 @@ any_none : (marks : ℕ → Bool) (ns : List ℕ) → ((n : ℕ) → list_any (�
 any_none marks [] h = refl
 any_none marks (n ∷ ns) h = or_from (marks n) (list_any marks ns) (h n (or_left _ (list_any (λ m. m == n) ns) (eq-eqb n n refl))) (any_none marks ns (λ k t. h k (or_right (n == k) (list_any (λ m. m == k) ns) t)))
 
-pub apart_meets : (e f : Cause) → ((n : ℕ) → cause_touches e n ≡ true → observes f n ≡ true → ⊥) → meets (cause_touches e) f ≡ false
-apart_meets e f h = any_none (cause_touches e) (seen_by f) (λ n t. false_from_ne_true (cause_touches e n) (λ u. h n u t))
+pub apart_meets : (e f : Cause) → ((n : ℕ) → cause_touches e n ≡ true → observes f n ≡ true → ⊥) → has_common_node (cause_touches e) f ≡ false
+apart_meets e f h = any_none (cause_touches e) (observed_by f) (λ n t. false_from_ne_true (cause_touches e n) (λ u. h n u t))
 
 none_of : (marks : ℕ → Bool) (o : Option (List NodeRecord × EventOutcome)) → BehaveAlike marks None o → o ≡ None
 none_of marks None a = refl
 none_of marks (Some done) a = absurd a
 
-refused_of : (e f : Event) (c b : List NodeRecord) (t : EventOutcome) → meets (cause_touches (cause_of c f)) (cause_of c e) ≡ false → apply c e ≡ None → apply c f ≡ Some (b, t) → apply b e ≡ None
+refused_of : (e f : Event) (c b : List NodeRecord) (t : EventOutcome) → has_common_node (cause_touches (cause_of c f)) (cause_of c e) ≡ false → apply c e ≡ None → apply c f ≡ Some (b, t) → apply b e ≡ None
 refused_of e f c b t h r k =
     none_of (cause_touches (cause_of c f)) (apply b e)
     (subst (λ o. BehaveAlike (cause_touches (cause_of c f)) o (apply b e)) r
     (apply_alike (cause_touches (cause_of c f)) c b e (keeps_of c f b t k) h))
 
-pub same_chip : (e f : Event) (c d b p q : List NodeRecord) (te tf : EventOutcome) → AreIndependent (cause_of c e) (cause_of c f) → apply d f ≡ Some (p, tf) → apply b e ≡ Some (q, te) → cause_of c f ≡ cause_of d f → cause_of c e ≡ cause_of b e → Agree (cause_touches (cause_of c e)) b p → Agree (cause_touches (cause_of c f)) d q → p ≡ q
+pub same_chip : (e f : Event) (c d b p q : List NodeRecord) (te tf : EventOutcome) → AreIndependent (cause_of c e) (cause_of c f) → apply d f ≡ Some (p, tf) → apply b e ≡ Some (q, te) → cause_of c f ≡ cause_of d f → cause_of c e ≡ cause_of b e → AgreeOutsideMarks (cause_touches (cause_of c e)) b p → AgreeOutsideMarks (cause_touches (cause_of c f)) d q → p ≡ q
 same_chip e f c d b p q te tf h df be cf ce x y =
-    let u : Agree (cause_touches (cause_of c f)) d p = subst (λ z. Agree (cause_touches z) d p) (sym cf) (keeps_of d f p tf df) in
-    let v : Agree (cause_touches (cause_of c e)) b q = subst (λ z. Agree (cause_touches z) b q) (sym ce) (keeps_of b e q te be) in
+    let u : AgreeOutsideMarks (cause_touches (cause_of c f)) d p = subst (λ z. AgreeOutsideMarks (cause_touches z) d p) (sym cf) (keeps_of d f p tf df) in
+    let v : AgreeOutsideMarks (cause_touches (cause_of c e)) b q = subst (λ z. AgreeOutsideMarks (cause_touches z) b q) (sym ce) (keeps_of b e q te be) in
     ext_get_or (record_of nowhere) p q (sym x.size ∙ v.size)
     (λ n l. elim (cases_Bool (cause_touches (cause_of c e) n)) [
-      | inl t ↦ (let g : cause_touches (cause_of c f) n ≡ false = false_from_ne_true (cause_touches (cause_of c f) n) (λ w. h.first n t (meets-touched (λ m. m == n) (cause_of c f) w)) in sym (u.same n g) ∙ y.same n g)
+      | inl t ↦ (let g : cause_touches (cause_of c f) n ≡ false = false_from_ne_true (cause_touches (cause_of c f) n) (λ w. h.first n t (has_common_node-touched (λ m. m == n) (cause_of c f) w)) in sym (u.same n g) ∙ y.same n g)
       | inr g ↦ sym (x.same n g) ∙ v.same n g
     ])
 
@@ -154,10 +154,10 @@ same_chip e f c d b p q te tf h df be cf ce x y =
 pub run_swapped : (c : List NodeRecord) (e f : Event) → AreIndependent (cause_of c e) (cause_of c f) → option_map {U = List NodeRecord × List (Cause × EventOutcome)} (λ r. (r.0, reverse r.1)) (run c (e ∷ f ∷ [])) ≡ run c (f ∷ e ∷ [])
 run_swapped c e f h = go (apply c e) refl (apply c f) refl
   where
-    x : meets (cause_touches (cause_of c e)) (cause_of c f) ≡ false
+    x : has_common_node (cause_touches (cause_of c e)) (cause_of c f) ≡ false
     x = apart_meets (cause_of c e) (cause_of c f) h.first
 
-    y : meets (cause_touches (cause_of c f)) (cause_of c e) ≡ false
+    y : has_common_node (cause_touches (cause_of c f)) (cause_of c e) ≡ false
     y = apart_meets (cause_of c f) (cause_of c e) h.second
 
     go : (oe : Option (List NodeRecord × EventOutcome)) → apply c e ≡ oe → (of : Option (List NodeRecord × EventOutcome)) → apply c f ≡ of → option_map {U = List NodeRecord × List (Cause × EventOutcome)} (λ r. (r.0, reverse r.1)) (run c (e ∷ f ∷ [])) ≡ run c (f ∷ e ∷ [])

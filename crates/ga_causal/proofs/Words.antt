@@ -4,35 +4,35 @@ use Rattle.std.specs.Prelude.{unwrap_or, option_map}
 use Rattle.std.proofs.lemmas.Bool.{cases_eq, cases_lt, or_cases, both_ways, cond-true, cond-false, ne_eqb, or_parts, or_from}
 use Rattle.std.proofs.lemmas.List.{get_or_past}
 use Rattle.std.proofs.lemmas.Option.{same_Some}
-use Rattle.ga_ports.specs.Address.{classified}
+use Rattle.ga_ports.specs.Address.{address_target}
 use Rattle.ga_ports.specs.declared.address.Target.{Target}
 use Rattle.ga_ports.specs.declared.address.Target.TheVariants.{Ram, Rom, Io, Ports, Bad}
 use Rattle.ga_ports.specs.declared.side.Side.{Side}
-use Rattle.ga_node.specs.declared.wait.Reader.{Reader}
-use Rattle.ga_node.specs.declared.wait.Reader.TheVariants.{Instruction, Stack}
+use Rattle.ga_node.specs.declared.wait.ReadKind.{ReadKind}
+use Rattle.ga_node.specs.declared.wait.ReadKind.TheVariants.{Instruction, Stack}
 use Rattle.ga_node.specs.declared.seen.Seen.{Seen}
 use Rattle.ga_node.specs.declared.due.NextAction.{NextAction}
 use Rattle.ga_node.specs.declared.due.NextAction.TheVariants as due
-use Rattle.ga_node.specs.declared.kind.Kind.TheVariants as kind
+use Rattle.ga_node.specs.declared.kind.OwnEventKind.TheVariants as kind
 use Rattle.ga_node.specs.declared.kind.NotReady.{NotReady}
 use Rattle.ga_node.specs.Io.{io_word}
 use Rattle.ga_node.specs.Record.{NodeRecord, record_of}
 use Rattle.ga_node.specs.Changes.{after_changes as changed_by}
-use Rattle.ga_node.specs.Table.{Access, Plain, Reads, Writes, with_kind, found, followed, carried_out, opcode_effect, fetches, next_action_of, done_by, own_event, own, looks, t, sent, taken}
+use Rattle.ga_node.specs.Table.{Access, Plain, Reads, Writes, with_kind, found, followed, access_result, opcode_effect, fetch_access, next_action_of, action_result, own_event, own, looks, t, sent, taken}
 use Rattle.ga_node.proofs.Looks.{own_blind}
 use Rattle.ga_grid.specs.Chip.{nowhere, record_at}
 use Rattle.ga_grid.specs.declared.node_id.NodeId.{NodeId}
 use Rattle.ga_event.specs.declared.event.Event.{Event}
 use Rattle.ga_event.specs.declared.event.Event.TheVariants.{Own, Pass}
 use Rattle.ga_event.specs.declared.event.Cause.{Cause}
-use Rattle.ga_event.specs.Apply.{EventOutcome, neighbour_states, refusal_of, when_allowed, after, apply, cause_of, run, replay, Agree, shows, beside_in}
+use Rattle.ga_event.specs.Apply.{EventOutcome, neighbour_states, refusal_of, some_if_allowed, after, apply, cause_of, run, replay, AgreeOutsideMarks, shown_state, shown_neighbour_state}
 use Rattle.ga_causal.specs.Dependence.{cause_touches}
-use Rattle.ga_causal.specs.Words.{word_of, local_history_with_reads, with_words}
+use Rattle.ga_causal.specs.Words.{received_word, local_history_with_reads, with_received_words}
 use Rattle.ga_causal.proofs.Runs.{first_of_run, keeps_of}
 use Rattle.std.specs.List.{list_any, filter}
 use Rattle.ga_ports.specs.declared.side.Side.TheVariants.{Right, Down, Left, Up}
 use Rattle.ga_grid.specs.Grid.{neighbour_of}
-use Rattle.ga_event.specs.Touches.{nodes_of, with_some, neighbours, looked_at, seen_by, meets, touches as event_touches}
+use Rattle.ga_event.specs.Touches.{event_nodes, prepend_some, neighbours, looked_at_nodes, observed_by, has_common_node, touches as event_touches}
 use Rattle.ga_event.proofs.Locality.{cause_alike}
 use Rattle.ga_causal.specs.Equivalence.{AreIndependent, AreEquivalent, same, swapped, later, joined}
 use Rattle.ga_causal.proofs.Equivalences.{AreApart-sym, independent_on_all}
@@ -40,7 +40,7 @@ use Rattle.ga_causal.proofs.Consistent.{turned, swap_filter, not_both, kept_alik
 
 -- A node's own event depends on the word of `io` alone, whatever shows that word.
 
-found_same : (target : Target) (reader : Reader) (seen other : Seen) (n : NodeRecord) → io_word seen ≡ io_word other → found target reader seen n ≡ found target reader other n
+found_same : (target : Target) (reader : ReadKind) (seen other : Seen) (n : NodeRecord) → io_word seen ≡ io_word other → found target reader seen n ≡ found target reader other n
 unfolding found
 found_same (Ram k) reader seen other n h = refl
 found_same (Rom k) reader seen other n h = refl
@@ -48,13 +48,13 @@ found_same Io reader seen other n h = rw h refl
 found_same (Ports sides) reader seen other n h = refl
 found_same Bad reader seen other n h = refl
 
-access_same : (reader : Reader) (access : Access) (seen other : Seen) (n : NodeRecord) → io_word seen ≡ io_word other → carried_out reader access seen n ≡ carried_out reader access other n
+access_same : (reader : ReadKind) (access : Access) (seen other : Seen) (n : NodeRecord) → io_word seen ≡ io_word other → access_result reader access seen n ≡ access_result reader access other n
 access_same reader (Plain changes) seen other n h = refl
-access_same reader (Reads address more) seen other n h = ap (λ found. followed found more) (found_same (classified address) reader seen other n h)
+access_same reader (Reads address more) seen other n h = ap (λ found. followed found more) (found_same (address_target address) reader seen other n h)
 access_same reader (Writes address more) seen other n h = refl
 
-done_same : (due : NextAction) (seen other : Seen) (n : NodeRecord) → io_word seen ≡ io_word other → done_by due seen n ≡ done_by due other n
-done_same due.Fetch seen other n h = ap (with_kind kind.Fetch) (access_same Instruction (fetches n) seen other n h)
+done_same : (due : NextAction) (seen other : Seen) (n : NodeRecord) → io_word seen ≡ io_word other → action_result due seen n ≡ action_result due other n
+done_same due.Fetch seen other n h = ap (with_kind kind.Fetch) (access_same Instruction (fetch_access n) seen other n h)
 done_same (due.Run op) seen other n h = ap (with_kind _) (access_same Stack (opcode_effect op n) seen other n h)
 
 own_same : (seen other : Seen) (n : NodeRecord) → io_word seen ≡ io_word other → own seen n ≡ own other n
@@ -81,14 +81,14 @@ becomes_one n x (Pass writer reader side) word y z p q = p ∙ sym q
 pub after_is : (c d : List NodeRecord) (e : Event) (told : EventOutcome) → apply c e ≡ Some (d, told) → after c e ≡ (d, told)
 after_is c d e told h = go (refusal_of c e) h
   where
-    go : (o : Option NotReady) → when_allowed o (after c e) ≡ Some (d, told) → after c e ≡ (d, told)
+    go : (o : Option NotReady) → some_if_allowed o (after c e) ≡ Some (d, told) → after c e ≡ (d, told)
     go None k = same_Some (after c e) (d, told) k
     go (Some why) k = absurd (cc)
 
-own_becomes : (c : List NodeRecord) (node : NodeId) → node.number < length c → Becomes node.number (record_at c node.number) (Own node) (word_of c (Own node)) (record_at (after c (Own node)).0 node.number)
+own_becomes : (c : List NodeRecord) (node : NodeId) → node.number < length c → Becomes node.number (record_at c node.number) (Own node) (received_word c (Own node)) (record_at (after c (Own node)).0 node.number)
 own_becomes c node l = (neighbour_states c node.number, get_or-set_same c node.number _ (record_of nowhere) l, refl)
 
-pass_becomes : (c : List NodeRecord) (w r : NodeId) (side : Side) (n : ℕ) → n < length c → (((w.number == n) || ((r.number == n) || false)) ≡ true) → Becomes n (record_at c n) (Pass w r side) (word_of c (Pass w r side)) (record_at (after c (Pass w r side)).0 n)
+pass_becomes : (c : List NodeRecord) (w r : NodeId) (side : Side) (n : ℕ) → n < length c → (((w.number == n) || ((r.number == n) || false)) ≡ true) → Becomes n (record_at c n) (Pass w r side) (received_word c (Pass w r side)) (record_at (after c (Pass w r side)).0 n)
 pass_becomes c w r side n l touched = elim (cases_eq n r.number) [ inl e ↦ as_reader e | inr ne ↦ as_writer ne ]
   where
     from : NodeRecord
@@ -123,16 +123,16 @@ pass_becomes c w r side n l touched = elim (cases_eq n r.number) [ inl e ↦ as_
         ∙ ap (λ (z : ℕ). sent (record_at c z)) (sym e)
         ∙ sym (cond-false (n == r.number) (taken word (record_at c n)) (sent (record_at c n)) (ne_eqb n r.number ne))
 
-after_becomes : (n : ℕ) (c : List NodeRecord) (e : Event) → n < length c → cause_touches (cause_of c e) n ≡ true → Becomes n (record_at c n) e (word_of c e) (record_at (after c e).0 n)
+after_becomes : (n : ℕ) (c : List NodeRecord) (e : Event) → n < length c → cause_touches (cause_of c e) n ≡ true → Becomes n (record_at c n) e (received_word c e) (record_at (after c e).0 n)
 after_becomes n c (Own node) l touched =
     let at : node.number ≡ n = elim (or_cases (node.number == n) false touched) [ inl q ↦ eqb-true node.number n q | inr q ↦ absurd (both_ways false refl q) ] in
-    subst (λ z. Becomes z (record_at c z) (Own node) (word_of c (Own node)) (record_at (after c (Own node)).0 z)) at (own_becomes c node (omega (arith, at, l)))
+    subst (λ z. Becomes z (record_at c z) (Own node) (received_word c (Own node)) (record_at (after c (Own node)).0 z)) at (own_becomes c node (omega (arith, at, l)))
 after_becomes n c (Pass w r side) l touched = pass_becomes c w r side n l touched
 
 -- what an event that was made makes of a node that it touches
-pub becomes_of : (n : ℕ) (c d : List NodeRecord) (e : Event) (told : EventOutcome) → n < length c → apply c e ≡ Some (d, told) → cause_touches (cause_of c e) n ≡ true → Becomes n (record_at c n) e (word_of c e) (record_at d n)
+pub becomes_of : (n : ℕ) (c d : List NodeRecord) (e : Event) (told : EventOutcome) → n < length c → apply c e ≡ Some (d, told) → cause_touches (cause_of c e) n ≡ true → Becomes n (record_at c n) e (received_word c e) (record_at d n)
 becomes_of n c d e told l h touched =
-    subst (λ z. Becomes n (record_at c n) e (word_of c e) (record_at z n)) (ap (λ z. z.0) (after_is c d e told h)) (after_becomes n c e l touched)
+    subst (λ z. Becomes n (record_at c n) e (received_word c e) (record_at z n)) (ap (λ z. z.0) (after_is c d e told h)) (after_becomes n c e l touched)
 
 -- the node that results from a local history
 abbrev Lives : ℕ → NodeRecord → List (Event × Option ℕ) → NodeRecord → Type 0
@@ -144,7 +144,7 @@ lives_one n x [] y z p q = sym p ∙ q
 lives_one n x (a ∷ xs) y z (u, b, l) (v, c, m) = lives_one n v xs y z (subst (λ w. Lives n w xs y) (becomes_one n x a.0 a.1 u v b c) l) m
 
 lived_more : (n : ℕ) (c mid : List NodeRecord) (e : Event) (told : EventOutcome) (xs : List (Event × Option ℕ)) (y : NodeRecord) → n < length c → apply c e ≡ Some (mid, told) → Lives n (record_at mid n) xs y
-    → (b : Bool) → cause_touches (cause_of c e) n ≡ b → Lives n (record_at c n) (cond b ((e, word_of c e) ∷ xs) xs) y
+    → (b : Bool) → cause_touches (cause_of c e) n ≡ b → Lives n (record_at c n) (cond b ((e, received_word c e) ∷ xs) xs) y
 lived_more n c mid e told xs y l h after_it true is = (record_at mid n, becomes_of n c mid e told l h is, after_it)
 lived_more n c mid e told xs y l h after_it false is = subst (λ z. Lives n z xs y) (sym ((keeps_of c e mid told h).same n is)) after_it
 
@@ -160,7 +160,7 @@ lived n c last (e ∷ es) ts l h =
     let m = first_of_run c e es last ts h in
     let size : length c ≡ length m.mid = (keeps_of c e m.mid m.told m.first).size in
     let after_it = lived n m.mid last es m.others (omega (arith, l, size)) m.then in
-    subst (λ d. Lives n (record_at c n) (cond (cause_touches (cause_of c e) n) ((e, word_of c e) ∷ local_history_with_reads n d es) (local_history_with_reads n d es)) (record_at last n)) (sym (ap (λ z. z.0) (after_is c m.mid e m.told m.first)))
+    subst (λ d. Lives n (record_at c n) (cond (cause_touches (cause_of c e) n) ((e, received_word c e) ∷ local_history_with_reads n d es) (local_history_with_reads n d es)) (record_at last n)) (sym (ap (λ z. z.0) (after_is c m.mid e m.told m.first)))
     (lived_more n c m.mid e m.told (local_history_with_reads n m.mid es) (record_at last n) l m.first after_it (cause_touches (cause_of c e) n) refl)
 
 -- a list that can be replayed runs
@@ -196,13 +196,13 @@ same_chip chip last now es fs h k alike =
 
 -- a look reads the same word on chips that agree at its node and the neighbours
 
-beside_alike : (marks : ℕ → Bool) (c d : List NodeRecord) (side : Side) (at : Option ℕ) (ns : List ℕ) → Agree marks c d → list_any marks (with_some at ns) ≡ false → (beside_in c side at ≡ beside_in d side at) × (list_any marks ns ≡ false)
+beside_alike : (marks : ℕ → Bool) (c d : List NodeRecord) (side : Side) (at : Option ℕ) (ns : List ℕ) → AgreeOutsideMarks marks c d → list_any marks (prepend_some at ns) ≡ false → (shown_neighbour_state c side at ≡ shown_neighbour_state d side at) × (list_any marks ns ≡ false)
 beside_alike marks c d side None ns a free = (refl, free)
 beside_alike marks c d side (Some n) ns a free =
     let p : (marks n ≡ false) × (list_any marks ns ≡ false) = or_parts (marks n) (list_any marks ns) free in
-    (ap (λ (z : NodeRecord). shows z.wait side) (a.same n p.0), p.1)
+    (ap (λ (z : NodeRecord). shown_state z.wait side) (a.same n p.0), p.1)
 
-seen_alike : (marks : ℕ → Bool) (c d : List NodeRecord) (n : ℕ) → Agree marks c d → list_any marks (neighbours n) ≡ false → neighbour_states c n ≡ neighbour_states d n
+seen_alike : (marks : ℕ → Bool) (c d : List NodeRecord) (n : ℕ) → AgreeOutsideMarks marks c d → list_any marks (neighbours n) ≡ false → neighbour_states c n ≡ neighbour_states d n
 unfolding neighbours neighbour_states
 seen_alike marks c d n a free =
     let right = beside_alike marks c d Right (neighbour_of n Right) _ a free in
@@ -218,26 +218,26 @@ any_parts marks (n ∷ a) b f =
     let q = any_parts marks a b p.1 in
     (or_from (marks n) (list_any marks a) p.0 q.0, q.1)
 
-sees_parts : (marks : ℕ → Bool) (c : List NodeRecord) (e : Event) → meets marks (cause_of c e) ≡ false → (list_any marks (nodes_of e) ≡ false) × (list_any marks (looked_at e (cause_of c e).look) ≡ false)
-unfolding seen_by
-sees_parts marks c e free = any_parts marks (nodes_of e) (looked_at e (cause_of c e).look) free
+sees_parts : (marks : ℕ → Bool) (c : List NodeRecord) (e : Event) → has_common_node marks (cause_of c e) ≡ false → (list_any marks (event_nodes e) ≡ false) × (list_any marks (looked_at_nodes e (cause_of c e).look) ≡ false)
+unfolding observed_by
+sees_parts marks c e free = any_parts marks (event_nodes e) (looked_at_nodes e (cause_of c e).look) free
 
-word_alike : (marks : ℕ → Bool) (c d : List NodeRecord) (e : Event) → Agree marks c d → meets marks (cause_of c e) ≡ false → word_of c e ≡ word_of d e
+word_alike : (marks : ℕ → Bool) (c d : List NodeRecord) (e : Event) → AgreeOutsideMarks marks c d → has_common_node marks (cause_of c e) ≡ false → received_word c e ≡ received_word d e
 word_alike marks c d (Own node) a free =
     go (looks (record_at c node.number)) ((sees_parts marks c (Own node) free).1)
     ∙ ap (λ (z : NodeRecord). cond (looks z) (Some (io_word (neighbour_states d node.number))) None) (a.same node.number ((or_parts (marks node.number) false ((sees_parts marks c (Own node) free).0)).0))
   where
-    go : (b : Bool) → list_any marks (looked_at (Own node) b) ≡ false → ◌≡◌ {A = Option ℕ} (cond b (Some (io_word (neighbour_states c node.number))) None) (cond b (Some (io_word (neighbour_states d node.number))) None)
+    go : (b : Bool) → list_any marks (looked_at_nodes (Own node) b) ≡ false → ◌≡◌ {A = Option ℕ} (cond b (Some (io_word (neighbour_states c node.number))) None) (cond b (Some (io_word (neighbour_states d node.number))) None)
     go true f = ap (λ (z : Seen). Some (io_word z)) (seen_alike marks c d node.number a f)
     go false f = refl
 word_alike marks c d (Pass w r side) a free =
     ap (λ (z : NodeRecord). Some (t z)) (a.same w.number ((or_parts (marks w.number) (marks r.number || false) ((sees_parts marks c (Pass w r side) free).0)).0))
 
 two_words : (c d p : List NodeRecord) (e f : Event) (told other : EventOutcome) (zs : List Event) → apply c e ≡ Some (d, told) → apply d f ≡ Some (p, other)
-    → with_words c (e ∷ f ∷ zs) ≡ (e, word_of c e) ∷ (f, word_of d f) ∷ with_words p zs
+    → with_received_words c (e ∷ f ∷ zs) ≡ (e, received_word c e) ∷ (f, received_word d f) ∷ with_received_words p zs
 two_words c d p e f told other zs h k =
-    ap (λ (q : List NodeRecord × EventOutcome). (e, word_of c e) ∷ with_words q.0 (f ∷ zs)) (after_is c d e told h)
-    ∙ ap (λ (q : List NodeRecord × EventOutcome). (e, word_of c e) ∷ (f, word_of d f) ∷ with_words q.0 zs) (after_is d p f other k)
+    ap (λ (q : List NodeRecord × EventOutcome). (e, received_word c e) ∷ with_received_words q.0 (f ∷ zs)) (after_is c d e told h)
+    ∙ ap (λ (q : List NodeRecord × EventOutcome). (e, received_word c e) ∷ (f, received_word d f) ∷ with_received_words q.0 zs) (after_is d p f other k)
 
 -- the other order of two independent events
 swapped_alike : (n : ℕ) (c last : List NodeRecord) (e f : Event) (zs : List Event) (ts : List (Cause × EventOutcome)) → AreIndependent (cause_of c e) (cause_of c f) → run c (e ∷ f ∷ zs) ≡ Some (last, ts)
@@ -248,13 +248,13 @@ swapped_alike n c last e f zs ts h is =
     let keeps = keeps_of c e m.mid m.told m.first in
     let q : cause_of c f ≡ cause_of m.mid f = cause_alike (cause_touches (cause_of c e)) c m.mid f keeps (independent_on_all (cause_of c e) (cause_of c f) h) in
     let z = turned c m.mid k.mid e f m.told k.told m.first k.first (subst (AreIndependent (cause_of c e)) q h) in
-    let one : word_of c f ≡ word_of m.mid f = word_alike (cause_touches (cause_of c e)) c m.mid f keeps (independent_on_all (cause_of c e) (cause_of c f) h) in
-    let two : word_of c e ≡ word_of z.mid e = word_alike (cause_touches (cause_of c f)) c z.mid e (keeps_of c f z.mid k.told z.first) (independent_on_all (cause_of c f) (cause_of c e) (AreApart-sym (cause_of c e) (cause_of c f) h)) in
+    let one : received_word c f ≡ received_word m.mid f = word_alike (cause_touches (cause_of c e)) c m.mid f keeps (independent_on_all (cause_of c e) (cause_of c f) h) in
+    let two : received_word c e ≡ received_word z.mid e = word_alike (cause_touches (cause_of c f)) c z.mid e (keeps_of c f z.mid k.told z.first) (independent_on_all (cause_of c f) (cause_of c e) (AreApart-sym (cause_of c e) (cause_of c f) h)) in
     let test : Event × Option ℕ → Bool = λ x. event_touches x.0 n in
     ap (λ xs. filter test xs) (two_words c m.mid k.mid e f m.told k.told zs m.first k.first)
-    ∙ ap (λ (w : Option ℕ). filter test ((e, word_of c e) ∷ (f, w) ∷ with_words k.mid zs)) (sym one)
-    ∙ swap_filter test (e, word_of c e) (f, word_of c f) (with_words k.mid zs) (not_both (cause_of c e) (cause_of c f) n h)
-    ∙ ap (λ (w : Option ℕ). filter test ((f, word_of c f) ∷ (e, w) ∷ with_words k.mid zs)) two
+    ∙ ap (λ (w : Option ℕ). filter test ((e, received_word c e) ∷ (f, w) ∷ with_received_words k.mid zs)) (sym one)
+    ∙ swap_filter test (e, received_word c e) (f, received_word c f) (with_received_words k.mid zs) (not_both (cause_of c e) (cause_of c f) n h)
+    ∙ ap (λ (w : Option ℕ). filter test ((f, received_word c f) ∷ (e, w) ∷ with_received_words k.mid zs)) two
     ∙ ap (λ xs. filter test xs) (sym (two_words c z.mid k.mid f e k.told m.told zs z.first z.second))
 
 received : (n : ℕ) (c : List NodeRecord) (xs ys : List Event) → AreEquivalent c xs ys → (last : List NodeRecord) (ts : List (Cause × EventOutcome)) → run c xs ≡ Some (last, ts) → local_history_with_reads n c xs ≡ local_history_with_reads n c ys
@@ -265,7 +265,7 @@ received n c xs ys (later {now} {e} {told} {xs = us} {ys = vs} h k) last ts is =
     let at : m.mid ≡ now = ap (λ (w : List NodeRecord × EventOutcome). w.0) (same_Some (m.mid, m.told) (now, told) (sym m.first ∙ h)) in
     let there : (after c e).0 ≡ now = ap (λ (w : List NodeRecord × EventOutcome). w.0) (after_is c now e told h) in
     let on : local_history_with_reads n now us ≡ local_history_with_reads n now vs = received n now us vs k last m.others (subst (λ w. run w us ≡ Some (last, m.others)) at m.then) in
-    ap (λ (z : List (Event × Option ℕ)). cond (event_touches e n) ((e, word_of c e) ∷ z) z) (ap (λ d. local_history_with_reads n d us) there ∙ on ∙ sym (ap (λ d. local_history_with_reads n d vs) there))
+    ap (λ (z : List (Event × Option ℕ)). cond (event_touches e n) ((e, received_word c e) ∷ z) z) (ap (λ d. local_history_with_reads n d us) there ∙ on ∙ sym (ap (λ d. local_history_with_reads n d vs) there))
 received n c xs ys (joined {ys = zs} h k) last ts is =
     let b = kept_alike c last xs zs ts is h in
     received n c xs zs h last ts is ∙ received n c zs ys k last b.0 b.1

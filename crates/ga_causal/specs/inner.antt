@@ -1,7 +1,7 @@
 -- Of each node the oldest event that touches it, among those that depend on one of a list.
 use Rattle.std.specs.Prelude.{ℕ, Bool, false, Option, Some, None, ◌≡◌, ◌<◌, ◌≤◌, min, true, List, [], ◌∷◌, slice_index_or}
 use Rattle.ga_event.specs.declared.event.Cause.{Cause}
-use Rattle.ga_causal.specs.Dependence.{cause_touches, event_at, dependents}
+use Rattle.ga_causal.specs.Dependence.{cause_touches, event_at, dependent_flags}
 
 -- the node, where there is one, is marked
 abbrev pub any_of : (ℕ → Bool) → Option ℕ → Bool
@@ -29,7 +29,7 @@ least_with first (Some n) place = min (first n) place
 -- Each node has the place of the oldest event below the limit that depends on the cause and touches the node.
 pub record IsFirsts (events : List Cause) (cause limit none : ℕ) (first : ℕ → ℕ) : Type 0 where
   pub noted : (n : ℕ) → first n < none → first n < limit
-  pub dependent : (n : ℕ) → first n < none → slice_index_or (dependents events cause) (first n) false ≡ true
+  pub dependent : (n : ℕ) → first n < none → slice_index_or (dependent_flags events cause) (first n) false ≡ true
   pub touched : (n : ℕ) → first n < none → cause_touches (event_at events (first n)) n ≡ true
-  pub oldest : (n q : ℕ) → q < limit → slice_index_or (dependents events cause) q false ≡ true
+  pub oldest : (n q : ℕ) → q < limit → slice_index_or (dependent_flags events cause) q false ≡ true
       → cause_touches (event_at events q) n ≡ true → first n ≤ q

@@ -2,9 +2,9 @@
 
 ghost use Rattle.std.specs.Prelude.{◌≡◌, ◌≢◌, ◌↔◌, ◌<◌, ◌≤◌, ◌+◌, ◌^◌, true, false, List, length, map, drop, slice_get, slice_index_or, IfOk, IsTrue, [], ◌∷◌};
 ghost use Rattle.ga_event.specs.declared.event.Cause.{Cause};
-ghost use Rattle.ga_causal.specs.Dependence.{dependents};
+ghost use Rattle.ga_causal.specs.Dependence.{dependent_flags};
 ghost use Rattle.ga_causal.specs.inner.{first_at, IsFirsts};
-ghost use Rattle.ga_causal.specs.Chains.{IsChain, IsChainTo, IsFound, IsNext};
+ghost use Rattle.ga_causal.specs.Chains.{IsChain, IsChainTo, IsChainAnswer, IsNextLink};
 
 use crate::firsts::Firsts;
 use crate::rule::rule;
@@ -101,7 +101,7 @@ fn chain_back(
     requires fits { skipped + to < 2 ^ 32 }
     requires firsts { IsFirsts events.now from to to (first_at firsts.now) }
     requires none { firsts.now.none ≡ to }
-    requires dependent { slice_index_or (dependents events.now from) to false ≡ true }
+    requires dependent { slice_index_or (dependent_flags events.now from) to false ≡ true }
     ensures { IfOk result (λ chain. (all : List Cause) → drop skipped all ≡ events.now →
         IsChainTo all (skipped + from) (skipped + to) chain) }
 {
@@ -144,7 +144,7 @@ pub fn find_chain(
 ) -> Result<Option<Chain>, Memory>
     requires from { from < length events.now }
     requires to { to < length events.now }
-    ensures { IfOk result (IsFound events.now from to) }
+    ensures { IfOk result (IsChainAnswer events.now from to) }
 {
     find_later_chain(alloc, events, 0, from, to)
 }
@@ -162,7 +162,7 @@ pub fn find_later_chain(
     requires to { to < length events.now }
     requires fits { skipped + to < 2 ^ 32 }
     ensures { IfOk result (λ answer. (all : List Cause) → drop skipped all ≡ events.now →
-        IsFound all (skipped + from) (skipped + to) answer) }
+        IsChainAnswer all (skipped + from) (skipped + to) answer) }
 {
     if to < from {
         return Ok(None);
@@ -182,7 +182,7 @@ pub fn find_later_chain(
 // Whether the link may follow the event at the place before.
 fn is_next(events: &[Cause], before: u32, link: &Link) -> bool
     requires { before < length events.now }
-    ensures { IsTrue result ↔ IsNext events.now before link.now }
+    ensures { IsTrue result ↔ IsNextLink events.now before link.now }
 {
     if before >= link.place || link.place as usize >= events.len() {
         return false;
@@ -193,7 +193,7 @@ fn is_next(events: &[Cause], before: u32, link: &Link) -> bool
 
 /// Whether the links are a chain: at least one, all of them places of the list, the first with rule 0 and each other one with
 /// the rule by which its event depends directly on the one before.
-pub fn check_chain(events: &[Cause], chain: &Chain) -> bool
+pub fn is_chain(events: &[Cause], chain: &Chain) -> bool
     ensures { IsTrue result ↔ IsChain events.now chain.now }
 {
     let links = chain.links.as_slice();

@@ -2,12 +2,12 @@
 
 ghost use Rattle.std.specs.Prelude.{◌≡◌, ◌<◌, ◌≤◌, ◌≢◌, ◌==◌, ◌+◌, ℕ, length, min, if◌then◌else◌};
 ghost use Rattle.ga_grid.specs.Grid.{neighbour_of};
-ghost use Rattle.ga_event.specs.Touches.{neighbours, seen_by};
+ghost use Rattle.ga_event.specs.Touches.{neighbours, observed_by};
 ghost use Rattle.ga_causal.specs.Dependence.{cause_touches};
 ghost use Rattle.ga_causal.specs.inner.{first_at, least, least_with, IsFirsts};
 
 use ga_event::{Cause, Event};
-use ga_grid::{NODES, NodeId, neighbour};
+use ga_grid::{CHIP_NODES, NodeId, neighbour};
 use ga_ports::Side;
 use std::marker::Model;
 
@@ -35,7 +35,7 @@ impl Firsts {
         ensures none { result.none ≡ none }
     {
         Firsts {
-            places: [none; NODES],
+            places: [none; CHIP_NODES],
             none,
         }
     }
@@ -59,9 +59,9 @@ impl Firsts {
     }
 
     /// The oldest place noted at the nodes that the event sees.
-    #[tactic(auto, unfolding(ga_event::specs::Touches::seen_by))]
+    #[tactic(auto, unfolding(ga_event::specs::Touches::observed_by))]
     pub(crate) fn oldest(&self, event: &Cause) -> u32
-        ensures { result ≡ least (first_at self.now) self.now.none (seen_by event.now) }
+        ensures { result ≡ least (first_at self.now) self.now.none (observed_by event.now) }
     {
         match event.event {
             Event::Own(node) => {

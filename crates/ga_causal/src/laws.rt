@@ -8,17 +8,17 @@ ghost use Rattle.ga_grid.specs.Chip.{record_at};
 ghost use Rattle.ga_event.specs.Touches.{touches};
 ghost use Rattle.ga_event.specs.Apply.{EventOutcome, replay, run, cause_of};
 ghost use Rattle.ga_causal.specs.declared.chain.Link.{Link};
-ghost use Rattle.ga_causal.specs.Chains.{IsChain, IsChainTo, IsFound, chain_of};
-ghost use Rattle.ga_causal.specs.Steps.{links_by_events, numbered, numbered_seen, touching, IsStep};
-ghost use Rattle.ga_causal.specs.Dependence.{dependents, rest, unflagged, DependsOn, HasNoLooks, position_of_step, rewound_list, rewound_all};
-ghost use Rattle.ga_event.specs.Told.{events_in};
-ghost use Rattle.ga_causal.specs.Equivalence.{AreIndependent, AreEquivalent, recorded, local_history, local_history_told};
+ghost use Rattle.ga_causal.specs.Chains.{IsChain, IsChainTo, IsChainAnswer, chain_of};
+ghost use Rattle.ga_causal.specs.Steps.{links_with_events, numbered_events, numbered_with_observed, count_touching_events, IsKthStep};
+ghost use Rattle.ga_causal.specs.Dependence.{dependent_flags, rest, without_flagged, DependsOn, HasNoLooks, position_of_step, events_after_rewind, events_after_rewinds};
+ghost use Rattle.ga_event.specs.Told.{events_of_causes};
+ghost use Rattle.ga_causal.specs.Equivalence.{AreIndependent, AreEquivalent, numbered_outcomes, local_history, local_history_outcomes};
 ghost use Rattle.ga_causal.specs.Words.{local_history_with_reads};
 
 /// Two events can be swapped if they touch no common node and neither looks at a node that the other touches: in either order
 /// they lead to the same chip, and each looks alike and has the same outcome, or neither order can be made.
 #[tactic(auto, using(crate::proofs::Runs::replay_swapped, crate::proofs::Runs::run_swapped))]
-pub fn swap()
+pub fn independent_events_swap()
     ensures chip { (chip : List NodeRecord) (e f : Event) → AreIndependent (cause_of chip e) (cause_of chip f) →
         replay chip (e ∷ f ∷ []) ≡ replay chip (f ∷ e ∷ []) }
     ensures told { (chip : List NodeRecord) (e f : Event) → AreIndependent (cause_of chip e) (cause_of chip f) →
@@ -33,18 +33,18 @@ pub fn rest_replays()
     ensures told { (chip : List NodeRecord) (events : List Event) (i : ℕ) (last : List NodeRecord) (steps : List (Cause × EventOutcome)) →
         run chip events ≡ Some (last, steps) →
         let causes = map (λ (s : Cause × EventOutcome). s.0) steps in
-        (now : List NodeRecord) × (run chip (events_in (rest causes i)) ≡ Some (now, unflagged (dependents causes i) steps)) }
-    ensures steps { (events : List Cause) (i : ℕ) → numbered (rest events i) ≡ unflagged (dependents events i) (numbered events) }
+        (now : List NodeRecord) × (run chip (events_of_causes (rest causes i)) ≡ Some (now, without_flagged (dependent_flags causes i) steps)) }
+    ensures steps { (events : List Cause) (i : ℕ) → numbered_events (rest events i) ≡ without_flagged (dependent_flags events i) (numbered_events events) }
     ensures seen { (events : List Cause) (i : ℕ) →
-        numbered_seen (rest events i) ≡ unflagged (dependents events i) (numbered_seen events) }
+        numbered_with_observed (rest events i) ≡ without_flagged (dependent_flags events i) (numbered_with_observed events) }
 {}
 
-/// The flags of `dependents` are the places of the events that depend on the one at the place `i`. There must be one: past the end
+/// The flags of `dependent_flags` are the places of the events that depend on the one at the place `i`. There must be one: past the end
 /// nothing is flagged, while by definition each place depends on itself.
 #[tactic(auto, using(crate::proofs::Exact::dependents_exact))]
-pub fn marks_exact()
+pub fn dependent_flags_exact()
     ensures { (events : List Cause) (i j : ℕ) → i < length events →
-        (IsTrue (slice_index_or (dependents events i) j false) ↔ DependsOn events i j) }
+        (IsTrue (slice_index_or (dependent_flags events i) j false) ↔ DependsOn events i j) }
 {}
 
 /// No larger rest keeps the numbers of the steps: a list without the event at the place `i`, in which each event keeps the
@@ -52,36 +52,36 @@ pub fn marks_exact()
 /// law therefore holds of lists without looks, and of any list in which each look also keeps the number of the next step of
 /// each node at which it looks.
 #[tactic(auto, using(crate::proofs::Largest::largest, crate::proofs::Largest::largest_seen))]
-pub fn largest_rest()
+pub fn rest_is_largest()
     ensures steps { (events : List Cause) → HasNoLooks events →
         (i : ℕ) (dropped : List Bool) → IsTrue (slice_index_or dropped i false) →
-        numbered (unflagged dropped events) ≡ unflagged dropped (numbered events) →
+        numbered_events (without_flagged dropped events) ≡ without_flagged dropped (numbered_events events) →
         (j : ℕ) → DependsOn events i j → IsTrue (slice_index_or dropped j false) }
     ensures seen { (events : List Cause) (i : ℕ) (dropped : List Bool) →
         IsTrue (slice_index_or dropped i false) →
-        numbered_seen (unflagged dropped events) ≡ unflagged dropped (numbered_seen events) →
+        numbered_with_observed (without_flagged dropped events) ≡ without_flagged dropped (numbered_with_observed events) →
         (j : ℕ) → DependsOn events i j → IsTrue (slice_index_or dropped j false) }
 {}
 
 /// A node has as many steps as events touch it, whether they look or not, and its k-th step is the k-th of them. Each step
 /// is a cause of the node's later ones.
 pub fn steps()
-    ensures events { (events : List Cause) (n : ℕ) → touching n events ≡ count_by (λ e. touches e n) (events_in events) }
+    ensures events { (events : List Cause) (n : ℕ) → count_touching_events n events ≡ count_by (λ e. touches e n) (events_of_causes events) }
     ensures stands { (events : List Cause) (n k : ℕ) →
-        (IsSome (position_of_step events n k) ↔ ((0 < k) × (k ≤ touching n events))) }
-    ensures place { (events : List Cause) (n k place : ℕ) → position_of_step events n k ≡ Some place → IsStep events n k place }
+        (IsSome (position_of_step events n k) ↔ ((0 < k) × (k ≤ count_touching_events n events))) }
+    ensures place { (events : List Cause) (n k place : ℕ) → position_of_step events n k ≡ Some place → IsKthStep events n k place }
     ensures later { (events : List Cause) (n k j i q : ℕ) → position_of_step events n k ≡ Some i → position_of_step events n j ≡ Some q → k ≤ j →
         DependsOn events i q }
 {}
 
 /// Rollbacks leave the same list in any order. Of two, the second is refused exactly where its step depends on the first.
 #[tactic(auto, using(crate::proofs::Rollbacks::rewound_twice, crate::proofs::Rollbacks::rewound_any_order, crate::proofs::LocalHistories::refused_exactly))]
-pub fn two_rollbacks()
-    ensures either { (events : List Cause) (n k m j : ℕ) → rewound_list (rewound_list events n k) m j ≡ rewound_list (rewound_list events m j) n k }
+pub fn rollbacks_commute()
+    ensures either { (events : List Cause) (n k m j : ℕ) → events_after_rewind (events_after_rewind events n k) m j ≡ events_after_rewind (events_after_rewind events m j) n k }
     ensures refused { (events : List Cause) (n k m j i q : ℕ) → position_of_step events n k ≡ Some i → position_of_step events m j ≡ Some q →
         (IsNone (position_of_step (rest events i) m j) ↔ DependsOn events i q) }
     ensures any { (events : List Cause) (steps others : List (ℕ × ℕ)) → IsPermutation steps others →
-        rewound_all events steps ≡ rewound_all events others }
+        events_after_rewinds events steps ≡ events_after_rewinds events others }
 {}
 
 /// Equivalent lists, which differ by swaps of independent neighbours, lead to the same chip.
@@ -94,11 +94,11 @@ pub fn equivalent()
 /// Equivalent lists run alike: to the same chip, with the same numbered events and outcomes, and with the same local history of
 /// each node. The first list must run: a list that can't run has no chip and no local histories to compare.
 #[tactic(auto, using(crate::proofs::Consistent::kept_alike))]
-pub fn equivalent_keeps()
+pub fn equivalent_runs_agree()
     ensures { (chip last : List NodeRecord) (events others : List Event) (steps : List (Cause × EventOutcome)) →
         run chip events ≡ Some (last, steps) → AreEquivalent chip events others →
-        (made : List (Cause × EventOutcome)) × (run chip others ≡ Some (last, made)) × IsPermutation (recorded steps) (recorded made)
-        × ((n : ℕ) → local_history_told n steps ≡ local_history_told n made) }
+        (made : List (Cause × EventOutcome)) × (run chip others ≡ Some (last, made)) × IsPermutation (numbered_outcomes steps) (numbered_outcomes made)
+        × ((n : ℕ) → local_history_outcomes n steps ≡ local_history_outcomes n made) }
 {}
 
 /// Causal consistency (Danos and Krivine): of two lists that run from one chip, one is made from the other by swaps of
@@ -114,12 +114,12 @@ pub fn causal_consistency()
     ensures events { (chip last now : List NodeRecord) (events others : List Event) (steps made : List (Cause × EventOutcome)) →
         run chip events ≡ Some (last, steps) → run chip others ≡ Some (now, made) →
         let causes = map (λ (s : Cause × EventOutcome). s.0) in
-        (AreEquivalent chip events others ↔ IsPermutation (numbered_seen (causes steps)) (numbered_seen (causes made))) }
+        (AreEquivalent chip events others ↔ IsPermutation (numbered_with_observed (causes steps)) (numbered_with_observed (causes made))) }
     ensures steps { (chip last now : List NodeRecord) (events others : List Event) (steps made : List (Cause × EventOutcome)) →
         run chip events ≡ Some (last, steps) → run chip others ≡ Some (now, made) →
         let causes = map (λ (s : Cause × EventOutcome). s.0) in
         HasNoLooks (causes steps) →
-        (AreEquivalent chip events others ↔ IsPermutation (numbered (causes steps)) (numbered (causes made))) }
+        (AreEquivalent chip events others ↔ IsPermutation (numbered_events (causes steps)) (numbered_events (causes made))) }
 {}
 
 /// A node is determined by its local history with the words (after the monitored processes of Danos and Krivine): on chips of
@@ -129,7 +129,7 @@ pub fn causal_consistency()
 /// neighbour. Equivalent lists have the same local histories with words. Both lists must run, since a list that can't be made
 /// leads to no chip.
 #[tactic(auto, using(crate::proofs::Words::same_node, crate::proofs::Words::same_chip, crate::proofs::Words::same_received))]
-pub fn local_histories_determine()
+pub fn local_history_determines_node()
     ensures node { (chip other last now : List NodeRecord) (events others : List Event) (n : ℕ) →
         replay chip events ≡ Some last → replay other others ≡ Some now → length chip ≡ length other →
         record_at chip n ≡ record_at other n → local_history_with_reads n chip events ≡ local_history_with_reads n other others →
@@ -144,26 +144,26 @@ pub fn local_histories_determine()
 
 /// Rollbacks of equivalent lists, to the same steps, leave equivalent lists. Both must run, so that there are steps to roll back.
 #[tactic(auto, using(crate::proofs::Moved::rolled_back))]
-pub fn equivalent_rollbacks()
+pub fn rollback_preserves_equivalence()
     ensures { (chip last now : List NodeRecord) (events others : List Event) (steps made : List (Cause × EventOutcome)) →
         run chip events ≡ Some (last, steps) → run chip others ≡ Some (now, made) → AreEquivalent chip events others →
         let causes = map (λ (s : Cause × EventOutcome). s.0) in
         (rollbacks : List (ℕ × ℕ)) →
-        AreEquivalent chip (events_in (rewound_all (causes steps) rollbacks)) (events_in (rewound_all (causes made) rollbacks)) }
+        AreEquivalent chip (events_of_causes (events_after_rewinds (causes steps) rollbacks)) (events_of_causes (events_after_rewinds (causes made) rollbacks)) }
 {}
 
 /// After a rollback each local history is a prefix of the one before, with the same outcomes; that of the node whose step is
 /// removed ends just before the step, also if the step doesn't exist, when nothing is removed.
 pub fn rollback_keeps_history_prefix()
     ensures first { (events : List Cause) (n k m : ℕ) →
-        (later : List (Cause × List ℕ)) × (local_history m events ≡ local_history m (rewound_list events n k) ++ later) }
+        (later : List (Cause × List ℕ)) × (local_history m events ≡ local_history m (events_after_rewind events n k) ++ later) }
     ensures own { (events : List Cause) (n k : ℕ) →
-        local_history n (rewound_list events n (k + 1)) ≡ take k (local_history n events) }
+        local_history n (events_after_rewind events n (k + 1)) ≡ take k (local_history n events) }
     ensures told { (chip last : List NodeRecord) (events : List Event) (steps : List (Cause × EventOutcome)) (n k : ℕ) →
         run chip events ≡ Some (last, steps) →
         let causes = map (λ (s : Cause × EventOutcome). s.0) steps in
-        (now : List NodeRecord) × (left : List (Cause × EventOutcome)) × (run chip (events_in (rewound_list causes n k)) ≡ Some (now, left))
-        × ((m : ℕ) → (later : List ((Cause × List ℕ) × EventOutcome)) × (local_history_told m steps ≡ local_history_told m left ++ later)) }
+        (now : List NodeRecord) × (left : List (Cause × EventOutcome)) × (run chip (events_of_causes (events_after_rewind causes n k)) ≡ Some (now, left))
+        × ((m : ℕ) → (later : List ((Cause × List ℕ) × EventOutcome)) × (local_history_outcomes m steps ≡ local_history_outcomes m left ++ later)) }
 {}
 
 /// The events that a rollback removes can be moved to the end of the list by swaps of independent neighbours, if no look is
@@ -174,31 +174,31 @@ pub fn removed_events_swap_to_end()
     ensures { (chip last : List NodeRecord) (events : List Event) (steps : List (Cause × EventOutcome)) (i : ℕ) →
         run chip events ≡ Some (last, steps) →
         let causes = map (λ (s : Cause × EventOutcome). s.0) steps in
-        let taken = unflagged (map not (dependents causes i)) causes in
-        HasNoLooks taken → AreEquivalent chip events (events_in (rest causes i ++ taken)) }
+        let taken = without_flagged (map not (dependent_flags causes i)) causes in
+        HasNoLooks taken → AreEquivalent chip events (events_of_causes (rest causes i ++ taken)) }
 {}
 
 /// A chain in one of two equivalent lists is one in the other too: the same steps, each of which depends directly on the one before
 /// it by the same rule. Both lists must run, so that they have chains.
-#[tactic(auto, using(crate::proofs::Moved::equivalent_chains))]
-pub fn equivalent_chains()
+#[tactic(auto, using(crate::proofs::Moved::equivalence_preserves_chains))]
+pub fn equivalence_preserves_chains()
     ensures { (chip last now : List NodeRecord) (events others : List Event) (steps made : List (Cause × EventOutcome)) (links : List Link) →
         run chip events ≡ Some (last, steps) → run chip others ≡ Some (now, made) → AreEquivalent chip events others →
         let causes = map (λ (s : Cause × EventOutcome). s.0) in
         IsChain (causes steps) links →
-        (chain : List Link) × IsChain (causes made) chain × (links_by_events (causes steps) links ≡ links_by_events (causes made) chain) }
+        (chain : List Link) × IsChain (causes made) chain × (links_with_events (causes steps) links ≡ links_with_events (causes made) chain) }
 {}
 
 /// There is at most one chain from a place to another, it is a chain, and `chain_of` returns whether there is one, and which.
 #[tactic(auto, using(crate::proofs::ChainOf::chain_one, crate::proofs::ChainOf::chain_chain, crate::proofs::ChainOf::chain_found, crate::proofs::ChainOf::chain_is))]
-pub fn chains()
+pub fn chain_is_unique()
     ensures one { (events : List Cause) (cause place : ℕ) (links others : List Link) →
         IsChainTo events cause place links → IsChainTo events cause place others → links ≡ others }
     ensures chain { (events : List Cause) (cause place : ℕ) (links : List Link) → cause < length events →
         IsChainTo events cause place links → IsChain events links }
     ensures found { (events : List Cause) (cause place : ℕ) → cause < length events →
-        IsFound events cause place (chain_of events cause place) }
+        IsChainAnswer events cause place (chain_of events cause place) }
     ensures only { (events : List Cause) (cause place : ℕ) (answer : Option (List Link)) →
         cause < length events →
-        IsFound events cause place answer → answer ≡ chain_of events cause place }
+        IsChainAnswer events cause place answer → answer ≡ chain_of events cause place }
 {}

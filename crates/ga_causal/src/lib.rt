@@ -9,9 +9,9 @@ mod nodes;
 mod rule;
 mod step;
 
-pub use chain::{Chain, Link, check_chain, find_chain, find_later_chain};
+pub use chain::{Chain, Link, find_chain, find_later_chain, is_chain};
 pub use ga_event::Cause;
 pub use ga_grid::Memory;
-pub use marks::{Marks, closure};
-pub use nodes::Nodes;
+pub use marks::{MarkedNodes, find_dependents};
+pub use nodes::NodeSet;
 pub use step::position_of_step;

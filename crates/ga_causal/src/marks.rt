@@ -1,10 +1,10 @@
 //! Marked nodes, and the events that depend on one of a list.
 
 ghost use Rattle.std.specs.Prelude.{◌≡◌, ◌↔◌, ◌<◌, ◌^◌, ℕ, false, length, slice_index_or, IfOk, IsTrue};
-ghost use Rattle.ga_event.specs.Touches.{meets};
-ghost use Rattle.ga_causal.specs.Dependence.{cause_touches, is_marked, marked, dependents, DependsOn};
+ghost use Rattle.ga_event.specs.Touches.{has_common_node};
+ghost use Rattle.ga_causal.specs.Dependence.{cause_touches, is_marked, marked_nodes, dependent_flags, DependsOn};
 
-use crate::nodes::Nodes;
+use crate::nodes::NodeSet;
 use ga_event::Cause;
 use ga_grid::Memory;
 use std::alloc::Global;
@@ -12,11 +12,11 @@ use std::marker::Model;
 
 /// The nodes that an event and those that depend on it touch.
 #[derive(Drop)]
-pub struct Marks {
-    nodes: Nodes,
+pub struct MarkedNodes {
+    nodes: NodeSet,
 }
 
-impl Model for Marks {
+impl Model for MarkedNodes {
     ghost use Rattle.std.specs.Prelude.{Bool, List};
 
     ghost Value = { List Bool };
@@ -24,23 +24,23 @@ impl Model for Marks {
     ghost view = { λ m. m.nodes };
 }
 
-impl Marks {
+impl MarkedNodes {
     /// The nodes that this event touches.
     pub fn new(event: Cause) -> Self
         ensures { is_marked result ≡ cause_touches event }
     {
-        let mut nodes = Nodes::none();
+        let mut nodes = NodeSet::none();
         nodes.add_touched(&event);
-        Marks { nodes }
+        MarkedNodes { nodes }
     }
 
     /// Returns whether the event depends on one that was added before: it touches a marked node, or is a look at one. If so the
     /// nodes that it touches are marked.
     pub fn take(&mut self, event: Cause) -> bool
-        ensures answer { result ≡ meets (is_marked self.old) event }
-        ensures marks { is_marked self.new ≡ marked (is_marked self.old) event }
+        ensures answer { result ≡ has_common_node (is_marked self.old) event }
+        ensures marks { is_marked self.new ≡ marked_nodes (is_marked self.old) event }
     {
-        let is_met = self.nodes.seen_by(&event);
+        let is_met = self.nodes.observed_by(&event);
         if is_met {
             self.nodes.add_touched(&event);
         }
@@ -49,9 +49,9 @@ impl Marks {
 }
 
 /// Of each event of the list, whether it depends on the one at the place, from 0 on. Reads each event once.
-pub fn closure(alloc: Global, events: &[Cause], place: u32) -> Result<Vec<bool>, Memory>
+pub fn find_dependents(alloc: Global, events: &[Cause], place: u32) -> Result<Vec<bool>, Memory>
     requires { place < length events.now }
-    ensures flags { IfOk result (λ flags. flags.items ≡ dependents events.now place) }
+    ensures flags { IfOk result (λ flags. flags.items ≡ dependent_flags events.now place) }
     ensures exact { IfOk result (λ flags.
         (j : ℕ) → j < length events.now → (IsTrue (slice_index_or flags.items j false) ↔ DependsOn events.now place j)) }
 {
@@ -61,7 +61,7 @@ pub fn closure(alloc: Global, events: &[Cause], place: u32) -> Result<Vec<bool>,
         flags.push(false)?;
     }
     flags.push(true)?;
-    let mut marks = Marks::new(events[start]);
+    let mut marks = MarkedNodes::new(events[start]);
     for event in &events[start + 1..] {
         flags.push(marks.take(*event))?;
     }

@@ -3,23 +3,23 @@
 ghost use Rattle.std.specs.Prelude.{◌≡◌, ℕ, false, ◌||◌, ◌==◌};
 ghost use Rattle.std.specs.List.{list_any};
 ghost use Rattle.ga_grid.specs.Grid.{neighbour_of};
-ghost use Rattle.ga_event.specs.Touches.{neighbours, meets};
-ghost use Rattle.ga_causal.specs.Dependence.{cause_nodes, cause_touches, is_marked};
+ghost use Rattle.ga_event.specs.Touches.{neighbours, has_common_node};
+ghost use Rattle.ga_causal.specs.Dependence.{touched_nodes, cause_touches, is_marked};
 ghost use Rattle.ga_causal.specs.inner.{any_of};
 ghost use Rattle.ga_causal.specs.Equivalence.{observes};
 
 use ga_event::{Cause, Event};
-use ga_grid::{NODES, NodeId, neighbour};
+use ga_grid::{CHIP_NODES, NodeId, neighbour};
 use ga_ports::Side;
 use std::marker::Model;
 
 /// Some nodes, by a flag for each of the chip.
 #[derive(Drop)]
-pub struct Nodes {
+pub struct NodeSet {
     flags: [bool; 144],
 }
 
-impl Model for Nodes {
+impl Model for NodeSet {
     ghost use Rattle.std.specs.Prelude.{◌≡◌, Bool, List, length};
 
     ghost Value = { List Bool };
@@ -29,13 +29,13 @@ impl Model for Nodes {
     ghost invariant = { λ m. length m.flags ≡ 144 };
 }
 
-impl Nodes {
+impl NodeSet {
     /// The set of no nodes.
     pub fn none() -> Self
         ensures { (n : ℕ) → is_marked result n ≡ false }
     {
-        Nodes {
-            flags: [false; NODES],
+        NodeSet {
+            flags: [false; CHIP_NODES],
         }
     }
 
@@ -48,7 +48,7 @@ impl Nodes {
 
     /// Whether the event touches a node of the set.
     pub fn is_touched_by(&self, event: &Cause) -> bool
-        ensures { result ≡ list_any (is_marked self.now) (cause_nodes event.now) }
+        ensures { result ≡ list_any (is_marked self.now) (touched_nodes event.now) }
     {
         match event.event {
             Event::Own(node) => self.has(node),
@@ -57,9 +57,9 @@ impl Nodes {
     }
 
     /// Whether the event touches a node of the set, or looks at one.
-    #[tactic(auto, unfolding(ga_event::specs::Touches::seen_by))]
-    pub fn seen_by(&self, event: &Cause) -> bool
-        ensures { result ≡ meets (is_marked self.now) event.now }
+    #[tactic(auto, unfolding(ga_event::specs::Touches::observed_by))]
+    pub fn observed_by(&self, event: &Cause) -> bool
+        ensures { result ≡ has_common_node (is_marked self.now) event.now }
     {
         match event.event {
             Event::Own(node) => self.has(node) || (event.look && self.has_beside(node)),
@@ -81,8 +81,8 @@ impl Nodes {
     }
 
     /// Adds the nodes that an event touches or looks at.
-    #[tactic(auto, unfolding(ga_event::specs::Touches::seen_by))]
-    pub fn add_seen(&mut self, event: &Cause)
+    #[tactic(auto, unfolding(ga_event::specs::Touches::observed_by))]
+    pub fn add_observed(&mut self, event: &Cause)
         ensures { (n : ℕ) → is_marked self.new n ≡ (is_marked self.old n || observes event.now n) }
     {
         match event.event {

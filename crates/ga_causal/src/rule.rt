@@ -3,9 +3,9 @@
 ghost use Rattle.std.specs.Prelude.{◌≡◌};
 ghost use Rattle.std.specs.List.{list_any};
 ghost use Rattle.ga_grid.specs.Grid.{neighbour_of};
-ghost use Rattle.ga_event.specs.Touches.{touches, nodes_of, neighbours, looked_at};
+ghost use Rattle.ga_event.specs.Touches.{touches, event_nodes, neighbours, looked_at_nodes};
 ghost use Rattle.ga_causal.specs.inner.{any_of};
-ghost use Rattle.ga_causal.specs.Dependence.{is_a_pass, rule_of};
+ghost use Rattle.ga_causal.specs.Dependence.{is_transfer_event, dependence_rule};
 
 use ga_event::{Cause, Event, touches};
 use ga_grid::{NodeId, neighbour};
@@ -13,7 +13,7 @@ use ga_ports::Side;
 
 /// Whether the two events touch a common node.
 fn is_touched(earlier: &Event, later: &Event) -> bool
-    ensures { result ≡ list_any (touches earlier.now) (nodes_of later.now) }
+    ensures { result ≡ list_any (touches earlier.now) (event_nodes later.now) }
 {
     match *later {
         Event::Own(node) => touches(*earlier, node),
@@ -47,7 +47,7 @@ fn touches_a_neighbour(earlier: &Event, node: NodeId) -> bool
 
 /// Whether the later event looks at a node that the earlier one touches.
 fn is_looked_at(earlier: &Event, later: &Cause) -> bool
-    ensures { result ≡ list_any (touches earlier.now) (looked_at later.now.event later.now.look) }
+    ensures { result ≡ list_any (touches earlier.now) (looked_at_nodes later.now.event later.now.look) }
 {
     match later.event {
         Event::Own(node) => later.look && touches_a_neighbour(earlier, node),
@@ -56,7 +56,7 @@ fn is_looked_at(earlier: &Event, later: &Cause) -> bool
 }
 
 fn is_pass(event: &Event) -> bool
-    ensures { result ≡ is_a_pass event.now }
+    ensures { result ≡ is_transfer_event event.now }
 {
     matches!(*event, Event::Pass { .. })
 }
@@ -64,7 +64,7 @@ fn is_pass(event: &Event) -> bool
 /// The rule by which the later event depends directly on the earlier one, or 0.
 #[tactic(auto, using(crate::proofs::Oldest::meets_parts))]
 pub(crate) fn rule(earlier: &Cause, later: &Cause) -> u8
-    ensures { result ≡ rule_of earlier.now later.now }
+    ensures { result ≡ dependence_rule earlier.now later.now }
 {
     if is_touched(&earlier.event, &later.event) {
         if is_pass(&earlier.event) || is_pass(&later.event) {

@@ -3,11 +3,11 @@ use Rattle.std.proofs.Common.{◌≡◌, ℕ, ◌+◌, ◌<◌, List, ◌++◌, 
 use Rattle.std.proofs.lemmas.List.{drop_more}
 use Rattle.ga_state_ends.specs.declared.end_kind.EndKind.{EndKind}
 use Rattle.ga_check_report.specs.EndTexts.{end_kind_text, kinds_text}
-use Rattle.ga_check_report.specs.Checking.{IsTextOut}
+use Rattle.ga_check_report.specs.Checking.{IsReportOutput}
 use Rattle.ga_check_report.specs.declared.report.Verdict.{Verdict}
 
-pub out_as : (whole text : List ℕ) (verdict its end : Verdict) → verdict ≡ its → IsTextOut whole verdict text end → IsTextOut whole its text end
-out_as whole text verdict its end f h = let Q : Verdict → Type 0 = λ v. IsTextOut whole v text end in subst Q f h
+pub out_as : (whole text : List ℕ) (verdict its end : Verdict) → verdict ≡ its → IsReportOutput whole verdict text end → IsReportOutput whole its text end
+out_as whole text verdict its end f h = let Q : Verdict → Type 0 = λ v. IsReportOutput whole v text end in subst Q f h
 
 pub next_kind : (kinds : List EndKind) (i : ℕ) (default : EndKind) → i < length kinds
     → kinds_text (i + 1) (drop i kinds) ≡ end_kind_text (i + 1) (get_or kinds i default) ++ kinds_text (i + 1 + 1) (drop (i + 1) kinds)

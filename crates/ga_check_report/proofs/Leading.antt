@@ -12,16 +12,16 @@ use Rattle.ga_event.specs.Next.{next}
 use Rattle.ga_races.proofs.Exact.{replay_into}
 use Rattle.ga_races.proofs.Independence.{replay_more}
 use Rattle.ga_lab.specs.declared.fault.LabFault.{LabFault}
-use Rattle.ga_lab.specs.Machine.{State, chip_of, step_answer, stepped, with_event, unless_refused}
+use Rattle.ga_lab.specs.Machine.{State, chip_of, step_answer, state_after_step, with_event, unless_refused}
 use Rattle.ga_lab.specs.declared.fault.LabFault.TheVariants.{Memory}
 use Rattle.ga_lab.proofs.Forward.{applied}
-use Rattle.ga_state_ends.specs.Ends.{EndsFound, AreEnds}
+use Rattle.ga_state_ends.specs.Ends.{EndSearchResult, AreEndsOfChip}
 use Rattle.ga_state_ends.specs.declared.end_kind.EndKind.{EndKind}
-use Rattle.ga_check_report.specs.Checking.{HasMade, IsLedTo}
+use Rattle.ga_check_report.specs.Checking.{HasAppendedEvents, HasReachedEndKind}
 
 -- ---- one event
 
-pub stepped_is : (s : State) (n : NodeId) (m : Made) (e : Event) → step_answer s n ≡ Ok m → next (chip_of s) n ≡ Ok e → stepped s n ≡ with_event s (Ok e)
+pub stepped_is : (s : State) (n : NodeId) (m : Made) (e : Event) → step_answer s n ≡ Ok m → next (chip_of s) n ≡ Ok e → state_after_step s n ≡ with_event s (Ok e)
 stepped_is s n m e answer is =
     ap (λ (a : Result Made LabFault). unless_refused s a (with_event s (next (chip_of s) n))) answer ∙ ap (with_event s) is
 
@@ -36,10 +36,10 @@ chip_after s e runs can =
 
 -- ---- several events
 
-pub made_none : (s : State) → HasMade s [] s
+pub made_none : (s : State) → HasAppendedEvents s [] s
 made_none s = record { load = refl; limit = refl; kept = sym (append-nil s.kept) }
 
-pub made_more : (s t u : State) (events : List Event) (e : Event) → HasMade s events t → u ≡ with_event t (Ok e) → HasMade s (events ++ e ∷ []) u
+pub made_more : (s t u : State) (events : List Event) (e : Event) → HasAppendedEvents s events t → u ≡ with_event t (Ok e) → HasAppendedEvents s (events ++ e ∷ []) u
 made_more s t u events e p is = record {
   load = ap (λ (z : State). z.load) is ∙ p.load;
   limit = ap (λ (z : State). z.limit) is ∙ p.limit;
@@ -63,25 +63,25 @@ next_rest s t chip events place default within can is rest =
     ∙ sym (ap (replay (chip_of s)) (drop_more events place default within))
     ∙ rest
 
-pub next_made : (s t u : State) (events : List Event) (place : ℕ) (default : Event) → place < length events → HasMade s (take place events) t
-    → u ≡ with_event t (Ok (get_or events place default)) → HasMade s (take (place + 1) events) u
+pub next_made : (s t u : State) (events : List Event) (place : ℕ) (default : Event) → place < length events → HasAppendedEvents s (take place events) t
+    → u ≡ with_event t (Ok (get_or events place default)) → HasAppendedEvents s (take (place + 1) events) u
 next_made s t u events place default within made is =
-    subst (λ (z : List Event). HasMade s z u) (sym (take_more events place default within))
+    subst (λ (z : List Event). HasAppendedEvents s z u) (sym (take_more events place default within))
     (made_more s t u (take place events) (get_or events place default) made is)
 
 -- ---- the state of a kind of end
 
-pub state_within : (load : List NodeRecord) (found : EndsFound) (number : ℕ) (kind : EndKind) → AreEnds load found → slice_get found.kinds number ≡ Some kind
+pub state_within : (load : List NodeRecord) (found : EndSearchResult) (number : ℕ) (kind : EndKind) → AreEndsOfChip load found → slice_get found.kinds number ≡ Some kind
     → kind.state < length found.searched.chips
 state_within load found number kind ends listed =
     let first = ends.are_kinds.first number kind listed in
     let within = (ends.stored first.0 _ first.1).within in
     let size = ends.is_search.explored_size in omega (arith, within, size)
 
-pub led_to : (s t : State) (found : EndsFound) (asked : ℕ) (kind : EndKind) (events : List Event) → AreEnds (chip_of s) found
+pub led_to : (s t : State) (found : EndSearchResult) (asked : ℕ) (kind : EndKind) (events : List Event) → AreEndsOfChip (chip_of s) found
     → slice_get found.kinds (asked - 1) ≡ Some kind
     → ((load chip : List NodeRecord) → slice_get found.searched.chips 0 ≡ Some load → slice_get found.searched.chips kind.state ≡ Some chip → replay load events ≡ Some chip)
-    → HasMade s events t → replay (chip_of s) events ≡ Some (chip_of t) → IsLedTo found asked s t
+    → HasAppendedEvents s events t → replay (chip_of s) events ≡ Some (chip_of t) → HasReachedEndKind found asked s t
 led_to s t found asked kind events ends numbered leads made there =
     let chip : List NodeRecord = get_or found.searched.chips kind.state [] in
     let at : slice_get found.searched.chips kind.state ≡ Some chip =
@@ -94,7 +94,7 @@ led_to s t found asked kind events ends numbered leads made there =
     }
 
 -- the events to the state of a kind of end can be made
-pub path_can : (s : State) (found : EndsFound) (number : ℕ) (kind : EndKind) (events : List Event) → AreEnds (chip_of s) found
+pub path_can : (s : State) (found : EndSearchResult) (number : ℕ) (kind : EndKind) (events : List Event) → AreEndsOfChip (chip_of s) found
     → slice_get found.kinds number ≡ Some kind
     → ((load chip : List NodeRecord) → slice_get found.searched.chips 0 ≡ Some load → slice_get found.searched.chips kind.state ≡ Some chip → replay load events ≡ Some chip)
     → replay (chip_of s) events ≡ Some (get_or found.searched.chips kind.state [])

@@ -14,13 +14,13 @@ use Rattle.ga_event.proofs.Nexts.{next_can}
 use Rattle.ga_races.proofs.Exact.{replay_into}
 use Rattle.ga_races.proofs.Independence.{replay_more}
 use Rattle.ga_lab.specs.declared.fault.LabFault.{LabFault}
-use Rattle.ga_lab.specs.Machine.{State, chip_of, step_answer, stepped, with_event, unless_refused}
-use Rattle.ga_check_report.specs.Checking.{HasMade}
-use Rattle.ga_check_report.specs.Settled.{fetches_from_ports, settled_at, settled_below, settled}
+use Rattle.ga_lab.specs.Machine.{State, chip_of, step_answer, state_after_step, with_event, unless_refused}
+use Rattle.ga_check_report.specs.Checking.{HasAppendedEvents}
+use Rattle.ga_check_report.specs.Settled.{fetches_from_ports, settled_at_node, settled_below, settled}
 
 record IsLater (s t : State) : Type 0 where
   events : List Event
-  made : HasMade s events t
+  made : HasAppendedEvents s events t
   runs : replay t.load t.kept ≡ Some (chip_of t)
 
 itself : (s : State) → replay s.load s.kept ≡ Some (chip_of s) → IsLater s s
@@ -40,7 +40,7 @@ after_event s t e l can =
       runs = more ∙ ap Some (sym (ap (λ (o : Option (List NodeRecord)). unwrap_or o []) more));
     }
 
-after_step : (s t : State) (n : NodeId) → IsLater s t → IsLater s (stepped t n)
+after_step : (s t : State) (n : NodeId) → IsLater s t → IsLater s (state_after_step t n)
 after_step s t n l = go (next (chip_of t) n) refl (step_answer t n)
   where
     go : (x : Result Event NotReady) → next (chip_of t) n ≡ x → (a : Result Made LabFault) → IsLater s (unless_refused t a (with_event t x))
@@ -48,10 +48,10 @@ after_step s t n l = go (next (chip_of t) n) refl (step_answer t n)
     go (Err why) is (Ok m) = l
     go (Ok e) is (Ok m) = after_event s t e l (next_can (chip_of t) n e is)
 
-after_settling : (s t : State) (n : NodeId) → IsLater s t → IsLater s (settled_at t n)
+after_settling : (s t : State) (n : NodeId) → IsLater s t → IsLater s (settled_at_node t n)
 after_settling s t n l = go (fetches_from_ports (record_at (chip_of t) n.number))
   where
-    go : (b : Bool) → IsLater s (cond b (stepped t n) t)
+    go : (b : Bool) → IsLater s (cond b (state_after_step t n) t)
     go true = after_step s t n l
     go false = l
 
@@ -63,7 +63,7 @@ later : (s : State) → replay s.load s.kept ≡ Some (chip_of s) → IsLater s 
 unfolding settled
 later s runs = after_all_below s 144 runs
 
-pub behind_waits : (s : State) → replay s.load s.kept ≡ Some (chip_of s) → (waits : List Event) × HasMade s waits (settled s)
+pub behind_waits : (s : State) → replay s.load s.kept ≡ Some (chip_of s) → (waits : List Event) × HasAppendedEvents s waits (settled s)
     × ((events : List Event) → replay (chip_of (settled s)) events ≡ replay (chip_of s) (waits ++ events))
 behind_waits s runs =
     let l = later s runs in

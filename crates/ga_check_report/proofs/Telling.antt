@@ -5,10 +5,10 @@ use Rattle.ga_lab.specs.Machine.{State, chip_of}
 use Rattle.ga_explorer_text.specs.Saved.{saved_text}
 use Rattle.ga_console.specs.declared.run.Status.TheVariants.{ImageRefused}
 use Rattle.ga_state_search.specs.declared.fault.SearchFault.{SearchFault}
-use Rattle.ga_state_ends.specs.Ends.{EndsFound, AreEnds}
-use Rattle.ga_check_report.specs.EndTexts.{ends_text, is_whole}
-use Rattle.ga_check_report.specs.Checking.{is_unclean, IsLedTo, TellsEnds}
-use Rattle.ga_check_report.specs.Checking.TellsEnds.{all, none, led, no_memory, too_long}
+use Rattle.ga_state_ends.specs.Ends.{EndSearchResult, AreEndsOfChip}
+use Rattle.ga_check_report.specs.EndTexts.{ends_text, is_fully_explored}
+use Rattle.ga_check_report.specs.Checking.{is_unclean, HasReachedEndKind, WritesEndsReport}
+use Rattle.ga_check_report.specs.Checking.WritesEndsReport.{all, none, led, no_memory, too_long}
 use Rattle.ga_check_report.specs.declared.ends_text.CheckBounds.{CheckBounds}
 use Rattle.ga_check_report.specs.declared.report.Verdict.TheVariants.{Clean, Unclean, Unknown, Saved, Ended}
 
@@ -27,7 +27,7 @@ saved_by true whole is = cc
 saved_by false true is = cc
 saved_by false false is = cc
 
-whole_is : (fault : Option SearchFault) → is_whole fault ≡ true → fault ≡ None
+whole_is : (fault : Option SearchFault) → is_fully_explored fault ≡ true → fault ≡ None
 whole_is None h = refl
 whole_is (Some fault) h = absurd (cc)
 
@@ -43,13 +43,13 @@ saved_not_none : (whole : Bool) → Saved ≡ cond whole (Ended ImageRefused) Un
 saved_not_none true is = cc
 saved_not_none false is = cc
 
-pub clean_told : (bounds : CheckBounds) (asked : ℕ) (s : State) (text : List ℕ) → TellsEnds bounds asked s text Clean
-    → (found : EndsFound) × AreEnds (chip_of s) found × (found.fault ≡ None) × (list_any is_unclean found.kinds ≡ false) × (text ≡ ends_text bounds found)
+pub clean_told : (bounds : CheckBounds) (asked : ℕ) (s : State) (text : List ℕ) → WritesEndsReport bounds asked s text Clean
+    → (found : EndSearchResult) × AreEndsOfChip (chip_of s) found × (found.fault ≡ None) × (list_any is_unclean found.kinds ≡ false) × (text ≡ ends_text bounds found)
 clean_told bounds asked s text (all found ends zero (inl out)) =
-    let parts = clean_by (list_any is_unclean found.kinds) (is_whole found.fault) out.1 in
+    let parts = clean_by (list_any is_unclean found.kinds) (is_fully_explored found.fault) out.1 in
     (found, ends, whole_is found.fault parts.1, parts.0, out.0)
 clean_told bounds asked s text (all found ends zero (inr out)) = absurd (let q = out.1 in cc)
-clean_told bounds asked s text (none found ends past (inl out)) = absurd (clean_not_none (is_whole found.fault) out.1)
+clean_told bounds asked s text (none found ends past (inl out)) = absurd (clean_not_none (is_fully_explored found.fault) out.1)
 clean_told bounds asked s text (none found ends past (inr out)) = absurd (let q = out.1 in cc)
 clean_told bounds asked s text (led found last ends there (inl out)) = absurd (let q = out.1 in cc)
 clean_told bounds asked s text (led found last ends there (inr out)) = absurd (let q = out.1 in cc)
@@ -58,12 +58,12 @@ clean_told bounds asked s text (no_memory (inr out)) = absurd (let q = out.1 in 
 clean_told bounds asked s text (too_long some (inl out)) = absurd (let q = out.1 in cc)
 clean_told bounds asked s text (too_long some (inr out)) = absurd (let q = out.1 in cc)
 
-pub unclean_told : (bounds : CheckBounds) (asked : ℕ) (s : State) (text : List ℕ) → TellsEnds bounds asked s text Unclean
-    → (found : EndsFound) × AreEnds (chip_of s) found × (list_any is_unclean found.kinds ≡ true) × (text ≡ ends_text bounds found)
+pub unclean_told : (bounds : CheckBounds) (asked : ℕ) (s : State) (text : List ℕ) → WritesEndsReport bounds asked s text Unclean
+    → (found : EndSearchResult) × AreEndsOfChip (chip_of s) found × (list_any is_unclean found.kinds ≡ true) × (text ≡ ends_text bounds found)
 unclean_told bounds asked s text (all found ends zero (inl out)) =
-    (found, ends, unclean_by (list_any is_unclean found.kinds) (is_whole found.fault) out.1, out.0)
+    (found, ends, unclean_by (list_any is_unclean found.kinds) (is_fully_explored found.fault) out.1, out.0)
 unclean_told bounds asked s text (all found ends zero (inr out)) = absurd (let q = out.1 in cc)
-unclean_told bounds asked s text (none found ends past (inl out)) = absurd (unclean_not_none (is_whole found.fault) out.1)
+unclean_told bounds asked s text (none found ends past (inl out)) = absurd (unclean_not_none (is_fully_explored found.fault) out.1)
 unclean_told bounds asked s text (none found ends past (inr out)) = absurd (let q = out.1 in cc)
 unclean_told bounds asked s text (led found last ends there (inl out)) = absurd (let q = out.1 in cc)
 unclean_told bounds asked s text (led found last ends there (inr out)) = absurd (let q = out.1 in cc)
@@ -72,11 +72,11 @@ unclean_told bounds asked s text (no_memory (inr out)) = absurd (let q = out.1 i
 unclean_told bounds asked s text (too_long some (inl out)) = absurd (let q = out.1 in cc)
 unclean_told bounds asked s text (too_long some (inr out)) = absurd (let q = out.1 in cc)
 
-pub session_told : (bounds : CheckBounds) (asked : ℕ) (s : State) (text : List ℕ) → TellsEnds bounds asked s text Saved
-    → (found : EndsFound) × (last : State) × AreEnds (chip_of s) found × IsLedTo found asked s last × (text ≡ saved_text last)
-session_told bounds asked s text (all found ends zero (inl out)) = absurd (saved_by (list_any is_unclean found.kinds) (is_whole found.fault) out.1)
+pub session_told : (bounds : CheckBounds) (asked : ℕ) (s : State) (text : List ℕ) → WritesEndsReport bounds asked s text Saved
+    → (found : EndSearchResult) × (last : State) × AreEndsOfChip (chip_of s) found × HasReachedEndKind found asked s last × (text ≡ saved_text last)
+session_told bounds asked s text (all found ends zero (inl out)) = absurd (saved_by (list_any is_unclean found.kinds) (is_fully_explored found.fault) out.1)
 session_told bounds asked s text (all found ends zero (inr out)) = absurd (let q = out.1 in cc)
-session_told bounds asked s text (none found ends past (inl out)) = absurd (saved_not_none (is_whole found.fault) out.1)
+session_told bounds asked s text (none found ends past (inl out)) = absurd (saved_not_none (is_fully_explored found.fault) out.1)
 session_told bounds asked s text (none found ends past (inr out)) = absurd (let q = out.1 in cc)
 session_told bounds asked s text (led found last ends there (inl out)) = (found, last, ends, there, out.0)
 session_told bounds asked s text (led found last ends there (inr out)) = absurd (let q = out.1 in cc)

@@ -12,81 +12,81 @@ use Rattle.ga_display.specs.Texts.{refusal_text}
 use Rattle.ga_console.specs.declared.run.Status.{Status}
 use Rattle.ga_console.specs.declared.run.Status.TheVariants.{ImageRefused, StreamFault}
 use Rattle.ga_explorer_text.specs.Saved.{saved_text}
-use Rattle.ga_explorer.specs.Opening.{OpensExploring, IsFront, Unbegun, ExplorerState}
-use Rattle.ga_state_ends.specs.Ends.{EndsFound, AreEnds}
+use Rattle.ga_explorer.specs.Opening.{OpensExplorer, IsLeadingText, IsUnopenedSession, ExplorerState}
+use Rattle.ga_state_ends.specs.Ends.{EndSearchResult, AreEndsOfChip}
 use Rattle.ga_state_ends.specs.declared.end_kind.EndKind.{EndKind}
 use Rattle.ga_check_report.specs.declared.ends_text.CheckBounds.{CheckBounds}
 use Rattle.ga_check_report.specs.declared.report.Verdict.{Verdict}
 use Rattle.ga_check_report.specs.declared.report.Verdict.TheVariants.{Clean, Unclean, Unknown, Saved, Ended}
-use Rattle.ga_check_report.specs.EndTexts.{ends_text, no_kind_text, is_whole}
-use Rattle.ga_check_report.specs.Settled.{begun_from}
+use Rattle.ga_check_report.specs.EndTexts.{ends_text, missing_kind_text, is_fully_explored}
+use Rattle.ga_check_report.specs.Settled.{check_start}
 
 -- ---- the verdict
 
 -- some node makes no further step and doesn't rest cleanly
-abbrev pub is_set : Bool → Bool
-is_set mark = mark
+abbrev pub is_flag_set : Bool → Bool
+is_flag_set mark = mark
 
 abbrev pub is_unclean : EndKind → Bool
-is_unclean kind = list_any is_set kind.unclean
+is_unclean kind = list_any is_flag_set kind.unclean
 
 -- an end that isn't clean was found; or there is none; or there may be others
-abbrev pub verdict_of : EndsFound → Verdict
+abbrev pub verdict_of : EndSearchResult → Verdict
 verdict_of found =
     if list_any is_unclean found.kinds then Unclean
-    else if is_whole found.fault then Clean
+    else if is_fully_explored found.fault then Clean
     else Unknown
 
 -- the verdict where no kind of end has the number: there is none, or there may be one
-abbrev pub no_kind_verdict : EndsFound → Verdict
-no_kind_verdict found = if is_whole found.fault then Ended ImageRefused else Unknown
+abbrev pub missing_kind_verdict : EndSearchResult → Verdict
+missing_kind_verdict found = if is_fully_explored found.fault then Ended ImageRefused else Unknown
 
 -- ---- the session of a kind of end
 
 -- the machine keeps these events more, and else is as it was
-pub record HasMade (old : State) (events : List Event) (new : State) : Type 0 where
+pub record HasAppendedEvents (old : State) (events : List Event) (new : State) : Type 0 where
   pub load : new.load ≡ old.load
   pub limit : new.limit ≡ old.limit
   pub kept : new.kept ≡ old.kept ++ events
 
 -- Events led the machine to the first end of the kind of this number, counted from 1.
-pub record IsLedTo (found : EndsFound) (asked : ℕ) (old new : State) : Type 0 where
+pub record HasReachedEndKind (found : EndSearchResult) (asked : ℕ) (old new : State) : Type 0 where
   pub kind : EndKind
   pub numbered : slice_get found.kinds (asked - 1) ≡ Some kind
   pub events : List Event
-  pub made : HasMade old events new
+  pub made : HasAppendedEvents old events new
   pub there : slice_get found.searched.chips kind.state ≡ Some (chip_of new)
 
 -- ---- what is told
 
 -- a text was written whole, or that failed
-abbrev pub IsTextOut : Text → Verdict → Text → Verdict → Type 0
-IsTextOut whole verdict text end = ((text ≡ whole) × (end ≡ verdict)) ⊎ (TextHasPrefix whole text × (end ≡ Ended StreamFault))
+abbrev pub IsReportOutput : Text → Verdict → Text → Verdict → Type 0
+IsReportOutput whole verdict text end = ((text ≡ whole) × (end ≡ verdict)) ⊎ (TextHasPrefix whole text × (end ≡ Ended StreamFault))
 
 -- What is told of a machine: the kinds of its ends; or the session of one that is asked for by its number; or that there is no such kind; or
 -- that there was no memory; or that the machine keeps fewer events than the session has.
-pub data TellsEnds (bounds : CheckBounds) (asked : ℕ) (s : State) (text : Text) (verdict : Verdict) : Type 0 where
-  all : (found : EndsFound) → AreEnds (chip_of s) found → asked ≡ 0 → IsTextOut (ends_text bounds found) (verdict_of found) text verdict
-      → TellsEnds bounds asked s text verdict
-  none : (found : EndsFound) → AreEnds (chip_of s) found → length found.kinds < asked → IsTextOut (no_kind_text asked found) (no_kind_verdict found) text verdict
-      → TellsEnds bounds asked s text verdict
-  led : (found : EndsFound) (last : State) → AreEnds (chip_of s) found → IsLedTo found asked s last → IsTextOut (saved_text last) Saved text verdict
-      → TellsEnds bounds asked s text verdict
-  no_memory : IsTextOut (refusal_text fault.Memory) (Ended ImageRefused) text verdict → TellsEnds bounds asked s text verdict
-  too_long : 0 < asked → IsTextOut (refusal_text fault.Full) (Ended ImageRefused) text verdict → TellsEnds bounds asked s text verdict
+pub data WritesEndsReport (bounds : CheckBounds) (asked : ℕ) (s : State) (text : Text) (verdict : Verdict) : Type 0 where
+  all : (found : EndSearchResult) → AreEndsOfChip (chip_of s) found → asked ≡ 0 → IsReportOutput (ends_text bounds found) (verdict_of found) text verdict
+      → WritesEndsReport bounds asked s text verdict
+  none : (found : EndSearchResult) → AreEndsOfChip (chip_of s) found → length found.kinds < asked → IsReportOutput (missing_kind_text asked found) (missing_kind_verdict found) text verdict
+      → WritesEndsReport bounds asked s text verdict
+  led : (found : EndSearchResult) (last : State) → AreEndsOfChip (chip_of s) found → HasReachedEndKind found asked s last → IsReportOutput (saved_text last) Saved text verdict
+      → WritesEndsReport bounds asked s text verdict
+  no_memory : IsReportOutput (refusal_text fault.Memory) (Ended ImageRefused) text verdict → WritesEndsReport bounds asked s text verdict
+  too_long : 0 < asked → IsReportOutput (refusal_text fault.Full) (Ended ImageRefused) text verdict → WritesEndsReport bounds asked s text verdict
 
 -- An image or source was accepted, and the ends of its machine were told, from where it had come to rest if it was to. Nothing is done with
 -- what was read after it.
-pub record ChecksText (bounds : CheckBounds) (limit : ℕ) (settles : Bool) (asked : ℕ) (read rest : Bytes) (written : Text) (verdict : Verdict) : Type 0 where
+pub record IsCheckOfProgram (bounds : CheckBounds) (limit : ℕ) (settles : Bool) (asked : ℕ) (read rest : Bytes) (written : Text) (verdict : Verdict) : Type 0 where
   pub text : Text
   pub ahead : Bytes
   pub begun : ExplorerState
   pub splits : read ≡ text ++ ahead
-  pub front : IsFront text (ahead ++ rest)
-  pub opens : OpensExploring text limit begun
-  pub tells : TellsEnds bounds asked (begun_from settles begun.lab) written verdict
+  pub front : IsLeadingText text (ahead ++ rest)
+  pub opens : OpensExplorer text limit begun
+  pub tells : WritesEndsReport bounds asked (check_start settles begun.lab) written verdict
 
 -- What may have been written, where read was read of the input and rest is left of it, and the verdict.
-pub data ChecksEnds (bounds : CheckBounds) (limit : ℕ) (settles : Bool) (asked : ℕ) (read rest : Bytes) (written : Text) (verdict : Verdict) : Type 0 where
-  checked : ChecksText bounds limit settles asked read rest written verdict → ChecksEnds bounds limit settles asked read rest written verdict
-  unbegun : (status : Status) → verdict ≡ Ended status → Unbegun None read rest written status → ChecksEnds bounds limit settles asked read rest written verdict
+pub data IsCheckOutcome (bounds : CheckBounds) (limit : ℕ) (settles : Bool) (asked : ℕ) (read rest : Bytes) (written : Text) (verdict : Verdict) : Type 0 where
+  checked : IsCheckOfProgram bounds limit settles asked read rest written verdict → IsCheckOutcome bounds limit settles asked read rest written verdict
+  unbegun : (status : Status) → verdict ≡ Ended status → IsUnopenedSession None read rest written status → IsCheckOutcome bounds limit settles asked read rest written verdict

@@ -2,47 +2,47 @@
 -- project's own): the number of states, each kind of end with what the nodes do there, and whether some order never comes to an end.
 use Rattle.std.specs.Prelude.{ℕ, ◌+◌, ◌==◌, Bool, true, false, if◌then◌else◌, List, [], ◌∷◌, ◌++◌, length, codes, decimal, slice_index_or, Option, Some, None}
 use Rattle.ga_text.specs.Lines.{Text}
-use Rattle.ga_explorer_text.specs.Waiting.{name_text, each_node}
+use Rattle.ga_explorer_text.specs.Waiting.{name_text_of_node, texts_of_nodes}
 use Rattle.ga_state_search.specs.declared.fault.SearchFault.{SearchFault}
 use Rattle.ga_state_search.specs.declared.fault.SearchFault.TheVariants as fault
-use Rattle.ga_state_ends.specs.Ends.{EndsFound}
+use Rattle.ga_state_ends.specs.Ends.{EndSearchResult}
 use Rattle.ga_state_ends.specs.declared.end_kind.EndKind.{EndKind}
 use Rattle.ga_state_ends.specs.declared.end_kind.NodeEnd.{NodeEnd}
 use Rattle.ga_check_report.specs.declared.ends_text.CheckBounds.{CheckBounds}
 use Rattle.ga_check_report.specs.declared.end_nodes.EndPart.{EndPart}
-use Rattle.ga_check_report.specs.declared.end_nodes.EndPart.TheVariants.{Going, Reading, Writing}
-use Rattle.ga_state_ends.specs.declared.end_kind.NodeEnd.TheVariants.{GoesOn, Idle, Reads, Writes, Stopped}
+use Rattle.ga_check_report.specs.declared.end_nodes.EndPart.TheVariants.{Continuing, Reading, Writing}
+use Rattle.ga_state_ends.specs.declared.end_kind.NodeEnd.TheVariants.{KeepsRunning, Idle, Reads, Writes, Stopped}
 
 -- ---- the nodes of an end
 
 -- what a node does at an end
-abbrev pub end_at : List NodeEnd → ℕ → NodeEnd
-end_at nodes n = slice_index_or nodes n Idle
+abbrev pub node_end_at : List NodeEnd → ℕ → NodeEnd
+node_end_at nodes n = slice_index_or nodes n Idle
 
 -- a node that stopped, and why, after a comma
-abbrev pub stop_item : NodeEnd → ℕ → Text
-stop_item GoesOn n = []
-stop_item Idle n = []
-stop_item Reads n = []
-stop_item Writes n = []
-stop_item (Stopped code) n = codes ", " ++ name_text n ++ codes " stop " ++ decimal code
+abbrev pub stopped_node_text : NodeEnd → ℕ → Text
+stopped_node_text KeepsRunning n = []
+stopped_node_text Idle n = []
+stopped_node_text Reads n = []
+stopped_node_text Writes n = []
+stopped_node_text (Stopped code) n = codes ", " ++ name_text_of_node n ++ codes " stop " ++ decimal code
 
 -- a node after a blank, if it is to be named
-abbrev pub name_item : Bool → ℕ → Text
-name_item true n = codes " " ++ name_text n
-name_item false n = []
+abbrev pub optional_name_text : Bool → ℕ → Text
+optional_name_text true n = codes " " ++ name_text_of_node n
+optional_name_text false n = []
 
 -- a node that can always make another step
-abbrev pub goes_on : NodeEnd → Bool
-goes_on GoesOn = true
-goes_on Idle = false
-goes_on Reads = false
-goes_on Writes = false
-goes_on (Stopped code) = false
+abbrev pub can_continue : NodeEnd → Bool
+can_continue KeepsRunning = true
+can_continue Idle = false
+can_continue Reads = false
+can_continue Writes = false
+can_continue (Stopped code) = false
 
 -- a node that waits to read
 abbrev pub waits_to_read : NodeEnd → Bool
-waits_to_read GoesOn = false
+waits_to_read KeepsRunning = false
 waits_to_read Idle = false
 waits_to_read Reads = true
 waits_to_read Writes = false
@@ -50,73 +50,73 @@ waits_to_read (Stopped code) = false
 
 -- a node that waits to write
 abbrev pub waits_to_write : NodeEnd → Bool
-waits_to_write GoesOn = false
+waits_to_write KeepsRunning = false
 waits_to_write Idle = false
 waits_to_write Reads = false
 waits_to_write Writes = true
 waits_to_write (Stopped code) = false
 
 -- a node of this part
-abbrev pub is_of : EndPart → NodeEnd → Bool
-is_of Going end = goes_on end
-is_of Reading end = waits_to_read end
-is_of Writing end = waits_to_write end
+abbrev pub is_in_end_part : EndPart → NodeEnd → Bool
+is_in_end_part Continuing end = can_continue end
+is_in_end_part Reading end = waits_to_read end
+is_in_end_part Writing end = waits_to_write end
 
-abbrev pub stop_items : List NodeEnd → Text
-stop_items nodes = each_node (λ n. stop_item (end_at nodes n) n) 0 144
+abbrev pub stopped_nodes_text : List NodeEnd → Text
+stopped_nodes_text nodes = texts_of_nodes (λ n. stopped_node_text (node_end_at nodes n) n) 0 144
 
 -- the nodes of this part
-abbrev pub part_items : EndPart → List NodeEnd → Text
-part_items part nodes = each_node (λ n. name_item (is_of part (end_at nodes n)) n) 0 144
+abbrev pub part_names_text : EndPart → List NodeEnd → Text
+part_names_text part nodes = texts_of_nodes (λ n. optional_name_text (is_in_end_part part (node_end_at nodes n)) n) 0 144
 
 -- the nodes that make no further step and don't rest cleanly
-abbrev pub unclean_items : List Bool → Text
-unclean_items unclean = each_node (λ n. name_item (slice_index_or unclean n false) n) 0 144
+abbrev pub unclean_names_text : List Bool → Text
+unclean_names_text unclean = texts_of_nodes (λ n. optional_name_text (slice_index_or unclean n false) n) 0 144
 
 -- ---- the line of a kind of end
 
 -- some nodes between two texts; nothing where there are none
-abbrev pub enclosed : Text → Text → Text → Text
-enclosed before after [] = []
-enclosed before after (blank ∷ names) = before ++ (blank ∷ names) ++ after
+abbrev pub enclosed_text : Text → Text → Text → Text
+enclosed_text before after [] = []
+enclosed_text before after (blank ∷ names) = before ++ (blank ∷ names) ++ after
 
 -- what the nodes do that make no further step, each part after a comma: those that stopped, those that wait to read, those that wait to write
-abbrev pub still_text : Text → Text → Text → Text
-still_text stops reading writing =
-    stops ++ enclosed (codes ",") (codes " waiting to read") reading ++ enclosed (codes ",") (codes " waiting to write") writing
+abbrev pub halted_nodes_text : Text → Text → Text → Text
+halted_nodes_text stops reading writing =
+    stops ++ enclosed_text (codes ",") (codes " waiting to read") reading ++ enclosed_text (codes ",") (codes " waiting to write") writing
 
 -- an end at which no node goes on; the first part has no comma before it
-abbrev pub ends_with : Text → Text
-ends_with [] = codes "ends quiet"
-ends_with (comma ∷ still) = codes "ends with" ++ still
+abbrev pub quiet_end_text : Text → Text
+quiet_end_text [] = codes "ends quiet"
+quiet_end_text (comma ∷ still) = codes "ends with" ++ still
 
 -- an end at which these nodes go on
-abbrev pub goes_with : Text → Text → Text
-goes_with going [] = codes "goes on for ever" ++ going
-goes_with going (comma ∷ still) = codes "goes on for ever" ++ going ++ codes ", with" ++ still
+abbrev pub endless_end_text : Text → Text → Text
+endless_end_text going [] = codes "goes on for ever" ++ going
+endless_end_text going (comma ∷ still) = codes "goes on for ever" ++ going ++ codes ", with" ++ still
 
 -- an end at which these nodes go on, and the others do this
 abbrev pub end_text : Text → Text → Text
-end_text [] still = ends_with still
-end_text (blank ∷ going) still = goes_with (blank ∷ going) still
+end_text [] still = quiet_end_text still
+end_text (blank ∷ going) still = endless_end_text (blank ∷ going) still
 
-abbrev pub nodes_text : List NodeEnd → Text
-nodes_text nodes = end_text (part_items Going nodes) (still_text (stop_items nodes) (part_items Reading nodes) (part_items Writing nodes))
+abbrev pub node_ends_text : List NodeEnd → Text
+node_ends_text nodes = end_text (part_names_text Continuing nodes) (halted_nodes_text (stopped_nodes_text nodes) (part_names_text Reading nodes) (part_names_text Writing nodes))
 
 -- how many ends are of the kind, if they are several
-abbrev pub ways_text : ℕ → Text
-ways_text ends = if ends == 1 then [] else codes ", in " ++ decimal ends ++ codes " ways"
+abbrev pub end_count_text : ℕ → Text
+end_count_text ends = if ends == 1 then [] else codes ", in " ++ decimal ends ++ codes " ways"
 
 -- the line of a kind of end, which has this number
 abbrev pub end_kind_line : ℕ → Text → ℕ → Text
-end_kind_line number end ends = end ++ ways_text ends ++ codes ": --session " ++ decimal number ++ codes "\n"
+end_kind_line number end ends = end ++ end_count_text ends ++ codes ": --session " ++ decimal number ++ codes "\n"
 
 -- the line of the nodes that don't rest cleanly, if there are any
 abbrev pub unclean_line : Text → Text
-unclean_line nodes = enclosed (codes "  not clean:") (codes "\n") nodes
+unclean_line nodes = enclosed_text (codes "  not clean:") (codes "\n") nodes
 
 abbrev pub end_kind_text : ℕ → EndKind → Text
-end_kind_text number kind = end_kind_line number (nodes_text kind.nodes) kind.ends ++ unclean_line (unclean_items kind.unclean)
+end_kind_text number kind = end_kind_line number (node_ends_text kind.nodes) kind.ends ++ unclean_line (unclean_names_text kind.unclean)
 
 -- the lines of these kinds, numbered from this number on
 abbrev pub kinds_text : ℕ → List EndKind → Text
@@ -126,52 +126,52 @@ kinds_text number (kind ∷ kinds) = end_kind_text number kind ++ kinds_text (nu
 -- ---- the whole answer
 
 -- so many of a thing
-abbrev pub counted_text : ℕ → Text → Text
-counted_text n thing = decimal n ++ thing ++ (if n == 1 then [] else codes "s")
+abbrev pub counted_noun_text : ℕ → Text → Text
+counted_noun_text n thing = decimal n ++ thing ++ (if n == 1 then [] else codes "s")
 
 -- there may be more
-abbrev pub bound_text : Bool → Text
-bound_text true = []
-bound_text false = codes "at least "
+abbrev pub at_least_text : Bool → Text
+at_least_text true = []
+at_least_text false = codes "at least "
 
 -- each state was explored
-abbrev pub is_whole : Option SearchFault → Bool
-is_whole None = true
-is_whole (Some fault) = false
+abbrev pub is_fully_explored : Option SearchFault → Bool
+is_fully_explored None = true
+is_fully_explored (Some fault) = false
 
 -- the numbers of states and of kinds of end
-abbrev pub ends_head : Bool → ℕ → ℕ → Text
-ends_head whole states kinds =
-    bound_text whole ++ counted_text states (codes " state") ++ codes ", " ++ bound_text whole ++ counted_text kinds (codes " kind") ++ codes " of end\n"
+abbrev pub ends_header : Bool → ℕ → ℕ → Text
+ends_header whole states kinds =
+    at_least_text whole ++ counted_noun_text states (codes " state") ++ codes ", " ++ at_least_text whole ++ counted_noun_text kinds (codes " kind") ++ codes " of end\n"
 
 -- why the search stopped before its end, and which option lets it go on
-abbrev pub stopped_text : CheckBounds → SearchFault → Text
-stopped_text bounds fault.Full = codes "stopped at --most " ++ decimal bounds.most ++ codes " states\n"
-stopped_text bounds fault.Stopped = codes "stopped after --seconds " ++ decimal bounds.seconds ++ codes "\n"
-stopped_text bounds fault.Memory = codes "stopped: no memory for more states\n"
-stopped_text bounds fault.Unassumed = codes "stopped: begun anew too often\n"
+abbrev pub search_stop_text : CheckBounds → SearchFault → Text
+search_stop_text bounds fault.Full = codes "stopped at --most " ++ decimal bounds.most ++ codes " states\n"
+search_stop_text bounds fault.Stopped = codes "stopped after --seconds " ++ decimal bounds.seconds ++ codes "\n"
+search_stop_text bounds fault.Memory = codes "stopped: no memory for more states\n"
+search_stop_text bounds fault.ExceedsAssumptions = codes "stopped: begun anew too often\n"
 
 -- whether some order never comes to an end; nothing where it can go on for ever at an end alone
-abbrev pub cycles_text : Bool → Bool → Text
-cycles_text true cycle = codes "it can go on for ever before\n"
-cycles_text false true = []
-cycles_text false false = codes "every order comes to an end\n"
+abbrev pub termination_text : Bool → Bool → Text
+termination_text true cycle = codes "it can go on for ever before\n"
+termination_text false true = []
+termination_text false false = codes "every order comes to an end\n"
 
 -- the last line: which bound was met, or whether some order never comes to an end
-abbrev pub last_text : CheckBounds → Option SearchFault → Bool → Bool → Text
-last_text bounds None before cycle = cycles_text before cycle
-last_text bounds (Some fault) before cycle = stopped_text bounds fault
+abbrev pub final_line_text : CheckBounds → Option SearchFault → Bool → Bool → Text
+final_line_text bounds None before cycle = termination_text before cycle
+final_line_text bounds (Some fault) before cycle = search_stop_text bounds fault
 
 -- the head, the lines of these kinds, and the last line
-abbrev pub ends_with_kinds : CheckBounds → EndsFound → List EndKind → Text
-ends_with_kinds bounds found kinds =
-    ends_head (is_whole found.fault) (length found.searched.chips) (length kinds) ++ kinds_text 1 kinds
-    ++ last_text bounds found.fault found.has_cycle_before found.has_cycle
+abbrev pub ends_report_text : CheckBounds → EndSearchResult → List EndKind → Text
+ends_report_text bounds found kinds =
+    ends_header (is_fully_explored found.fault) (length found.searched.chips) (length kinds) ++ kinds_text 1 kinds
+    ++ final_line_text bounds found.fault found.has_cycle_before found.has_cycle
 
-abbrev pub ends_text : CheckBounds → EndsFound → Text
-ends_text bounds found = ends_with_kinds bounds found found.kinds
+abbrev pub ends_text : CheckBounds → EndSearchResult → Text
+ends_text bounds found = ends_report_text bounds found found.kinds
 
 -- there is no kind of end of this number: there are so many, or at least as many
-abbrev pub no_kind_text : ℕ → EndsFound → Text
-no_kind_text asked found =
-    codes "no kind " ++ decimal asked ++ codes ": there are " ++ bound_text (is_whole found.fault) ++ decimal (length found.kinds) ++ codes "\n"
+abbrev pub missing_kind_text : ℕ → EndSearchResult → Text
+missing_kind_text asked found =
+    codes "no kind " ++ decimal asked ++ codes ": there are " ++ at_least_text (is_fully_explored found.fault) ++ decimal (length found.kinds) ++ codes "\n"

@@ -1,7 +1,7 @@
 -- A chip that has come to rest before its program runs: each node whose first event is to wait for code has made it (F18A Technology
 -- Reference DB001, ports and reset; in which order is this project's own choice).
 use Rattle.std.specs.Prelude.{ℕ, zero, suc, ◌==◌, Bool, true, false, ◌&&◌, if◌then◌else◌, is_none}
-use Rattle.ga_ports.specs.Address.{classified}
+use Rattle.ga_ports.specs.Address.{address_target}
 use Rattle.ga_ports.specs.declared.address.Target.{Target}
 use Rattle.ga_ports.specs.declared.address.Target.TheVariants.{Ram, Rom, Io, Ports, Bad}
 use Rattle.ga_node.specs.Record.{NodeRecord}
@@ -9,32 +9,32 @@ use Rattle.ga_node.specs.Table.{refusal}
 use Rattle.ga_grid.specs.declared.node_id.NodeId.{NodeId}
 use Rattle.ga_grid.specs.Chip.{record_at}
 use Rattle.ga_grid.specs.Grid.{node_id}
-use Rattle.ga_lab.specs.Machine.{State, chip_of, stepped}
+use Rattle.ga_lab.specs.Machine.{State, chip_of, state_after_step}
 
-abbrev pub are_ports : Target → Bool
-are_ports (Ports sides) = true
-are_ports (Ram k) = false
-are_ports (Rom k) = false
-are_ports Io = false
-are_ports Bad = false
+abbrev pub is_port_target : Target → Bool
+is_port_target (Ports sides) = true
+is_port_target (Ram k) = false
+is_port_target (Rom k) = false
+is_port_target Io = false
+is_port_target Bad = false
 
 -- the node runs and fetches next, from ports: so its next event is to wait for code
 abbrev pub fetches_from_ports : NodeRecord → Bool
-fetches_from_ports n = is_none (refusal n) && n.slot == 4 && are_ports (classified n.p)
+fetches_from_ports n = is_none (refusal n) && n.slot == 4 && is_port_target (address_target n.p)
 
 -- the machine after a step of the node, where that is to wait for code
-abbrev pub settled_at : State → NodeId → State
-settled_at s n = if fetches_from_ports (record_at (chip_of s) n.number) then stepped s n else s
+abbrev pub settled_at_node : State → NodeId → State
+settled_at_node s n = if fetches_from_ports (record_at (chip_of s) n.number) then state_after_step s n else s
 
 -- the machine after each node with a lower number, one after another, made its step, where that is to wait for code
 abbrev pub settled_below : State → ℕ → State
 settled_below s zero = s
-settled_below s (suc n) = settled_at (settled_below s n) (node_id n)
+settled_below s (suc n) = settled_at_node (settled_below s n) (node_id n)
 
 -- the machine after each node made its step, where that is to wait for code; as far as the limit of kept events allows
 unfoldable pub settled : State → State
 settled s = settled_below s 144
 
 -- the machine from which orders are told, by whether it is to come to rest first
-abbrev pub begun_from : Bool → State → State
-begun_from settles s = if settles then settled s else s
+abbrev pub check_start : Bool → State → State
+check_start settles s = if settles then settled s else s

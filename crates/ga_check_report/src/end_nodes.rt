@@ -1,9 +1,9 @@
 //! The names of the nodes of an end, by what they do there.
 
 ghost use Rattle.std.specs.Prelude.{◌≡◌, ◌≤◌, ◌+◌, ◌++◌, false, codes, slice_index_or};
-ghost use Rattle.ga_explorer_text.specs.Waiting.{name_text};
+ghost use Rattle.ga_explorer_text.specs.Waiting.{name_text_of_node};
 ghost use Rattle.arrayvec.specs.ArrayVec.{array_vec_len};
-ghost use Rattle.ga_check_report.specs.EndTexts.{end_at, stop_item, name_item, goes_on, waits_to_read, waits_to_write, is_of, stop_items, part_items, unclean_items};
+ghost use Rattle.ga_check_report.specs.EndTexts.{node_end_at, stopped_node_text, optional_name_text, can_continue, waits_to_read, waits_to_write, is_in_end_part, stopped_nodes_text, part_names_text, unclean_names_text};
 
 use arrayvec::ArrayVec;
 use ga_grid::NodeId;
@@ -30,7 +30,7 @@ pub(crate) type Names = ArrayVec<u8, NAMES_ROOM>;
 #[derive(Clone, Copy, PartialEq, Eq, Debug)]
 pub(crate) enum EndPart {
     /// They can always make another step.
-    Going,
+    Continuing,
     /// They wait to read.
     Reading,
     /// They wait to write.
@@ -38,20 +38,20 @@ pub(crate) enum EndPart {
 }
 
 /// What a node does at an end.
-fn end_at(nodes: &[NodeEnd; 144], node: NodeId) -> NodeEnd
-    ensures { result ≡ end_at nodes.now node.number }
+fn node_end_at(nodes: &[NodeEnd; 144], node: NodeId) -> NodeEnd
+    ensures { result ≡ node_end_at nodes.now node.number }
 {
     nodes[node.index()]
 }
 
 /// The nodes that stopped, each after a comma.
 pub(crate) fn stops_among(nodes: &[NodeEnd; 144]) -> Stops
-    ensures { result.items ≡ stop_items nodes.now }
+    ensures { result.items ≡ stopped_nodes_text nodes.now }
 {
     let mut out = ArrayVec::new();
     'nodes: for number in 0..144u8 {
         let node = NodeId::new(number);
-        push_stop(&mut out, end_at(nodes, node), node);
+        push_stop(&mut out, node_end_at(nodes, node), node);
     }
     out
 }
@@ -59,7 +59,7 @@ pub(crate) fn stops_among(nodes: &[NodeEnd; 144]) -> Stops
 /// Adds a node that stopped.
 fn push_stop(out: &mut Stops, end: NodeEnd, node: NodeId)
     requires { array_vec_len out.old + STOP_ROOM ≤ STOPS_ROOM }
-    ensures text { out.new.items ≡ out.old.items ++ stop_item end node.number }
+    ensures text { out.new.items ≡ out.old.items ++ stopped_node_text end node.number }
     ensures len { array_vec_len out.new ≤ array_vec_len out.old + STOP_ROOM }
 {
     if let NodeEnd::Stopped(code) = end {
@@ -72,32 +72,36 @@ fn push_stop(out: &mut Stops, end: NodeEnd, node: NodeId)
 
 /// The nodes of a part.
 pub(crate) fn nodes_of(part: EndPart, nodes: &[NodeEnd; 144]) -> Names
-    ensures { result.items ≡ part_items part nodes.now }
+    ensures { result.items ≡ part_names_text part nodes.now }
 {
     let mut out = ArrayVec::new();
     'nodes: for number in 0..144u8 {
         let node = NodeId::new(number);
-        push_name_if(&mut out, is_of(part, end_at(nodes, node)), node);
+        push_name_if(
+            &mut out,
+            is_in_end_part(part, node_end_at(nodes, node)),
+            node,
+        );
     }
     out
 }
 
 /// Whether a node that does this is one of the part.
-fn is_of(part: EndPart, end: NodeEnd) -> bool
-    ensures { result ≡ is_of part end }
+fn is_in_end_part(part: EndPart, end: NodeEnd) -> bool
+    ensures { result ≡ is_in_end_part part end }
 {
     match part {
-        EndPart::Going => goes_on(end),
+        EndPart::Continuing => can_continue(end),
         EndPart::Reading => waits_to_read(end),
         EndPart::Writing => waits_to_write(end),
     }
 }
 
-fn goes_on(end: NodeEnd) -> bool
-    ensures { result ≡ goes_on end }
+fn can_continue(end: NodeEnd) -> bool
+    ensures { result ≡ can_continue end }
 {
     match end {
-        NodeEnd::GoesOn => true,
+        NodeEnd::KeepsRunning => true,
         NodeEnd::Idle => false,
         NodeEnd::Reads => false,
         NodeEnd::Writes => false,
@@ -109,7 +113,7 @@ fn waits_to_read(end: NodeEnd) -> bool
     ensures { result ≡ waits_to_read end }
 {
     match end {
-        NodeEnd::GoesOn => false,
+        NodeEnd::KeepsRunning => false,
         NodeEnd::Idle => false,
         NodeEnd::Reads => true,
         NodeEnd::Writes => false,
@@ -121,7 +125,7 @@ fn waits_to_write(end: NodeEnd) -> bool
     ensures { result ≡ waits_to_write end }
 {
     match end {
-        NodeEnd::GoesOn => false,
+        NodeEnd::KeepsRunning => false,
         NodeEnd::Idle => false,
         NodeEnd::Reads => false,
         NodeEnd::Writes => true,
@@ -131,7 +135,7 @@ fn waits_to_write(end: NodeEnd) -> bool
 
 /// The nodes that make no further step and don't rest cleanly.
 pub(crate) fn unclean_among(unclean: &[bool; 144]) -> Names
-    ensures { result.items ≡ unclean_items unclean.now }
+    ensures { result.items ≡ unclean_names_text unclean.now }
 {
     let mut out = ArrayVec::new();
     'nodes: for number in 0..144u8 {
@@ -151,7 +155,7 @@ fn is_unclean(unclean: &[bool; 144], node: NodeId) -> bool
 /// Adds a blank and a node, if it is to be named.
 fn push_name_if(out: &mut Names, is_named: bool, node: NodeId)
     requires { array_vec_len out.old + NAME_ROOM ≤ NAMES_ROOM }
-    ensures text { out.new.items ≡ out.old.items ++ name_item is_named node.number }
+    ensures text { out.new.items ≡ out.old.items ++ optional_name_text is_named node.number }
     ensures len { array_vec_len out.new ≤ array_vec_len out.old + NAME_ROOM }
 {
     if is_named {
@@ -162,7 +166,7 @@ fn push_name_if(out: &mut Names, is_named: bool, node: NodeId)
 /// Adds a blank and a node.
 fn push_name(out: &mut Names, node: NodeId)
     requires { array_vec_len out.old + NAME_ROOM ≤ NAMES_ROOM }
-    ensures text { out.new.items ≡ out.old.items ++ (codes " " ++ name_text node.number) }
+    ensures text { out.new.items ≡ out.old.items ++ (codes " " ++ name_text_of_node node.number) }
     ensures len { array_vec_len out.new ≤ array_vec_len out.old + NAME_ROOM }
 {
     push_text(out, b" ");

@@ -4,7 +4,7 @@ ghost use Rattle.std.specs.Prelude.{◌≡◌, ◌≤◌, ◌+◌, ◌++◌, len
 ghost use Rattle.arrayvec.specs.ArrayVec.{array_vec_len};
 ghost use Rattle.ga_text.specs.Output.{WritesExactly};
 ghost use Rattle.ga_check_report.specs.declared.end_nodes.EndPart.TheVariants.{Reading, Writing};
-ghost use Rattle.ga_check_report.specs.EndTexts.{stop_items, part_items, unclean_items, enclosed, still_text, ends_with, goes_with, end_text, nodes_text, ways_text, end_kind_line, unclean_line, end_kind_text, kinds_text, counted_text, bound_text, is_whole, ends_head, stopped_text, cycles_text, last_text, ends_text, no_kind_text};
+ghost use Rattle.ga_check_report.specs.EndTexts.{stopped_nodes_text, part_names_text, unclean_names_text, enclosed_text, halted_nodes_text, quiet_end_text, endless_end_text, end_text, node_ends_text, end_count_text, end_kind_line, unclean_line, end_kind_text, kinds_text, counted_noun_text, at_least_text, is_fully_explored, ends_header, search_stop_text, termination_text, final_line_text, ends_text, missing_kind_text};
 
 use crate::end_nodes::{EndPart, NAMES_ROOM, STOPS_ROOM, nodes_of, stops_among, unclean_among};
 use arrayvec::ArrayVec;
@@ -79,61 +79,66 @@ pub(crate) fn write_no_kind<W: Write>(
     found: &FoundEnds,
     writer: &mut Writer<'_, W>,
 ) -> WriteResult
-    ensures { WritesExactly result (no_kind_text asked found.now) W.contents writer.old writer.new }
+    ensures { WritesExactly result (missing_kind_text asked found.now) W.contents writer.old writer.new }
 {
-    writer.write_blocks(no_kind_line(asked, is_whole(found), found.kinds().len()).as_slice())
+    writer.write_blocks(no_kind_line(
+        asked,
+        is_fully_explored(found),
+        found.kinds().len(),
+    ).as_slice())
 }
 
 /// That there is no kind of end of this number, and how many there are.
 fn no_kind_line(asked: u32, whole: bool, kinds: usize) -> TextBuffer
-    ensures { result.items ≡ codes "no kind " ++ decimal asked ++ codes ": there are " ++ bound_text whole ++ decimal kinds ++ codes "\n" }
+    ensures { result.items ≡ codes "no kind " ++ decimal asked ++ codes ": there are " ++ at_least_text whole ++ decimal kinds ++ codes "\n" }
 {
     let mut out = ArrayVec::new();
     push_text(&mut out, b"no kind ");
     push_number(&mut out, u64::from(asked));
     push_text(&mut out, b": there are ");
-    push_text(&mut out, bound_text(whole));
+    push_text(&mut out, at_least_text(whole));
     push_number(&mut out, kinds as u64);
     push_text(&mut out, b"\n");
     out
 }
 
 /// Whether each state was explored.
-pub(crate) fn is_whole(found: &FoundEnds) -> bool
-    ensures { result ≡ is_whole found.now.fault }
+pub(crate) fn is_fully_explored(found: &FoundEnds) -> bool
+    ensures { result ≡ is_fully_explored found.now.fault }
 {
     found.fault().is_none()
 }
 
 /// Writes the numbers of states and of kinds of end.
 fn write_head<W: Write>(found: &FoundEnds, writer: &mut Writer<'_, W>) -> WriteResult
-    ensures { WritesExactly result (ends_head (is_whole found.now.fault) (length found.now.searched.chips) (length found.now.kinds))
+    ensures { WritesExactly result (ends_header (is_fully_explored found.now.fault) (length found.now.searched.chips) (length found.now.kinds))
         W.contents writer.old writer.new }
 {
     writer.write_blocks(head_line(
-        is_whole(found),
+        is_fully_explored(found),
         found.count_states(),
         found.kinds().len(),
-    ).as_slice())
+    )
+    .as_slice())
 }
 
 /// The numbers of states and of kinds of end.
 fn head_line(whole: bool, states: usize, kinds: usize) -> TextBuffer
-    ensures { result.items ≡ ends_head whole states kinds }
+    ensures { result.items ≡ ends_header whole states kinds }
 {
     let mut out = ArrayVec::new();
-    push_text(&mut out, bound_text(whole));
+    push_text(&mut out, at_least_text(whole));
     push_counted(&mut out, states as u64, b" state");
     push_text(&mut out, b", ");
-    push_text(&mut out, bound_text(whole));
+    push_text(&mut out, at_least_text(whole));
     push_counted(&mut out, kinds as u64, b" kind");
     push_text(&mut out, b" of end\n");
     out
 }
 
 /// Whether there may be more.
-fn bound_text(whole: bool) -> &'static [u8]
-    ensures text { result.now ≡ bound_text whole }
+fn at_least_text(whole: bool) -> &'static [u8]
+    ensures text { result.now ≡ at_least_text whole }
     ensures len { length result.now ≤ 9 }
 {
     if whole { b"" } else { b"at least " }
@@ -143,7 +148,7 @@ fn bound_text(whole: bool) -> &'static [u8]
 fn push_counted(out: &mut TextBuffer, number: u64, thing: &[u8])
     requires room { array_vec_len out.old ≤ 100 }
     requires short { length thing.now ≤ 6 }
-    ensures text { out.new.items ≡ out.old.items ++ counted_text number thing.now }
+    ensures text { out.new.items ≡ out.old.items ++ counted_noun_text number thing.now }
     ensures len { array_vec_len out.new ≤ array_vec_len out.old + 27 }
 {
     push_number(out, number);
@@ -159,18 +164,21 @@ fn write_last<W: Write>(
     found: &FoundEnds,
     writer: &mut Writer<'_, W>,
 ) -> WriteResult
-    ensures { WritesExactly result (last_text bounds found.now.fault found.now.has_cycle_before found.now.has_cycle)
+    ensures { WritesExactly result (final_line_text bounds found.now.fault found.now.has_cycle_before found.now.has_cycle)
         W.contents writer.old writer.new }
 {
     match found.fault() {
-        None => writer.write_text(cycles_text(found.can_go_on_before(), !found.always_ends())),
+        None => writer.write_text(termination_text(
+            found.has_endless_path_before(),
+            !found.always_ends(),
+        )),
         Some(fault) => writer.write_blocks(stopped_line(bounds, fault).as_slice()),
     }
 }
 
 /// Whether some order never comes to an end.
-fn cycles_text(before: bool, cycle: bool) -> &'static [u8]
-    ensures { result.now ≡ cycles_text before cycle }
+fn termination_text(before: bool, cycle: bool) -> &'static [u8]
+    ensures { result.now ≡ termination_text before cycle }
 {
     if before {
         b"it can go on for ever before\n"
@@ -183,7 +191,7 @@ fn cycles_text(before: bool, cycle: bool) -> &'static [u8]
 
 /// Why the search stopped before its end.
 fn stopped_line(bounds: CheckBounds, fault: SearchFault) -> TextBuffer
-    ensures { result.items ≡ stopped_text bounds fault }
+    ensures { result.items ≡ search_stop_text bounds fault }
 {
     let mut out = ArrayVec::new();
     match fault {
@@ -198,7 +206,7 @@ fn stopped_line(bounds: CheckBounds, fault: SearchFault) -> TextBuffer
             push_text(&mut out, b"\n");
         }
         SearchFault::Memory => push_text(&mut out, b"stopped: no memory for more states\n"),
-        SearchFault::Unassumed => push_text(&mut out, b"stopped: begun anew too often\n"),
+        SearchFault::ExceedsAssumptions => push_text(&mut out, b"stopped: begun anew too often\n"),
     }
     out
 }
@@ -223,7 +231,7 @@ fn write_kind<W: Write>(number: u64, kind: &EndKind, writer: &mut Writer<'_, W>)
 
 /// The line of a kind of end, which has this number.
 fn end_kind_line(number: u64, kind: &EndKind) -> EndLine
-    ensures { result.items ≡ end_kind_line number (nodes_text kind.now.nodes) kind.now.ends }
+    ensures { result.items ≡ end_kind_line number (node_ends_text kind.now.nodes) kind.now.ends }
 {
     let mut out = ArrayVec::new();
     push_end(&mut out, &kind.nodes);
@@ -237,7 +245,7 @@ fn end_kind_line(number: u64, kind: &EndKind) -> EndLine
 /// Adds how many ends are of the kind, if they are several.
 fn push_ways(out: &mut EndLine, ends: u32)
     requires { array_vec_len out.old ≤ END_ROOM }
-    ensures text { out.new.items ≡ out.old.items ++ ways_text ends }
+    ensures text { out.new.items ≡ out.old.items ++ end_count_text ends }
     ensures len { array_vec_len out.new ≤ array_vec_len out.old + 30 }
 {
     if ends != 1 {
@@ -250,10 +258,10 @@ fn push_ways(out: &mut EndLine, ends: u32)
 /// Adds what the nodes do at an end.
 fn push_end(out: &mut EndLine, nodes: &[NodeEnd; 144])
     requires { array_vec_len out.old ≡ 0 }
-    ensures text { out.new.items ≡ out.old.items ++ nodes_text nodes.now }
+    ensures text { out.new.items ≡ out.old.items ++ node_ends_text nodes.now }
     ensures len { array_vec_len out.new ≤ END_ROOM }
 {
-    let going = nodes_of(EndPart::Going, nodes);
+    let going = nodes_of(EndPart::Continuing, nodes);
     let still = still_among(nodes);
     match going.as_slice().split_first() {
         None => push_ended(out, still.as_slice()),
@@ -265,7 +273,7 @@ fn push_end(out: &mut EndLine, nodes: &[NodeEnd; 144])
 fn push_ended(out: &mut EndLine, still: &[u8])
     requires room { array_vec_len out.old ≡ 0 }
     requires short { length still.now ≤ STILL_ROOM }
-    ensures text { out.new.items ≡ out.old.items ++ ends_with still.now }
+    ensures text { out.new.items ≡ out.old.items ++ quiet_end_text still.now }
     ensures len { array_vec_len out.new ≤ END_ROOM }
 {
     match still.split_first() {
@@ -282,7 +290,7 @@ fn push_going(out: &mut EndLine, going: &[u8], still: &[u8])
     requires room { array_vec_len out.old ≡ 0 }
     requires going { length going.now ≤ NAMES_ROOM }
     requires short { length still.now ≤ STILL_ROOM }
-    ensures text { out.new.items ≡ out.old.items ++ goes_with going.now still.now }
+    ensures text { out.new.items ≡ out.old.items ++ endless_end_text going.now still.now }
     ensures len { array_vec_len out.new ≤ END_ROOM }
 {
     push_text(out, b"goes on for ever");
@@ -295,7 +303,7 @@ fn push_going(out: &mut EndLine, going: &[u8], still: &[u8])
 
 /// What the nodes do that make no further step, each part after a comma.
 fn still_among(nodes: &[NodeEnd; 144]) -> Still
-    ensures text { result.items ≡ still_text (stop_items nodes.now) (part_items Reading nodes.now) (part_items Writing nodes.now) }
+    ensures text { result.items ≡ halted_nodes_text (stopped_nodes_text nodes.now) (part_names_text Reading nodes.now) (part_names_text Writing nodes.now) }
 {
     let mut out = ArrayVec::new();
     push_text(&mut out, stops_among(nodes).as_slice());
@@ -322,7 +330,7 @@ fn push_enclosed<const ROOM: usize>(
     names: &[u8],
 )
     requires { array_vec_len out.old + length before.now + length after.now + length names.now ≤ ROOM }
-    ensures text { out.new.items ≡ out.old.items ++ enclosed before.now after.now names.now }
+    ensures text { out.new.items ≡ out.old.items ++ enclosed_text before.now after.now names.now }
     ensures len { array_vec_len out.new ≤ array_vec_len out.old + length before.now + length after.now + length names.now }
 {
     if !names.is_empty() {
@@ -334,7 +342,7 @@ fn push_enclosed<const ROOM: usize>(
 
 /// The line of the nodes that don't rest cleanly, if there are any.
 fn unclean_line(unclean: &[bool; 144]) -> UncleanLine
-    ensures { result.items ≡ unclean_line (unclean_items unclean.now) }
+    ensures { result.items ≡ unclean_line (unclean_names_text unclean.now) }
 {
     let mut out = ArrayVec::new();
     push_enclosed(

@@ -7,34 +7,34 @@ ghost use Rattle.ga_event.specs.declared.event.Event.{Event};
 ghost use Rattle.ga_event.specs.Apply.{replay};
 ghost use Rattle.ga_lab.specs.Machine.{State, chip_of};
 ghost use Rattle.ga_explorer_text.specs.Saved.{saved_text};
-ghost use Rattle.ga_state_ends.specs.Ends.{EndsFound, AreEnds};
+ghost use Rattle.ga_state_ends.specs.Ends.{EndSearchResult, AreEndsOfChip};
 ghost use Rattle.ga_check_report.specs.Settled.{settled};
 ghost use Rattle.ga_check_report.specs.EndTexts.{ends_text};
-ghost use Rattle.ga_check_report.specs.Checking.{TellsEnds, HasMade, IsLedTo, is_unclean};
+ghost use Rattle.ga_check_report.specs.Checking.{WritesEndsReport, HasAppendedEvents, HasReachedEndKind, is_unclean};
 ghost use Rattle.ga_check_report.specs.declared.ends_text.CheckBounds.{CheckBounds};
 ghost use Rattle.ga_check_report.specs.declared.report.Verdict.TheVariants.{Clean, Unclean, Saved};
 
 /// Where the verdict is `Clean`, each state was explored, each kind of end is told, and each is clean.
-pub fn clean_ends_told()
-    ensures { (bounds : CheckBounds) (asked : ℕ) (s : State) (text : Text) → TellsEnds bounds asked s text Clean →
-        (found : EndsFound) × AreEnds (chip_of s) found × (found.fault ≡ None) × (list_any is_unclean found.kinds ≡ false) × (text ≡ ends_text bounds found) }
+pub fn clean_verdict_sound()
+    ensures { (bounds : CheckBounds) (asked : ℕ) (s : State) (text : Text) → WritesEndsReport bounds asked s text Clean →
+        (found : EndSearchResult) × AreEndsOfChip (chip_of s) found × (found.fault ≡ None) × (list_any is_unclean found.kinds ≡ false) × (text ≡ ends_text bounds found) }
 {}
 
 /// Where the verdict is `Unclean`, an end that isn't clean is told.
-pub fn unclean_end_told()
-    ensures { (bounds : CheckBounds) (asked : ℕ) (s : State) (text : Text) → TellsEnds bounds asked s text Unclean →
-        (found : EndsFound) × AreEnds (chip_of s) found × (list_any is_unclean found.kinds ≡ true) × (text ≡ ends_text bounds found) }
+pub fn unclean_verdict_sound()
+    ensures { (bounds : CheckBounds) (asked : ℕ) (s : State) (text : Text) → WritesEndsReport bounds asked s text Unclean →
+        (found : EndSearchResult) × AreEndsOfChip (chip_of s) found × (list_any is_unclean found.kinds ≡ true) × (text ≡ ends_text bounds found) }
 {}
 
 /// Where the verdict is `Saved`, the session that is told leads to an end of the kind that was asked for.
 pub fn session_leads_to_end()
-    ensures { (bounds : CheckBounds) (asked : ℕ) (s : State) (text : Text) → TellsEnds bounds asked s text Saved →
-        (found : EndsFound) × (last : State) × AreEnds (chip_of s) found × IsLedTo found asked s last × (text ≡ saved_text last) }
+    ensures { (bounds : CheckBounds) (asked : ℕ) (s : State) (text : Text) → WritesEndsReport bounds asked s text Saved →
+        (found : EndSearchResult) × (last : State) × AreEndsOfChip (chip_of s) found × HasReachedEndKind found asked s last × (text ≡ saved_text last) }
 {}
 
 /// A machine that has come to rest keeps some events more, and else is as it was. So what is told from there is told of the program: a list of
 /// events from there is one, after those, from the machine before.
-pub fn settled_before()
-    ensures { (s : State) → replay s.load s.kept ≡ Some (chip_of s) → (waits : List Event) × HasMade s waits (settled s)
+pub fn settling_appends_events()
+    ensures { (s : State) → replay s.load s.kept ≡ Some (chip_of s) → (waits : List Event) × HasAppendedEvents s waits (settled s)
         × ((events : List Event) → replay (chip_of (settled s)) events ≡ replay (chip_of s) (waits ++ events)) }
 {}

@@ -2,9 +2,9 @@
 
 ghost use Rattle.std.specs.Prelude.{◌≡◌, ◌⊎◌, None, Some, Ok, IsSome, OnOk, IfErr};
 ghost use Rattle.ga_event.specs.Apply.{refusal_of, after, replay};
-ghost use Rattle.ga_lab.specs.Machine.{chip_of, with_event, actor_of};
+ghost use Rattle.ga_lab.specs.Machine.{chip_of, with_event, acting_node};
 ghost use Rattle.ga_lab.specs.declared.fault.LabFault.TheVariants.{Memory, Full};
-ghost use Rattle.ga_check_report.specs.Checking.{HasMade};
+ghost use Rattle.ga_check_report.specs.Checking.{HasAppendedEvents};
 
 use ga_event::Event;
 use ga_grid::NodeId;
@@ -16,7 +16,7 @@ use ga_lab::{Lab, LabFault};
 /// [`LabFault::Full`] or [`LabFault::Memory`]; some of the events may be kept then.
 pub(crate) fn make_all(lab: &mut Lab, events: &[Event]) -> Result<(), LabFault>
     requires { IsSome (replay (chip_of lab.old) events.now) }
-    ensures made { OnOk result (HasMade lab.old events.now lab.new) }
+    ensures made { OnOk result (HasAppendedEvents lab.old events.now lab.new) }
     ensures there { OnOk result (replay (chip_of lab.old) events.now ≡ Some (chip_of lab.new)) }
     ensures faults { IfErr result (λ why. (why ≡ Full) ⊎ (why ≡ Memory)) }
 {
@@ -35,7 +35,7 @@ fn make(lab: &mut Lab, event: Event) -> Result<(), LabFault>
 {
     // So the kept events can be replayed.
     let _chip = lab.chip();
-    match lab.step(actor_of(event)) {
+    match lab.step(acting_node(event)) {
         Ok(_) => Ok(()),
         Err(LabFault::Full) => Err(LabFault::Full),
         Err(_) => Err(LabFault::Memory),
@@ -43,8 +43,8 @@ fn make(lab: &mut Lab, event: Event) -> Result<(), LabFault>
 }
 
 /// The node whose step makes the event: of a pass the writer.
-fn actor_of(event: Event) -> NodeId
-    ensures { result ≡ actor_of event }
+fn acting_node(event: Event) -> NodeId
+    ensures { result ≡ acting_node event }
 {
     match event {
         Event::Own(node) => node,

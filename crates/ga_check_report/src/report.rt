@@ -8,24 +8,24 @@ ghost use Rattle.ga_lab.specs.Machine.{chip_of};
 ghost use Rattle.ga_display.specs.Texts.{refusal_text};
 ghost use Rattle.ga_explorer_text.specs.Saved.{saved_text};
 ghost use Rattle.ga_console.specs.declared.run.Status.TheVariants.{ImageRefused};
-ghost use Rattle.ga_state_ends.specs.Ends.{AreEnds};
+ghost use Rattle.ga_state_ends.specs.Ends.{AreEndsOfChip};
 ghost use Rattle.ga_lab.specs.declared.fault.LabFault.TheVariants.{Memory, Full};
 ghost use Rattle.ga_check_report.specs.declared.ends_text.CheckBounds.{CheckBounds};
-ghost use Rattle.ga_check_report.specs.Settled.{begun_from};
-ghost use Rattle.ga_check_report.specs.EndTexts.{ends_text, no_kind_text};
-ghost use Rattle.ga_check_report.specs.Checking.{TellsEnds, ChecksEnds, IsTextOut, IsLedTo, is_set, is_unclean, verdict_of, no_kind_verdict};
+ghost use Rattle.ga_check_report.specs.Settled.{check_start};
+ghost use Rattle.ga_check_report.specs.EndTexts.{ends_text, missing_kind_text};
+ghost use Rattle.ga_check_report.specs.Checking.{WritesEndsReport, IsCheckOutcome, IsReportOutput, HasReachedEndKind, is_flag_set, is_unclean, verdict_of, missing_kind_verdict};
 ghost use Rattle.ga_check_report.specs.declared.report.Verdict.TheVariants.{Saved, Ended};
 
-use crate::ends_text::{CheckBounds, is_whole, write_ends, write_no_kind};
+use crate::ends_text::{CheckBounds, is_fully_explored, write_ends, write_no_kind};
 use crate::making::make_all;
-use crate::settling::settle;
+use crate::settling::settle_waiting_nodes;
 use ga_console::Status;
 use ga_display::refusal_text;
 use ga_explorer::open_lab;
 use ga_explorer_text::write_save;
 use ga_lab::{Lab, LabFault};
 use ga_state_ends::{EndKind, FoundEnds, find_ends};
-use ga_state_search::SearchWatch;
+use ga_state_search::SearchControl;
 use ga_text::{Input, WriteResult, Writer};
 use std::alloc::Global;
 use std::io::{Read, Write};
@@ -59,10 +59,10 @@ pub fn check_ends<R: Read, W: Write, E: Write>(
     limit: u32,
     settles: bool,
     asked: u32,
-    watch: &SearchWatch,
+    watch: &SearchControl,
 ) -> Verdict
     // Where the streams tell their bytes: what was read, and what was written for it by the verdict.
-    ensures { ReadsAndWrites (λ read rest text. ChecksEnds bounds limit settles asked read rest text result)
+    ensures { ReadsAndWrites (λ read rest text. IsCheckOutcome bounds limit settles asked read rest text result)
         (R.remaining reader.old) (R.remaining reader.new) (W.contents writer.old) (W.contents writer.new) }
 {
     let mut input = Input::new();
@@ -87,13 +87,13 @@ fn tell_settled<W: Write>(
     bounds: CheckBounds,
     settles: bool,
     asked: u32,
-    watch: &SearchWatch,
+    watch: &SearchControl,
     writer: &mut W,
 ) -> Verdict
-    ensures { WritesText (λ text. TellsEnds bounds asked (begun_from settles lab.old) text result)
+    ensures { WritesText (λ text. WritesEndsReport bounds asked (check_start settles lab.old) text result)
         (W.contents writer.old) (W.contents writer.new) }
 {
-    match settle(lab, settles) {
+    match settle_waiting_nodes(lab, settles) {
         Ok(()) => tell_ends(alloc, lab, bounds, asked, watch, writer),
         Err(_) => tell_refused(LabFault::Memory, writer),
     }
@@ -105,10 +105,10 @@ fn tell_ends<W: Write>(
     lab: &mut Lab,
     bounds: CheckBounds,
     asked: u32,
-    watch: &SearchWatch,
+    watch: &SearchControl,
     writer: &mut W,
 ) -> Verdict
-    ensures { WritesText (λ text. TellsEnds bounds asked lab.old text result) (W.contents writer.old) (W.contents writer.new) }
+    ensures { WritesText (λ text. WritesEndsReport bounds asked lab.old text result) (W.contents writer.old) (W.contents writer.new) }
 {
     match find_ends(alloc, lab.chip(), bounds.most, watch) {
         Ok(found) => tell_found(alloc, lab, &found, bounds, asked, writer),
@@ -125,8 +125,8 @@ fn tell_found<W: Write>(
     asked: u32,
     writer: &mut W,
 ) -> Verdict
-    requires { AreEnds (chip_of lab.old) found.now }
-    ensures { WritesText (λ text. TellsEnds bounds asked lab.old text result) (W.contents writer.old) (W.contents writer.new) }
+    requires { AreEndsOfChip (chip_of lab.old) found.now }
+    ensures { WritesText (λ text. WritesEndsReport bounds asked lab.old text result) (W.contents writer.old) (W.contents writer.new) }
 {
     if asked == 0 {
         tell_all(bounds, found, writer)
@@ -155,8 +155,8 @@ fn tell_session<W: Write>(
 ) -> Verdict
     requires asked { 1 ≤ asked }
     requires within { asked ≤ length found.now.kinds }
-    requires ends { AreEnds (chip_of lab.old) found.now }
-    ensures { WritesText (λ text. (bounds : CheckBounds) → TellsEnds bounds asked lab.old text result)
+    requires ends { AreEndsOfChip (chip_of lab.old) found.now }
+    ensures { WritesText (λ text. (bounds : CheckBounds) → WritesEndsReport bounds asked lab.old text result)
         (W.contents writer.old) (W.contents writer.new) }
 {
     match lead_to(alloc, lab, found, asked) {
@@ -173,8 +173,8 @@ fn tell_session<W: Write>(
 fn lead_to(alloc: Global, lab: &mut Lab, found: &FoundEnds, asked: u32) -> Result<(), LabFault>
     requires asked { 1 ≤ asked }
     requires within { asked ≤ length found.now.kinds }
-    requires ends { AreEnds (chip_of lab.old) found.now }
-    ensures led { OnOk result (IsLedTo found.now asked lab.old lab.new) }
+    requires ends { AreEndsOfChip (chip_of lab.old) found.now }
+    ensures led { OnOk result (HasReachedEndKind found.now asked lab.old lab.new) }
     ensures faults { IfErr result (λ why. (why ≡ Full) ⊎ (why ≡ Memory)) }
 {
     match found.path_to(alloc, found.kinds()[asked as usize - 1].state) {
@@ -185,7 +185,7 @@ fn lead_to(alloc: Global, lab: &mut Lab, found: &FoundEnds, asked: u32) -> Resul
 
 /// Tells the kinds of end.
 fn tell_all<W: Write>(bounds: CheckBounds, found: &FoundEnds, writer: &mut W) -> Verdict
-    ensures { WritesText (λ text. IsTextOut (ends_text bounds found.now) (verdict_of found.now) text result)
+    ensures { WritesText (λ text. IsReportOutput (ends_text bounds found.now) (verdict_of found.now) text result)
         (W.contents writer.old) (W.contents writer.new) }
 {
     let mut out = Writer::new(writer);
@@ -195,17 +195,17 @@ fn tell_all<W: Write>(bounds: CheckBounds, found: &FoundEnds, writer: &mut W) ->
 
 /// Tells that there is no kind of end of this number.
 fn tell_none<W: Write>(asked: u32, found: &FoundEnds, writer: &mut W) -> Verdict
-    ensures { WritesText (λ text. IsTextOut (no_kind_text asked found.now) (no_kind_verdict found.now) text result)
+    ensures { WritesText (λ text. IsReportOutput (missing_kind_text asked found.now) (missing_kind_verdict found.now) text result)
         (W.contents writer.old) (W.contents writer.new) }
 {
     let mut out = Writer::new(writer);
     let said = write_no_kind(asked, found, &mut out);
-    sent(said, no_kind_verdict(found), &mut out)
+    sent(said, missing_kind_verdict(found), &mut out)
 }
 
 /// Tells the session that leads to the present state of a lab.
 fn tell_saved<W: Write>(lab: &Lab, writer: &mut W) -> Verdict
-    ensures { WritesText (λ text. IsTextOut (saved_text lab.now) Saved text result) (W.contents writer.old) (W.contents writer.new) }
+    ensures { WritesText (λ text. IsReportOutput (saved_text lab.now) Saved text result) (W.contents writer.old) (W.contents writer.new) }
 {
     let mut out = Writer::new(writer);
     let said = write_save(lab, &mut out);
@@ -214,7 +214,7 @@ fn tell_saved<W: Write>(lab: &Lab, writer: &mut W) -> Verdict
 
 /// Tells why nothing else is told.
 fn tell_refused<W: Write>(fault: LabFault, writer: &mut W) -> Verdict
-    ensures { WritesText (λ text. IsTextOut (refusal_text fault) (Ended ImageRefused) text result)
+    ensures { WritesText (λ text. IsReportOutput (refusal_text fault) (Ended ImageRefused) text result)
         (W.contents writer.old) (W.contents writer.new) }
 {
     let mut out = Writer::new(writer);
@@ -226,7 +226,7 @@ fn tell_refused<W: Write>(fault: LabFault, writer: &mut W) -> Verdict
 fn sent<W: Write>(said: WriteResult, verdict: Verdict, writer: &mut Writer<'_, W>) -> Verdict
     ensures same { IsSameStream writer.old writer.new }
     ensures written { (before whole : Bytes) → IsWrittenOrTruncated said (W.contents writer.old.stream.now) before whole writer.old.pending.items →
-        (text : Bytes) × (W.contents writer.new.stream.now ≡ Some (before ++ text)) × IsTextOut whole verdict text result }
+        (text : Bytes) × (W.contents writer.new.stream.now ≡ Some (before ++ text)) × IsReportOutput whole verdict text result }
 {
     match said {
         Ok(()) => match writer.flush() {
@@ -243,7 +243,7 @@ fn verdict_of(found: &FoundEnds) -> Verdict
 {
     if has_unclean(found.kinds()) {
         Verdict::Unclean
-    } else if is_whole(found) {
+    } else if is_fully_explored(found) {
         Verdict::Clean
     } else {
         Verdict::Unknown
@@ -261,20 +261,20 @@ fn has_unclean(kinds: &[EndKind]) -> bool
 fn is_unclean(kind: &EndKind) -> bool
     ensures { result ≡ is_unclean kind.now }
 {
-    kind.unclean.iter().any(|mark| is_set(*mark))
+    kind.unclean.iter().any(|mark| is_flag_set(*mark))
 }
 
-fn is_set(mark: bool) -> bool
-    ensures { result ≡ is_set mark }
+fn is_flag_set(mark: bool) -> bool
+    ensures { result ≡ is_flag_set mark }
 {
     mark
 }
 
 /// The verdict where no kind of end has the number that is asked for.
-fn no_kind_verdict(found: &FoundEnds) -> Verdict
-    ensures { result ≡ no_kind_verdict found.now }
+fn missing_kind_verdict(found: &FoundEnds) -> Verdict
+    ensures { result ≡ missing_kind_verdict found.now }
 {
-    if is_whole(found) {
+    if is_fully_explored(found) {
         Verdict::Ended(Status::ImageRefused)
     } else {
         Verdict::Unknown

@@ -1,16 +1,16 @@
 //! A chip that comes to rest before its orders are run.
 
 ghost use Rattle.std.specs.Prelude.{◌≡◌, ◌==◌, OnOk, is_none};
-ghost use Rattle.ga_ports.specs.Address.{classified};
+ghost use Rattle.ga_ports.specs.Address.{address_target};
 ghost use Rattle.ga_node.specs.Record.{record_of};
 ghost use Rattle.ga_node.specs.Table.{refusal};
-ghost use Rattle.ga_lab.specs.Machine.{stepped};
-ghost use Rattle.ga_check_report.specs.Settled.{are_ports, fetches_from_ports, settled_at, settled, begun_from};
+ghost use Rattle.ga_lab.specs.Machine.{state_after_step};
+ghost use Rattle.ga_check_report.specs.Settled.{is_port_target, fetches_from_ports, settled_at_node, settled, check_start};
 
 use ga_grid::NodeId;
 use ga_lab::{Lab, LabFault};
 use ga_node::{Node, Place};
-use ga_ports::{Target, classify};
+use ga_ports::{Target, classify_address};
 use std::alloc::AllocError;
 
 /// Where `settles` is set, makes the event of each node by which it comes to wait for code, where that is its next, in the order of
@@ -18,8 +18,8 @@ use std::alloc::AllocError;
 ///
 /// # Errors
 /// Out of memory; some of the events may be kept then.
-pub fn settle(lab: &mut Lab, settles: bool) -> Result<(), AllocError>
-    ensures ok { OnOk result (lab.new ≡ begun_from settles lab.old) }
+pub fn settle_waiting_nodes(lab: &mut Lab, settles: bool) -> Result<(), AllocError>
+    ensures ok { OnOk result (lab.new ≡ check_start settles lab.old) }
 {
     if settles { settle_all(lab) } else { Ok(()) }
 }
@@ -34,7 +34,7 @@ fn settle_all(lab: &mut Lab) -> Result<(), AllocError>
 }
 
 fn settle_node(lab: &mut Lab, node: NodeId) -> Result<(), AllocError>
-    ensures ok { OnOk result (lab.new ≡ settled_at lab.old node) }
+    ensures ok { OnOk result (lab.new ≡ settled_at_node lab.old node) }
 {
     if fetches_from_ports(lab.node(node)) {
         step(lab, node)
@@ -45,7 +45,7 @@ fn settle_node(lab: &mut Lab, node: NodeId) -> Result<(), AllocError>
 
 /// A step of a node, where it is not refused.
 fn step(lab: &mut Lab, node: NodeId) -> Result<(), AllocError>
-    ensures ok { OnOk result (lab.new ≡ stepped lab.old node) }
+    ensures ok { OnOk result (lab.new ≡ state_after_step lab.old node) }
 {
     match lab.step(node) {
         Ok(_) => Ok(()),
@@ -63,7 +63,7 @@ fn step(lab: &mut Lab, node: NodeId) -> Result<(), AllocError>
 fn fetches_from_ports(at: &Node) -> bool
     ensures { result ≡ fetches_from_ports (record_of at.now) }
 {
-    runs(at) && is_fetch_due(at) && are_ports(target_of_p(at))
+    runs(at) && is_fetch_due(at) && is_port_target(target_of_p(at))
 }
 
 fn runs(at: &Node) -> bool
@@ -82,13 +82,13 @@ fn is_fetch_due(at: &Node) -> bool
 /// What a node's P names.
 #[tactic(auto, unfolding(ga_node::specs::Record::record_of))]
 fn target_of_p(at: &Node) -> Target
-    ensures { result ≡ classified (record_of at.now).p }
+    ensures { result ≡ address_target (record_of at.now).p }
 {
-    classify(at.get(Place::P))
+    classify_address(at.get(Place::P))
 }
 
-fn are_ports(target: Target) -> bool
-    ensures { result ≡ are_ports target }
+fn is_port_target(target: Target) -> bool
+    ensures { result ≡ is_port_target target }
 {
     match target {
         Target::Ports(_) => true,

@@ -3,8 +3,8 @@
 use Rattle.std.specs.Prelude.{ℕ, nat_eq, if◌then◌else◌, codes, Option, Some, option_map, option_and_then, zero, suc, ◌==◌, ◌&&◌, List, [], ◌∷◌, ◌++◌, replicate, None}
 use Rattle.std.specs.Cmp.Lexicographic.{pointwise}
 use Rattle.ga_text.specs.Lines.{Line}
-use Rattle.ga_text.specs.Parsing.{parse_number, in_front, split_at_space, parse_node}
-use Rattle.ga_text.specs.Digits.{byte_in}
+use Rattle.ga_text.specs.Parsing.{parse_number, with_prepended_byte, split_at_space, parse_node}
+use Rattle.ga_text.specs.Digits.{hex_byte_value}
 use Rattle.ga_ports.specs.Steps.{◌>>=◌}
 use Rattle.ga_grid.specs.declared.node_id.NodeId.{NodeId}
 use Rattle.ga_scheduler.specs.Values.{is_possible}
@@ -12,11 +12,11 @@ use Rattle.ga_scheduler.specs.declared.value_test.NodeValue.TheVariants.{P, Cell
 use Rattle.ga_scheduler.specs.declared.value_test.Comparison.TheVariants.{Equal}
 use Rattle.ga_scheduler.specs.declared.value_test.ValueTest.{ValueTest}
 use Rattle.ga_scheduler.specs.declared.condition.Condition.{Condition}
-use Rattle.ga_scheduler.specs.declared.condition.Condition.TheVariants.{Never, Passes, PassesNumber, Steps, Stops, StopsAt, WaitsAt, Holds, Reaches, Writes as WritesTo}
+use Rattle.ga_scheduler.specs.declared.condition.Condition.TheVariants.{Never, Passes, PassesNumber, Steps, Stops, StopsAt, WaitsAt, HoldsValue, Reaches, Writes as WritesTo}
 use Rattle.ga_debug_info.specs.declared.notes.DebugInfo.{DebugInfo}
 use Rattle.ga_debug_info.specs.declared.notes.LabelAddress.{LabelAddress}
-use Rattle.ga_debug_info.specs.Notes.{line_address, address_of}
-use Rattle.ga_conditions.specs.Numbers.{in_word, hex_word_in, operand_in, or_operand}
+use Rattle.ga_debug_info.specs.Notes.{line_address, label_address_of}
+use Rattle.ga_conditions.specs.Numbers.{fitting_word, hex_word_in, operand_in, first_operand}
 use Rattle.ga_conditions.specs.Tests.{comparison_in, test_in}
 
 -- ---- a condition: `reach` and `change` hold only at the event that makes it so
@@ -27,214 +27,214 @@ labels_in None = []
 labels_in (Some notes) = notes.names.items
 
 -- a number that is a word
-abbrev pub operand_word_in : List LabelAddress → NodeId → Line → Option ℕ
-operand_word_in names node text = option_and_then in_word (operand_in names node text)
+abbrev pub parse_operand_word : List LabelAddress → NodeId → Line → Option ℕ
+parse_operand_word names node text = option_and_then fitting_word (operand_in names node text)
 
 -- `= NUMBER`
-unfoldable pub word_equal_in : List LabelAddress → NodeId → Line → Option ℕ
-word_equal_in names node text = do
+unfoldable pub parse_equal_word : List LabelAddress → NodeId → Line → Option ℕ
+parse_equal_word names node text = do
   parts ← split_at_space text
-  if pointwise nat_eq parts.0 (codes "=") then operand_word_in names node parts.1 else None
+  if pointwise nat_eq parts.0 (codes "=") then parse_operand_word names node parts.1 else None
 
 -- the test, if its number is a word or counts steps
-abbrev pub possible_test : ValueTest → Option ValueTest
-possible_test test = if is_possible test then Some test else None
+abbrev pub valid_test : ValueTest → Option ValueTest
+valid_test test = if is_possible test then Some test else None
 
 -- `VALUE OP NUMBER` of a node
-unfoldable pub tested_in : Option DebugInfo → NodeId → Line → Option Condition
-tested_in notes node text = do
+unfoldable pub parse_test_condition : Option DebugInfo → NodeId → Line → Option Condition
+parse_test_condition notes node text = do
   test ← test_in (labels_in notes) node text
-  possible ← possible_test test
-  Some (Holds node possible)
+  possible ← valid_test test
+  Some (HoldsValue node possible)
 
 -- `NNN K`
-unfoldable pub steps_condition : Line → Option Condition
-steps_condition text = do
+unfoldable pub parse_step_condition : Line → Option Condition
+parse_step_condition text = do
   parts ← split_at_space text
   node ← parse_node parts.0
   step ← parse_number parts.1
   Some (Steps node step)
 
 -- `OP NUMBER` of a word that passes
-unfoldable pub compared_in : NodeId → NodeId → Line → Line → Option Condition
-compared_in writer reader sign text = do
+unfoldable pub parse_word_condition : NodeId → NodeId → Line → Line → Option Condition
+parse_word_condition writer reader sign text = do
   comparison ← comparison_in sign
-  word ← operand_word_in [] reader text
+  word ← parse_operand_word [] reader text
   Some (Passes writer reader comparison word)
 
 -- `OP NUMBER` or `J` after `NNN MMM`
-abbrev pub passed_cut : NodeId → NodeId → Option (Line × Line) → Line → Option Condition
-passed_cut writer reader None text = option_map (PassesNumber writer reader) (parse_number text)
-passed_cut writer reader (Some parts) text = compared_in writer reader parts.0 parts.1
+abbrev pub link_condition_split : NodeId → NodeId → Option (Line × Line) → Line → Option Condition
+link_condition_split writer reader None text = option_map (PassesNumber writer reader) (parse_number text)
+link_condition_split writer reader (Some parts) text = parse_word_condition writer reader parts.0 parts.1
 
-abbrev pub passed_in : NodeId → NodeId → Line → Option Condition
-passed_in writer reader text = passed_cut writer reader (split_at_space text) text
+abbrev pub parse_link_condition : NodeId → NodeId → Line → Option Condition
+parse_link_condition writer reader text = link_condition_split writer reader (split_at_space text) text
 
 -- `NNN MMM OP NUMBER` or `NNN MMM J`
-unfoldable pub passes_in : Line → Option Condition
-passes_in text = do
+unfoldable pub parse_pass_condition : Line → Option Condition
+parse_pass_condition text = do
   first ← split_at_space text
   second ← split_at_space first.1
   writer ← parse_node first.0
   reader ← parse_node second.0
-  passed_in writer reader second.1
+  parse_link_condition writer reader second.1
 
 -- the word at an address of the node's memory is this one
-abbrev pub cell_holds : NodeId → ℕ → ℕ → Condition
-cell_holds node address word = Holds node (record { value = Cell address; comparison = Equal; number = word })
+abbrev pub cell_equals : NodeId → ℕ → ℕ → Condition
+cell_equals node address word = HoldsValue node (record { value = Cell address; comparison = Equal; number = word })
 
 -- P of the node is this address
-abbrev pub comes_to : NodeId → ℕ → Condition
-comes_to node address = Holds node (record { value = P; comparison = Equal; number = address })
+abbrev pub p_equals : NodeId → ℕ → Condition
+p_equals node address = HoldsValue node (record { value = P; comparison = Equal; number = address })
 
 -- `NNN HH = NUMBER`
-unfoldable pub holds_in : Option DebugInfo → Line → Option Condition
-holds_in notes text = do
+unfoldable pub parse_memory_condition : Option DebugInfo → Line → Option Condition
+parse_memory_condition notes text = do
   first ← split_at_space text
   second ← split_at_space first.1
   node ← parse_node first.0
-  address ← byte_in second.0
-  word ← word_equal_in (labels_in notes) node second.1
-  Some (cell_holds node address word)
+  address ← hex_byte_value second.0
+  word ← parse_equal_word (labels_in notes) node second.1
+  Some (cell_equals node address word)
 
 -- the address of the first instruction word of a node that a line begins, which only source gives
-abbrev pub begun_in : Option DebugInfo → NodeId → ℕ → Option ℕ
-begun_in None node line = None
-begun_in (Some notes) node line = line_address notes.notes.items node line
+abbrev pub source_line_address : Option DebugInfo → NodeId → ℕ → Option ℕ
+source_line_address None node line = None
+source_line_address (Some notes) node line = line_address notes.notes.items node line
 
 -- `line N`
-unfoldable pub cell_of_line : Option DebugInfo → NodeId → Line → Line → Option ℕ
-cell_of_line notes node name text =
+unfoldable pub parse_line_address : Option DebugInfo → NodeId → Line → Line → Option ℕ
+parse_line_address notes node name text =
     if pointwise nat_eq name (codes "line") then (do
       line ← parse_number text
-      begun_in notes node line)
+      source_line_address notes node line)
     else None
 
-abbrev pub noted_cut : Option DebugInfo → NodeId → Option (Line × Line) → Line → Option ℕ
-noted_cut notes node None text = address_of (labels_in notes) node text
-noted_cut notes node (Some parts) text = cell_of_line notes node parts.0 parts.1
+abbrev pub label_or_line_split : Option DebugInfo → NodeId → Option (Line × Line) → Line → Option ℕ
+label_or_line_split notes node None text = label_address_of (labels_in notes) node text
+label_or_line_split notes node (Some parts) text = parse_line_address notes node parts.0 parts.1
 
 -- a label, or `line N`
-abbrev pub noted_in : Option DebugInfo → NodeId → Line → Option ℕ
-noted_in notes node text = noted_cut notes node (split_at_space text) text
+abbrev pub parse_label_or_line : Option DebugInfo → NodeId → Line → Option ℕ
+parse_label_or_line notes node text = label_or_line_split notes node (split_at_space text) text
 
 -- an address, or else a label or a line
-abbrev pub address_or_label : Option DebugInfo → NodeId → Line → Option ℕ
-address_or_label notes node text = or_operand (hex_word_in text) (noted_in notes node text)
+abbrev pub parse_address_or_label : Option DebugInfo → NodeId → Line → Option ℕ
+parse_address_or_label notes node text = first_operand (hex_word_in text) (parse_label_or_line notes node text)
 
 -- `NNN X`
-unfoldable pub node_and_place : Option DebugInfo → Line → Option (NodeId × ℕ)
-node_and_place notes text = do
+unfoldable pub parse_node_and_address : Option DebugInfo → Line → Option (NodeId × ℕ)
+parse_node_and_address notes text = do
   parts ← split_at_space text
   node ← parse_node parts.0
-  address ← address_or_label notes node parts.1
+  address ← parse_address_or_label notes node parts.1
   Some (node, address)
 
 -- `HH` or `HH = NUMBER` after `NNN`
-abbrev pub written_cut : List LabelAddress → NodeId → Option (Line × Line) → Line → Option Condition
-written_cut names node None text = do
-  address ← byte_in text
+abbrev pub node_change_split : List LabelAddress → NodeId → Option (Line × Line) → Line → Option Condition
+node_change_split names node None text = do
+  address ← hex_byte_value text
   Some (WritesTo node address None)
-written_cut names node (Some parts) text = do
-  address ← byte_in parts.0
-  word ← word_equal_in names node parts.1
+node_change_split names node (Some parts) text = do
+  address ← hex_byte_value parts.0
+  word ← parse_equal_word names node parts.1
   Some (WritesTo node address (Some word))
 
-abbrev pub written_in : List LabelAddress → NodeId → Line → Option Condition
-written_in names node text = written_cut names node (split_at_space text) text
+abbrev pub parse_node_change : List LabelAddress → NodeId → Line → Option Condition
+parse_node_change names node text = node_change_split names node (split_at_space text) text
 
 -- `NNN HH` or `NNN HH = NUMBER`
-unfoldable pub writes_to_in : Option DebugInfo → Line → Option Condition
-writes_to_in notes text = do
+unfoldable pub parse_change_condition : Option DebugInfo → Line → Option Condition
+parse_change_condition notes text = do
   parts ← split_at_space text
   node ← parse_node parts.0
-  written_in (labels_in notes) node parts.1
+  parse_node_change (labels_in notes) node parts.1
 
 -- a condition of one word
-unfoldable pub lone_condition : Line → Option Condition
-lone_condition name = if pointwise nat_eq name (codes "stop") then Some Stops else None
+unfoldable pub one_word_condition : Line → Option Condition
+one_word_condition name = if pointwise nat_eq name (codes "stop") then Some Stops else None
 
 -- a condition of a word and what follows it
 unfoldable pub named_condition : Option DebugInfo → Line → Line → Option Condition
 named_condition notes name text =
     if pointwise nat_eq name (codes "stop") then option_map StopsAt (parse_node text)
     else if pointwise nat_eq name (codes "wait") then option_map WaitsAt (parse_node text)
-    else if pointwise nat_eq name (codes "step") then steps_condition text
-    else if pointwise nat_eq name (codes "pass") then passes_in text
-    else if pointwise nat_eq name (codes "mem") then holds_in notes text
+    else if pointwise nat_eq name (codes "step") then parse_step_condition text
+    else if pointwise nat_eq name (codes "pass") then parse_pass_condition text
+    else if pointwise nat_eq name (codes "mem") then parse_memory_condition notes text
     else if pointwise nat_eq name (codes "p") then (do
-      it ← node_and_place notes text
-      Some (comes_to it.0 it.1))
+      it ← parse_node_and_address notes text
+      Some (p_equals it.0 it.1))
     else if pointwise nat_eq name (codes "reach") then (do
-      it ← node_and_place notes text
+      it ← parse_node_and_address notes text
       Some (Reaches it.0 it.1))
-    else if pointwise nat_eq name (codes "change") then writes_to_in notes text
+    else if pointwise nat_eq name (codes "change") then parse_change_condition notes text
     else (do
       node ← parse_node name
-      tested_in notes node text)
+      parse_test_condition notes node text)
 
-abbrev pub condition_by : Option DebugInfo → Option (Line × Line) → Line → Option Condition
-condition_by notes None text = lone_condition text
-condition_by notes (Some parts) text = named_condition notes parts.0 parts.1
+abbrev pub condition_from_split : Option DebugInfo → Option (Line × Line) → Line → Option Condition
+condition_from_split notes None text = one_word_condition text
+condition_from_split notes (Some parts) text = named_condition notes parts.0 parts.1
 
 abbrev pub condition_in : Option DebugInfo → Line → Option Condition
-condition_in notes text = condition_by notes (split_at_space text) text
+condition_in notes text = condition_from_split notes (split_at_space text) text
 
 -- ---- conditions with ` or ` between them
 
 -- what follows ` or ` if a text begins with that
-unfoldable pub behind_or : Line → Option Line
-behind_or (a ∷ b ∷ c ∷ d ∷ rest) = if (a == 32) && ((b == 111) && ((c == 114) && (d == 32))) then Some rest else None
-behind_or _ = None
+unfoldable pub after_or : Line → Option Line
+after_or (a ∷ b ∷ c ∷ d ∷ rest) = if (a == 32) && ((b == 111) && ((c == 114) && (d == 32))) then Some rest else None
+after_or _ = None
 
-abbrev pub cut_here : Option Line → Option (Line × Line) → Option (Line × Line)
-cut_here None later = later
-cut_here (Some rest) later = Some ([], rest)
+abbrev pub split_here_or_later : Option Line → Option (Line × Line) → Option (Line × Line)
+split_here_or_later None later = later
+split_here_or_later (Some rest) later = Some ([], rest)
 
 -- what comes before the first ` or ` of a text, and what follows it
-abbrev pub or_cut : Line → Option (Line × Line)
-or_cut [] = None
-or_cut (b ∷ text) = cut_here (behind_or (b ∷ text)) (in_front b (or_cut text))
+abbrev pub split_at_or : Line → Option (Line × Line)
+split_at_or [] = None
+split_at_or (b ∷ text) = split_here_or_later (after_or (b ∷ text)) (with_prepended_byte b (split_at_or text))
 
 -- the first condition, and those after it if there are some
-abbrev pub split_by : Option (Line × Line) → Line → Line × Option Line
-split_by None text = (text, None)
-split_by (Some parts) text = (parts.0, Some parts.1)
+abbrev pub first_part_and_rest : Option (Line × Line) → Line → Line × Option Line
+first_part_and_rest None text = (text, None)
+first_part_and_rest (Some parts) text = (parts.0, Some parts.1)
 
-abbrev pub or_split : Line → Line × Option Line
-or_split text = split_by (or_cut text) text
+abbrev pub split_first_condition : Line → Line × Option Line
+split_first_condition text = first_part_and_rest (split_at_or text) text
 
 -- how many are watched at most
-abbrev pub most_conditions : ℕ
-most_conditions = 8
+abbrev pub condition_limit : ℕ
+condition_limit = 8
 
 -- some conditions in front of others
-abbrev pub with_front : List Condition → Option (List Condition) → Option (List Condition)
-with_front front others = option_map (λ more. front ++ more) others
+abbrev pub prepended_conditions : List Condition → Option (List Condition) → Option (List Condition)
+prepended_conditions front others = option_map (λ more. front ++ more) others
 
-abbrev pub with_first : Option Condition → Option (List Condition) → Option (List Condition)
-with_first None others = None
-with_first (Some one) others = with_front (one ∷ []) others
+abbrev pub prepended_condition : Option Condition → Option (List Condition) → Option (List Condition)
+prepended_condition None others = None
+prepended_condition (Some one) others = prepended_conditions (one ∷ []) others
 
 -- the conditions after the first, or otherwise as many that never hold as there are places left
-abbrev pub others_by : ℕ → (Line → Option (List Condition)) → Option Line → Option (List Condition)
-others_by more others None = Some (replicate more Never)
-others_by more others (Some text) = others text
+abbrev pub remaining_conditions : ℕ → (Line → Option (List Condition)) → Option Line → Option (List Condition)
+remaining_conditions more others None = Some (replicate more Never)
+remaining_conditions more others (Some text) = others text
 
-abbrev pub conditions_by : Option DebugInfo → ℕ → (Line → Option (List Condition)) → Line × Option Line → Option (List Condition)
-conditions_by notes more others parts = with_first (condition_in notes parts.0) (others_by more others parts.1)
+abbrev pub conditions_from_split : Option DebugInfo → ℕ → (Line → Option (List Condition)) → Line × Option Line → Option (List Condition)
+conditions_from_split notes more others parts = prepended_condition (condition_in notes parts.0) (remaining_conditions more others parts.1)
 
 -- conditions with ` or ` between them, for a number of places
 unfoldable pub conditions_within : Option DebugInfo → ℕ → Line → Option (List Condition)
 conditions_within notes zero text = None
-conditions_within notes (suc more) text = conditions_by notes more (conditions_within notes more) (or_split text)
+conditions_within notes (suc more) text = conditions_from_split notes more (conditions_within notes more) (split_first_condition text)
 
 abbrev pub conditions_in : Option DebugInfo → Line → Option (List Condition)
-conditions_in notes text = conditions_within notes most_conditions text
+conditions_in notes text = conditions_within notes condition_limit text
 
 -- the conditions where none is given: each holds never
-abbrev pub no_condition : List Condition
-no_condition = replicate most_conditions Never
+abbrev pub no_conditions : List Condition
+no_conditions = replicate condition_limit Never
 
 -- `until COND or COND ..`
 unfoldable pub until_in : Option DebugInfo → Line → Option (List Condition)

@@ -4,7 +4,7 @@ use Rattle.std.specs.Prelude.{ℕ, ◌-◌, ◌==◌, nat_le, ◌&&◌, ◌||◌
 use Rattle.ga_text.specs.Lines.{Text}
 use Rattle.ga_text.specs.Parsing.{split_at_space}
 use Rattle.ga_ports.specs.Steps.{◌>>=◌}
-use Rattle.ga_text.specs.Digits.{byte_in}
+use Rattle.ga_text.specs.Digits.{hex_byte_value}
 use Rattle.ga_grid.specs.declared.node_id.NodeId.{NodeId}
 use Rattle.ga_debug_info.specs.declared.notes.LabelAddress.{LabelAddress}
 use Rattle.ga_scheduler.specs.declared.value_test.NodeValue.{NodeValue}
@@ -16,8 +16,8 @@ use Rattle.ga_conditions.specs.Numbers.{operand_in}
 
 -- ---- the value: t s r p a b i, d2 to d9, r1 to r8, io, slot, carry, step, or the cell [HH]
 
-abbrev pub letter_value : ℕ → Option NodeValue
-letter_value letter =
+abbrev pub one_letter_value : ℕ → Option NodeValue
+one_letter_value letter =
     if letter == 116 then Some (DataWord 0)
     else if letter == 115 then Some (DataWord 1)
     else if letter == 114 then Some (ReturnWord 0)
@@ -27,8 +27,8 @@ letter_value letter =
     else if letter == 105 then Some I
     else None
 
-abbrev pub stack_value : ℕ → ℕ → Option NodeValue
-stack_value stack place =
+abbrev pub two_letter_value : ℕ → ℕ → Option NodeValue
+two_letter_value stack place =
     if stack == 100 && nat_le 50 place && nat_le place 57 then Some (DataWord (place - 48))
     else if stack == 114 && nat_le 49 place && nat_le place 56 then Some (ReturnWord (place - 48))
     else if stack == 105 && place == 111 then Some Io
@@ -36,19 +36,19 @@ stack_value stack place =
 
 abbrev pub cell_value : Text → Option NodeValue
 cell_value text =
-    if length text == 4 && slice_index text 0 == 91 && slice_index text 3 == 93 then option_map (λ address. Cell address) (byte_in (slice_range text 1 3)) else None
+    if length text == 4 && slice_index text 0 == 91 && slice_index text 3 == 93 then option_map (λ address. Cell address) (hex_byte_value (slice_range text 1 3)) else None
 
-abbrev pub word_value : Text → Option NodeValue
-word_value text =
+abbrev pub keyword_value : Text → Option NodeValue
+keyword_value text =
     if bytes_eq text (codes "slot") then Some Slot
     else if bytes_eq text (codes "carry") then Some Carry
     else if bytes_eq text (codes "step") then Some Step
     else cell_value text
 
 unfoldable pub named_value_in : Text → Option NodeValue
-named_value_in (letter ∷ []) = letter_value letter
-named_value_in (stack ∷ place ∷ []) = stack_value stack place
-named_value_in text = word_value text
+named_value_in (letter ∷ []) = one_letter_value letter
+named_value_in (stack ∷ place ∷ []) = two_letter_value stack place
+named_value_in text = keyword_value text
 
 -- ---- the comparison
 

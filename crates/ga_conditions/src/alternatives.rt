@@ -1,7 +1,7 @@
 //! Some conditions with `or` between them, as text.
 
 ghost use Rattle.std.specs.Prelude.{◌≡◌, ◌≤◌, length, drop, if◌then◌else◌, IsTrue, Some, None, option_map};
-ghost use Rattle.ga_conditions.specs.Conditions.{behind_or, or_cut, or_split, conditions_in, no_condition, until_in};
+ghost use Rattle.ga_conditions.specs.Conditions.{after_or, split_at_or, split_first_condition, conditions_in, no_conditions, until_in};
 
 use crate::condition::parse_run_condition;
 use ga_debug_info::DebugInfo;
@@ -12,17 +12,17 @@ use ga_text::split_at_space;
 pub type Conditions = [Condition; MAX_CONDITIONS];
 
 /// The conditions where none is given: each holds never.
-pub fn no_condition() -> Conditions
+pub fn no_conditions() -> Conditions
     ensures size { length result ≡ 8 }
-    ensures value { result ≡ no_condition }
+    ensures value { result ≡ no_conditions }
 {
     [Condition::Never; MAX_CONDITIONS]
 }
 
 /// Whether a text begins with ` or `.
-#[tactic(auto, unfolding(crate::specs::Conditions::behind_or))]
+#[tactic(auto, unfolding(crate::specs::Conditions::after_or))]
 fn begins_or(text: &[u8]) -> bool
-    ensures rest { behind_or text.now ≡ (if result then Some (drop 4 text.now) else None) }
+    ensures rest { after_or text.now ≡ (if result then Some (drop 4 text.now) else None) }
     ensures long { IsTrue result → 4 ≤ length text.now }
 {
     match text {
@@ -32,8 +32,8 @@ fn begins_or(text: &[u8]) -> bool
 }
 
 /// What comes before the first ` or `, and what follows it.
-fn or_cut(text: &[u8]) -> Option<(&[u8], &[u8])>
-    ensures { option_map (λ parts. (parts.0.now, parts.1.now)) result ≡ or_cut text.now }
+fn split_at_or(text: &[u8]) -> Option<(&[u8], &[u8])>
+    ensures { option_map (λ parts. (parts.0.now, parts.1.now)) result ≡ split_at_or text.now }
 {
     for place in 0..text.len() {
         let (before, rest) = text.split_at(place);
@@ -45,11 +45,11 @@ fn or_cut(text: &[u8]) -> Option<(&[u8], &[u8])>
 }
 
 /// The first condition's text, and that of the others where there are some.
-fn or_split(text: &[u8]) -> (&[u8], Option<&[u8]>)
-    ensures first { result.0.now ≡ (or_split text.now).0 }
-    ensures others { option_map (λ others. others.now) result.1 ≡ (or_split text.now).1 }
+fn split_first_condition(text: &[u8]) -> (&[u8], Option<&[u8]>)
+    ensures first { result.0.now ≡ (split_first_condition text.now).0 }
+    ensures others { option_map (λ others. others.now) result.1 ≡ (split_first_condition text.now).1 }
 {
-    match or_cut(text) {
+    match split_at_or(text) {
         Some((first, others)) => (first, Some(others)),
         None => (text, None),
     }
@@ -59,10 +59,10 @@ fn or_split(text: &[u8]) -> (&[u8], Option<&[u8]>)
 pub fn parse_conditions(notes: &Option<DebugInfo>, text: &[u8]) -> Option<Conditions>
     ensures { result ≡ conditions_in notes.now text.now }
 {
-    let mut conditions = no_condition();
+    let mut conditions = no_conditions();
     let mut left = text;
     for place in 0..MAX_CONDITIONS {
-        let (first, others) = or_split(left);
+        let (first, others) = split_first_condition(left);
         conditions[place] = parse_run_condition(notes, first)?;
         left = match others {
             Some(others) => others,

@@ -1,7 +1,7 @@
 //! One condition of a run or of a search back, as text.
 
 ghost use Rattle.std.specs.Prelude.{◌≡◌};
-ghost use Rattle.ga_conditions.specs.Conditions.{condition_in, lone_condition, named_condition, tested_in, possible_test, steps_condition, passes_in, passed_in, compared_in, labels_in, holds_in, node_and_place, comes_to, writes_to_in, written_in, address_or_label, noted_in, cell_of_line, begun_in, word_equal_in, operand_word_in};
+ghost use Rattle.ga_conditions.specs.Conditions.{condition_in, one_word_condition, named_condition, parse_test_condition, valid_test, parse_step_condition, parse_pass_condition, parse_link_condition, parse_word_condition, labels_in, parse_memory_condition, parse_node_and_address, p_equals, parse_change_condition, parse_node_change, parse_address_or_label, parse_label_or_line, parse_line_address, source_line_address, parse_equal_word, parse_operand_word};
 
 use crate::numbers::{parse_hex_word, parse_operand};
 use crate::tests_of_values::{parse_comparison, parse_test};
@@ -17,13 +17,13 @@ pub(crate) fn parse_run_condition(notes: &Option<DebugInfo>, text: &[u8]) -> Opt
 {
     match split_at_space(text) {
         Some((name, rest)) => named_condition(notes, name, rest),
-        None => lone_condition(text),
+        None => one_word_condition(text),
     }
 }
 
-#[tactic(auto, unfolding(crate::specs::Conditions::lone_condition))]
-fn lone_condition(name: &[u8]) -> Option<Condition>
-    ensures { result ≡ lone_condition name.now }
+#[tactic(auto, unfolding(crate::specs::Conditions::one_word_condition))]
+fn one_word_condition(name: &[u8]) -> Option<Condition>
+    ensures { result ≡ one_word_condition name.now }
 {
     match name {
         b"stop" => Some(Condition::Stops),
@@ -46,10 +46,10 @@ fn named_condition(notes: &Option<DebugInfo>, name: &[u8], rest: &[u8]) -> Optio
     } else if name == b"mem".as_slice() {
         holds_of(notes, rest)
     } else if name == b"p".as_slice() {
-        let (node, address) = node_and_place(notes, rest)?;
-        Some(comes_to(node, address))
+        let (node, address) = parse_node_and_address(notes, rest)?;
+        Some(p_equals(node, address))
     } else if name == b"reach".as_slice() {
-        let (node, address) = node_and_place(notes, rest)?;
+        let (node, address) = parse_node_and_address(notes, rest)?;
         Some(Condition::Reaches { node, address })
     } else if name == b"change".as_slice() {
         changes_of(notes, rest)
@@ -70,25 +70,25 @@ fn names(notes: &Option<DebugInfo>) -> &[LabelAddress]
 
 /// The test, if its number is a word or counts steps.
 fn possible(test: ValueTest) -> Option<ValueTest>
-    ensures { result ≡ possible_test test }
+    ensures { result ≡ valid_test test }
 {
     if test.is_possible() { Some(test) } else { None }
 }
 
 /// `VALUE OP NUMBER` of a node
-#[tactic(auto, unfolding(crate::specs::Conditions::tested_in))]
+#[tactic(auto, unfolding(crate::specs::Conditions::parse_test_condition))]
 fn tested(notes: &Option<DebugInfo>, node: NodeId, text: &[u8]) -> Option<Condition>
-    ensures { result ≡ tested_in notes.now node text.now }
+    ensures { result ≡ parse_test_condition notes.now node text.now }
 {
     let test = possible(parse_test(names(notes), node, text)?)?;
-    Some(Condition::Holds { node, test })
+    Some(Condition::HoldsValue { node, test })
 }
 
 /// P of the node is this address.
-fn comes_to(node: NodeId, address: u32) -> Condition
-    ensures { result ≡ comes_to node address }
+fn p_equals(node: NodeId, address: u32) -> Condition
+    ensures { result ≡ p_equals node address }
 {
-    Condition::Holds {
+    Condition::HoldsValue {
         node,
         test: ValueTest {
             value: NodeValue::P,
@@ -99,9 +99,9 @@ fn comes_to(node: NodeId, address: u32) -> Condition
 }
 
 /// `NNN K`
-#[tactic(auto, unfolding(crate::specs::Conditions::steps_condition))]
+#[tactic(auto, unfolding(crate::specs::Conditions::parse_step_condition))]
 fn steps_of(text: &[u8]) -> Option<Condition>
-    ensures { result ≡ steps_condition text.now }
+    ensures { result ≡ parse_step_condition text.now }
 {
     let (node, step) = split_at_space(text)?;
     Some(Condition::Steps {
@@ -111,9 +111,9 @@ fn steps_of(text: &[u8]) -> Option<Condition>
 }
 
 /// `NNN MMM OP NUMBER` or `NNN MMM J`
-#[tactic(auto, unfolding(crate::specs::Conditions::passes_in))]
+#[tactic(auto, unfolding(crate::specs::Conditions::parse_pass_condition))]
 fn passes_of(text: &[u8]) -> Option<Condition>
-    ensures { result ≡ passes_in text.now }
+    ensures { result ≡ parse_pass_condition text.now }
 {
     let (writer, rest) = split_at_space(text)?;
     let (reader, rest) = split_at_space(rest)?;
@@ -122,7 +122,7 @@ fn passes_of(text: &[u8]) -> Option<Condition>
 
 /// `OP NUMBER` or `J`
 fn passed_of(writer: NodeId, reader: NodeId, text: &[u8]) -> Option<Condition>
-    ensures { result ≡ passed_in writer reader text.now }
+    ensures { result ≡ parse_link_condition writer reader text.now }
 {
     match split_at_space(text) {
         Some((sign, word)) => compared(writer, reader, sign, word),
@@ -135,9 +135,9 @@ fn passed_of(writer: NodeId, reader: NodeId, text: &[u8]) -> Option<Condition>
 }
 
 /// `OP NUMBER` of a word that passes
-#[tactic(auto, unfolding(crate::specs::Conditions::compared_in))]
+#[tactic(auto, unfolding(crate::specs::Conditions::parse_word_condition))]
 fn compared(writer: NodeId, reader: NodeId, sign: &[u8], word: &[u8]) -> Option<Condition>
-    ensures { result ≡ compared_in writer reader sign.now word.now }
+    ensures { result ≡ parse_word_condition writer reader sign.now word.now }
 {
     Some(Condition::Passes {
         writer,
@@ -148,16 +148,16 @@ fn compared(writer: NodeId, reader: NodeId, sign: &[u8], word: &[u8]) -> Option<
 }
 
 /// `NNN HH = NUMBER`
-#[tactic(auto, unfolding(crate::specs::Conditions::holds_in))]
+#[tactic(auto, unfolding(crate::specs::Conditions::parse_memory_condition))]
 fn holds_of(notes: &Option<DebugInfo>, text: &[u8]) -> Option<Condition>
-    ensures { result ≡ holds_in notes.now text.now }
+    ensures { result ≡ parse_memory_condition notes.now text.now }
 {
     let (node, rest) = split_at_space(text)?;
     let (address, rest) = split_at_space(rest)?;
     let node = parse_node(node)?;
     let address = parse_hex_byte(address)?;
     let word = word_equal(names(notes), node, rest)?;
-    Some(Condition::Holds {
+    Some(Condition::HoldsValue {
         node,
         test: ValueTest {
             value: NodeValue::Cell(address),
@@ -168,20 +168,20 @@ fn holds_of(notes: &Option<DebugInfo>, text: &[u8]) -> Option<Condition>
 }
 
 /// `NNN X`
-#[tactic(auto, unfolding(crate::specs::Conditions::node_and_place))]
-fn node_and_place(notes: &Option<DebugInfo>, text: &[u8]) -> Option<(NodeId, u32)>
-    ensures { result ≡ node_and_place notes.now text.now }
+#[tactic(auto, unfolding(crate::specs::Conditions::parse_node_and_address))]
+fn parse_node_and_address(notes: &Option<DebugInfo>, text: &[u8]) -> Option<(NodeId, u32)>
+    ensures { result ≡ parse_node_and_address notes.now text.now }
 {
     let (node, address) = split_at_space(text)?;
     let node = parse_node(node)?;
-    let address = address_of(notes, node, address)?;
+    let address = label_address_of(notes, node, address)?;
     Some((node, address))
 }
 
 /// `NNN HH` or `NNN HH = NUMBER`
-#[tactic(auto, unfolding(crate::specs::Conditions::writes_to_in))]
+#[tactic(auto, unfolding(crate::specs::Conditions::parse_change_condition))]
 fn changes_of(notes: &Option<DebugInfo>, text: &[u8]) -> Option<Condition>
-    ensures { result ≡ writes_to_in notes.now text.now }
+    ensures { result ≡ parse_change_condition notes.now text.now }
 {
     let (node, rest) = split_at_space(text)?;
     written_of(names(notes), parse_node(node)?, rest)
@@ -189,7 +189,7 @@ fn changes_of(notes: &Option<DebugInfo>, text: &[u8]) -> Option<Condition>
 
 /// `HH` or `HH = NUMBER`
 fn written_of(names: &[LabelAddress], node: NodeId, text: &[u8]) -> Option<Condition>
-    ensures { result ≡ written_in names.now node text.now }
+    ensures { result ≡ parse_node_change names.now node text.now }
 {
     match split_at_space(text) {
         Some((address, rest)) => {
@@ -213,8 +213,8 @@ fn written_of(names: &[LabelAddress], node: NodeId, text: &[u8]) -> Option<Condi
 }
 
 /// An address, or else a label of the node or `line N`, which only source gives.
-fn address_of(notes: &Option<DebugInfo>, node: NodeId, text: &[u8]) -> Option<u32>
-    ensures { result ≡ address_or_label notes.now node text.now }
+fn label_address_of(notes: &Option<DebugInfo>, node: NodeId, text: &[u8]) -> Option<u32>
+    ensures { result ≡ parse_address_or_label notes.now node text.now }
 {
     match parse_hex_word(text) {
         Some(word) => Some(word.get()),
@@ -224,7 +224,7 @@ fn address_of(notes: &Option<DebugInfo>, node: NodeId, text: &[u8]) -> Option<u3
 
 /// A label, or `line N`.
 fn noted_of(notes: &Option<DebugInfo>, node: NodeId, text: &[u8]) -> Option<u32>
-    ensures { result ≡ noted_in notes.now node text.now }
+    ensures { result ≡ parse_label_or_line notes.now node text.now }
 {
     match split_at_space(text) {
         Some((name, line)) => line_of(notes, node, name, line),
@@ -233,9 +233,9 @@ fn noted_of(notes: &Option<DebugInfo>, node: NodeId, text: &[u8]) -> Option<u32>
 }
 
 /// `line N`: the address of the first instruction word of the node that this line begins.
-#[tactic(auto, unfolding(crate::specs::Conditions::cell_of_line))]
+#[tactic(auto, unfolding(crate::specs::Conditions::parse_line_address))]
 fn line_of(notes: &Option<DebugInfo>, node: NodeId, name: &[u8], line: &[u8]) -> Option<u32>
-    ensures { result ≡ cell_of_line notes.now node name.now line.now }
+    ensures { result ≡ parse_line_address notes.now node name.now line.now }
 {
     match name {
         b"line" => begun_by(notes, node, parse_number(line)?),
@@ -245,7 +245,7 @@ fn line_of(notes: &Option<DebugInfo>, node: NodeId, name: &[u8], line: &[u8]) ->
 
 /// The address of the first instruction word of the node that a line begins.
 fn begun_by(notes: &Option<DebugInfo>, node: NodeId, line: u32) -> Option<u32>
-    ensures { result ≡ begun_in notes.now node line }
+    ensures { result ≡ source_line_address notes.now node line }
 {
     match notes {
         Some(notes) => notes.line_address(node, line),
@@ -255,15 +255,15 @@ fn begun_by(notes: &Option<DebugInfo>, node: NodeId, line: u32) -> Option<u32>
 
 /// A number that is a word.
 fn word_of(names: &[LabelAddress], node: NodeId, text: &[u8]) -> Option<Word18>
-    ensures { result ≡ operand_word_in names.now node text.now }
+    ensures { result ≡ parse_operand_word names.now node text.now }
 {
     Word18::new(parse_operand(names, node, text)?)
 }
 
 /// `= NUMBER`
-#[tactic(auto, unfolding(crate::specs::Conditions::word_equal_in))]
+#[tactic(auto, unfolding(crate::specs::Conditions::parse_equal_word))]
 fn word_equal(names: &[LabelAddress], node: NodeId, text: &[u8]) -> Option<Word18>
-    ensures { result ≡ word_equal_in names.now node text.now }
+    ensures { result ≡ parse_equal_word names.now node text.now }
 {
     let (sign, word) = split_at_space(text)?;
     match sign {

@@ -6,6 +6,6 @@ mod condition;
 mod numbers;
 mod tests_of_values;
 
-pub use alternatives::{Conditions, no_condition, parse_conditions, parse_until};
+pub use alternatives::{Conditions, no_conditions, parse_conditions, parse_until};
 pub use numbers::parse_hex_word;
 pub use tests_of_values::{parse_test, parse_value};

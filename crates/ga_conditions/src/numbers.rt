@@ -1,7 +1,7 @@
 //! Numbers of conditions.
 
 ghost use Rattle.std.specs.Prelude.{◌≡◌};
-ghost use Rattle.ga_conditions.specs.Numbers.{hex_word_in, hex_digit_in, with_hex, hex_number_in, size_in, negative_word, plain_number_in, plain_operand_in, operand_in};
+ghost use Rattle.ga_conditions.specs.Numbers.{hex_word_in, parse_hex_digit, append_hex_digit, parse_hex_number, parse_unsigned_number, negative_word, parse_plain_number, parse_plain_operand, operand_in};
 
 use ga_debug_info::{LabelAddress, label_address};
 use ga_grid::NodeId;
@@ -26,7 +26,7 @@ pub fn parse_hex_word(text: &[u8]) -> Option<Word18>
 }
 
 fn hex_digit(byte: u8) -> Option<u32>
-    ensures { result ≡ hex_digit_in byte }
+    ensures { result ≡ parse_hex_digit byte }
 {
     if byte >= b'0' && byte <= b'9' {
         Some(u32::from(byte) - 48)
@@ -40,8 +40,8 @@ fn hex_digit(byte: u8) -> Option<u32>
 }
 
 // A number with one hexadecimal digit more, if it is below 2^32.
-fn with_hex(number: u32, byte: u8) -> Option<u32>
-    ensures { result ≡ with_hex number byte }
+fn append_hex_digit(number: u32, byte: u8) -> Option<u32>
+    ensures { result ≡ append_hex_digit number byte }
 {
     let digit = hex_digit(byte)?;
     number.checked_mul(16)?.checked_add(digit)
@@ -49,19 +49,19 @@ fn with_hex(number: u32, byte: u8) -> Option<u32>
 
 // The number of hexadecimal digits, below 2^32.
 fn hex_number(text: &[u8]) -> Option<u32>
-    ensures { result ≡ hex_number_in text.now }
+    ensures { result ≡ parse_hex_number text.now }
 {
     let (first, rest) = text.split_first()?;
     let mut number = hex_digit(*first)?;
     'digits: for byte in rest {
-        number = with_hex(number, *byte)?;
+        number = append_hex_digit(number, *byte)?;
     }
     Some(number)
 }
 
 // Hexadecimal digits after `0x`, or decimal ones without leading zeros.
 fn size(text: &[u8]) -> Option<u32>
-    ensures { result ≡ size_in text.now }
+    ensures { result ≡ parse_unsigned_number text.now }
 {
     match text.strip_prefix(b"0x") {
         Some(digits) => hex_number(digits),
@@ -82,7 +82,7 @@ fn negative_word(size: u32) -> Option<u32>
 
 // A number, after `-` or without.
 fn plain_number(text: &[u8]) -> Option<u32>
-    ensures { result ≡ plain_number_in text.now }
+    ensures { result ≡ parse_plain_number text.now }
 {
     match text.strip_prefix(b"-") {
         Some(digits) => negative_word(size(digits)?),
@@ -92,7 +92,7 @@ fn plain_number(text: &[u8]) -> Option<u32>
 
 // A number, or a word as answers have it, or the address of a port.
 fn plain_operand(text: &[u8]) -> Option<u32>
-    ensures { result ≡ plain_operand_in text.now }
+    ensures { result ≡ parse_plain_operand text.now }
 {
     if let Some(number) = plain_number(text) {
         return Some(number);

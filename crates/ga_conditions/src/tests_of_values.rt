@@ -1,7 +1,7 @@
 //! Comparisons of a value that a node holds with a number, as text.
 
 ghost use Rattle.std.specs.Prelude.{◌≡◌};
-ghost use Rattle.ga_conditions.specs.Tests.{letter_value, stack_value, cell_value, word_value, named_value_in, comparison_in, test_in};
+ghost use Rattle.ga_conditions.specs.Tests.{one_letter_value, two_letter_value, cell_value, keyword_value, named_value_in, comparison_in, test_in};
 
 use crate::numbers::parse_operand;
 use ga_debug_info::LabelAddress;
@@ -10,8 +10,8 @@ use ga_scheduler::{Comparison, NodeValue, ValueTest};
 use ga_text::{parse_hex_byte, split_at_space};
 
 // The register of one letter.
-fn letter_value(letter: u8) -> Option<NodeValue>
-    ensures { result ≡ letter_value letter }
+fn one_letter_value(letter: u8) -> Option<NodeValue>
+    ensures { result ≡ one_letter_value letter }
 {
     match letter {
         b't' => Some(NodeValue::DataWord(0)),
@@ -26,8 +26,8 @@ fn letter_value(letter: u8) -> Option<NodeValue>
 }
 
 // A word of a stack by its place, or `io`.
-fn stack_value(stack: u8, place: u8) -> Option<NodeValue>
-    ensures { result ≡ stack_value stack place }
+fn two_letter_value(stack: u8, place: u8) -> Option<NodeValue>
+    ensures { result ≡ two_letter_value stack place }
 {
     if stack == b'd' && place >= b'2' && place <= b'9' {
         Some(NodeValue::DataWord(place - b'0'))
@@ -53,8 +53,8 @@ fn cell_value(text: &[u8]) -> Option<NodeValue>
 }
 
 // The value of a longer name.
-fn word_value(text: &[u8]) -> Option<NodeValue>
-    ensures { result ≡ word_value text.now }
+fn keyword_value(text: &[u8]) -> Option<NodeValue>
+    ensures { result ≡ keyword_value text.now }
 {
     if text == b"slot".as_slice() {
         Some(NodeValue::Slot)
@@ -73,9 +73,9 @@ pub fn parse_value(text: &[u8]) -> Option<NodeValue>
     ensures { result ≡ named_value_in text.now }
 {
     match text {
-        [letter] => letter_value(*letter),
-        [stack, place] => stack_value(*stack, *place),
-        _ => word_value(text),
+        [letter] => one_letter_value(*letter),
+        [stack, place] => two_letter_value(*stack, *place),
+        _ => keyword_value(text),
     }
 }
 

@@ -1,7 +1,7 @@
 -- A command in front of a text.
 use Rattle.std.proofs.Common.{◌≡◌, ◌<◌, ℕ, List, [], ◌∷◌, ◌++◌, length, take, Some, get_or, refl, sym, ap, ◌∙◌, arith, ◌≢◌, ◌+◌, ◌*◌, ◌/◌, ◌%◌, ◌≤◌, false, drop, suc, drop-cons, length-take, length-drop, take-append-drop, append_assoc, inl, inr, eq-zero-or-pos, ◌-◌, decimal, subst}
 use Rattle.ga_grid.specs.declared.node_id.NodeId.{NodeId}
-use Rattle.ga_text.specs.Digits.{name_of_node, byte_in}
+use Rattle.ga_text.specs.Digits.{name_of_node, hex_byte_value}
 use Rattle.ga_text.proofs.Taking.{byte_address, not_feed}
 use Rattle.ga_console.specs.Commands.{SpellsCommand}
 use Rattle.ga_console.specs.declared.command.Command.TheVariants.{Node, Memory, Step, Rewind, Count, Quit}
@@ -9,7 +9,7 @@ use Rattle.std.specs.Prelude.{codes}
 use Rattle.std.proofs.lemmas.List.{take_all}
 use Rattle.std.proofs.lemmas.List.Elements.{All-from_recursion, All-append}
 use Rattle.ga_grid.specs.Grid.{yxx_of}
-use Rattle.ga_text.specs.Lines.{HasNoFeed, ends_line}
+use Rattle.ga_text.specs.Lines.{HasNoLineFeed, ends_line}
 use Rattle.ga_console.specs.Session.{quit_line}
 use Rattle.ga_console.specs.inner.Run.{IsAhead, IsLineAhead, IsNumberAhead}
 use Rattle.ga_console.specs.declared.command.Command.{Command}
@@ -59,7 +59,7 @@ node_line line node long b0 b1 b2 b3 b4 name =
 pub memory_line : (line : List ℕ) (node : NodeId) (address : ℕ) → length line ≡ 10
     → (get_or line 0 0 ≡ 109) → (get_or line 1 0 ≡ 101) → (get_or line 2 0 ≡ 109) → (get_or line 3 0 ≡ 32) → (get_or line 7 0 ≡ 32)
     → (name_of_node node ++ 10 ∷ []) ≡ (get_or line 4 0 ∷ get_or line 5 0 ∷ get_or line 6 0 ∷ 10 ∷ [])
-    → byte_in (get_or line 8 0 ∷ get_or line 9 0 ∷ []) ≡ Some address → SpellsCommand (Memory node address) line
+    → hex_byte_value (get_or line 8 0 ∷ get_or line 9 0 ∷ []) ≡ Some address → SpellsCommand (Memory node address) line
 memory_line line node address long b0 b1 b2 b3 b7 name e =
     let named : name_of_node node ≡ get_or line 4 0 ∷ get_or line 5 0 ∷ get_or line 6 0 ∷ [] = ap (take 3) name in
     let word : List ℕ = get_or line 8 0 ∷ get_or line 9 0 ∷ [] in
@@ -99,7 +99,7 @@ step_line : NodeId → List ℕ
 step_line node = 115 ∷ 116 ∷ 101 ∷ 112 ∷ 32 ∷ name_of_node node
 
 -- no byte of it is a line feed
-step_feeds : (node : NodeId) → HasNoFeed (step_line node)
+step_feeds : (node : NodeId) → HasNoLineFeed (step_line node)
 unfolding step_line
 step_feeds node = All-from_recursion (λ b. ends_line b ≡ false) (step_line node)
     (refl, (refl, (refl, (refl, (refl, (not_feed _ (omega arith), (not_feed _ (omega arith), (not_feed _ (omega arith), tt))))))))
@@ -171,7 +171,7 @@ count_front text front = record {
 rewind_head : NodeId → List ℕ
 rewind_head node = 114 ∷ 101 ∷ 119 ∷ 105 ∷ 110 ∷ 100 ∷ 32 ∷ (name_of_node node ++ 32 ∷ [])
 
-head_feeds : (node : NodeId) → HasNoFeed (rewind_head node)
+head_feeds : (node : NodeId) → HasNoLineFeed (rewind_head node)
 unfolding rewind_head
 head_feeds node = All-from_recursion (λ b. ends_line b ≡ false) (rewind_head node)
     (refl, (refl, (refl, (refl, (refl, (refl, (refl, (not_feed _ (omega arith), (not_feed _ (omega arith), (not_feed _ (omega arith), (refl, tt)))))))))))
@@ -199,7 +199,7 @@ rewind_front text node k digits long front b6 b10 name h =
       splits = eleven text long ∙ rw (b0, b1, b2, b3, b4, b5, b6, b10)
           (ap (λ (t : List ℕ). 114 ∷ 101 ∷ 119 ∷ 105 ∷ 110 ∷ 100 ∷ 32 ∷ (t ++ 32 ∷ drop 11 text)) (sym named)
           ∙ ap (λ (t : List ℕ). 114 ∷ 101 ∷ 119 ∷ 105 ∷ 110 ∷ 100 ∷ 32 ∷ (name_of_node node ++ 32 ∷ t)) rest);
-      no_feed = All-append (λ b. ends_line b ≡ false) (rewind_head node) (decimal k) (head_feeds node) (subst HasNoFeed h.spelled h.line.no_feed);
+      no_feed = All-append (λ b. ends_line b ≡ false) (rewind_head node) (decimal k) (head_feeds node) (subst HasNoLineFeed h.spelled h.line.no_feed);
       counts = omega (arith, size);
       short = omega (arith, h.few);
       spelled = (h.fits, refl);

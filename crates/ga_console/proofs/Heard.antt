@@ -6,9 +6,9 @@ use Rattle.std.proofs.lemmas.List.{append-nil, take_all}
 use Rattle.std.proofs.Math.Seq.{take-append_seam}
 use Rattle.std.proofs.lemmas.Grind.{flat_map-append}
 use Rattle.std.proofs.lemmas.Bool.Decides.{nat_tests}
-use Rattle.ga_text.specs.Lines.{lines_of, ended, text_of, ended_lines, HasNoFeed}
-use Rattle.ga_console.specs.Session.{Answering, quit_line, Answers, HasNoQuit, heard_lines, HearsWholeLines, QuitsAfter, Serves, ServesToEnd, ServesToQuit, ServesToBound, ServesToFault, ServesCut}
-use Rattle.ga_display.specs.Texts.{no_input}
+use Rattle.ga_text.specs.Lines.{lines_of, ended, text_of, terminated_lines, HasNoLineFeed}
+use Rattle.ga_console.specs.Session.{AnswerRelation, quit_line, Answers, HasNoQuit, lines_within_bound, ReadsWholeLines, QuitsAfter, ServesCommands, ServesToEnd, ServesToQuit, ServesToInputLimit, ServesToReadFailure, ServesToWriteFailure}
+use Rattle.ga_display.specs.Texts.{input_limit_refusal}
 use Rattle.ga_console.specs.declared.commands.CommandsEnd.{CommandsEnd}
 use Rattle.ga_console.specs.declared.commands.CommandsEnd.TheVariants.{Ended, Quit, Past, ReadFailed}
 use Rattle.ga_text.specs.declared.output.WriteError.{WriteError}
@@ -23,7 +23,7 @@ all_push : (P : List ℕ → Type 0) (lines : List (List ℕ)) (line : List ℕ)
 all_push P [] line h p = (p, tt)
 all_push P (l ∷ ls) line h p = (h.0, all_push P ls line h.1 p)
 
-answers_push : {M : Type 0} (A : Answering M) (m : M) (lines : List (List ℕ)) (text : List ℕ) (next : M) (line answer : List ℕ) (new : M)
+answers_push : {M : Type 0} (A : AnswerRelation M) (m : M) (lines : List (List ℕ)) (text : List ℕ) (next : M) (line answer : List ℕ) (new : M)
     → Answers A m lines text next → A next line answer new → Answers A m (lines ++ line ∷ []) (text ++ answer) new
 answers_push {M} A m [] text next line answer new h a =
     let P : M → Type 0 = λ s. A s line answer new in
@@ -32,19 +32,19 @@ answers_push A m (l ∷ ls) text next line answer new h a =
     (h.0, h.1, h.2 ++ answer, h.3, answers_push A h.1 ls h.2 next line answer new h.4 a, ap (λ (t : List ℕ). t ++ answer) h.5 ∙ append_assoc h.0 h.2 answer)
 
 -- what was heard of the whole, and what is left of it
-pub record Heard {M : Type 0} (A : Answering M) (first : M) (whole : List ℕ) (start : ℕ) (left : List ℕ) (taken : ℕ) (text : List ℕ) (m : M) : Type 0 where
+pub record Heard {M : Type 0} (A : AnswerRelation M) (first : M) (whole : List ℕ) (start : ℕ) (left : List ℕ) (taken : ℕ) (text : List ℕ) (m : M) : Type 0 where
   pub lines : List (List ℕ)
   pub splits : whole ≡ text_of lines ++ left
-  pub feeds : AllByRecursion HasNoFeed lines
+  pub feeds : AllByRecursion HasNoLineFeed lines
   pub no_quit : HasNoQuit lines
   pub answers : Answers A first lines text m
   pub counts : taken ≡ start + length (text_of lines)
 
-pub heard_none : {M : Type 0} (A : Answering M) (m : M) (whole : List ℕ) (start : ℕ) → Heard A m whole start whole start [] m
+pub heard_none : {M : Type 0} (A : AnswerRelation M) (m : M) (whole : List ℕ) (start : ℕ) → Heard A m whole start whole start [] m
 heard_none A m whole start = record { lines = []; splits = refl; feeds = tt; no_quit = tt; answers = (refl, refl); counts = omega arith }
 
 -- the same machine under another name
-pub heard_same : {M : Type 0} {A : Answering M} {first : M} {whole : List ℕ} {start : ℕ} {left : List ℕ} {taken : ℕ} {text : List ℕ} {m : M}
+pub heard_same : {M : Type 0} {A : AnswerRelation M} {first : M} {whole : List ℕ} {start : ℕ} {left : List ℕ} {taken : ℕ} {text : List ℕ} {m : M}
     → Heard A first whole start left taken text m → (last : M) → last ≡ m → Heard A first whole start left taken text last
 heard_same {M} {A} {first} {whole} {start} {left} {taken} {text} {m} h last e =
     let P : M → Type 0 = λ s. Answers A first h.lines text s in
@@ -63,14 +63,14 @@ le-true a b h = grind (arith, nat_tests)
 le-false : (a b : ℕ) → b < a → nat_le a b ≡ false
 le-false a b h = grind (arith, nat_tests)
 
-heard_within : (room : ℕ) (read : List ℕ) → length read ≤ room → heard_lines room read ≡ lines_of read
+heard_within : (room : ℕ) (read : List ℕ) → length read ≤ room → lines_within_bound room read ≡ lines_of read
 heard_within room read h = go (nat_le (length read) room) (le-true (length read) room h) where
-  go : (b : Bool) → b ≡ true → cond b (lines_of read) (ended_lines (take room read)) ≡ lines_of read
+  go : (b : Bool) → b ≡ true → cond b (lines_of read) (terminated_lines (take room read)) ≡ lines_of read
   go b e = rw e refl
 
-heard_over : (room : ℕ) (read : List ℕ) → room < length read → heard_lines room read ≡ ended_lines (take room read)
+heard_over : (room : ℕ) (read : List ℕ) → room < length read → lines_within_bound room read ≡ terminated_lines (take room read)
 heard_over room read h = go (nat_le (length read) room) (le-false (length read) room h) where
-  go : (b : Bool) → b ≡ false → cond b (lines_of read) (ended_lines (take room read)) ≡ ended_lines (take room read)
+  go : (b : Bool) → b ≡ false → cond b (lines_of read) (terminated_lines (take room read)) ≡ terminated_lines (take room read)
   go b e = rw e refl
 
 -- a line `quit` comes after the lines before it
@@ -84,13 +84,13 @@ behind_quit read rest heard after (inl e) =
 behind_quit read rest heard after (inr e) = (quit_line ∷ [], e.1)
 
 whole_quit : (room : ℕ) (read rest : List ℕ) (heard after : List (List ℕ)) → length read ≤ room
-    → QuitsAfter read rest heard after → HearsWholeLines room read rest heard
-whole_quit room read rest heard after short (inl e) = inr (quit_line ∷ after, ap ended_lines (take_all room read short) ∙ e)
+    → QuitsAfter read rest heard after → ReadsWholeLines room read rest heard
+whole_quit room read rest heard after short (inl e) = inr (quit_line ∷ after, ap terminated_lines (take_all room read short) ∙ e)
 whole_quit room read rest heard after short (inr e) = inl e.0
 
 -- If a write failed at last, what was written is in the script.
-pub cut_short : {M : Type 0} (A : Answering M) (room : ℕ) (m : M) (read rest text : List ℕ) (last : M) (ending : Result CommandsEnd WriteError)
-    → Serves A room m read rest text last ending → ServesCut A room m read rest text last
+pub cut_short : {M : Type 0} (A : AnswerRelation M) (room : ℕ) (m : M) (read rest text : List ℕ) (last : M) (ending : Result CommandsEnd WriteError)
+    → ServesCommands A room m read rest text last ending → ServesToWriteFailure A room m read rest text last
 cut_short A room m read rest text last (Ok Ended) s = record {
   heard = lines_of read;
   after = [];
@@ -112,26 +112,26 @@ cut_short A room m read rest text last (Ok Quit) s =
 cut_short A room m read rest text last (Ok Past) s =
     let long : room < length read = omega (arith, s.over) in
     record {
-      heard = ended_lines (take room read);
+      heard = terminated_lines (take room read);
       after = [];
-      front = heard_over room read long ∙ sym (append-nil (ended_lines (take room read)));
+      front = heard_over room read long ∙ sym (append-nil (terminated_lines (take room read)));
       no_quit = s.no_quit;
       script = inr (long, refl, s.said, s.answers, s.told);
-      whole = inr ([], sym (append-nil (ended_lines (take room read))));
+      whole = inr ([], sym (append-nil (terminated_lines (take room read))));
     }
 cut_short A room m read rest text last (Ok ReadFailed) s =
     let more = more_lines read in
     record {
-      heard = ended_lines read;
+      heard = terminated_lines read;
       after = more.more;
       front = heard_within room read s.within ∙ more.same;
       no_quit = s.no_quit;
       script = inl s.answers;
-      whole = inr ([], ap ended_lines (take_all room read s.within) ∙ sym (append-nil (ended_lines read)));
+      whole = inr ([], ap terminated_lines (take_all room read s.within) ∙ sym (append-nil (terminated_lines read)));
     }
 cut_short A room m read rest text last (Err failed) s = s
 
-module _ {M : Type 0} {A : Answering M} {first : M} {whole : List ℕ} {start : ℕ} {left : List ℕ} {taken : ℕ} {text : List ℕ} {m : M}
+module _ {M : Type 0} {A : AnswerRelation M} {first : M} {whole : List ℕ} {start : ℕ} {left : List ℕ} {taken : ℕ} {text : List ℕ} {m : M}
     (h : Heard A first whole start left taken text m) where
   -- what was read, up to the end of these bytes
   pub read_to : List ℕ → List ℕ
@@ -146,19 +146,19 @@ module _ {M : Type 0} {A : Answering M} {first : M} {whole : List ℕ} {start : 
   length_to bytes = length-append (text_of h.lines) bytes
 
   -- one line more was heard
-  pub heard_push : (part more : List ℕ) (now : ℕ) (answer : List ℕ) (new : M) → left ≡ part ++ 10 ∷ more → HasNoFeed part
+  pub heard_push : (part more : List ℕ) (now : ℕ) (answer : List ℕ) (new : M) → left ≡ part ++ 10 ∷ more → HasNoLineFeed part
       → now ≡ taken + length part + 1 → A m part answer new → part ≢ quit_line → Heard A first whole start more now (text ++ answer) new
   heard_push part more now answer new e none counts a other = record {
     lines = h.lines ++ part ∷ [];
     splits = h.splits ∙ ap (λ (l : List ℕ). text_of h.lines ++ l) e ∙ text_push h.lines part more;
-    feeds = all_push HasNoFeed h.lines part h.feeds none;
+    feeds = all_push HasNoLineFeed h.lines part h.feeds none;
     no_quit = all_push (λ l. l ≢ quit_line) h.lines part h.no_quit other;
     answers = answers_push A first h.lines text m part answer new h.answers a;
     counts = omega (arith, h.counts, counts, ap length (sym (text_push h.lines part [])), length-append (text_of h.lines) (part ++ 10 ∷ []), length-append part (10 ∷ []), length-append (text_of (h.lines ++ part ∷ [])) []);
   }
 
   -- A write failed: the lines heard were answered.
-  pub heard_cut : (bytes rest : List ℕ) → taken + length bytes ≤ 16777216 → ServesCut A (16777216 - start) first (read_to bytes) rest text m
+  pub heard_cut : (bytes rest : List ℕ) → taken + length bytes ≤ 16777216 → ServesToWriteFailure A (16777216 - start) first (read_to bytes) rest text m
   unfolding read_to
   heard_cut bytes rest within =
       let short : length (read_to bytes) ≤ 16777216 - start = omega (arith, within, length_to bytes, h.counts) in
@@ -168,14 +168,14 @@ module _ {M : Type 0} {A : Answering M} {first : M} {whole : List ℕ} {start : 
         front = heard_within (16777216 - start) (read_to bytes) short ∙ lines_front h.lines bytes h.feeds;
         no_quit = h.no_quit;
         script = inl h.answers;
-        whole = inr (ended_lines bytes, ap ended_lines (take_all (16777216 - start) (read_to bytes) short) ∙ ended_front h.lines bytes h.feeds);
+        whole = inr (terminated_lines bytes, ap terminated_lines (take_all (16777216 - start) (read_to bytes) short) ∙ ended_front h.lines bytes h.feeds);
       }
 
   -- a read failed
-  pub heard_failed : (part rest : List ℕ) → HasNoFeed part → taken + length part ≤ 16777216 → ServesToFault A (16777216 - start) first (read_to part) rest text m
+  pub heard_failed : (part rest : List ℕ) → HasNoLineFeed part → taken + length part ≤ 16777216 → ServesToReadFailure A (16777216 - start) first (read_to part) rest text m
   unfolding read_to
   heard_failed part rest none short =
-      let same : h.lines ≡ ended_lines (read_to part) = sym (ended_whole h.lines part h.feeds none) in
+      let same : h.lines ≡ terminated_lines (read_to part) = sym (ended_whole h.lines part h.feeds none) in
       let P : List (List ℕ) → Type 0 = λ ls. HasNoQuit ls in
       let Q : List (List ℕ) → Type 0 = λ ls. Answers A first ls text m in
       record {
@@ -199,12 +199,12 @@ module _ {M : Type 0} {A : Answering M} {first : M} {whole : List ℕ} {start : 
         answers = subst Q same h.answers;
       }
 
-  lines_to : (part : List ℕ) → HasNoFeed part → 0 < length part → h.lines ++ part ∷ [] ≡ lines_of (read_to part)
+  lines_to : (part : List ℕ) → HasNoLineFeed part → 0 < length part → h.lines ++ part ∷ [] ≡ lines_of (read_to part)
   unfolding read_to
   lines_to part none some = sym (lines_front h.lines part h.feeds ∙ ap (λ (ls : List (List ℕ)). h.lines ++ ls) (lines_last part none some))
 
   -- the last line had no line feed
-  pub heard_last : (part rest answer : List ℕ) (new : M) → HasNoFeed part → 0 < length part → rest ≡ [] → taken + length part ≤ 16777216
+  pub heard_last : (part rest answer : List ℕ) (new : M) → HasNoLineFeed part → 0 < length part → rest ≡ [] → taken + length part ≤ 16777216
       → A m part answer new → part ≢ quit_line → ServesToEnd A (16777216 - start) first (read_to part) rest (text ++ answer) new
   heard_last part rest answer new none some nothing short a other =
       let same = lines_to part none some in
@@ -218,7 +218,7 @@ module _ {M : Type 0} {A : Answering M} {first : M} {whole : List ℕ} {start : 
       }
 
   -- and was quit
-  pub heard_quit_last : (part rest : List ℕ) → HasNoFeed part → part ≡ quit_line → rest ≡ [] → taken + length part ≤ 16777216
+  pub heard_quit_last : (part rest : List ℕ) → HasNoLineFeed part → part ≡ quit_line → rest ≡ [] → taken + length part ≤ 16777216
       → ServesToQuit A (16777216 - start) first (read_to part) rest text m
   heard_quit_last part rest none quit nothing short =
       let some : 0 < length part = omega (arith, ap length quit) in
@@ -244,17 +244,17 @@ module _ {M : Type 0} {A : Answering M} {first : M} {whole : List ℕ} {start : 
   unfolding read_past
   length_past part bytes = omega (arith, ap length (text_push h.lines part bytes), length-append (text_of h.lines) (part ++ 10 ∷ bytes), length-append part (10 ∷ bytes))
 
-  pub heard_quit : (part bytes rest : List ℕ) (now : ℕ) → HasNoFeed part → part ≡ quit_line → now ≡ taken + length part + 1 → now + length bytes ≤ 16777216
+  pub heard_quit : (part bytes rest : List ℕ) (now : ℕ) → HasNoLineFeed part → part ≡ quit_line → now ≡ taken + length part + 1 → now + length bytes ≤ 16777216
       → ServesToQuit A (16777216 - start) first (read_past part bytes) rest text m
   unfolding read_past
   heard_quit part bytes rest now none quit counts short = record {
     within = omega (arith, short, counts, length_past part bytes, h.counts);
     heard = h.lines;
-    after = ended_lines bytes;
+    after = terminated_lines bytes;
     no_quit = h.no_quit;
     answers = h.answers;
-    quits = inl (ended_front (h.lines ++ part ∷ []) bytes (all_push HasNoFeed h.lines part h.feeds none) ∙ append_assoc h.lines (part ∷ []) (ended_lines bytes)
-        ∙ ap (λ (l : List ℕ). h.lines ++ l ∷ ended_lines bytes) quit);
+    quits = inl (ended_front (h.lines ++ part ∷ []) bytes (all_push HasNoLineFeed h.lines part h.feeds none) ∙ append_assoc h.lines (part ∷ []) (terminated_lines bytes)
+        ∙ ap (λ (l : List ℕ). h.lines ++ l ∷ terminated_lines bytes) quit);
   }
 
   -- the input exceeds its bound
@@ -265,14 +265,14 @@ module _ {M : Type 0} {A : Answering M} {first : M} {whole : List ℕ} {start : 
   unfolding read_over
   split_over part b rest e = split_at part (b ∷ rest) e ∙ sym (append_assoc (read_to part) (b ∷ []) rest)
 
-  pub heard_past : (part : List ℕ) (b : ℕ) (rest : List ℕ) (now : ℕ) → HasNoFeed part → now ≡ taken + length part → now ≡ 16777216
-      → ServesToBound A (16777216 - start) first (read_over part b) rest (text ++ no_input) m
+  pub heard_past : (part : List ℕ) (b : ℕ) (rest : List ℕ) (now : ℕ) → HasNoLineFeed part → now ≡ taken + length part → now ≡ 16777216
+      → ServesToInputLimit A (16777216 - start) first (read_over part b) rest (text ++ input_limit_refusal) m
   unfolding read_over read_to
   heard_past part b rest now none counts full =
       let room : 16777216 - start ≡ length (read_to part) = omega (arith, length_to part, h.counts) in
-      let same : h.lines ≡ ended_lines (take (16777216 - start) (read_over part b)) =
-      sym (ap (λ (n : ℕ). ended_lines (take n (read_to part ++ b ∷ []))) room
-      ∙ ap ended_lines (take-append_seam (read_to part) (b ∷ [])) ∙ ended_whole h.lines part h.feeds none) in
+      let same : h.lines ≡ terminated_lines (take (16777216 - start) (read_over part b)) =
+      sym (ap (λ (n : ℕ). terminated_lines (take n (read_to part ++ b ∷ []))) room
+      ∙ ap terminated_lines (take-append_seam (read_to part) (b ∷ [])) ∙ ended_whole h.lines part h.feeds none) in
       let P : List (List ℕ) → Type 0 = λ ls. HasNoQuit ls in
       let Q : List (List ℕ) → Type 0 = λ ls. Answers A first ls text m in
       record {

@@ -3,11 +3,11 @@ use Rattle.std.proofs.Common.{◌≡◌, ℕ, List, [], ◌∷◌, Result, Ok, E
 use Rattle.ga_grid.specs.declared.node_id.NodeId.{NodeId}
 use Rattle.ga_event.specs.Next.{next}
 use Rattle.ga_event.specs.declared.made.Made.{Made}
-use Rattle.ga_lab.specs.Machine.{State, chip_of, step_answer, with_event, unless_refused, undo_answer, rewind_answer, rewound}
+use Rattle.ga_lab.specs.Machine.{State, chip_of, step_answer, with_event, unless_refused, undo_answer, rewind_answer, state_after_rewind}
 use Rattle.ga_lab.specs.declared.fault.LabFault.{LabFault}
 use Rattle.ga_display.specs.declared.wording.Wording.TheVariants.{Brief}
-use Rattle.ga_console.specs.Replies.{Reply, Does, LineAnswer, reply, step_reply, back_reply, rewind_reply, Reaches}
-use Rattle.ga_console.specs.Replies.WordedAnswer.{long, command, syntax}
+use Rattle.ga_console.specs.Replies.{Reply, IsCommandReply, IsBriefAnswer, brief_reply, step_reply, back_reply, rewind_reply, IsReachedByLines}
+use Rattle.ga_console.specs.Replies.IsAnswerInWording.{long, command, syntax}
 use Rattle.ga_console.specs.declared.command.Command.{Command}
 use Rattle.ga_console.specs.declared.command.Command.TheVariants.{Step, Back, Rewind, Node, Memory, Trace, Why, Count, Dump, Quit}
 use Rattle.ga_shared.proofs.Logs.{with_event-load as event_load}
@@ -24,11 +24,11 @@ back_load : (s : State) (answer : Result (Unit {0}) LabFault) → (back_reply s 
 back_load s (Ok done) = refl
 back_load s (Err why) = refl
 
-rewind_load : (s : State) (n k : ℕ) (answer : Result ℕ LabFault) → (rewind_reply s (rewound s n k) answer).1.load ≡ s.load
+rewind_load : (s : State) (n k : ℕ) (answer : Result ℕ LabFault) → (rewind_reply s (state_after_rewind s n k) answer).1.load ≡ s.load
 rewind_load s n k (Ok removed) = refl
 rewind_load s n k (Err why) = refl
 
-reply_load : (s : State) (asked : Command) → (reply s asked).1.load ≡ s.load
+reply_load : (s : State) (asked : Command) → (brief_reply s asked).1.load ≡ s.load
 reply_load s (Step node) = step_load s node (step_answer s node)
 reply_load s Back = back_load s (undo_answer s)
 reply_load s (Rewind node k) = rewind_load s node.number k (rewind_answer s node.number k)
@@ -40,15 +40,15 @@ reply_load s Count = refl
 reply_load s Dump = refl
 reply_load s Quit = refl
 
-does_load : (s : State) (asked : Command) (answer : List ℕ) (new : State) → Does Brief s asked answer new → new.load ≡ s.load
+does_load : (s : State) (asked : Command) (answer : List ℕ) (new : State) → IsCommandReply Brief s asked answer new → new.load ≡ s.load
 does_load s asked answer new (inl e) = ap (λ (r : Reply). r.1.load) e ∙ reply_load s asked
 does_load s asked answer new (inr refused) = ap (λ (m : State). m.load) refused.2
 
-answer_load : (s : State) (line answer : List ℕ) (new : State) → LineAnswer s line answer new → new.load ≡ s.load
+answer_load : (s : State) (line answer : List ℕ) (new : State) → IsBriefAnswer s line answer new → new.load ≡ s.load
 answer_load s line answer new (long past text same) = ap (λ (m : State). m.load) same
 answer_load s line answer new (command c short spelled does) = does_load s c answer new does
 answer_load s line answer new (syntax short none text same) = ap (λ (m : State). m.load) same
 
-pub reached_load : (m : State) (lines : List (List ℕ)) (last : State) → Reaches m lines last → last.load ≡ m.load
+pub reached_load : (m : State) (lines : List (List ℕ)) (last : State) → IsReachedByLines m lines last → last.load ≡ m.load
 reached_load m [] last same = ap (λ (s : State). s.load) same
 reached_load m (line ∷ lines) last (answer, next, done, rest) = reached_load next lines last rest ∙ answer_load m line answer next done

@@ -6,15 +6,15 @@ use Rattle.std.proofs.lemmas.Slice.Eq.{bytes_eq-Decides}
 use Rattle.ga_grid.specs.declared.node_id.NodeId.{NodeId}
 use Rattle.ga_console.specs.declared.command.Command.{Command}
 use Rattle.ga_console.specs.declared.command.Command.TheVariants.{Step, Back, Rewind, Node, Memory, Trace, Why, Count, Dump, Quit}
-use Rattle.ga_text.specs.Digits.{name_of_node, byte_in}
-use Rattle.ga_text.specs.Parsing.{IsNumber, SpellsAddress, split_at_space, parse_node, parse_number}
+use Rattle.ga_text.specs.Digits.{name_of_node, hex_byte_value}
+use Rattle.ga_text.specs.Parsing.{IsStepNumber, SpellsAddress, split_at_space, parse_node, parse_number}
 use Rattle.ga_console.specs.Commands.{SpellsCommand}
 use Rattle.ga_console.specs.inner.Parsing.{step_in, rewind_in, memory_in, why_in, alone, with_arguments, command_by, command_in}
 use Rattle.ga_text.proofs.Taking.{cut_joined, word_cut, first_step, mapped, node_name, name_node, name_word, number_decimal, decimal_number, decimal_word, byte_address, address_byte}
 
 -- ---- what is read is spelled so
 
-step_spelled : (text : List ℕ) (step : NodeId × ℕ) → step_in text ≡ Some step → IsNumber step.1 × (text ≡ name_of_node step.0 ++ 32 ∷ decimal step.1)
+step_spelled : (text : List ℕ) (step : NodeId × ℕ) → step_in text ≡ Some step → IsStepNumber step.1 × (text ≡ name_of_node step.0 ++ 32 ∷ decimal step.1)
 unfolding step_in
 step_spelled text step e =
     let (parts, whole, rest) = first_step (split_at_space text) _ step e in
@@ -22,7 +22,7 @@ step_spelled text step e =
     let (k, digits, made) = first_step (parse_number parts.1) _ step numbered in
     let same : (node, k) ≡ step = cc in
     let (is, text_is) = number_decimal parts.1 k digits in
-    let P : NodeId × ℕ → Type 0 = λ s. IsNumber s.1 × (text ≡ name_of_node s.0 ++ 32 ∷ decimal s.1) in
+    let P : NodeId × ℕ → Type 0 = λ s. IsStepNumber s.1 × (text ≡ name_of_node s.0 ++ 32 ∷ decimal s.1) in
     subst P same (is, cut_joined text parts whole ∙ ap (λ (t : List ℕ). t ++ 32 ∷ parts.1) (node_name parts.0 node name) ∙ ap (λ (t : List ℕ). name_of_node node ++ 32 ∷ t) text_is)
 
 -- the name is this one, and the command that comes with these arguments
@@ -50,7 +50,7 @@ unfolding Named memory_in
 memory_spelled text name c is e =
     let (parts, whole, rest) = first_step (split_at_space text) _ c e in
     let (node, first, last) = first_step (parse_node parts.0) _ c rest in
-    let (address, digits, made) = first_step (byte_in parts.1) _ c last in
+    let (address, digits, made) = first_step (hex_byte_value parts.1) _ c last in
     let same : Memory node address ≡ c = cc in
     let P : Command → Type 0 = λ d. SpellsCommand d (name ++ 32 ∷ text) in
     subst P {x = Memory node address} same (
@@ -126,7 +126,7 @@ alone_spelled line c e =
 
 -- ---- what is spelled is read so
 
-step_read : (node : NodeId) (k : ℕ) → IsNumber k → step_in (name_of_node node ++ 32 ∷ decimal k) ≡ Some (node, k)
+step_read : (node : NodeId) (k : ℕ) → IsStepNumber k → step_in (name_of_node node ++ 32 ∷ decimal k) ≡ Some (node, k)
 unfolding step_in
 step_read node k small = rw (word_cut (name_of_node node) (decimal k) (name_word node), name_node node, decimal_number k small) refl
 
@@ -134,7 +134,7 @@ memory_read : (node : NodeId) (address : ℕ) (word : List ℕ) → SpellsAddres
 unfolding memory_in
 memory_read node address word is = rw (word_cut (name_of_node node) word (name_word node), name_node node, address_byte word address is) refl
 
-why_read : (from : NodeId) (k : ℕ) (to : NodeId) (j : ℕ) → IsNumber k → IsNumber j
+why_read : (from : NodeId) (k : ℕ) (to : NodeId) (j : ℕ) → IsStepNumber k → IsStepNumber j
     → why_in (name_of_node from ++ 32 ∷ (decimal k ++ 32 ∷ (name_of_node to ++ 32 ∷ decimal j))) ≡ Some (Why from k to j)
 unfolding why_in
 why_read from k to j k_small j_small =

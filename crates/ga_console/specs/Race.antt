@@ -10,60 +10,60 @@ use Rattle.ga_image.specs.declared.fault.ImageFault.{ImageFault}
 use Rattle.ga_lab.specs.Machine.{State, initial_state}
 use Rattle.ga_shared.specs.declared.call.Call.{Call}
 use Rattle.ga_shared.specs.declared.call.Call.TheVariants.{Step}
-use Rattle.ga_shared.specs.declared.call.Entry.{Entry}
-use Rattle.ga_shared.specs.Log.{IsLegal, calls_of}
+use Rattle.ga_shared.specs.declared.call.LogEntry.{LogEntry}
+use Rattle.ga_shared.specs.Log.{IsLegalLog, calls_of_worker}
 use Rattle.ga_text.specs.Output.{TextHasPrefix}
-use Rattle.ga_text.specs.Image.{HasNoEnd}
-use Rattle.ga_console.specs.Run.{IsReadAlone}
+use Rattle.ga_text.specs.Image.{HasNoEndLine}
+use Rattle.ga_console.specs.Run.{ReadsOnlyImage}
 use Rattle.ga_display.specs.Texts.{image_fault_text}
 use Rattle.ga_console.specs.declared.run.Status.{Status}
 use Rattle.ga_console.specs.declared.run.Status.TheVariants.{Done, ImageRefused, StreamFault, NotFinished}
 
 -- the calls of a worker: a number of steps of the node with its number
-abbrev pub calls_by : ℕ → ℕ → List Call
-calls_by worker count = replicate count (Step (node_id worker))
+abbrev pub worker_calls : ℕ → ℕ → List Call
+worker_calls worker count = replicate count (Step (node_id worker))
 
 -- The calls of all workers, in the order in which they had the lock, lead the machine from the load to this lab.
 pub record IsRaceOfWorkers (load : List NodeRecord) (limit workers calls : ℕ) (lab : State) : Type 0 where
-  pub log : List Entry
-  pub legal : IsLegal (initial_state load limit) log lab
-  pub by_worker : (w : ℕ) → w < workers → calls_of w log ≡ calls_by w calls
+  pub log : List LogEntry
+  pub legal : IsLegalLog (initial_state load limit) log lab
+  pub by_worker : (w : ℕ) → w < workers → calls_of_worker w log ≡ worker_calls w calls
   pub count : length log ≡ workers * calls
 
 -- how many calls were made, how many events, and how many of them are kept
-abbrev pub report_text : ℕ → ℕ → ℕ → Text
-report_text calls made kept =
+abbrev pub race_report_text : ℕ → ℕ → ℕ → Text
+race_report_text calls made kept =
     codes "calls " ++ decimal calls ++ codes "\nmade " ++ decimal made ++ codes "\nkept " ++ decimal kept ++ codes "\n"
 
 -- the text is an image, and this reports a race on its chip
-pub record IsReport (limit workers calls : ℕ) (image text : Text) : Type 0 where
+pub record IsRaceReport (limit workers calls : ℕ) (image text : Text) : Type 0 where
   pub chip : List NodeState
   pub lab : State
   pub accepted : IsImage (lines_of image) chip
   pub race : IsRaceOfWorkers (records_of chip) limit workers calls lab
-  pub told : text ≡ report_text (workers * calls) lab.made (length lab.kept)
+  pub told : text ≡ race_report_text (workers * calls) lab.made (length lab.kept)
 
 -- the text is no image, and this reports its first fault
-pub record IsRefusal (image text : Text) : Type 0 where
+pub record IsImageRefusal (image text : Text) : Type 0 where
   pub fault : ImageFault
   pub first : IsFirstFault (lines_of image) fault
   pub told : text ≡ image_fault_text fault
 
 -- a write failed within a text for which this holds
-pub record IsCutShort (IsText : Text → Type 0) (text : Text) : Type 0 where
+pub record IsTruncationOf (IsText : Text → Type 0) (text : Text) : Type 0 where
   pub whole : Text
   pub is_text : IsText whole
   pub front : TextHasPrefix whole text
 
 -- P holds of the image that was read, and nothing was read after it
-abbrev pub OfImage : Bytes → Bytes → (Text → Type 0) → Type 0
-OfImage read rest P = (image : Text) × (ahead : Bytes) × (read ≡ image ++ ahead) × IsReadAlone image ahead rest × P image
+abbrev pub HoldsOfImage : Bytes → Bytes → (Text → Type 0) → Type 0
+HoldsOfImage read rest P = (image : Text) × (ahead : Bytes) × (read ≡ image ++ ahead) × ReadsOnlyImage image ahead rest × P image
 
 -- What a race may have written, where read was read of its input and rest is left of it.
-abbrev pub Reports : ℕ → ℕ → ℕ → Bytes → Bytes → Text → Status → Type 0
-Reports limit workers calls read rest text Done = OfImage read rest (λ image. IsReport limit workers calls image text)
-Reports limit workers calls read rest text ImageRefused = OfImage read rest (λ image. IsRefusal image text)
+abbrev pub WritesRaceReport : ℕ → ℕ → ℕ → Bytes → Bytes → Text → Status → Type 0
+WritesRaceReport limit workers calls read rest text Done = HoldsOfImage read rest (λ image. IsRaceReport limit workers calls image text)
+WritesRaceReport limit workers calls read rest text ImageRefused = HoldsOfImage read rest (λ image. IsImageRefusal image text)
 -- a read in the image failed, or a write of the report or of the refusal
-Reports limit workers calls read rest text StreamFault = ((text ≡ []) × HasNoEnd read)
-    ⊎ OfImage read rest (λ image. IsCutShort (IsReport limit workers calls image) text ⊎ IsCutShort (IsRefusal image) text)
-Reports limit workers calls read rest text NotFinished = text ≡ []
+WritesRaceReport limit workers calls read rest text StreamFault = ((text ≡ []) × HasNoEndLine read)
+    ⊎ HoldsOfImage read rest (λ image. IsTruncationOf (IsRaceReport limit workers calls image) text ⊎ IsTruncationOf (IsImageRefusal image) text)
+WritesRaceReport limit workers calls read rest text NotFinished = text ≡ []

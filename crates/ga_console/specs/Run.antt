@@ -5,15 +5,15 @@ use Rattle.ga_node.specs.Record.{NodeState}
 use Rattle.ga_grid.specs.Chip.{records_of}
 use Rattle.ga_text.specs.Lines.{Bytes, Text, lines_of}
 use Rattle.ga_image.specs.Grammar.{IsImage}
-use Rattle.ga_image.specs.FirstFault.{no_memory, IsFirstFault}
+use Rattle.ga_image.specs.FirstFault.{memory_fault, IsFirstFault}
 use Rattle.ga_image.specs.declared.fault.ImageFault.{ImageFault}
 use Rattle.ga_text.specs.Input.{input_limit, block_size}
 use Rattle.ga_text.specs.Output.{TextHasPrefix, ready}
-use Rattle.ga_text.specs.Image.{EndsAtEnd, HasNoEnd}
+use Rattle.ga_text.specs.Image.{EndsWithEndLine, HasNoEndLine}
 use Rattle.ga_lab.specs.Machine.{State, initial_state}
 use Rattle.ga_display.specs.Texts.{image_fault_text}
-use Rattle.ga_console.specs.Session.{Answering, Serves, Written}
-use Rattle.ga_console.specs.Replies.{LineAnswer}
+use Rattle.ga_console.specs.Session.{AnswerRelation, ServesCommands, IsWrittenOrPrefix}
+use Rattle.ga_console.specs.Replies.{IsBriefAnswer}
 use Rattle.ga_console.specs.declared.commands.CommandsEnd.{CommandsEnd}
 use Rattle.ga_console.specs.declared.commands.CommandsEnd.TheVariants.{Ended, Quit, Past, ReadFailed}
 use Rattle.ga_text.specs.declared.output.WriteError.{WriteError}
@@ -21,42 +21,42 @@ use Rattle.ga_console.specs.declared.run.Status.{Status}
 use Rattle.ga_console.specs.declared.run.Status.TheVariants.{Done, ImageRefused, StreamFault, NotFinished}
 
 -- The image is what was read up to the first line `end`, or all of an input in which none was read, or all that is within the bound.
-abbrev pub IsImagePart : Text → Bytes → Bytes → Type 0
-IsImagePart image commands rest = EndsAtEnd image
-    ⊎ ((commands ≡ []) × (rest ≡ []) × HasNoEnd image)
-    ⊎ ((length image ≡ input_limit) × HasNoEnd image)
+abbrev pub IsImageOfInput : Text → Bytes → Bytes → Type 0
+IsImageOfInput image commands rest = EndsWithEndLine image
+    ⊎ ((commands ≡ []) × (rest ≡ []) × HasNoEndLine image)
+    ⊎ ((length image ≡ input_limit) × HasNoEndLine image)
 
 -- Nothing is read that the image doesn't need: after its line `end` only what the same read returned, after all that is within
 -- the bound the byte that exceeds it.
-abbrev pub IsReadAlone : Text → Bytes → Bytes → Type 0
-IsReadAlone image ahead rest = (EndsAtEnd image × (length ahead < block_size))
-    ⊎ ((ahead ≡ []) × (rest ≡ []) × HasNoEnd image)
-    ⊎ ((length image ≡ input_limit) × (length ahead ≡ 1) × HasNoEnd image)
+abbrev pub ReadsOnlyImage : Text → Bytes → Bytes → Type 0
+ReadsOnlyImage image ahead rest = (EndsWithEndLine image × (length ahead < block_size))
+    ⊎ ((ahead ≡ []) × (rest ≡ []) × HasNoEndLine image)
+    ⊎ ((length image ≡ input_limit) × (length ahead ≡ 1) × HasNoEndLine image)
 
 -- the image was accepted, and the commands after it were served to this ending
-pub record Served {M : Type 0} (A : Answering M) (begin : State → M) (limit : ℕ) (read rest : Bytes) (text : Text) (ending : Result CommandsEnd WriteError) : Type 0 where
+pub record IsServedSession {M : Type 0} (A : AnswerRelation M) (begin : State → M) (limit : ℕ) (read rest : Bytes) (text : Text) (ending : Result CommandsEnd WriteError) : Type 0 where
   pub image : Text
   pub commands : Bytes
   pub chip : List NodeState
   pub said : Text
   pub splits : read ≡ image ++ commands
-  pub part : IsImagePart image commands rest
+  pub part : IsImageOfInput image commands rest
   pub accepted : IsImage (lines_of image) chip
   pub last : M
-  pub serves : Serves A (input_limit - length image) (begin (initial_state (records_of chip) limit)) commands rest said last ending
-  pub written : Written ending (ready ++ said) text
+  pub serves : ServesCommands A (input_limit - length image) (begin (initial_state (records_of chip) limit)) commands rest said last ending
+  pub written : IsWrittenOrPrefix ending (ready ++ said) text
 
 -- the image was refused with its first fault, and nothing was read after it
-pub record Faulty (read rest : Bytes) (fault : ImageFault) : Type 0 where
+pub record IsFaultyImageInput (read rest : Bytes) (fault : ImageFault) : Type 0 where
   pub image : Text
   pub ahead : Bytes
   pub splits : read ≡ image ++ ahead
-  pub part : IsReadAlone image ahead rest
+  pub part : ReadsOnlyImage image ahead rest
   pub faulty : IsFirstFault (lines_of image) fault
 
 -- the image was refused, with its first fault or for want of memory
 abbrev pub Refused : Bytes → Bytes → ImageFault → Type 0
-Refused read rest fault = (fault ≡ no_memory) ⊎ Faulty read rest fault
+Refused read rest fault = (fault ≡ memory_fault) ⊎ IsFaultyImageInput read rest fault
 
 abbrev pub status_of : Result CommandsEnd WriteError → Status
 status_of (Ok Ended) = Done
@@ -66,33 +66,33 @@ status_of (Ok ReadFailed) = StreamFault
 status_of (Err failed) = StreamFault
 
 -- What a session may have written, where read was read of its input and rest is left of it.
-abbrev pub RunsBy : {M : Type 0} → Answering M → (State → M) → ℕ → Bytes → Bytes → Text → Status → Type 0
-RunsBy A begin limit read rest text Done = (ending : Result CommandsEnd WriteError) × (status_of ending ≡ Done) × Served A begin limit read rest text ending
-RunsBy A begin limit read rest text ImageRefused = (fault : ImageFault) × Refused read rest fault × (text ≡ image_fault_text fault)
+abbrev pub WritesSessionBy : {M : Type 0} → AnswerRelation M → (State → M) → ℕ → Bytes → Bytes → Text → Status → Type 0
+WritesSessionBy A begin limit read rest text Done = (ending : Result CommandsEnd WriteError) × (status_of ending ≡ Done) × IsServedSession A begin limit read rest text ending
+WritesSessionBy A begin limit read rest text ImageRefused = (fault : ImageFault) × Refused read rest fault × (text ≡ image_fault_text fault)
 -- the command part failed, or a read in the image part, or a write of the refusal
-RunsBy A begin limit read rest text StreamFault =
+WritesSessionBy A begin limit read rest text StreamFault =
     ((ending : Result CommandsEnd WriteError)
     × (status_of ending ≡ StreamFault)
-    × Served A begin limit read rest text ending)
-    ⊎ ((text ≡ []) × HasNoEnd read)
+    × IsServedSession A begin limit read rest text ending)
+    ⊎ ((text ≡ []) × HasNoEndLine read)
     ⊎ ((fault : ImageFault) × Refused read rest fault × TextHasPrefix (image_fault_text fault) text)
-RunsBy A begin limit read rest text NotFinished = ⊥
+WritesSessionBy A begin limit read rest text NotFinished = ⊥
 
 -- The debugger's session.
-abbrev pub Runs : ℕ → Bytes → Bytes → Text → Status → Type 0
-Runs limit read rest text status = RunsBy LineAnswer (λ s. s) limit read rest text status
+abbrev pub WritesSession : ℕ → Bytes → Bytes → Text → Status → Type 0
+WritesSession limit read rest text status = WritesSessionBy IsBriefAnswer (λ s. s) limit read rest text status
 
 -- a refusal was written whole, or that failed
-abbrev pub Refuses : ImageFault → Text → Status → Type 0
-Refuses fault text Done = ⊥
-Refuses fault text ImageRefused = text ≡ image_fault_text fault
-Refuses fault text StreamFault = TextHasPrefix (image_fault_text fault) text
-Refuses fault text NotFinished = ⊥
+abbrev pub WritesImageRefusal : ImageFault → Text → Status → Type 0
+WritesImageRefusal fault text Done = ⊥
+WritesImageRefusal fault text ImageRefused = text ≡ image_fault_text fault
+WritesImageRefusal fault text StreamFault = TextHasPrefix (image_fault_text fault) text
+WritesImageRefusal fault text NotFinished = ⊥
 
 -- an image was accepted, and the machine has its chip as its load
-abbrev pub Opens : Text → ℕ → State → Type 0
-Opens image limit machine = (chip : List NodeState) × IsImage (lines_of image) chip × (machine ≡ initial_state (records_of chip) limit)
+abbrev pub IsOpenedOnImage : Text → ℕ → State → Type 0
+IsOpenedOnImage image limit machine = (chip : List NodeState) × IsImage (lines_of image) chip × (machine ≡ initial_state (records_of chip) limit)
 
 -- an image is refused with its first fault, or for want of memory
-abbrev pub IsFault : Text → ImageFault → Type 0
-IsFault image fault = (fault ≡ no_memory) ⊎ IsFirstFault (lines_of image) fault
+abbrev pub IsFaultOfImage : Text → ImageFault → Type 0
+IsFaultOfImage image fault = (fault ≡ memory_fault) ⊎ IsFirstFault (lines_of image) fault

@@ -1,10 +1,10 @@
 -- What the command part of a session says, how it may end, and to which machine it leads (docs/REFERENCE.md, "Sessions"; this
 -- project's own). A is how the session answers a line: of the debugger's it is Answer.
 use Rattle.std.specs.Prelude.{codes, ◌≡◌, ◌≢◌, ℕ, ◌+◌, ◌<◌, ◌≤◌, ◌⊎◌, List, [], ◌∷◌, ◌++◌, length, take, nat_le, if◌then◌else◌, Result, Ok, Err}
-use Rattle.ga_text.specs.Lines.{Text, Line, Bytes, longest, lines_of, ended_lines}
+use Rattle.ga_text.specs.Lines.{Text, Line, Bytes, max_input_line, lines_of, terminated_lines}
 use Rattle.std.specs.List.{AllByRecursion}
 use Rattle.ga_text.specs.Output.{TextHasPrefix}
-use Rattle.ga_display.specs.Texts.{no_input}
+use Rattle.ga_display.specs.Texts.{input_limit_refusal}
 use Rattle.ga_console.specs.declared.commands.CommandsEnd.{CommandsEnd}
 use Rattle.ga_console.specs.declared.commands.CommandsEnd.TheVariants.{Ended, Quit, Past, ReadFailed}
 use Rattle.ga_console.specs.declared.responder.LineAction.{LineAction}
@@ -14,28 +14,28 @@ use Rattle.ga_text.specs.declared.output.WriteError.{WriteError}
 -- ---- how a session answers one line, whatever its machine is (docs/REFERENCE.md, "Sessions"; this project's own)
 
 -- the answers of a session: the machine before a line, the line, its answer, and the machine after it
-abbrev pub Answering : Type 0 → Type 1
-Answering M = M → Line → Text → M → Type 0
+abbrev pub AnswerRelation : Type 0 → Type 1
+AnswerRelation M = M → Line → Text → M → Type 0
 
 -- the line that ends a session
 abbrev pub quit_line : Line
 quit_line = codes "quit"
 
--- a line, of which the first `longest + 1` bytes are here, is answered and isn't quit
-abbrev pub AnswersLine : {M : Type 0} → Answering M → M → Line → Text → M → Type 0
-AnswersLine A m line answer new = (part : Line) → line ≡ take (longest + 1) part → A m part answer new × (part ≢ quit_line)
+-- a line, of which the first `max_input_line + 1` bytes are here, is answered and isn't quit
+abbrev pub AnswersLine : {M : Type 0} → AnswerRelation M → M → Line → Text → M → Type 0
+AnswersLine A m line answer new = (part : Line) → line ≡ take (max_input_line + 1) part → A m part answer new × (part ≢ quit_line)
 
 -- a line is answered, as far as the answer can be written, or ends the session
-abbrev pub Turns : {M : Type 0} → Answering M → M → Line → M → Result LineAction WriteError → Text → Type 0
-Turns A m line new (Ok turn.Answered) answer = AnswersLine A m line answer new
-Turns A m line new (Ok turn.Quit) answer = (line ≡ quit_line) × (new ≡ m) × (answer ≡ [])
-Turns A m line new (Err failed) answer = AnswersLine A m line answer new
+abbrev pub AnswersOrQuits : {M : Type 0} → AnswerRelation M → M → Line → M → Result LineAction WriteError → Text → Type 0
+AnswersOrQuits A m line new (Ok turn.Answered) answer = AnswersLine A m line answer new
+AnswersOrQuits A m line new (Ok turn.Quit) answer = (line ≡ quit_line) × (new ≡ m) × (answer ≡ [])
+AnswersOrQuits A m line new (Err failed) answer = AnswersLine A m line answer new
 
 abbrev pub HasNoQuit : List Line → Type 0
 HasNoQuit lines = AllByRecursion (λ line. line ≢ quit_line) lines
 
 -- From this machine the lines may be answered by this text, one after the other, and lead to that one.
-abbrev pub Answers : {M : Type 0} → Answering M → M → List Line → Text → M → Type 0
+abbrev pub Answers : {M : Type 0} → AnswerRelation M → M → List Line → Text → M → Type 0
 Answers A m [] text last = (text ≡ []) × (last ≡ m)
 Answers {M} A m (line ∷ lines) text last =
     (answer : Text)
@@ -46,23 +46,23 @@ Answers {M} A m (line ∷ lines) text last =
     × (text ≡ answer ++ more)
 
 -- The lines within the bound of what was read. Where that ends within the bound, a last line without a line feed is one of them.
-abbrev pub heard_lines : ℕ → Bytes → List Line
-heard_lines room read = if nat_le (length read) room then lines_of read else ended_lines (take room read)
+abbrev pub lines_within_bound : ℕ → Bytes → List Line
+lines_within_bound room read = if nat_le (length read) room then lines_of read else terminated_lines (take room read)
 
 -- All that may be written for these lines: their answers, and, if the input exceeds its bound after them, that it does.
-abbrev pub Script : {M : Type 0} → Answering M → ℕ → M → Bytes → List Line → Text → M → Type 0
-Script A room m read lines text last = Answers A m lines text last
-    ⊎ ((room < length read) × (lines ≡ ended_lines (take room read)) × (said : Text) × Answers A m lines said last × (text ≡ said ++ no_input))
+abbrev pub WritesAnswers : {M : Type 0} → AnswerRelation M → ℕ → M → Bytes → List Line → Text → M → Type 0
+WritesAnswers A room m read lines text last = Answers A m lines text last
+    ⊎ ((room < length read) × (lines ≡ terminated_lines (take room read)) × (said : Text) × Answers A m lines said last × (text ≡ said ++ input_limit_refusal))
 
 -- A last line without a line feed is heard only where nothing is left to read.
-abbrev pub HearsWholeLines : ℕ → Bytes → Bytes → List Line → Type 0
-HearsWholeLines room read rest heard = (rest ≡ []) ⊎ ((more : List Line) × (ended_lines (take room read) ≡ heard ++ more))
+abbrev pub ReadsWholeLines : ℕ → Bytes → Bytes → List Line → Type 0
+ReadsWholeLines room read rest heard = (rest ≡ []) ⊎ ((more : List Line) × (terminated_lines (take room read) ≡ heard ++ more))
 
 -- In what follows, read was read of the commands and rest is left of them, text was said, up to room bytes are within the bound,
 -- and last is the machine after the lines that were answered.
 
 -- the input ended: each line was answered
-pub record ServesToEnd {M : Type 0} (A : Answering M) (room : ℕ) (m : M) (read rest : Bytes) (text : Text) (last : M) : Type 0 where
+pub record ServesToEnd {M : Type 0} (A : AnswerRelation M) (room : ℕ) (m : M) (read rest : Bytes) (text : Text) (last : M) : Type 0 where
   pub within : length read ≤ room
   pub at_end : rest ≡ []
   pub no_quit : HasNoQuit (lines_of read)
@@ -71,10 +71,10 @@ pub record ServesToEnd {M : Type 0} (A : Answering M) (room : ℕ) (m : M) (read
 -- the line `quit` comes after these lines
 abbrev pub QuitsAfter : Bytes → Bytes → List Line → List Line → Type 0
 QuitsAfter read rest heard after =
-    (ended_lines read ≡ heard ++ quit_line ∷ after) ⊎ ((rest ≡ []) × (lines_of read ≡ heard ++ quit_line ∷ []))
+    (terminated_lines read ≡ heard ++ quit_line ∷ after) ⊎ ((rest ≡ []) × (lines_of read ≡ heard ++ quit_line ∷ []))
 
 -- a line `quit` came: each line before the first was answered
-pub record ServesToQuit {M : Type 0} (A : Answering M) (room : ℕ) (m : M) (read rest : Bytes) (text : Text) (last : M) : Type 0 where
+pub record ServesToQuit {M : Type 0} (A : AnswerRelation M) (room : ℕ) (m : M) (read rest : Bytes) (text : Text) (last : M) : Type 0 where
   pub within : length read ≤ room
   pub heard : List Line
   pub after : List Line
@@ -83,37 +83,37 @@ pub record ServesToQuit {M : Type 0} (A : Answering M) (room : ℕ) (m : M) (rea
   pub quits : QuitsAfter read rest heard after
 
 -- the input went past its bound: each line within it was answered, and then that was said
-pub record ServesToBound {M : Type 0} (A : Answering M) (room : ℕ) (m : M) (read rest : Bytes) (text : Text) (last : M) : Type 0 where
+pub record ServesToInputLimit {M : Type 0} (A : AnswerRelation M) (room : ℕ) (m : M) (read rest : Bytes) (text : Text) (last : M) : Type 0 where
   pub over : length read ≡ room + 1
-  pub no_quit : HasNoQuit (ended_lines (take room read))
+  pub no_quit : HasNoQuit (terminated_lines (take room read))
   pub said : Text
-  pub answers : Answers A m (ended_lines (take room read)) said last
-  pub told : text ≡ said ++ no_input
+  pub answers : Answers A m (terminated_lines (take room read)) said last
+  pub told : text ≡ said ++ input_limit_refusal
 
 -- a read failed: each line that was read whole was answered
-pub record ServesToFault {M : Type 0} (A : Answering M) (room : ℕ) (m : M) (read rest : Bytes) (text : Text) (last : M) : Type 0 where
+pub record ServesToReadFailure {M : Type 0} (A : AnswerRelation M) (room : ℕ) (m : M) (read rest : Bytes) (text : Text) (last : M) : Type 0 where
   pub within : length read ≤ room
-  pub no_quit : HasNoQuit (ended_lines read)
-  pub answers : Answers A m (ended_lines read) text last
+  pub no_quit : HasNoQuit (terminated_lines read)
+  pub answers : Answers A m (terminated_lines read) text last
 
 -- a write failed: some lines were answered, of which none was quit
-pub record ServesCut {M : Type 0} (A : Answering M) (room : ℕ) (m : M) (read rest : Bytes) (text : Text) (last : M) : Type 0 where
+pub record ServesToWriteFailure {M : Type 0} (A : AnswerRelation M) (room : ℕ) (m : M) (read rest : Bytes) (text : Text) (last : M) : Type 0 where
   pub heard : List Line
   pub after : List Line
-  pub front : heard_lines room read ≡ heard ++ after
+  pub front : lines_within_bound room read ≡ heard ++ after
   pub no_quit : HasNoQuit heard
-  pub script : Script A room m read heard text last
-  pub whole : HearsWholeLines room read rest heard
+  pub script : WritesAnswers A room m read heard text last
+  pub whole : ReadsWholeLines room read rest heard
 
 -- This text may have been said at this ending.
-abbrev pub Serves : {M : Type 0} → Answering M → ℕ → M → Bytes → Bytes → Text → M → Result CommandsEnd WriteError → Type 0
-Serves A room m read rest text last (Ok Ended) = ServesToEnd A room m read rest text last
-Serves A room m read rest text last (Ok Quit) = ServesToQuit A room m read rest text last
-Serves A room m read rest text last (Ok Past) = ServesToBound A room m read rest text last
-Serves A room m read rest text last (Ok ReadFailed) = ServesToFault A room m read rest text last
-Serves A room m read rest text last (Err failed) = ServesCut A room m read rest text last
+abbrev pub ServesCommands : {M : Type 0} → AnswerRelation M → ℕ → M → Bytes → Bytes → Text → M → Result CommandsEnd WriteError → Type 0
+ServesCommands A room m read rest text last (Ok Ended) = ServesToEnd A room m read rest text last
+ServesCommands A room m read rest text last (Ok Quit) = ServesToQuit A room m read rest text last
+ServesCommands A room m read rest text last (Ok Past) = ServesToInputLimit A room m read rest text last
+ServesCommands A room m read rest text last (Ok ReadFailed) = ServesToReadFailure A room m read rest text last
+ServesCommands A room m read rest text last (Err failed) = ServesToWriteFailure A room m read rest text last
 
 -- What is written of all that was said: the whole, or where a write failed, a front of it.
-abbrev pub Written : Result CommandsEnd WriteError → Text → Bytes → Type 0
-Written (Ok ending) said text = text ≡ said
-Written (Err failed) said text = TextHasPrefix said text
+abbrev pub IsWrittenOrPrefix : Result CommandsEnd WriteError → Text → Bytes → Type 0
+IsWrittenOrPrefix (Ok ending) said text = text ≡ said
+IsWrittenOrPrefix (Err failed) said text = TextHasPrefix said text

@@ -3,17 +3,17 @@ use Rattle.std.specs.Prelude.{ℕ, ◌≤◌, IfSome}
 use Rattle.ga_console.specs.declared.settings.Settings.{Settings}
 use Rattle.ga_console.specs.declared.settings.Settings.TheVariants.{Debug, Explore, Race, Check, Dap, Assemble, List, Disassemble, Draw}
 
-abbrev pub Within : ℕ → ℕ → ℕ → Type 0
-Within least greatest n = (least ≤ n) × (n ≤ greatest)
+abbrev pub IsBetween : ℕ → ℕ → ℕ → Type 0
+IsBetween least greatest n = (least ≤ n) × (n ≤ greatest)
 
 -- each number is in its range
 abbrev pub AreInRange : Settings → Type 0
-AreInRange (Debug limit) = Within 1 4000000 limit
-AreInRange (Explore limit chip file) = Within 1 100000000 limit
-AreInRange (Race workers calls limit) = Within 1 16 workers × Within 1 100000 calls × Within 1 4000000 limit
-AreInRange (Check most seconds settled session progress file) = Within 1 4294967295 most × IfSome seconds (Within 1 4294967295) × IfSome session (Within 1 4294967295)
+AreInRange (Debug limit) = IsBetween 1 4000000 limit
+AreInRange (Explore limit chip file) = IsBetween 1 100000000 limit
+AreInRange (Race workers calls limit) = IsBetween 1 16 workers × IsBetween 1 100000 calls × IsBetween 1 4000000 limit
+AreInRange (Check most seconds settled session progress file) = IsBetween 1 4294967295 most × IfSome seconds (IsBetween 1 4294967295) × IfSome session (IsBetween 1 4294967295)
 AreInRange Dap = Unit {0}
 AreInRange (Assemble file) = Unit {0}
 AreInRange (List file) = Unit {0}
 AreInRange (Disassemble file) = Unit {0}
-AreInRange (Draw limit cause rewind from to all only fold races chip file) = Within 1 100000000 limit × Within 1 4294967295 from × Within 1 4294967295 to
+AreInRange (Draw limit cause rewind from to all only fold races chip file) = IsBetween 1 100000000 limit × IsBetween 1 4294967295 from × IsBetween 1 4294967295 to

@@ -1,6 +1,6 @@
 //! The commands that change the machine.
 ghost use Rattle.ga_text.specs.Output.{WritesSome};
-ghost use Rattle.ga_console.specs.Replies.{Does};
+ghost use Rattle.ga_console.specs.Replies.{IsCommandReply};
 ghost use Rattle.ga_display.specs.declared.wording.Wording.{Wording as Worded};
 ghost use Rattle.ga_console.specs.declared.command.Command.TheVariants.{Step, Back, Rewind};
 
@@ -18,7 +18,7 @@ pub fn step<W: Write>(
     wording: Wording,
     writer: &mut Writer<'_, W>,
 ) -> WriteResult
-    ensures { WritesSome result (λ text. Does wording lab.old (Step node) text lab.new)
+    ensures { WritesSome result (λ text. IsCommandReply wording lab.old (Step node) text lab.new)
         W.contents writer.old writer.new }
 {
     match lab.step_inlined(node) {
@@ -29,7 +29,7 @@ pub fn step<W: Write>(
 
 /// `back`: takes the newest event back.
 pub fn back<W: Write>(lab: &mut Lab, writer: &mut Writer<'_, W>) -> WriteResult
-    ensures { (wording : Worded) → WritesSome result (λ text. Does wording lab.old Back text lab.new)
+    ensures { (wording : Worded) → WritesSome result (λ text. IsCommandReply wording lab.old Back text lab.new)
         W.contents writer.old writer.new }
 {
     match lab.undo() {
@@ -45,7 +45,7 @@ pub fn rewind<W: Write>(
     step: u32,
     writer: &mut Writer<'_, W>,
 ) -> WriteResult
-    ensures { (wording : Worded) → WritesSome result (λ text. Does wording lab.old (Rewind node step) text lab.new)
+    ensures { (wording : Worded) → WritesSome result (λ text. IsCommandReply wording lab.old (Rewind node step) text lab.new)
         W.contents writer.old writer.new }
 {
     match lab.rewind(node, step) {

@@ -56,7 +56,7 @@ const MEMORY: u64 = 0x206d_656d;
 
 /// The command that a line spells, or none.
 #[inline(always)]
-pub fn command_of(line: &[u8]) -> Option<Command>
+pub fn parse_debugger_command(line: &[u8]) -> Option<Command>
     ensures some { IfSome result (λ command. SpellsCommand command line.now) }
     ensures only { IfSome result (λ command. (other : Command) → SpellsCommand other line.now → other ≡ command) }
     ensures none { IfNone result ((command : Command) → ¬ SpellsCommand command line.now) }

@@ -1,9 +1,9 @@
 //! The command part of a session.
 ghost use Rattle.std.specs.Prelude.{◌≡◌, ◌-◌, ◌++◌, Some};
 ghost use Rattle.ga_text.specs.Lines.{Bytes};
-ghost use Rattle.ga_text.specs.Input.{IsWithin, input_limit};
+ghost use Rattle.ga_text.specs.Input.{IsWithinInputLimit, input_limit};
 ghost use Rattle.ga_text.specs.Output.{IsWritten, IsWrittenOrTruncated, IsSameStream};
-ghost use Rattle.ga_console.specs.Session.{Serves, Written};
+ghost use Rattle.ga_console.specs.Session.{ServesCommands, IsWrittenOrPrefix};
 
 use super::fast_path::{PrefixCommand, parse_prefix_command};
 use super::responder::{LineAction, Responder};
@@ -28,22 +28,22 @@ pub enum CommandsEnd {
 ///
 /// # Errors
 /// A write failed.
-pub fn serve<S: Responder, R: Read, W: Write>(
+pub fn serve_commands<S: Responder, R: Read, W: Write>(
     alloc: Global,
     input: &mut Input,
     reader: &mut R,
     writer: &mut Writer<'_, W>,
     session: &mut S,
 ) -> Result<CommandsEnd, WriteError>
-    requires { IsWithin input.old }
+    requires { IsWithinInputLimit input.old }
     ensures same { IsSameStream writer.old writer.new }
     ensures serves { (left before said : Bytes) → R.remaining reader.old ≡ Some left →
         IsWritten (W.contents writer.old.stream.now) before said writer.old.pending.items →
         (read rest text sent : Bytes)
         × (input.old.bytes ++ left ≡ read ++ rest) × (R.remaining reader.new ≡ Some rest)
         × (W.contents writer.new.stream.now ≡ Some (before ++ sent))
-        × Serves S.answers (input_limit - input.old.taken) session.old read rest text session.new result
-        × Written result (said ++ text) sent }
+        × ServesCommands S.answers (input_limit - input.old.taken) session.old read rest text session.new result
+        × IsWrittenOrPrefix result (said ++ text) sent }
 {
     let ending = answer_lines(alloc, input, reader, writer, session)?;
     writer.flush()?;
@@ -58,13 +58,13 @@ fn answer_lines<S: Responder, R: Read, W: Write>(
     writer: &mut Writer<'_, W>,
     session: &mut S,
 ) -> Result<CommandsEnd, WriteError>
-    requires { IsWithin input.old }
+    requires { IsWithinInputLimit input.old }
     ensures same { IsSameStream writer.old writer.new }
     ensures serves { (left before said : Bytes) → R.remaining reader.old ≡ Some left →
         IsWritten (W.contents writer.old.stream.now) before said writer.old.pending.items →
         (read rest text : Bytes)
         × (input.old.bytes ++ left ≡ read ++ rest) × (R.remaining reader.new ≡ Some rest)
-        × Serves S.answers (input_limit - input.old.taken) session.old read rest text session.new result
+        × ServesCommands S.answers (input_limit - input.old.taken) session.old read rest text session.new result
         × IsWrittenOrTruncated result (W.contents writer.new.stream.now) before (said ++ text) writer.new.pending.items }
 {
     let mut line = LineBuffer::new();

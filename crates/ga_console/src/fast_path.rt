@@ -3,7 +3,7 @@ ghost use Rattle.std.specs.Prelude.{◌≡◌, ◌+◌, ◌*◌, [], ◌∷◌, 
 ghost use Rattle.ga_text.specs.Digits.{name_of_node};
 ghost use Rattle.ga_console.specs.inner.Run.{IsAhead, IsLineAhead, IsNumberAhead, StandsAhead};
 
-use super::command::{Command, command_of};
+use super::command::{Command, parse_debugger_command};
 use ga_grid::NodeId;
 use ga_image::LINE_LIMIT;
 use ga_text::{MAX_NUMBER_DIGITS, find_line_feed, node_name_text, parse_number};
@@ -175,7 +175,7 @@ fn told_ahead(text: &[u8], count: usize) -> PrefixCommand
     requires { IsLineAhead text.now count }
     ensures { StandsAhead text.now result }
 {
-    match command_of(&text[..count]) {
+    match parse_debugger_command(&text[..count]) {
         None => PrefixCommand::Other(count),
         Some(command) => match command {
             Command::Quit => PrefixCommand::Other(count),

@@ -1,18 +1,18 @@
 //! Laws of the definitions, each the contract of a function that does nothing.
 
 ghost use Rattle.std.specs.Prelude.{ℕ, List};
-ghost use Rattle.ga_grid.specs.Chip.{AreSteady};
+ghost use Rattle.ga_grid.specs.Chip.{HaveConsistentWaits};
 ghost use Rattle.ga_text.specs.Lines.{Bytes, Line};
 ghost use Rattle.ga_lab.specs.Machine.{State, chip_of};
-ghost use Rattle.ga_console.specs.Replies.{Reaches};
-ghost use Rattle.ga_console.specs.Run.{Opens};
+ghost use Rattle.ga_console.specs.Replies.{IsReachedByLines};
+ghost use Rattle.ga_console.specs.Run.{IsOpenedOnImage};
 
-use ga_lab::laws::machine_stays_steady;
+use ga_lab::laws::machine_keeps_waits_consistent;
 
 /// In each chip to which a session comes, each node's wait fits its slot and its stop: so its dump is an image.
 pub fn session_keeps_steady()
     ensures { (image : Bytes) (limit : ℕ) (machine last : State) (lines : List Line) →
-        Opens image limit machine → Reaches machine lines last → AreSteady (chip_of last) }
+        IsOpenedOnImage image limit machine → IsReachedByLines machine lines last → HaveConsistentWaits (chip_of last) }
 {
-    machine_stays_steady();
+    machine_keeps_waits_consistent();
 }

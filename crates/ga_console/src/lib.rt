@@ -13,9 +13,9 @@ mod responder;
 mod run;
 mod settings;
 
-pub use command::{Command, command_of};
-pub use commands::{CommandsEnd, serve};
+pub use command::{Command, parse_debugger_command};
+pub use commands::{CommandsEnd, serve_commands};
 pub use race::race_report;
-pub use responder::{LineAction, Responder, answer_worded, obey_worded};
-pub use run::{Status, open_image, refuse, session, session_with, status_of};
-pub use settings::{LineFault, Settings, arguments};
+pub use responder::{LineAction, Responder, answer_in_wording, execute_in_wording};
+pub use run::{Status, open_image, refuse, session, session_with_responder, status_of};
+pub use settings::{CommandLineFault, Settings, arguments};

@@ -2,14 +2,16 @@
 ghost use Rattle.ga_text.specs.Output.{WritesText, ReadsAndWrites};
 ghost use Rattle.std.specs.Prelude.{◌≡◌, ◌<◌, ◌≤◌, ◌*◌, ℕ, map, length, Some, IfOk, IfSome, All, vec_len, slice_get};
 ghost use Rattle.ga_grid.specs.Chip.{records_of};
-ghost use Rattle.ga_console.specs.Race.{calls_by, report_text, IsRaceOfWorkers, Reports};
+ghost use Rattle.ga_console.specs.Race.{worker_calls, race_report_text, IsRaceOfWorkers, WritesRaceReport};
 ghost use Rattle.ga_console.specs.inner.Run.{Races, Writes};
 
 use super::run::{Status, refuse};
 use ga_grid::{Chip, NodeId};
 use ga_image::{ImageCause, parse};
-use ga_shared::{Call, Closed, Free, race};
-use ga_text::{TextBuffer, WholeRead, WriteError, push_number, push_text, read_whole, write_all};
+use ga_shared::{Call, ClosedLab, OpenGate, race};
+use ga_text::{
+    TextBuffer, WholeRead, WriteError, push_number, push_text, read_whole_input, write_all,
+};
 use std::alloc::{AllocError, Global};
 use std::io::{Read, Write};
 use std::sync::Wait;
@@ -28,10 +30,10 @@ pub fn race_report<T: Threads + Wait + Sync, R: Read, W: Write>(
 ) -> Status
     requires { (1 ≤ workers) × (workers ≤ 16) }
     // Where the streams tell their bytes: what was read, and what was written for it by the status.
-    ensures { ReadsAndWrites (λ read rest text. Reports limit workers calls read rest text result)
+    ensures { ReadsAndWrites (λ read rest text. WritesRaceReport limit workers calls read rest text result)
         (R.remaining reader.old) (R.remaining reader.new) (W.contents writer.old) (W.contents writer.new) }
 {
-    match read_whole(alloc, reader) {
+    match read_whole_input(alloc, reader) {
         WholeRead::Whole(image) => run_image(rt, alloc, writer, image, workers, calls, limit),
         // No image that is accepted is so long.
         WholeRead::TooLong(image) => run_image(rt, alloc, writer, image, workers, calls, limit),
@@ -75,7 +77,7 @@ fn race_on<T: Threads + Wait + Sync>(
     workers: u32,
     calls: u32,
     limit: u32,
-) -> Option<Closed>
+) -> Option<ClosedLab>
     requires { (1 ≤ workers) × (workers ≤ 16) }
     ensures { IfSome result (λ closed. (length closed.log.items ≡ workers * calls)
         × IsRaceOfWorkers (records_of chip) limit workers calls closed.lab) }
@@ -83,7 +85,7 @@ fn race_on<T: Threads + Wait + Sync>(
     let Ok(lists) = lists_of(alloc, workers, calls) else {
         return None;
     };
-    match race(rt, alloc, chip, limit, lists, &Free) {
+    match race(rt, alloc, chip, limit, lists, &OpenGate) {
         Ok(closed) => Some(closed),
         Err(_) => None,
     }
@@ -94,7 +96,7 @@ fn lists_of(alloc: Global, workers: u32, calls: u32) -> Result<Vec<Vec<Call>>, A
     requires { workers ≤ 16 }
     ensures count { IfOk result (λ lists. vec_len lists ≡ workers) }
     ensures lists { IfOk result (λ lists. (w : ℕ) → w < workers →
-        slice_get (map (λ l. l.items) lists.items) w ≡ Some (calls_by w calls)) }
+        slice_get (map (λ l. l.items) lists.items) w ≡ Some (worker_calls w calls)) }
     ensures short { IfOk result (λ lists. All (λ l. vec_len l ≡ calls) lists.items) }
 {
     let mut lists = Vec::with_capacity(alloc, workers as usize)?;
@@ -107,7 +109,7 @@ fn lists_of(alloc: Global, workers: u32, calls: u32) -> Result<Vec<Vec<Call>>, A
 /// A list of calls: a number of steps of the node with this number.
 fn list_of(alloc: Global, worker: u32, calls: u32) -> Result<Vec<Call>, AllocError>
     requires { worker < 16 }
-    ensures list { IfOk result (λ list. list.items ≡ calls_by worker calls) }
+    ensures list { IfOk result (λ list. list.items ≡ worker_calls worker calls) }
     ensures count { IfOk result (λ list. vec_len list ≡ calls) }
 {
     let node = NodeId::new(worker as u8);
@@ -119,8 +121,8 @@ fn list_of(alloc: Global, worker: u32, calls: u32) -> Result<Vec<Call>, AllocErr
 }
 
 /// Writes the three lines of a race.
-fn report<W: Write>(writer: &mut W, closed: &Closed) -> Status
-    ensures { WritesText (λ text. Writes (report_text (length closed.now.log.items) closed.now.lab.made (length closed.now.lab.kept)) text result)
+fn report<W: Write>(writer: &mut W, closed: &ClosedLab) -> Status
+    ensures { WritesText (λ text. Writes (race_report_text (length closed.now.log.items) closed.now.lab.made (length closed.now.lab.kept)) text result)
         (W.contents writer.old) (W.contents writer.new) }
 {
     let mut text = TextBuffer::new();
@@ -132,9 +134,9 @@ fn report<W: Write>(writer: &mut W, closed: &Closed) -> Status
 }
 
 /// Puts the three lines of a race.
-fn put_report(out: &mut TextBuffer, closed: &Closed)
+fn put_report(out: &mut TextBuffer, closed: &ClosedLab)
     ensures { out.new.items
-        ≡ report_text (length closed.now.log.items) closed.now.lab.made (length closed.now.lab.kept) }
+        ≡ race_report_text (length closed.now.log.items) closed.now.lab.made (length closed.now.lab.kept) }
 {
     let counts = closed.lab.counts();
     out.clear();

@@ -1,8 +1,8 @@
 //! The commands that read the machine and leave it as it is.
 ghost use Rattle.ga_text.specs.Output.{WritesSome};
 ghost use Rattle.std.specs.Prelude.{◌≡◌, ◌++◌, length, flat_map};
-ghost use Rattle.ga_display.specs.Texts.{made_text, chain_text};
-ghost use Rattle.ga_console.specs.Replies.{Does, steps_text};
+ghost use Rattle.ga_display.specs.Texts.{event_text, chain_header_text};
+ghost use Rattle.ga_console.specs.Replies.{IsCommandReply, steps_text};
 ghost use Rattle.ga_display.specs.declared.wording.Wording.{Wording as Worded};
 ghost use Rattle.ga_console.specs.declared.command.Command.TheVariants.{Node, Memory, Trace, Why, Count, Dump};
 
@@ -19,7 +19,7 @@ use std::io::Write;
 
 /// `node NNN`: shows the node.
 pub fn node<W: Write>(lab: &Lab, node: NodeId, writer: &mut Writer<'_, W>) -> WriteResult
-    ensures { (wording : Worded) → WritesSome result (λ text. Does wording lab.now (Node node) text lab.now)
+    ensures { (wording : Worded) → WritesSome result (λ text. IsCommandReply wording lab.now (Node node) text lab.now)
         W.contents writer.old writer.new }
 {
     write_node(writer, node, lab.node(node))
@@ -32,7 +32,7 @@ pub fn memory<W: Write>(
     address: u8,
     writer: &mut Writer<'_, W>,
 ) -> WriteResult
-    ensures { (wording : Worded) → WritesSome result (λ text. Does wording lab.now (Memory node address) text lab.now)
+    ensures { (wording : Worded) → WritesSome result (λ text. IsCommandReply wording lab.now (Memory node address) text lab.now)
         W.contents writer.old writer.new }
 {
     write_memory(writer, node, address, lab.memory(node, address))
@@ -40,7 +40,7 @@ pub fn memory<W: Write>(
 
 /// `count`: shows how many events are kept, how many were made, and how many may be kept.
 pub fn count<W: Write>(lab: &Lab, writer: &mut Writer<'_, W>) -> WriteResult
-    ensures { (wording : Worded) → WritesSome result (λ text. Does wording lab.now Count text lab.now)
+    ensures { (wording : Worded) → WritesSome result (λ text. IsCommandReply wording lab.now Count text lab.now)
         W.contents writer.old writer.new }
 {
     write_counts(writer, lab.counts())
@@ -53,7 +53,7 @@ pub fn trace<W: Write>(
     wording: Wording,
     writer: &mut Writer<'_, W>,
 ) -> WriteResult
-    ensures { WritesSome result (λ text. Does wording lab.now (Trace node) text lab.now)
+    ensures { WritesSome result (λ text. IsCommandReply wording lab.now (Trace node) text lab.now)
         W.contents writer.old writer.new }
 {
     match lab.history(node) {
@@ -82,7 +82,7 @@ pub fn why<W: Write>(
     wording: Wording,
     writer: &mut Writer<'_, W>,
 ) -> WriteResult
-    ensures { WritesSome result (λ text. Does wording lab.now (Why from.0 from.1 to.0 to.1) text lab.now)
+    ensures { WritesSome result (λ text. IsCommandReply wording lab.now (Why from.0 from.1 to.0 to.1) text lab.now)
         W.contents writer.old writer.new }
 {
     match lab.explain(from, to) {
@@ -94,7 +94,7 @@ pub fn why<W: Write>(
 
 /// Writes how many events a chain has, then the report of each.
 fn say_chain<W: Write>(events: &[Made], writer: &mut Writer<'_, W>) -> WriteResult
-    ensures { WritesSome result (λ text. text ≡ chain_text (length events.now) ++ flat_map made_text events.now)
+    ensures { WritesSome result (λ text. text ≡ chain_header_text (length events.now) ++ flat_map event_text events.now)
         W.contents writer.old writer.new }
 {
     write_chain_head(writer, events.len())?;
@@ -111,7 +111,7 @@ pub fn dump<W: Write>(
     wording: Wording,
     writer: &mut Writer<'_, W>,
 ) -> WriteResult
-    ensures { WritesSome result (λ text. Does wording lab.now Dump text lab.now)
+    ensures { WritesSome result (λ text. IsCommandReply wording lab.now Dump text lab.now)
         W.contents writer.old writer.new }
 {
     match print(alloc, lab.chip()) {

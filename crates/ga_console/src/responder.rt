@@ -3,12 +3,12 @@ ghost use Rattle.ga_text.specs.Output.{WritesSome};
 ghost use Rattle.std.specs.Prelude.{◌≡◌};
 ghost use Rattle.ga_text.specs.Lines.{Bytes};
 ghost use Rattle.ga_lab.specs.Machine.{State};
-ghost use Rattle.ga_console.specs.Replies.{WordedAnswer, Does};
-ghost use Rattle.ga_console.specs.Session.{Turns};
+ghost use Rattle.ga_console.specs.Replies.{IsAnswerInWording, IsCommandReply};
+ghost use Rattle.ga_console.specs.Session.{AnswersOrQuits};
 ghost use Rattle.ga_console.specs.inner.Run.{AnswersCommand};
 
 use super::changes::{back, rewind, step};
-use super::command::{Command, command_of};
+use super::command::{Command, parse_debugger_command};
 use super::readings::{count, dump, memory, node, trace, why};
 use ga_display::Wording;
 use ga_image::LINE_LIMIT;
@@ -48,7 +48,7 @@ pub trait Responder: Drop {
         line: &[u8],
         writer: &mut Writer<'_, W>,
     ) -> Result<LineAction, WriteError>
-        ensures { WritesSome result (Turns answers self.old line.now self.new result) W.contents writer.old writer.new };
+        ensures { WritesSome result (AnswersOrQuits answers self.old line.now self.new result) W.contents writer.old writer.new };
 
     /// Answers a line that spells a command of the debugger.
     ///
@@ -64,9 +64,9 @@ pub trait Responder: Drop {
 }
 
 impl Responder for Lab {
-    ghost use Rattle.ga_console.specs.Replies.{LineAnswer};
+    ghost use Rattle.ga_console.specs.Replies.{IsBriefAnswer};
 
-    ghost answers = { LineAnswer };
+    ghost answers = { IsBriefAnswer };
 
     ghost begin = { λ s. s };
 
@@ -80,7 +80,7 @@ impl Responder for Lab {
         line: &[u8],
         writer: &mut Writer<'_, W>,
     ) -> Result<LineAction, WriteError> {
-        answer_worded(alloc, self, line, Wording::Brief, writer)
+        answer_in_wording(alloc, self, line, Wording::Brief, writer)
     }
 
     #[inline(always)]
@@ -90,7 +90,7 @@ impl Responder for Lab {
         command: Command,
         writer: &mut Writer<'_, W>,
     ) -> WriteResult {
-        obey_worded(alloc, self, command, Wording::Brief, writer)
+        execute_in_wording(alloc, self, command, Wording::Brief, writer)
     }
 }
 
@@ -98,20 +98,20 @@ impl Responder for Lab {
 ///
 /// # Errors
 /// A write failed.
-pub fn answer_worded<W: Write>(
+pub fn answer_in_wording<W: Write>(
     alloc: Global,
     lab: &mut Lab,
     line: &[u8],
     wording: Wording,
     writer: &mut Writer<'_, W>,
 ) -> Result<LineAction, WriteError>
-    ensures { WritesSome result (Turns (WordedAnswer wording) lab.old line.now lab.new result) W.contents writer.old writer.new }
+    ensures { WritesSome result (AnswersOrQuits (IsAnswerInWording wording) lab.old line.now lab.new result) W.contents writer.old writer.new }
 {
     if line.len() > LINE_LIMIT {
         writer.write_text(b"no 32 long\n")?;
         return Ok(LineAction::Answered);
     }
-    match command_of(line) {
+    match parse_debugger_command(line) {
         None => {
             writer.write_text(b"no 31 syntax\n")?;
             Ok(LineAction::Answered)
@@ -119,7 +119,7 @@ pub fn answer_worded<W: Write>(
         Some(command) => match command {
             Command::Quit => Ok(LineAction::Quit),
             _ => {
-                obey_worded(alloc, lab, command, wording, writer)?;
+                execute_in_wording(alloc, lab, command, wording, writer)?;
                 Ok(LineAction::Answered)
             }
         },
@@ -131,14 +131,14 @@ pub fn answer_worded<W: Write>(
 /// # Errors
 /// A write failed.
 #[inline(always)]
-pub fn obey_worded<W: Write>(
+pub fn execute_in_wording<W: Write>(
     alloc: Global,
     lab: &mut Lab,
     command: Command,
     wording: Wording,
     writer: &mut Writer<'_, W>,
 ) -> WriteResult
-    ensures { WritesSome result (λ text. Does wording lab.old command text lab.new) W.contents writer.old writer.new }
+    ensures { WritesSome result (λ text. IsCommandReply wording lab.old command text lab.new) W.contents writer.old writer.new }
 {
     match command {
         Command::Step(at) => step(lab, at, wording, writer),

@@ -1,11 +1,11 @@
 //! A whole session.
-ghost use Rattle.ga_text.specs.Output.{WritesText, ReadsAndWrites, ReadsOnAndWrites};
+ghost use Rattle.ga_text.specs.Output.{WritesText, ReadsAndWrites, ReadsAheadAndWrites};
 ghost use Rattle.std.specs.Prelude.{◌≡◌, IfOk, IfErr};
-ghost use Rattle.ga_text.specs.Input.{IsWithin};
-ghost use Rattle.ga_console.specs.Run.{Runs, RunsBy, Refuses, Opens, IsFault, status_of as status_that};
+ghost use Rattle.ga_text.specs.Input.{IsWithinInputLimit};
+ghost use Rattle.ga_console.specs.Run.{WritesSession, WritesSessionBy, WritesImageRefusal, IsOpenedOnImage, IsFaultOfImage, status_of as status_that};
 ghost use Rattle.ga_console.specs.inner.Run.{AfterImage};
 
-use super::commands::{CommandsEnd, serve};
+use super::commands::{CommandsEnd, serve_commands};
 use super::responder::Responder;
 use ga_display::write_image_fault;
 use ga_image::{ImageCause, ImageFault, parse};
@@ -46,20 +46,20 @@ pub fn session<R: Read, W: Write>(
     limit: u32,
 ) -> Status
     // Where the streams tell their bytes: what was read, and what was written for it by the status.
-    ensures { ReadsAndWrites (λ read rest text. Runs limit read rest text result)
+    ensures { ReadsAndWrites (λ read rest text. WritesSession limit read rest text result)
         (R.remaining reader.old) (R.remaining reader.new) (W.contents writer.old) (W.contents writer.new) }
 {
-    session_with::<Lab, R, W>(alloc, reader, writer, limit)
+    session_with_responder::<Lab, R, W>(alloc, reader, writer, limit)
 }
 
 /// A session as `session` is, whose lines are answered by a responder that begins on the image's chip.
-pub fn session_with<S: Responder, R: Read, W: Write>(
+pub fn session_with_responder<S: Responder, R: Read, W: Write>(
     alloc: Global,
     reader: &mut R,
     writer: &mut W,
     limit: u32,
 ) -> Status
-    ensures { ReadsAndWrites (λ read rest text. RunsBy S.answers S.begin limit read rest text result)
+    ensures { ReadsAndWrites (λ read rest text. WritesSessionBy S.answers S.begin limit read rest text result)
         (R.remaining reader.old) (R.remaining reader.new) (W.contents writer.old) (W.contents writer.new) }
 {
     let mut input = Input::new();
@@ -89,15 +89,15 @@ fn after_image<S: Responder, R: Read, W: Write>(
     image: Vec<u8>,
     limit: u32,
 ) -> Status
-    requires { IsWithin input.old }
-    ensures { ReadsOnAndWrites input.old.bytes (λ read rest text. AfterImage S.answers S.begin limit image.items input.old.taken input.old.bytes read rest text result)
+    requires { IsWithinInputLimit input.old }
+    ensures { ReadsAheadAndWrites input.old.bytes (λ read rest text. AfterImage S.answers S.begin limit image.items input.old.taken input.old.bytes read rest text result)
         (R.remaining reader.old) (R.remaining reader.new) (W.contents writer.old) (W.contents writer.new) }
 {
     match open_image(alloc, image, limit) {
         Ok(lab) => {
             let mut session = S::open(lab);
             let mut said = Writer::ready(writer);
-            status_of(serve(alloc, input, reader, &mut said, &mut session))
+            status_of(serve_commands(alloc, input, reader, &mut said, &mut session))
         }
         Err(fault) => refuse(writer, fault),
     }
@@ -108,8 +108,8 @@ fn after_image<S: Responder, R: Read, W: Write>(
 /// # Errors
 /// The image's first fault, or want of memory.
 pub fn open_image(alloc: Global, image: Vec<u8>, limit: u32) -> Result<Lab, ImageFault>
-    ensures ok { IfOk result (λ lab. Opens image.items limit lab) }
-    ensures err { IfErr result (λ fault. IsFault image.items fault) }
+    ensures ok { IfOk result (λ lab. IsOpenedOnImage image.items limit lab) }
+    ensures err { IfErr result (λ fault. IsFaultOfImage image.items fault) }
 {
     let chip = parse(alloc, image.as_slice())?;
     match Lab::new(alloc, chip, limit) {
@@ -120,7 +120,7 @@ pub fn open_image(alloc: Global, image: Vec<u8>, limit: u32) -> Result<Lab, Imag
 
 /// Writes the text of a refused image.
 pub fn refuse<W: Write>(writer: &mut W, fault: ImageFault) -> Status
-    ensures { WritesText (λ text. Refuses fault text result) (W.contents writer.old) (W.contents writer.new) }
+    ensures { WritesText (λ text. WritesImageRefusal fault text result) (W.contents writer.old) (W.contents writer.new) }
 {
     let mut text = TextBuffer::new();
     write_image_fault(&mut text, fault);

@@ -1,6 +1,6 @@
 //! The command line.
 ghost use Rattle.std.specs.Prelude.{◌≤◌, IfOk, IfSome};
-ghost use Rattle.ga_console.specs.Settings.{AreInRange, Within};
+ghost use Rattle.ga_console.specs.Settings.{AreInRange, IsBetween};
 
 mod lines;
 
@@ -91,7 +91,7 @@ pub enum Settings {
 
 /// Why there are no settings.
 #[derive(Debug, Drop, Error)]
-pub enum LineFault {
+pub enum CommandLineFault {
     /// Help or the version was requested. This is its text; in that of `explore` a line `{commands}` is replaced by the
     /// session's own lines.
     #[error("{0}")]
@@ -108,28 +108,28 @@ pub enum LineFault {
 ///
 /// # Errors
 /// `Help`, where help or the version was asked for; `Refused`; `Memory`.
-pub fn arguments(alloc: Global, words: &[&str]) -> Result<Settings, LineFault>
+pub fn arguments(alloc: Global, words: &[&str]) -> Result<Settings, CommandLineFault>
     ensures in_range { IfOk result AreInRange }
 {
     let Ok(command) = program(alloc) else {
-        return Err(LineFault::Memory);
+        return Err(CommandLineFault::Memory);
     };
     match command.try_get_matches_from(words) {
         Ok(matches) => chosen(alloc, &matches),
         Err(error) => match error.to_string(alloc) {
             Ok(text) => {
                 if error.use_stderr() {
-                    Err(LineFault::Refused(text))
+                    Err(CommandLineFault::Refused(text))
                 } else {
-                    Err(LineFault::Help(text))
+                    Err(CommandLineFault::Help(text))
                 }
             }
-            Err(_) => Err(LineFault::Memory),
+            Err(_) => Err(CommandLineFault::Memory),
         },
     }
 }
 
-fn chosen(alloc: Global, matches: &ArgMatches<'_>) -> Result<Settings, LineFault>
+fn chosen(alloc: Global, matches: &ArgMatches<'_>) -> Result<Settings, CommandLineFault>
     ensures in_range { IfOk result AreInRange }
 {
     match matches.subcommand() {
@@ -165,12 +165,12 @@ fn chosen(alloc: Global, matches: &ArgMatches<'_>) -> Result<Settings, LineFault
             file: file(alloc, image)?,
         }),
         Some(("draw", draw)) => drawn(alloc, draw),
-        _ => Err(LineFault::Memory),
+        _ => Err(CommandLineFault::Memory),
     }
 }
 
 /// How far to search for ends, and what to write about them.
-fn checked(alloc: Global, check: &ArgMatches<'_>) -> Result<Settings, LineFault>
+fn checked(alloc: Global, check: &ArgMatches<'_>) -> Result<Settings, CommandLineFault>
     ensures in_range { IfOk result AreInRange }
 {
     let most = place(check.get_str("most"), DEFAULT_MOST)?;
@@ -185,8 +185,8 @@ fn checked(alloc: Global, check: &ArgMatches<'_>) -> Result<Settings, LineFault>
 }
 
 /// The maximum number of seconds, if one is given.
-fn seconds(text: Option<&str>) -> Result<Option<u32>, LineFault>
-    ensures in_range { IfOk result (λ seconds. IfSome seconds (λ n. Within 1 4294967295 n)) }
+fn seconds(text: Option<&str>) -> Result<Option<u32>, CommandLineFault>
+    ensures in_range { IfOk result (λ seconds. IfSome seconds (λ n. IsBetween 1 4294967295 n)) }
 {
     match text {
         None => Ok(None),
@@ -195,8 +195,8 @@ fn seconds(text: Option<&str>) -> Result<Option<u32>, LineFault>
 }
 
 /// The number of a kind of end, counted from 1, where one is given, spelled as in a command.
-fn kind(alloc: Global, text: Option<&str>) -> Result<Option<u32>, LineFault>
-    ensures in_range { IfOk result (λ kind. IfSome kind (λ n. Within 1 4294967295 n)) }
+fn kind(alloc: Global, text: Option<&str>) -> Result<Option<u32>, CommandLineFault>
+    ensures in_range { IfOk result (λ kind. IfSome kind (λ n. IsBetween 1 4294967295 n)) }
 {
     match text {
         None => Ok(None),
@@ -208,18 +208,18 @@ fn kind(alloc: Global, text: Option<&str>) -> Result<Option<u32>, LineFault>
 }
 
 /// Reports that these digits are no number of a kind of end, in the form of clap's errors.
-fn no_kind(alloc: Global, digits: &str) -> LineFault {
+fn no_kind(alloc: Global, digits: &str) -> CommandLineFault {
     match format!(in alloc;
         "error: invalid value '{digits}' for '--session <K>': K is a decimal number without leading zeros\n\n\
         For more information, try '--help'.\n"
     ) {
-        Ok(text) => LineFault::Refused(text),
-        Err(_) => LineFault::Memory,
+        Ok(text) => CommandLineFault::Refused(text),
+        Err(_) => CommandLineFault::Memory,
     }
 }
 
 /// What is to be drawn.
-fn drawn(alloc: Global, draw: &ArgMatches<'_>) -> Result<Settings, LineFault>
+fn drawn(alloc: Global, draw: &ArgMatches<'_>) -> Result<Settings, CommandLineFault>
     ensures in_range { IfOk result AreInRange }
 {
     let limit = limit(draw, DEFAULT_EXPLORED, GREATEST_EXPLORED)?;
@@ -241,7 +241,7 @@ fn drawn(alloc: Global, draw: &ArgMatches<'_>) -> Result<Settings, LineFault>
 }
 
 /// The name of the file, where one is given that is not `-`.
-fn file(alloc: Global, matches: &ArgMatches<'_>) -> Result<Option<String>, LineFault> {
+fn file(alloc: Global, matches: &ArgMatches<'_>) -> Result<Option<String>, CommandLineFault> {
     match matches.get_str("FILE") {
         Some("-") => Ok(None),
         given => name(alloc, given),
@@ -249,21 +249,21 @@ fn file(alloc: Global, matches: &ArgMatches<'_>) -> Result<Option<String>, LineF
 }
 
 /// The name of a file, where one is given.
-fn name(alloc: Global, text: Option<&str>) -> Result<Option<String>, LineFault> {
+fn name(alloc: Global, text: Option<&str>) -> Result<Option<String>, CommandLineFault> {
     match text {
         None => Ok(None),
         Some(name) => match String::from_str(alloc, name) {
             Ok(name) => Ok(Some(name)),
-            Err(_) => Err(LineFault::Memory),
+            Err(_) => Err(CommandLineFault::Memory),
         },
     }
 }
 
 /// How many events are kept at most: the number that is given, or the usual one.
-fn limit(matches: &ArgMatches<'_>, usual: u32, greatest: u32) -> Result<u32, LineFault>
+fn limit(matches: &ArgMatches<'_>, usual: u32, greatest: u32) -> Result<u32, CommandLineFault>
     requires positive { 1 ≤ usual }
     requires below { usual ≤ greatest }
-    ensures in_range { IfOk result (λ n. Within 1 greatest n) }
+    ensures in_range { IfOk result (λ n. IsBetween 1 greatest n) }
 {
     match matches.get_str("limit") {
         None => Ok(usual),
@@ -272,9 +272,9 @@ fn limit(matches: &ArgMatches<'_>, usual: u32, greatest: u32) -> Result<u32, Lin
 }
 
 /// A number from 1 on, or this one where none is given.
-fn place(text: Option<&str>, usual: u32) -> Result<u32, LineFault>
-    requires { Within 1 4294967295 usual }
-    ensures in_range { IfOk result (λ n. Within 1 4294967295 n) }
+fn place(text: Option<&str>, usual: u32) -> Result<u32, CommandLineFault>
+    requires { IsBetween 1 4294967295 usual }
+    ensures in_range { IfOk result (λ n. IsBetween 1 4294967295 n) }
 {
     match text {
         None => Ok(usual),
@@ -283,13 +283,13 @@ fn place(text: Option<&str>, usual: u32) -> Result<u32, LineFault>
 }
 
 /// From how many own steps on a run is drawn as one mark. That it is a number was seen by its parser.
-fn fold(text: Option<&str>) -> Result<u32, LineFault> {
+fn fold(text: Option<&str>) -> Result<u32, CommandLineFault> {
     let Some(text) = text else {
         return Ok(DEFAULT_FOLD);
     };
     match text.parse::<u32>() {
         Ok(n) => Ok(n),
-        Err(_) => Err(LineFault::Memory),
+        Err(_) => Err(CommandLineFault::Memory),
     }
 }
 
@@ -298,12 +298,12 @@ fn step(
     alloc: Global,
     matches: &ArgMatches<'_>,
     name: &str,
-) -> Result<Option<(NodeId, u32)>, LineFault> {
+) -> Result<Option<(NodeId, u32)>, CommandLineFault> {
     let Some(words) = matches.get_strs(name) else {
         return Ok(None);
     };
     let [node, number] = words else {
-        return Err(LineFault::Memory);
+        return Err(CommandLineFault::Memory);
     };
     match (parse_node(node.as_bytes()), parse_number(number.as_bytes())) {
         (Some(node), Some(number)) => Ok(Some((node, number))),
@@ -312,28 +312,28 @@ fn step(
 }
 
 /// Reports that these words are no step, in the form of clap's errors.
-fn no_step(alloc: Global, name: &str, node: &str, number: &str) -> LineFault {
+fn no_step(alloc: Global, name: &str, node: &str, number: &str) -> CommandLineFault {
     match format!(in alloc;
         "error: invalid value '{node} {number}' for '--{name} <NNN> <K>': NNN is a node, 000 to 717 \
         with columns 00 to 17, and K a step, a decimal number\n\nFor more information, try '--help'.\n"
     ) {
-        Ok(text) => LineFault::Refused(text),
-        Err(_) => LineFault::Memory,
+        Ok(text) => CommandLineFault::Refused(text),
+        Err(_) => CommandLineFault::Memory,
     }
 }
 
 /// A number from 1 to the greatest. That it is one was seen by its parser.
-fn number(text: Option<&str>, greatest: u32) -> Result<u32, LineFault>
-    ensures in_range { IfOk result (λ n. Within 1 greatest n) }
+fn number(text: Option<&str>, greatest: u32) -> Result<u32, CommandLineFault>
+    ensures in_range { IfOk result (λ n. IsBetween 1 greatest n) }
 {
     let Some(text) = text else {
-        return Err(LineFault::Memory);
+        return Err(CommandLineFault::Memory);
     };
     let Ok(number) = text.parse::<u32>() else {
-        return Err(LineFault::Memory);
+        return Err(CommandLineFault::Memory);
     };
     if number < 1 || number > greatest {
-        return Err(LineFault::Memory);
+        return Err(CommandLineFault::Memory);
     }
     Ok(number)
 }

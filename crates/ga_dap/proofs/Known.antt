@@ -4,34 +4,34 @@ use Rattle.std.proofs.Common.{◌≡◌, ◌∙◌, ℕ, ◌<◌, Bool, List, ap
 use Rattle.ga_grid.specs.declared.node_id.NodeId.{NodeId}
 use Rattle.ga_dap_views.specs.Threads.{has_thread}
 use Rattle.ga_dap_queries.specs.declared.debuggee.Debuggee.{Debuggee}
-use Rattle.ga_dap_control.specs.Configuring.{AreShown}
+use Rattle.ga_dap_control.specs.Configuring.{AreThreadMarks}
 use Rattle.ga_dap_protocol.specs.Sent.{SentMessages}
 use Rattle.ga_dap_queries.specs.Sending.{Message, Messages, Sends, SendsAll}
 use Rattle.ga_dap.specs.declared.unanswered.NoResponse.{NoResponse}
 use Rattle.ga_dap.specs.declared.unanswered.NoResponse.TheVariants.{Memory, Untold}
-use Rattle.ga_dap.specs.Client.{sent_as}
+use Rattle.ga_dap.specs.Client.{sent_messages_of}
 use Rattle.ga_dap.specs.inner.Carrying.{Carries}
 use Rattle.std.specs.Prelude.{false}
 use Rattle.ga_dap_protocol.specs.declared.request.ClientRequest.{ClientRequest}
 use Rattle.ga_dap_queries.specs.declared.request_name.RequestName.{RequestName}
 use Rattle.ga_dap_control.specs.Requests.{AnswersAtOnce}
-use Rattle.ga_dap_control.specs.declared.launched.Launched.{Launched}
+use Rattle.ga_dap_control.specs.declared.launched.LaunchedProgram.{LaunchedProgram}
 use Rattle.ga_dap.specs.declared.session.Session.{Session}
-use Rattle.ga_dap.specs.Answering.{AnswersKnown, OfLaunch, DoesIfLaunched, DoesStanding, is_of_standing}
-use Rattle.ga_dap.specs.Launches.{FileGiving}
+use Rattle.ga_dap.specs.Answering.{AnswersKnown, ChangesLaunchedOnly, AnswersIfLaunched, PerformsRequest, needs_stopped_chip}
+use Rattle.ga_dap.specs.Launches.{FileReadRelation}
 
 -- ---- marks of the nodes that have something to show
 
-pub shown_so : (p : Debuggee) (nodes : List NodeId) (marks : ℕ → Bool) → nodes ≡ p.nodes.items → ((n : ℕ) → n < 144 → marks n ≡ has_thread p.lab nodes n) → AreShown p marks
+pub shown_so : (p : Debuggee) (nodes : List NodeId) (marks : ℕ → Bool) → nodes ≡ p.nodes.items → ((n : ℕ) → n < 144 → marks n ≡ has_thread p.lab nodes n) → AreThreadMarks p marks
 shown_so p nodes marks e h = λ n below. h n below ∙ ap (λ (z : List NodeId). has_thread p.lab z n) e
 
 -- ---- what was sent and is taken back; messages in a row; calls that carried out what they promise
 
 -- where nothing was there, what is taken back is what was there
-pub back_again : (o : SentMessages) → o.bytes ≡ [] → sent_as [] o.seq ≡ o
-back_again o none = ap (λ (b : List ℕ). sent_as b o.seq) (sym none)
+pub back_again : (o : SentMessages) → o.bytes ≡ [] → sent_messages_of [] o.seq ≡ o
+back_again o none = ap (λ (b : List ℕ). sent_messages_of b o.seq) (sym none)
 
-pub sent_again : (o p : SentMessages) (messages : Messages) (new : SentMessages) → o.bytes ≡ [] → p ≡ sent_as [] o.seq → SendsAll p messages new → SendsAll o messages new
+pub sent_again : (o p : SentMessages) (messages : Messages) (new : SentMessages) → o.bytes ≡ [] → p ≡ sent_messages_of [] o.seq → SendsAll p messages new → SendsAll o messages new
 sent_again o p messages new none e sent =
     let P : SentMessages → Type 0 = λ z. SendsAll z messages new in subst P (e ∙ back_again o none) sent
 
@@ -48,9 +48,9 @@ carries_so (Err Memory) P Q Stays Still old new h f g = g h
 carries_so (Err Untold) P Q Stays Still old new h f g = tt
 
 -- a request that the session itself doesn't answer is one of what was launched
-pub of_launched : {S : Type 0} (G : FileGiving S) (host : S) (s : Session) (command : RequestName) (request : ClientRequest) (messages : Messages) (new : Session)
+pub of_launched : {S : Type 0} (G : FileReadRelation S) (host : S) (s : Session) (command : RequestName) (request : ClientRequest) (messages : Messages) (new : Session)
     → command ≢ the.Initialize → command ≢ the.Launch → command ≢ the.Disconnect → command ≢ the.Terminate
-    → OfLaunch (DoesIfLaunched command s.launched request) s messages new → AnswersKnown G host s command request messages host new
+    → ChangesLaunchedOnly (AnswersIfLaunched command s.launched request) s messages new → AnswersKnown G host s command request messages host new
 of_launched G host s the.Initialize request messages new i l d t does = absurd (i refl)
 of_launched G host s the.Launch request messages new i l d t does = absurd (l refl)
 of_launched G host s the.SetBreakpoints request messages new i l d t does = (does, refl)
@@ -78,9 +78,9 @@ of_launched G host s the.Terminate request messages new i l d t does = absurd (t
 of_launched G host s the.Disconnect request messages new i l d t does = absurd (d refl)
 
 -- one that makes no move and evaluates nothing is answered in place
-pub of_place : (command : RequestName) (l : Launched) (request : ClientRequest) (messages : Messages) (new : Launched)
+pub of_place : (command : RequestName) (l : LaunchedProgram) (request : ClientRequest) (messages : Messages) (new : LaunchedProgram)
     → command ≢ the.StepBack → command ≢ the.ReverseContinue → command ≢ the.Evaluate
-    → AnswersAtOnce command l request messages new → DoesStanding command l request messages new
+    → AnswersAtOnce command l request messages new → PerformsRequest command l request messages new
 of_place the.Initialize l request messages new b r e does = does
 of_place the.Launch l request messages new b r e does = does
 of_place the.SetBreakpoints l request messages new b r e does = does
@@ -109,7 +109,7 @@ of_place the.Disconnect l request messages new b r e does = does
 
 -- and needs no stopped chip
 pub of_run : (command : RequestName) → command ≢ the.Continue → command ≢ the.Next → command ≢ the.StepIn → command ≢ the.StepOut → command ≢ the.StepBack
-    → command ≢ the.ReverseContinue → command ≢ the.Evaluate → false ≡ is_of_standing command
+    → command ≢ the.ReverseContinue → command ≢ the.Evaluate → false ≡ needs_stopped_chip command
 of_run the.Initialize c n i o b r e = refl
 of_run the.Launch c n i o b r e = refl
 of_run the.SetBreakpoints c n i o b r e = refl

@@ -1,5 +1,5 @@
 pub mod Known
 pub mod Serves
 pub mod Unmoved
-pub mod Launched
+pub mod LaunchedProgram
 pub mod Turned

@@ -8,37 +8,37 @@ use Rattle.ga_dap_protocol.specs.Sent.{SentMessages}
 use Rattle.ga_dap.specs.declared.session.Session.{Session}
 use Rattle.ga_dap.specs.declared.serving.SessionEnd.{SessionEnd}
 use Rattle.ga_dap.specs.declared.serving.SessionEnd.TheVariants as end
-use Rattle.ga_dap.specs.Client.{Serving, ArrivalTelling, ServesFor, MakesTurn, EndsBy, WrittenBy, new_session, serving_from, sent_from}
-use Rattle.ga_dap.specs.Launches.{FileGiving}
+use Rattle.ga_dap.specs.Client.{ServerState, ArrivalRelation, ServesIterations, IsServerIteration, IsSessionEnd, IsOutputWritten, new_session, initial_server_state, empty_sent_messages}
+use Rattle.ga_dap.specs.Launches.{FileReadRelation}
 use Rattle.ga_dap.specs.inner.Turning.{EndsTurn, serving_at}
 
-pub begins_so : {S A : Type 0} (files : S) (arrivals : A) (session : Session) (out : SentMessages) (inbox left : Bytes) → session ≡ new_session → out ≡ sent_from 0 → inbox ≡ []
-    → serving_at files arrivals session out.seq inbox left ≡ serving_from files arrivals left
+pub begins_so : {S A : Type 0} (files : S) (arrivals : A) (session : Session) (out : SentMessages) (inbox left : Bytes) → session ≡ new_session → out ≡ empty_sent_messages 0 → inbox ≡ []
+    → serving_at files arrivals session out.seq inbox left ≡ initial_server_state files arrivals left
 begins_so files arrivals session out inbox left s o i =
     ap (λ (z : Session). serving_at files arrivals z out.seq inbox left) s ∙ ap (λ (z : SentMessages). serving_at files arrivals new_session z.seq inbox left) o
     ∙ ap (λ (z : Bytes). serving_at files arrivals new_session 0 z left) i
 
-pub serves_on : {S A : Type 0} (G : FileGiving S) (T : ArrivalTelling A) (begin : Serving S A) (count : ℕ) (said : Bytes) (s : Serving S A) (sent : Bytes) (t : Serving S A)
-    → ServesFor G T begin count said s → s.session.is_over ≡ false → MakesTurn G T s sent t → ServesFor G T begin (suc count) (said ++ sent) t
-serves_on G T begin count said s sent t serves open_still makes = (s, said, sent, serves, open_still, makes, refl)
+pub serves_on : {S A : Type 0} (G : FileReadRelation S) (T : ArrivalRelation A) (begin : ServerState S A) (count : ℕ) (said : Bytes) (s : ServerState S A) (sent : Bytes) (t : ServerState S A)
+    → ServesIterations G T begin count said s → s.session.is_over ≡ false → IsServerIteration G T s sent t → ServesIterations G T begin (suc count) (said ++ sent) t
+serves_on G T begin count said s sent t serves not_configured makes = (s, said, sent, serves, not_configured, makes, refl)
 
 -- what is pending is written
 pub pends : (contents : Option Bytes) (before said pending : Bytes) → contents ≡ Some (before ++ said) → IsWritten contents before (said ++ pending) pending
 pends contents before said pending held = record { sent = said; held = held; splits = refl }
 
 -- where no turn is made, the session ends
-pub ends_so : {S A : Type 0} (s : Serving S A) (ending : SessionEnd) → s.session.is_over ≡ false → EndsTurn s ending → EndsBy s ending
-ends_so s end.Done open_still ends = inr ends
-ends_so s (end.Broken why) open_still ends = (open_still, ends)
-ends_so s end.Memory open_still ends = open_still
-ends_so s end.StreamFault open_still ends = tt
+pub ends_so : {S A : Type 0} (s : ServerState S A) (ending : SessionEnd) → s.session.is_over ≡ false → EndsTurn s ending → IsSessionEnd s ending
+ends_so s end.Done not_configured ends = inr ends
+ends_so s (end.Broken why) not_configured ends = (not_configured, ends)
+ends_so s end.Memory not_configured ends = not_configured
+ends_so s end.StreamFault not_configured ends = tt
 
 -- nothing is pending any more: all that was said is written
 pub all_sent : (contents : Option Bytes) (before said : Bytes) → IsWritten contents before said [] → contents ≡ Some (before ++ said)
 all_sent contents before said h = h.held ∙ ap (λ (t : Bytes). Some (before ++ t)) (sym (h.splits ∙ append-nil h.sent))
 
 -- all that was said was written
-pub written_all : (ending : SessionEnd) (said : Bytes) → WrittenBy ending said said
+pub written_all : (ending : SessionEnd) (said : Bytes) → IsOutputWritten ending said said
 written_all end.Done said = refl
 written_all end.Memory said = refl
 written_all (end.Broken why) said = refl

@@ -13,13 +13,13 @@ use Rattle.ga_dap.specs.declared.serving.SessionEnd.{SessionEnd}
 use Rattle.ga_dap.specs.declared.serving.SessionEnd.TheVariants as end
 use Rattle.ga_dap.specs.declared.turn.Progress.{Progress}
 use Rattle.ga_dap.specs.declared.turn.Progress.TheVariants.{On, End}
-use Rattle.ga_dap.specs.Client.{ArrivalTelling, IsRequestIn, IsTime, is_running, no_request_told}
+use Rattle.ga_dap.specs.Client.{ArrivalRelation, IsRequestIn, IsReadDue, is_running, invalid_request_output}
 use Rattle.ga_dap.specs.Client.AnswersContent.{carried, wanting, no_request}
-use Rattle.ga_dap.specs.Launches.{FileGiving}
+use Rattle.ga_dap.specs.Launches.{FileReadRelation}
 use Rattle.ga_dap.specs.inner.Turning.{AnswersOrEnds, ContentOrEnds, DeclinesOrEnds, TakesOrEnds, GoesOnOrEnds, EndsTurn, TurnOrEnds, serving_at}
 use Rattle.ga_dap.proofs.Known.{back_again}
 
-pub content_so : {S : Type 0} (G : FileGiving S) (host after : S) (s t : Session) (content : Bytes) (request : ClientRequest) (old new : SentMessages) (progress : Progress)
+pub content_so : {S : Type 0} (G : FileReadRelation S) (host after : S) (s t : Session) (content : Bytes) (request : ClientRequest) (old new : SentMessages) (progress : Progress)
     → IsRequestIn content request → AnswersOrEnds G host s request old progress new after t → ContentOrEnds G host s content old progress new after t
 content_so G host after s t content request old new On is h = (
   h.0,
@@ -28,18 +28,18 @@ content_so G host after s t content request old new On is h = (
 )
 content_so G host after s t content request old new (End ending) is h = h
 
-pub declined_so : {S : Type 0} (G : FileGiving S) (host : S) (s : Session) (content : Bytes) (why : RequestError) (old new : SentMessages) (progress : Progress)
+pub declined_so : {S : Type 0} (G : FileReadRelation S) (host : S) (s : Session) (content : Bytes) (why : RequestError) (old new : SentMessages) (progress : Progress)
     → why ≢ fault.Memory → HoldsNoRequest content why → DeclinesOrEnds why old progress new → ContentOrEnds G host s content old progress new host s
-declined_so G host s content why old new On ne holds h = (no_request_told why, no_request why ne holds refl refl refl, h)
+declined_so G host s content why old new On ne holds h = (invalid_request_output why, no_request why ne holds refl refl refl, h)
 declined_so G host s content why old new (End ending) ne holds h = h
 
-pub takes_so : {S : Type 0} (G : FileGiving S) (host after : S) (s t : Session) (content text all rest : Bytes) (old new : SentMessages) (progress : Progress)
+pub takes_so : {S : Type 0} (G : FileReadRelation S) (host after : S) (s t : Session) (content text all rest : Bytes) (old new : SentMessages) (progress : Progress)
     → IsMessage content text → all ≡ text ++ rest → ContentOrEnds G host s content old progress new after t → TakesOrEnds G host s all old progress new after t rest
 takes_so G host after s t content text all rest old new On whole e h = (content, text, h.0, whole, e, h.1, h.2)
 takes_so G host after s t content text all rest old new (End ending) whole e h = let P : SessionEnd → Type 0 = λ z. TakesOrEnds G host s all old (End z) new after t rest in subst P (sym h) (text, e)
 
-pub turned_so : {S A : Type 0} (G : FileGiving S) (T : ArrivalTelling A) (host after : S) (arrivals came : A) (s t : Session) (ahead left ahead' rest : Bytes) (old new : SentMessages)
-    (progress : Progress) → old.bytes ≡ [] → IsTime T (is_running s) ahead arrivals true came
+pub turned_so : {S A : Type 0} (G : FileReadRelation S) (T : ArrivalRelation A) (host after : S) (arrivals came : A) (s t : Session) (ahead left ahead' rest : Bytes) (old new : SentMessages)
+    (progress : Progress) → old.bytes ≡ [] → IsReadDue T (is_running s) ahead arrivals true came
     → TakesOrEnds G host s (ahead ++ left) old progress new after t (ahead' ++ rest)
     → TurnOrEnds G T (serving_at host arrivals s old.seq ahead left) progress new.bytes (serving_at after came t new.seq ahead' rest)
 turned_so G T host after arrivals came s t ahead left ahead' rest old new On none time h = (
@@ -60,8 +60,8 @@ turned_so G T host after arrivals came s t ahead left ahead' rest old new (End (
 turned_so G T host after arrivals came s t ahead left ahead' rest old new (End end.Memory) none time h = (tt, h.0 ++ ahead', h.1 ∙ sym (append_assoc h.0 ahead' rest))
 turned_so G T host after arrivals came s t ahead left ahead' rest old new (End end.StreamFault) none time h = (tt, ahead', h)
 
-pub gone_on_so : {S A : Type 0} (G : FileGiving S) (T : ArrivalTelling A) (host : S) (arrivals came : A) (s t : Session) (ahead left : Bytes) (old new : SentMessages)
-    (progress : Progress) → old.bytes ≡ [] → IsTime T (is_running s) ahead arrivals false came → GoesOnOrEnds s old progress new t
+pub gone_on_so : {S A : Type 0} (G : FileReadRelation S) (T : ArrivalRelation A) (host : S) (arrivals came : A) (s t : Session) (ahead left : Bytes) (old new : SentMessages)
+    (progress : Progress) → old.bytes ≡ [] → IsReadDue T (is_running s) ahead arrivals false came → GoesOnOrEnds s old progress new t
     → TurnOrEnds G T (serving_at host arrivals s old.seq ahead left) progress new.bytes (serving_at host came t new.seq ahead left)
 gone_on_so G T host arrivals came s t ahead left old new On none time h = (
   false,

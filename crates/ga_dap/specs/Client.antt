@@ -8,29 +8,29 @@ use Rattle.serde_json.specs.Read.{read}
 use Rattle.serde_json.specs.View.{view}
 use Rattle.ga_text.specs.Lines.{Bytes, Text}
 use Rattle.ga_text.specs.Output.{TextHasPrefix}
-use Rattle.ga_dap_protocol.specs.Framing.{IsMessage, BeginsOne}
-use Rattle.ga_dap_protocol.specs.Inbox.{IsBroken}
+use Rattle.ga_dap_protocol.specs.Framing.{IsMessage, IsMessagePrefix}
+use Rattle.ga_dap_protocol.specs.Inbox.{IsInputError}
 use Rattle.ga_dap_protocol.specs.Messages.{IsRequest, HoldsNoRequest}
 use Rattle.ga_dap_protocol.specs.Sent.{SentMessages}
 use Rattle.ga_dap_protocol.specs.declared.request.ClientRequest.{ClientRequest}
 use Rattle.ga_dap_protocol.specs.declared.request.RequestError.{RequestError}
 use Rattle.ga_dap_protocol.specs.declared.request.RequestError.TheVariants as fault
 use Rattle.ga_dap_queries.specs.Sending.{Messages, SendsAll, refused_response}
-use Rattle.ga_dap_control.specs.declared.launched.Launched.{Launched}
+use Rattle.ga_dap_control.specs.declared.launched.LaunchedProgram.{LaunchedProgram}
 use Rattle.ga_dap.specs.declared.session.Session.{Session}
 use Rattle.ga_dap.specs.declared.serving.SessionEnd.{SessionEnd}
 use Rattle.ga_dap.specs.declared.serving.SessionEnd.TheVariants as end
 use Rattle.ga_dap.specs.Answering.{AnswersRequest}
-use Rattle.ga_dap.specs.Going.{RunGoesOn}
-use Rattle.ga_dap.specs.Launches.{FileGiving, output_told}
+use Rattle.ga_dap.specs.Going.{ContinuesRun}
+use Rattle.ga_dap.specs.Launches.{FileReadRelation, output_message}
 
 -- whether requests have come, as a host says: the host before, what it says, and after
-abbrev pub ArrivalTelling : Type 0 → Type 1
-ArrivalTelling A = A → Bool → A → Type 0
+abbrev pub ArrivalRelation : Type 0 → Type 1
+ArrivalRelation A = A → Bool → A → Type 0
 
 -- the state between two turns: the host's files and arrivals, the session, the number of the last message, and of the input
 -- what was read and not taken, and what was not read
-pub record Serving (S A : Type 0) : Type 0 where
+pub record ServerState (S A : Type 0) : Type 0 where
   pub files : S
   pub arrivals : A
   pub session : Session
@@ -39,133 +39,133 @@ pub record Serving (S A : Type 0) : Type 0 where
   pub left : Bytes
 
 -- all of the input that is not taken
-abbrev pub untaken : {S A : Type 0} → Serving S A → Bytes
-untaken s = s.ahead ++ s.left
+abbrev pub remaining_input : {S A : Type 0} → ServerState S A → Bytes
+remaining_input s = s.ahead ++ s.left
 
 -- whether a run is under way
-abbrev pub runs_in : Option Launched → Bool
-runs_in None = false
-runs_in (Some l) = is_some l.execution.goal
+abbrev pub has_active_run : Option LaunchedProgram → Bool
+has_active_run None = false
+has_active_run (Some l) = is_some l.execution.goal
 
 abbrev pub is_running : Session → Bool
-is_running s = runs_in s.launched
+is_running s = has_active_run s.launched
 
 -- ---- a request that comes
 
 -- that a message is no request, and why
-abbrev pub request_words : RequestError → Text
-request_words fault.Memory = codes "out of memory"
-request_words fault.Json = codes "a message is no JSON"
-request_words fault.Kind = codes "a message is no request"
-request_words fault.Seq = codes "a request has no `seq`"
-request_words fault.Command = codes "a request has no `command`"
+abbrev pub request_error_text : RequestError → Text
+request_error_text fault.Memory = codes "out of memory"
+request_error_text fault.Json = codes "a message is no JSON"
+request_error_text fault.Kind = codes "a message is no request"
+request_error_text fault.Seq = codes "a request has no `seq`"
+request_error_text fault.Command = codes "a request has no `command`"
 
-abbrev pub no_request_told : RequestError → Messages
-no_request_told why = output_told (codes "stderr") (codes "ga144: " ++ request_words why ++ codes "\n") ∷ []
+abbrev pub invalid_request_output : RequestError → Messages
+invalid_request_output why = output_message (codes "stderr") (codes "ga144: " ++ request_error_text why ++ codes "\n") ∷ []
 
 -- a content part is this request
 abbrev pub IsRequestIn : Bytes → ClientRequest → Type 0
 IsRequestIn content r =
     (d : Data) × IsUtf8 content × (read content ≡ Some d) × IsRequest d r.seq (string_bytes r.command) (view r.arguments)
 
-abbrev pub refused_for_memory : ClientRequest → Messages
-refused_for_memory request = refused_response request (codes "out of memory") ∷ []
+abbrev pub out_of_memory_messages : ClientRequest → Messages
+out_of_memory_messages request = refused_response request (codes "out of memory") ∷ []
 
 -- a message is answered: it is a request that is carried out, or one to which memory is refused, and then nothing changes; or it is none
-pub data AnswersContent {S : Type 0} (G : FileGiving S) (host : S) (s : Session) (content : Bytes) (messages : Messages) (after : S) (new : Session) : Type 0 where
+pub data AnswersContent {S : Type 0} (G : FileReadRelation S) (host : S) (s : Session) (content : Bytes) (messages : Messages) (after : S) (new : Session) : Type 0 where
   carried : (request : ClientRequest) → IsRequestIn content request → AnswersRequest G host s request messages after new
       → AnswersContent G host s content messages after new
-  wanting : (request : ClientRequest) → IsRequestIn content request → messages ≡ refused_for_memory request → new ≡ s
+  wanting : (request : ClientRequest) → IsRequestIn content request → messages ≡ out_of_memory_messages request → new ≡ s
       → AnswersContent G host s content messages after new
-  no_request : (why : RequestError) → why ≢ fault.Memory → HoldsNoRequest content why → messages ≡ no_request_told why → new ≡ s → after ≡ host
+  no_request : (why : RequestError) → why ≢ fault.Memory → HoldsNoRequest content why → messages ≡ invalid_request_output why → new ≡ s → after ≡ host
       → AnswersContent G host s content messages after new
 
 -- ---- a turn
 
 -- no bytes to be written, or these, with the number of the last message
-abbrev pub sent_from : ℕ → SentMessages
-sent_from seq = record { bytes = []; seq = seq }
+abbrev pub empty_sent_messages : ℕ → SentMessages
+empty_sent_messages seq = record { bytes = []; seq = seq }
 
-abbrev pub sent_as : Bytes → ℕ → SentMessages
-sent_as bytes seq = record { bytes = bytes; seq = seq }
+abbrev pub sent_messages_of : Bytes → ℕ → SentMessages
+sent_messages_of bytes seq = record { bytes = bytes; seq = seq }
 
 -- what was read shows the next message, or that there is none
-abbrev pub CanTell : Bytes → Type 0
-CanTell ahead = BeginsOne ahead → ⊥
+abbrev pub NeedsNoMoreInput : Bytes → Type 0
+NeedsNoMoreInput ahead = IsMessagePrefix ahead → ⊥
 
 -- whether it is time for a request: no run is under way, or one was read, or the host says that one has come
-abbrev pub IsTime : {A : Type 0} → ArrivalTelling A → Bool → Bytes → A → Bool → A → Type 0
-IsTime T running ahead arrivals true after = ((running ≡ false) × (after ≡ arrivals)) ⊎ (CanTell ahead × (after ≡ arrivals)) ⊎ T arrivals true after
-IsTime T running ahead arrivals false after = (running ≡ true) × (CanTell ahead → ⊥) × T arrivals false after
+abbrev pub IsReadDue : {A : Type 0} → ArrivalRelation A → Bool → Bytes → A → Bool → A → Type 0
+IsReadDue T running ahead arrivals true after = ((running ≡ false) × (after ≡ arrivals)) ⊎ (NeedsNoMoreInput ahead × (after ≡ arrivals)) ⊎ T arrivals true after
+IsReadDue T running ahead arrivals false after = (running ≡ true) × (NeedsNoMoreInput ahead → ⊥) × T arrivals false after
 
 -- a request is taken and answered
-pub record TakesMessage {S A : Type 0} (G : FileGiving S) (s : Serving S A) (sent : Bytes) (t : Serving S A) : Type 0 where
+pub record TakesMessage {S A : Type 0} (G : FileReadRelation S) (s : ServerState S A) (sent : Bytes) (t : ServerState S A) : Type 0 where
   pub content : Bytes
   pub text : Bytes
   pub whole : IsMessage content text
-  pub taken : untaken s ≡ text ++ untaken t
+  pub taken : remaining_input s ≡ text ++ remaining_input t
   pub messages : Messages
   pub answers : AnswersContent G s.files s.session content messages t.files t.session
-  pub sends : SendsAll (sent_from s.seq) messages (sent_as sent t.seq)
+  pub sends : SendsAll (empty_sent_messages s.seq) messages (sent_messages_of sent t.seq)
 
 -- the run in progress continues by a slice, and nothing is taken
-pub record GoesOnOnce {S A : Type 0} (s : Serving S A) (sent : Bytes) (t : Serving S A) : Type 0 where
-  pub before : Launched
-  pub after : Launched
+pub record ContinuesSessionRun {S A : Type 0} (s : ServerState S A) (sent : Bytes) (t : ServerState S A) : Type 0 where
+  pub before : LaunchedProgram
+  pub after : LaunchedProgram
   pub running : s.session.launched ≡ Some before
   pub messages : Messages
-  pub goes : RunGoesOn before messages after
+  pub goes : ContinuesRun before messages after
   pub session : t.session ≡ record s.session { launched = Some after }
-  pub sends : SendsAll (sent_from s.seq) messages (sent_as sent t.seq)
+  pub sends : SendsAll (empty_sent_messages s.seq) messages (sent_messages_of sent t.seq)
   pub files : t.files ≡ s.files
   pub ahead : t.ahead ≡ s.ahead
   pub left : t.left ≡ s.left
 
-abbrev pub TurnsBy : {S A : Type 0} → FileGiving S → Bool → Serving S A → Bytes → Serving S A → Type 0
-TurnsBy G true s sent t = TakesMessage G s sent t
-TurnsBy G false s sent t = GoesOnOnce s sent t
+abbrev pub AnswersOrRuns : {S A : Type 0} → FileReadRelation S → Bool → ServerState S A → Bytes → ServerState S A → Type 0
+AnswersOrRuns G true s sent t = TakesMessage G s sent t
+AnswersOrRuns G false s sent t = ContinuesSessionRun s sent t
 
-abbrev pub MakesTurn : {S A : Type 0} → FileGiving S → ArrivalTelling A → Serving S A → Bytes → Serving S A → Type 0
-MakesTurn G T s sent t = (time : Bool) × IsTime T (is_running s.session) s.ahead s.arrivals time t.arrivals × TurnsBy G time s sent t
+abbrev pub IsServerIteration : {S A : Type 0} → FileReadRelation S → ArrivalRelation A → ServerState S A → Bytes → ServerState S A → Type 0
+IsServerIteration G T s sent t = (time : Bool) × IsReadDue T (is_running s.session) s.ahead s.arrivals time t.arrivals × AnswersOrRuns G time s sent t
 
 -- `n` turns, and what was sent in them
-abbrev pub ServesFor : {S A : Type 0} → FileGiving S → ArrivalTelling A → Serving S A → ℕ → Bytes → Serving S A → Type 0
-ServesFor G T begin zero said last = (said ≡ []) × (last ≡ begin)
-ServesFor {S} {A} G T begin (suc count) said last = (between : Serving S A) × (front : Bytes) × (sent : Bytes) × ServesFor G T begin count front between
-    × (between.session.is_over ≡ false) × MakesTurn G T between sent last × (said ≡ front ++ sent)
+abbrev pub ServesIterations : {S A : Type 0} → FileReadRelation S → ArrivalRelation A → ServerState S A → ℕ → Bytes → ServerState S A → Type 0
+ServesIterations G T begin zero said last = (said ≡ []) × (last ≡ begin)
+ServesIterations {S} {A} G T begin (suc count) said last = (between : ServerState S A) × (front : Bytes) × (sent : Bytes) × ServesIterations G T begin count front between
+    × (between.session.is_over ≡ false) × IsServerIteration G T between sent last × (said ≡ front ++ sent)
 
 -- ---- how a session ends
 
 -- at the end of a session the client has ended it, or the input is at its end between messages; or something comes that is no
 -- message. Otherwise an allocation failed for the next message or for what had to be reported, and the client has not ended the
 -- session; or a stream failed.
-abbrev pub EndsBy : {S A : Type 0} → Serving S A → SessionEnd → Type 0
-EndsBy s end.Done = (s.session.is_over ≡ true) ⊎ (untaken s ≡ [])
-EndsBy s (end.Broken why) = (s.session.is_over ≡ false) × IsBroken why (untaken s)
-EndsBy s end.Memory = s.session.is_over ≡ false
-EndsBy s end.StreamFault = Unit {0}
+abbrev pub IsSessionEnd : {S A : Type 0} → ServerState S A → SessionEnd → Type 0
+IsSessionEnd s end.Done = (s.session.is_over ≡ true) ⊎ (remaining_input s ≡ [])
+IsSessionEnd s (end.Broken why) = (s.session.is_over ≡ false) × IsInputError why (remaining_input s)
+IsSessionEnd s end.Memory = s.session.is_over ≡ false
+IsSessionEnd s end.StreamFault = Unit {0}
 
 -- what is written of all that was sent: the whole, or where a stream failed, a front of it
-abbrev pub WrittenBy : SessionEnd → Bytes → Bytes → Type 0
-WrittenBy end.Done said written = written ≡ said
-WrittenBy (end.Broken why) said written = written ≡ said
-WrittenBy end.Memory said written = written ≡ said
-WrittenBy end.StreamFault said written = TextHasPrefix said written
+abbrev pub IsOutputWritten : SessionEnd → Bytes → Bytes → Type 0
+IsOutputWritten end.Done said written = written ≡ said
+IsOutputWritten (end.Broken why) said written = written ≡ said
+IsOutputWritten end.Memory said written = written ≡ said
+IsOutputWritten end.StreamFault said written = TextHasPrefix said written
 
 abbrev pub new_session : Session
 new_session = record { launched = None; is_over = false }
 
-abbrev pub serving_from : {S A : Type 0} → S → A → Bytes → Serving S A
-serving_from files arrivals left = record { files = files; arrivals = arrivals; session = new_session; seq = 0; ahead = []; left = left }
+abbrev pub initial_server_state : {S A : Type 0} → S → A → Bytes → ServerState S A
+initial_server_state files arrivals left = record { files = files; arrivals = arrivals; session = new_session; seq = 0; ahead = []; left = left }
 
 -- A client was served: the turns were made, the session ended so after the last, and this was written; this is left of the
 -- input.
-pub record ServesClient {S A : Type 0} (G : FileGiving S) (T : ArrivalTelling A) (files : S) (arrivals : A) (input rest written : Bytes) (ending : SessionEnd) : Type 0 where
+pub record ServesClient {S A : Type 0} (G : FileReadRelation S) (T : ArrivalRelation A) (files : S) (arrivals : A) (input rest written : Bytes) (ending : SessionEnd) : Type 0 where
   pub count : ℕ
   pub said : Bytes
-  pub last : Serving S A
+  pub last : ServerState S A
   pub read : Bytes
-  pub serves : ServesFor G T (serving_from files arrivals input) count said last
-  pub ends : EndsBy last ending
-  pub left : untaken last ≡ read ++ rest
-  pub out : WrittenBy ending said written
+  pub serves : ServesIterations G T (initial_server_state files arrivals input) count said last
+  pub ends : IsSessionEnd last ending
+  pub left : remaining_input last ≡ read ++ rest
+  pub out : IsOutputWritten ending said written

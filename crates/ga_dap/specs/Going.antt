@@ -2,53 +2,53 @@
 use Rattle.std.specs.Prelude.{◌≡◌, ℕ, Bool, List, ◌==◌, if◌then◌else◌, [], ◌∷◌, codes, Option, Some, None}
 use Rattle.serde_json.specs.View.{view}
 use Rattle.ga_text.specs.Lines.{Text}
-use Rattle.ga_event.specs.Told.{steps_of}
+use Rattle.ga_event.specs.Told.{count_steps}
 use Rattle.ga_grid.specs.declared.node_id.NodeId.{NodeId}
 use Rattle.ga_dap_protocol.specs.declared.request.ClientRequest.{ClientRequest}
-use Rattle.ga_dap_queries.specs.Arguments.{AsksOfThread}
+use Rattle.ga_dap_queries.specs.Arguments.{IsThreadArgument}
 use Rattle.ga_dap_queries.specs.declared.debuggee.Debuggee.{Debuggee}
 use Rattle.ga_dap_queries.specs.Sending.{Messages, refused_response}
-use Rattle.ga_dap_control.specs.Configuring.{AreShown}
-use Rattle.ga_dap_control.specs.Back.{requested_granularity, stepped_by, reversed_by, gone_words, RollsBackNode}
+use Rattle.ga_dap_control.specs.Configuring.{AreThreadMarks}
+use Rattle.ga_dap_control.specs.Back.{requested_granularity, program_after_step_back, program_after_reverse, rollback_summary_text, IsRollbackSummary}
 use Rattle.ga_dap_control.specs.Slices.{MakesSlice}
 use Rattle.ga_dap_control.specs.declared.configuration.Configuration.{Configuration}
 use Rattle.ga_dap_control.specs.declared.execution.StopReason.{StopReason}
-use Rattle.ga_dap_control.specs.declared.launched.Launched.{Launched}
-use Rattle.ga_dap.specs.Telling.{SliceTold, BackTold}
+use Rattle.ga_dap_control.specs.declared.launched.LaunchedProgram.{LaunchedProgram}
+use Rattle.ga_dap.specs.Telling.{AreSliceMessages, AreReverseMessages}
 
 -- some events of the run are made, and the messages have what changed and why the run ended, if it did
-abbrev pub GoesOnBy : Launched → Option StopReason → Messages → Launched → Type 0
-GoesOnBy l stop messages new = MakesSlice l.program l.settings l.execution new.program new.execution stop × (new.settings ≡ l.settings)
-    × (before : ℕ → Bool) × AreShown l.program before × SliceTold before new.program new.settings stop messages
+abbrev pub ContinuesRunUntil : LaunchedProgram → Option StopReason → Messages → LaunchedProgram → Type 0
+ContinuesRunUntil l stop messages new = MakesSlice l.program l.settings l.execution new.program new.execution stop × (new.settings ≡ l.settings)
+    × (before : ℕ → Bool) × AreThreadMarks l.program before × AreSliceMessages before new.program new.settings stop messages
 
-abbrev pub RunGoesOn : Launched → Messages → Launched → Type 0
-RunGoesOn l messages new = (stop : Option StopReason) × GoesOnBy l stop messages new
+abbrev pub ContinuesRun : LaunchedProgram → Messages → LaunchedProgram → Type 0
+ContinuesRun l messages new = (stop : Option StopReason) × ContinuesRunUntil l stop messages new
 
 -- a node was rolled back: the messages have what was removed with it, the threads that changed, and that the chip is stopped
-abbrev pub GoneTold : Debuggee → Debuggee → ClientRequest → NodeId → Text → Messages → Type 0
-GoneTold p new request node reason messages = (before : ℕ → Bool) × (steps : List ℕ) × (removed : ℕ) × AreShown p before × RollsBackNode p.lab new.lab steps removed
-    × BackTold before new request node (gone_words node steps removed new.lab) reason messages
+abbrev pub AreRollbackMessages : Debuggee → Debuggee → ClientRequest → NodeId → Text → Messages → Type 0
+AreRollbackMessages p new request node reason messages = (before : ℕ → Bool) × (steps : List ℕ) × (removed : ℕ) × AreThreadMarks p before × IsRollbackSummary p.lab new.lab steps removed
+    × AreReverseMessages before new request node (rollback_summary_text node steps removed new.lab) reason messages
 
 -- `stepBack`
-abbrev pub StepsBackOf : Debuggee → ClientRequest → Option NodeId → Messages → Debuggee → Type 0
-StepsBackOf p request None messages new = (messages ≡ refused_response request (codes "stepBack: no such thread") ∷ []) × (new ≡ p)
-StepsBackOf p request (Some node) messages new =
-    (new ≡ stepped_by (requested_granularity p (view request.arguments)) p node)
-    × GoneTold p new request node (codes "step") messages
+abbrev pub StepsBackThread : Debuggee → ClientRequest → Option NodeId → Messages → Debuggee → Type 0
+StepsBackThread p request None messages new = (messages ≡ refused_response request (codes "stepBack: no such thread") ∷ []) × (new ≡ p)
+StepsBackThread p request (Some node) messages new =
+    (new ≡ program_after_step_back (requested_granularity p (view request.arguments)) p node)
+    × AreRollbackMessages p new request node (codes "step") messages
 
 abbrev pub StepsBack : Debuggee → ClientRequest → Messages → Debuggee → Type 0
-StepsBack p request messages new = (asked : Option NodeId) × AsksOfThread (view request.arguments) asked × StepsBackOf p request asked messages new
+StepsBack p request messages new = (asked : Option NodeId) × IsThreadArgument (view request.arguments) asked × StepsBackThread p request asked messages new
 
 -- why a node that was rolled back is stopped there: at load, or at a breakpoint
-abbrev pub reason_behind : Debuggee → NodeId → Text
-reason_behind p node = if steps_of node.number p.lab.kept == 0 then codes "entry" else codes "breakpoint"
+abbrev pub reverse_stop_reason : Debuggee → NodeId → Text
+reverse_stop_reason p node = if count_steps node.number p.lab.kept == 0 then codes "entry" else codes "breakpoint"
 
 -- `reverseContinue`
-abbrev pub ReversesOf : Configuration → Debuggee → ClientRequest → Option NodeId → Messages → Debuggee → Type 0
-ReversesOf set p request None messages new = (messages ≡ refused_response request (codes "reverseContinue: no such thread") ∷ []) × (new ≡ p)
-ReversesOf set p request (Some node) messages new =
-    (new ≡ reversed_by p node set.points.points.items)
-    × GoneTold p new request node (reason_behind new node) messages
+abbrev pub ReverseContinuesThread : Configuration → Debuggee → ClientRequest → Option NodeId → Messages → Debuggee → Type 0
+ReverseContinuesThread set p request None messages new = (messages ≡ refused_response request (codes "reverseContinue: no such thread") ∷ []) × (new ≡ p)
+ReverseContinuesThread set p request (Some node) messages new =
+    (new ≡ program_after_reverse p node set.points.points.items)
+    × AreRollbackMessages p new request node (reverse_stop_reason new node) messages
 
-abbrev pub Reverses : Configuration → Debuggee → ClientRequest → Messages → Debuggee → Type 0
-Reverses set p request messages new = (asked : Option NodeId) × AsksOfThread (view request.arguments) asked × ReversesOf set p request asked messages new
+abbrev pub ReverseContinues : Configuration → Debuggee → ClientRequest → Messages → Debuggee → Type 0
+ReverseContinues set p request messages new = (asked : Option NodeId) × IsThreadArgument (view request.arguments) asked × ReverseContinuesThread set p request asked messages new

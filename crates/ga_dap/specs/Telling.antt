@@ -5,44 +5,44 @@ use Rattle.ga_grid.specs.declared.node_id.NodeId.{NodeId}
 use Rattle.ga_lab.specs.Machine.{State}
 use Rattle.ga_dap_protocol.specs.declared.request.ClientRequest.{ClientRequest}
 use Rattle.ga_dap_queries.specs.declared.debuggee.Debuggee.{Debuggee}
-use Rattle.ga_dap_queries.specs.Events.{changed_below}
-use Rattle.ga_dap_queries.specs.Sending.{Message, Messages, acknowledged}
+use Rattle.ga_dap_queries.specs.Events.{thread_changes_below}
+use Rattle.ga_dap_queries.specs.Sending.{Message, Messages, bare_success_response}
 use Rattle.ga_dap_control.specs.declared.configuration.Configuration.{Configuration}
 use Rattle.ga_dap_control.specs.declared.execution.StopReason.{StopReason}
-use Rattle.ga_dap_control.specs.Configuring.{AreShown}
-use Rattle.ga_dap_control.specs.Stopping.{stopped, TellsStop}
-use Rattle.ga_dap.specs.Launches.{output_told}
+use Rattle.ga_dap_control.specs.Configuring.{AreThreadMarks}
+use Rattle.ga_dap_control.specs.Stopping.{stopped_message, IsStopMessage}
+use Rattle.ga_dap.specs.Launches.{output_message}
 
 -- In what follows, before says which threads there were.
 
 -- the threads that came and went
-abbrev pub ThreadsChanged : (ℕ → Bool) → Debuggee → Messages → Type 0
-ThreadsChanged before new messages = (now : ℕ → Bool) × AreShown new now × (messages ≡ changed_below before now 144)
+abbrev pub AreThreadMessages : (ℕ → Bool) → Debuggee → Messages → Type 0
+AreThreadMessages before new messages = (now : ℕ → Bool) × AreThreadMarks new now × (messages ≡ thread_changes_below before now 144)
 
 -- the threads that started and exited, and then that the chip is stopped
-abbrev pub StandsThen : (ℕ → Bool) → Debuggee → Text → Text → NodeId → Messages → Type 0
-StandsThen before new reason description node messages =
-    (changed : Messages) × ThreadsChanged before new changed × (messages ≡ changed ++ (stopped reason description node.number ∷ []))
+abbrev pub AreStoppedMessages : (ℕ → Bool) → Debuggee → Text → Text → NodeId → Messages → Type 0
+AreStoppedMessages before new reason description node messages =
+    (changed : Messages) × AreThreadMessages before new changed × (messages ≡ changed ++ (stopped_message reason description node.number ∷ []))
 
 -- the messages after a slice of a run: why the run ended, if it did
-abbrev pub StopTold : Debuggee → Configuration → Option StopReason → Messages → Type 0
-StopTold p set None messages = messages ≡ []
-StopTold p set (Some why) messages = (message : Message) × TellsStop p set why message × (messages ≡ message ∷ [])
+abbrev pub AreStopMessages : Debuggee → Configuration → Option StopReason → Messages → Type 0
+AreStopMessages p set None messages = messages ≡ []
+AreStopMessages p set (Some why) messages = (message : Message) × IsStopMessage p set why message × (messages ≡ message ∷ [])
 
-abbrev pub SliceTold : (ℕ → Bool) → Debuggee → Configuration → Option StopReason → Messages → Type 0
-SliceTold before new set stop messages =
-    (changed : Messages) × (ended : Messages) × ThreadsChanged before new changed × StopTold new set stop ended × (messages ≡ changed ++ ended)
+abbrev pub AreSliceMessages : (ℕ → Bool) → Debuggee → Configuration → Option StopReason → Messages → Type 0
+AreSliceMessages before new set stop messages =
+    (changed : Messages) × (ended : Messages) × AreThreadMessages before new changed × AreStopMessages new set stop ended × (messages ≡ changed ++ ended)
 
 -- the messages after a move back: the response, what was removed, and that the chip is stopped
-abbrev pub BackTold : (ℕ → Bool) → Debuggee → ClientRequest → NodeId → Text → Text → Messages → Type 0
-BackTold before new request node gone reason messages = (rest : Messages) × StandsThen before new reason (codes "gone back") node rest
-    × (messages ≡ acknowledged request ∷ output_told (codes "console") gone ∷ rest)
+abbrev pub AreReverseMessages : (ℕ → Bool) → Debuggee → ClientRequest → NodeId → Text → Text → Messages → Type 0
+AreReverseMessages before new request node gone reason messages = (rest : Messages) × AreStoppedMessages before new reason (codes "gone back") node rest
+    × (messages ≡ bare_success_response request ∷ output_message (codes "console") gone ∷ rest)
 
 -- events were made or taken back
-abbrev pub has_moved : State → State → Bool
-has_moved old new = not (length old.kept == length new.kept) || not (old.made == new.made)
+abbrev pub has_machine_changed : State → State → Bool
+has_machine_changed old new = not (length old.kept == length new.kept) || not (old.made == new.made)
 
 -- the messages after a command, which moved the machine or not
-abbrev pub CommandTold : Bool → (ℕ → Bool) → Debuggee → NodeId → Messages → Type 0
-CommandTold true before new node messages = StandsThen before new (codes "goto") (codes "by a command") node messages
-CommandTold false before new node messages = messages ≡ []
+abbrev pub AreMachineChangeMessages : Bool → (ℕ → Bool) → Debuggee → NodeId → Messages → Type 0
+AreMachineChangeMessages true before new node messages = AreStoppedMessages before new (codes "goto") (codes "by a command") node messages
+AreMachineChangeMessages false before new node messages = messages ≡ []

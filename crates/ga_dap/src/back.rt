@@ -1,7 +1,7 @@
 //! The requests that go back: `stepBack` and `reverseContinue`.
 
 ghost use Rattle.std.specs.Prelude.{◌≡◌, [], ◌∷◌, codes};
-ghost use Rattle.ga_dap.specs.Going.{StepsBack, Reverses, reason_behind};
+ghost use Rattle.ga_dap.specs.Going.{StepsBack, ReverseContinues, reverse_stop_reason};
 ghost use Rattle.ga_dap.specs.inner.Carrying.{Carries};
 ghost use Rattle.ga_dap_queries.specs.Sending.{refused_response};
 
@@ -9,7 +9,7 @@ use crate::changes::emit_rollback_with_retry;
 use crate::unanswered::NoResponse;
 use ga_dap_control::{Configuration, reverse_continue_node, step_back_node};
 use ga_dap_protocol::{ClientRequest, Outbox};
-use ga_dap_queries::{Debuggee, shown_nodes, thread_argument};
+use ga_dap_queries::{Debuggee, thread_argument, thread_marks};
 use ga_grid::NodeId;
 use std::alloc::Global;
 
@@ -36,14 +36,14 @@ pub(crate) fn step_back(
     let Some(node) = thread_argument(&request.arguments) else {
         return refuse(request, "stepBack: no such thread", out);
     };
-    let before = shown_nodes(&program.lab, program.nodes.as_slice());
+    let before = thread_marks(&program.lab, program.nodes.as_slice());
     let gone = step_back_node(program, node, &request.arguments);
     emit_rollback_with_retry(alloc, program, &before, request, &gone, "step", out)
 }
 
 /// Why a node that was rolled back is stopped there.
-fn reason_behind(program: &Debuggee, node: NodeId) -> &'static str
-    ensures { result.now ≡ reason_behind program.now node }
+fn reverse_stop_reason(program: &Debuggee, node: NodeId) -> &'static str
+    ensures { result.now ≡ reverse_stop_reason program.now node }
 {
     if program.lab.steps(node) == 0 {
         "entry"
@@ -61,13 +61,13 @@ pub(crate) fn reverse(
     out: &mut Outbox,
 ) -> Result<(), NoResponse>
     requires { out.old.bytes ≡ [] }
-    ensures { Carries result (λ messages. Reverses settings.now program.old request.now messages program.new) (program.new ≡ program.old) out.old out.new }
+    ensures { Carries result (λ messages. ReverseContinues settings.now program.old request.now messages program.new) (program.new ≡ program.old) out.old out.new }
 {
     let Some(node) = thread_argument(&request.arguments) else {
         return refuse(request, "reverseContinue: no such thread", out);
     };
-    let before = shown_nodes(&program.lab, program.nodes.as_slice());
+    let before = thread_marks(&program.lab, program.nodes.as_slice());
     let gone = reverse_continue_node(program, node, settings.points.points.as_slice());
-    let reason = reason_behind(program, node);
+    let reason = reverse_stop_reason(program, node);
     emit_rollback_with_retry(alloc, program, &before, request, &gone, reason, out)
 }

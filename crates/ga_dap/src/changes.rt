@@ -3,10 +3,10 @@
 ghost use Rattle.std.specs.Prelude.{◌≡◌, [], codes, OnOk};
 ghost use Rattle.ga_causal.specs.Dependence.{is_marked};
 ghost use Rattle.ga_dap_queries.specs.Sending.{Sends, SendsAll, Messages};
-ghost use Rattle.ga_dap_control.specs.Back.{gone_words};
-ghost use Rattle.ga_dap.specs.Evaluating.{AnswerTold};
-ghost use Rattle.ga_dap.specs.Launches.{output_told};
-ghost use Rattle.ga_dap.specs.Telling.{ThreadsChanged, StandsThen, StopTold, SliceTold, BackTold, CommandTold};
+ghost use Rattle.ga_dap_control.specs.Back.{rollback_summary_text};
+ghost use Rattle.ga_dap.specs.Evaluating.{AreAnswerMessagesSince};
+ghost use Rattle.ga_dap.specs.Launches.{output_message};
+ghost use Rattle.ga_dap.specs.Telling.{AreThreadMessages, AreStoppedMessages, AreStopMessages, AreSliceMessages, AreReverseMessages, AreMachineChangeMessages};
 ghost use Rattle.ga_dap.specs.inner.Carrying.{Carries};
 
 use crate::evaluating::text_body;
@@ -15,7 +15,7 @@ use ga_dap_control::{
     Configuration, RollbackSummary, StopReason, emit_run_end, rollback_summary_text,
 };
 use ga_dap_protocol::{ClientRequest, Outbox};
-use ga_dap_queries::{Debuggee, emit_output, emit_stopped, emit_thread_changes, shown_nodes};
+use ga_dap_queries::{Debuggee, emit_output, emit_stopped, emit_thread_changes, thread_marks};
 use ga_grid::NodeId;
 use std::alloc::{AllocError, Global};
 
@@ -27,9 +27,9 @@ fn tell_threads(
     before: &[bool; 144],
     out: &mut Outbox,
 ) -> Result<(), AllocError>
-    ensures { OnOk result ((messages : Messages) × ThreadsChanged (is_marked before.now) program.now messages × SendsAll out.old messages out.new) }
+    ensures { OnOk result ((messages : Messages) × AreThreadMessages (is_marked before.now) program.now messages × SendsAll out.old messages out.new) }
 {
-    let now = shown_nodes(&program.lab, program.nodes.as_slice());
+    let now = thread_marks(&program.lab, program.nodes.as_slice());
     emit_thread_changes(alloc, before, &now, out)
 }
 
@@ -43,7 +43,7 @@ fn tell_standing(
     node: NodeId,
     out: &mut Outbox,
 ) -> Result<(), AllocError>
-    ensures { OnOk result ((messages : Messages) × StandsThen (is_marked before.now) program.now reason.now description.now node messages × SendsAll out.old messages out.new) }
+    ensures { OnOk result ((messages : Messages) × AreStoppedMessages (is_marked before.now) program.now reason.now description.now node messages × SendsAll out.old messages out.new) }
 {
     tell_threads(alloc, program, before, out)?;
     emit_stopped(alloc, reason, description, node, out)
@@ -57,7 +57,7 @@ fn tell_end(
     stop: Option<StopReason>,
     out: &mut Outbox,
 ) -> Result<(), AllocError>
-    ensures { OnOk result ((messages : Messages) × StopTold program.now settings.now stop messages × SendsAll out.old messages out.new) }
+    ensures { OnOk result ((messages : Messages) × AreStopMessages program.now settings.now stop messages × SendsAll out.old messages out.new) }
 {
     match stop {
         Some(why) => emit_run_end(alloc, program, settings, why, out),
@@ -73,7 +73,7 @@ fn tell_slice(
     stop: Option<StopReason>,
     out: &mut Outbox,
 ) -> Result<(), AllocError>
-    ensures { OnOk result ((messages : Messages) × SliceTold (is_marked before.now) program.now settings.now stop messages × SendsAll out.old messages out.new) }
+    ensures { OnOk result ((messages : Messages) × AreSliceMessages (is_marked before.now) program.now settings.now stop messages × SendsAll out.old messages out.new) }
 {
     tell_threads(alloc, program, before, out)?;
     tell_end(alloc, program, settings, stop, out)
@@ -89,7 +89,7 @@ pub(crate) fn emit_slice_with_retry(
     out: &mut Outbox,
 ) -> Result<(), NoResponse>
     requires { out.old.bytes ≡ [] }
-    ensures { Carries result (λ messages. SliceTold (is_marked before.now) program.now settings.now stop.now messages) ⊥ out.old out.new }
+    ensures { Carries result (λ messages. AreSliceMessages (is_marked before.now) program.now settings.now stop.now messages) ⊥ out.old out.new }
 {
     let seq = out.seq();
     match tell_slice(alloc, program, settings, before, *stop, out) {
@@ -110,7 +110,7 @@ fn tell_gone(
     gone: &RollbackSummary,
     out: &mut Outbox,
 ) -> Result<(), AllocError>
-    ensures { OnOk result (Sends out.old (output_told (codes "console") (gone_words gone.now.node gone.now.before gone.now.removed program.now.lab)) out.new) }
+    ensures { OnOk result (Sends out.old (output_message (codes "console") (rollback_summary_text gone.now.node gone.now.before gone.now.removed program.now.lab)) out.new) }
 {
     let text = rollback_summary_text(alloc, &program.lab, gone)?;
     emit_output(alloc, "console", text.as_str(), out)
@@ -125,7 +125,7 @@ fn tell_back(
     reason: &str,
     out: &mut Outbox,
 ) -> Result<(), AllocError>
-    ensures { OnOk result ((messages : Messages) × BackTold (is_marked before.now) program.now request.now gone.now.node (gone_words gone.now.node gone.now.before gone.now.removed program.now.lab) reason.now messages × SendsAll out.old messages out.new) }
+    ensures { OnOk result ((messages : Messages) × AreReverseMessages (is_marked before.now) program.now request.now gone.now.node (rollback_summary_text gone.now.node gone.now.before gone.now.removed program.now.lab) reason.now messages × SendsAll out.old messages out.new) }
 {
     out.acknowledge(request)?;
     tell_gone(alloc, program, gone, out)?;
@@ -143,7 +143,7 @@ pub(crate) fn emit_rollback_with_retry(
     out: &mut Outbox,
 ) -> Result<(), NoResponse>
     requires { out.old.bytes ≡ [] }
-    ensures { Carries result (λ messages. BackTold (is_marked before.now) program.now request.now gone.now.node (gone_words gone.now.node gone.now.before gone.now.removed program.now.lab) reason.now messages) ⊥ out.old out.new }
+    ensures { Carries result (λ messages. AreReverseMessages (is_marked before.now) program.now request.now gone.now.node (rollback_summary_text gone.now.node gone.now.before gone.now.removed program.now.lab) reason.now messages) ⊥ out.old out.new }
 {
     let seq = out.seq();
     match tell_back(alloc, program, before, request, gone, reason, out) {
@@ -166,7 +166,7 @@ fn tell_moved(
     node: NodeId,
     out: &mut Outbox,
 ) -> Result<(), AllocError>
-    ensures { OnOk result ((messages : Messages) × CommandTold moved (is_marked before.now) program.now node messages × SendsAll out.old messages out.new) }
+    ensures { OnOk result ((messages : Messages) × AreMachineChangeMessages moved (is_marked before.now) program.now node messages × SendsAll out.old messages out.new) }
 {
     if moved {
         tell_standing(alloc, program, before, "goto", "by a command", node, out)
@@ -185,7 +185,7 @@ fn tell_command(
     node: NodeId,
     out: &mut Outbox,
 ) -> Result<(), AllocError>
-    ensures { OnOk result ((messages : Messages) × AnswerTold request.now answer.now moved (is_marked before.now) program.now node messages × SendsAll out.old messages out.new) }
+    ensures { OnOk result ((messages : Messages) × AreAnswerMessagesSince request.now answer.now moved (is_marked before.now) program.now node messages × SendsAll out.old messages out.new) }
 {
     let body = text_body(alloc, answer)?;
     out.respond(request, body)?;
@@ -204,7 +204,7 @@ pub(crate) fn emit_command_with_retry(
     out: &mut Outbox,
 ) -> Result<(), NoResponse>
     requires { out.old.bytes ≡ [] }
-    ensures { Carries result (λ messages. AnswerTold request.now answer.now moved (is_marked before.now) program.now node messages) ⊥ out.old out.new }
+    ensures { Carries result (λ messages. AreAnswerMessagesSince request.now answer.now moved (is_marked before.now) program.now node messages) ⊥ out.old out.new }
 {
     let seq = out.seq();
     match tell_command(alloc, program, before, request, answer, moved, node, out) {

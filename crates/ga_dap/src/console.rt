@@ -4,25 +4,25 @@ ghost use Rattle.std.specs.Prelude.{◌≡◌, ◌||◌, ◌==◌, [], not, leng
 ghost use Rattle.serde_json.specs.View.{view};
 ghost use Rattle.ga_text.specs.Lines.{Text};
 ghost use Rattle.ga_dap_queries.specs.Sending.{SendsAll, Messages};
-ghost use Rattle.ga_dap_queries.specs.Evaluating.{AsksForNoVariable};
+ghost use Rattle.ga_dap_queries.specs.Evaluating.{DenotesNoVariable};
 ghost use Rattle.ga_dap_views.specs.Shown.{IsVariable};
-ghost use Rattle.ga_dap.specs.Evaluating.{Evaluates, EvaluatesIn, Obeys, ObeysIf, ValueShown, is_from_console};
-ghost use Rattle.ga_dap.specs.Telling.{has_moved};
+ghost use Rattle.ga_dap.specs.Evaluating.{Evaluates, EvaluatesIn, EvaluatesCommand, EvaluatesCommandIfAllowed, AreVariableValueMessages, is_repl_request};
+ghost use Rattle.ga_dap.specs.Telling.{has_machine_changed};
 ghost use Rattle.ga_dap.specs.inner.Carrying.{Carries};
 
 use crate::back::refuse;
 use crate::changes::emit_command_with_retry;
 use crate::evaluating::{command_text, node_of_expression, value_body};
 use crate::unanswered::NoResponse;
-use ga_dap_protocol::{ClientRequest, Outbox, text_at};
-use ga_dap_queries::{Debuggee, asked_variable, shown_nodes};
+use ga_dap_protocol::{ClientRequest, Outbox, member_text};
+use ga_dap_queries::{Debuggee, parse_variable, thread_marks};
 use ga_dap_views::Variable;
 use ga_grid::NodeId;
-use ga_lab::{Counts, Lab};
+use ga_lab::{EventCounts, Lab};
 use std::alloc::Global;
 
 /// Whether events were made or removed since these counts.
-fn has_moved(before: Counts, lab: &Lab) -> bool
+fn has_machine_changed(before: EventCounts, lab: &Lab) -> bool
     ensures { result ≡ (not (before.kept == length lab.now.kept) || not (before.made == lab.now.made)) }
 {
     let now = lab.counts();
@@ -30,10 +30,10 @@ fn has_moved(before: Counts, lab: &Lab) -> bool
 }
 
 /// Whether a request may give commands: a client that only shows a value doesn't.
-fn is_from_console(request: &ClientRequest) -> bool
-    ensures { result ≡ is_from_console request.now }
+fn is_repl_request(request: &ClientRequest) -> bool
+    ensures { result ≡ is_repl_request request.now }
 {
-    text_at(&request.arguments, "context").unwrap_or("repl") == "repl"
+    member_text(&request.arguments, "context").unwrap_or("repl") == "repl"
 }
 
 /// Shows a register or a cell.
@@ -46,7 +46,7 @@ fn show_value(
     out: &mut Outbox,
 ) -> Result<(), NoResponse>
     requires { IsVariable variable }
-    ensures { Carries result (λ messages. ValueShown program.now request.now node variable messages) (Unit {0}) out.old out.new }
+    ensures { Carries result (λ messages. AreVariableValueMessages program.now request.now node variable messages) (Unit {0}) out.old out.new }
 {
     let Ok(body) = value_body(alloc, program, node, variable) else {
         return Err(NoResponse::Memory);
@@ -67,13 +67,13 @@ fn obey(
     out: &mut Outbox,
 ) -> Result<(), NoResponse>
     requires { out.old.bytes ≡ [] }
-    ensures { Carries result (λ messages. Obeys program.old request.now node line.now messages program.new) (program.new ≡ program.old) out.old out.new }
+    ensures { Carries result (λ messages. EvaluatesCommand program.old request.now node line.now messages program.new) (program.new ≡ program.old) out.old out.new }
 {
-    let before = shown_nodes(&program.lab, program.nodes.as_slice());
+    let before = thread_marks(&program.lab, program.nodes.as_slice());
     let counts = program.lab.counts();
     match command_text(alloc, program, line.as_bytes()) {
         Ok(Some(answer)) => {
-            let moved = has_moved(counts, &program.lab);
+            let moved = has_machine_changed(counts, &program.lab);
             emit_command_with_retry(
                 alloc,
                 program,
@@ -87,7 +87,7 @@ fn obey(
         }
         Ok(None) => refuse(request, "evaluate: disconnect ends the session", out),
         Err(_) => {
-            if has_moved(counts, &program.lab) {
+            if has_machine_changed(counts, &program.lab) {
                 Err(NoResponse::Untold)
             } else {
                 Err(NoResponse::Memory)
@@ -106,9 +106,9 @@ fn obey_if(
     out: &mut Outbox,
 ) -> Result<(), NoResponse>
     requires { out.old.bytes ≡ [] }
-    ensures { Carries result (λ messages. ObeysIf (is_from_console request.now) program.old request.now node line.now messages program.new) (program.new ≡ program.old) out.old out.new }
+    ensures { Carries result (λ messages. EvaluatesCommandIfAllowed (is_repl_request request.now) program.old request.now node line.now messages program.new) (program.new ≡ program.old) out.old out.new }
 {
-    if is_from_console(request) {
+    if is_repl_request(request) {
         obey(alloc, program, request, node, line, out)
     } else {
         refuse(request, "evaluate: no register and no cell", out)
@@ -127,7 +127,7 @@ fn evaluate_in(
     requires { out.old.bytes ≡ [] }
     ensures { Carries result (λ messages. EvaluatesIn program.old request.now node expression.now messages program.new) (program.new ≡ program.old) out.old out.new }
 {
-    match asked_variable(alloc, expression) {
+    match parse_variable(alloc, expression) {
         Ok(Some(variable)) => show_value(alloc, program, request, node, variable, out),
         Ok(None) => obey_if(alloc, program, request, node, expression, out),
         Err(_) => Err(NoResponse::Memory),
@@ -144,7 +144,7 @@ pub(crate) fn evaluate(
     requires { out.old.bytes ≡ [] }
     ensures { Carries result (λ messages. Evaluates program.old request.now messages program.new) (program.new ≡ program.old) out.old out.new }
 {
-    let Some(expression) = text_at(&request.arguments, "expression") else {
+    let Some(expression) = member_text(&request.arguments, "expression") else {
         return refuse(request, "evaluate: there is no expression", out);
     };
     let node = node_of_expression(program, request);

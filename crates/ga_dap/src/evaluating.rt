@@ -7,14 +7,14 @@ ghost use Rattle.ga_text.specs.Lines.{Bytes, Text};
 ghost use Rattle.serde_json.specs.View.{view};
 ghost use Rattle.ga_lab.specs.Machine.{chip_of};
 ghost use Rattle.ga_dap_views.specs.Shown.{IsVariable};
-ghost use Rattle.ga_dap_queries.specs.Evaluating.{evaluated};
-ghost use Rattle.ga_dap_queries.specs.Readings.{TellsStuck};
-ghost use Rattle.ga_dap.specs.Evaluating.{IsNodeMeant, Commands, answer_object};
-ghost use Rattle.ga_dap.specs.Telling.{has_moved};
+ghost use Rattle.ga_dap_queries.specs.Evaluating.{evaluate_body};
+ghost use Rattle.ga_dap_queries.specs.Readings.{IsDeadlockStatus};
+ghost use Rattle.ga_dap.specs.Evaluating.{IsEvaluationNode, Commands, answer_object};
+ghost use Rattle.ga_dap.specs.Telling.{has_machine_changed};
 
 use ga_console::LineAction;
 use ga_dap_protocol::ClientRequest;
-use ga_dap_queries::{Debuggee, evaluate, first_shown, framed_node_asked, is_deadlocked};
+use ga_dap_queries::{Debuggee, evaluate, first_thread_node, frame_argument, is_deadlocked};
 use ga_dap_views::Variable;
 use ga_explorer::answer_line;
 use ga_grid::NodeId;
@@ -27,11 +27,11 @@ const LOOKED_AT: usize = 201;
 
 /// The node of an expression: that of the frame, otherwise the first that has something to show.
 pub(crate) fn node_of_expression(program: &Debuggee, request: &ClientRequest) -> NodeId
-    ensures { IsNodeMeant program.now request.now result }
+    ensures { IsEvaluationNode program.now request.now result }
 {
-    match framed_node_asked(&request.arguments) {
+    match frame_argument(&request.arguments) {
         Some(node) => node,
-        None => first_shown(&program.lab, program.nodes.as_slice()),
+        None => first_thread_node(&program.lab, program.nodes.as_slice()),
     }
 }
 
@@ -43,7 +43,7 @@ pub(crate) fn value_body(
     variable: Variable,
 ) -> Result<Value, AllocError>
     requires { IsVariable variable }
-    ensures { IfOk result (λ v. (stuck : Bool) × TellsStuck (chip_of program.now.lab) node.number stuck × (view v ≡ evaluated program.now.lab stuck node.number variable)) }
+    ensures { IfOk result (λ v. (stuck : Bool) × IsDeadlockStatus (chip_of program.now.lab) node.number stuck × (view v ≡ evaluate_body program.now.lab stuck node.number variable)) }
 {
     let stuck = is_deadlocked(program.lab.chip(), node);
     evaluate(alloc, &program.lab, stuck, node, variable)
@@ -68,7 +68,7 @@ pub(crate) fn command_text(
     line: &[u8],
 ) -> Result<Option<Vec<u8>>, AllocError>
     ensures told { IfOk result (λ told. Commands program.old line.now program.new (option_map (λ text. text.items) told)) }
-    ensures unmoved { OnErr result (has_moved program.old.lab program.new.lab ≡ false → program.new ≡ program.old) }
+    ensures unmoved { OnErr result (has_machine_changed program.old.lab program.new.lab ≡ false → program.new ≡ program.old) }
 {
     let mut answer = Vec::new(alloc);
     answer.reserve(OUTPUT_CAPACITY)?;

@@ -5,13 +5,13 @@ ghost use Rattle.serde_json.specs.View.{view};
 ghost use Rattle.ga_text.specs.Lines.{Bytes, Text};
 ghost use Rattle.ga_dap_queries.specs.Launching.{parse_limit, parse_schedule};
 ghost use Rattle.ga_dap.specs.declared.sources.SourceError.{SourceError as WhyUnread};
-ghost use Rattle.ga_dap.specs.Launches.{IsWarned, LaunchesText, ReadsFile, LaunchesAsked, LaunchesFirst, launch_told, unlaunched, event_alone};
+ghost use Rattle.ga_dap.specs.Launches.{AreWarningMessages, LaunchesText, ReadsFile, LaunchesWithArguments, LaunchesFirst, launch_messages, launch_error_message, bare_event_message};
 ghost use Rattle.ga_dap_queries.specs.Sending.{Sends, SendsAll, Messages, refused_response};
 
 use crate::opening::{LaunchError, OpenedProgram, open_program};
 use crate::sources::{ProgramFiles, SourceError, source_error_text};
-use ga_dap_control::{Configuration, Execution, Launched};
-use ga_dap_protocol::{ClientRequest, Outbox, text_at};
+use ga_dap_control::{Configuration, Execution, LaunchedProgram};
+use ga_dap_protocol::{ClientRequest, Outbox, member_text};
 use ga_dap_queries::{emit_output, parse_limit, parse_schedule, stops_on_entry};
 use ga_scheduler::Schedule;
 use std::alloc::{AllocError, Global};
@@ -21,7 +21,7 @@ fn refuse_launch(
     request: &ClientRequest,
     why: &str,
     out: &mut Outbox,
-) -> Result<Option<Launched>, AllocError>
+) -> Result<Option<LaunchedProgram>, AllocError>
     ensures { IfOk result (λ new. (new ≡ None) × Sends out.old (refused_response request.now why.now) out.new) }
 {
     out.refuse(request, why)?;
@@ -35,8 +35,8 @@ fn refuse_file(
     path: &str,
     why: &str,
     out: &mut Outbox,
-) -> Result<Option<Launched>, AllocError>
-    ensures { IfOk result (λ new. (new ≡ None) × Sends out.old (unlaunched request.now path.now why.now) out.new) }
+) -> Result<Option<LaunchedProgram>, AllocError>
+    ensures { IfOk result (λ new. (new ≡ None) × Sends out.old (launch_error_message request.now path.now why.now) out.new) }
 {
     let why = format!(in alloc; "launch: {path}: {why}")?;
     out.refuse(request, why.as_str())?;
@@ -45,7 +45,7 @@ fn refuse_file(
 
 /// Sends the warnings about source, if there are any.
 fn tell_warnings(alloc: Global, warnings: &str, out: &mut Outbox) -> Result<(), AllocError>
-    ensures { OnOk result ((messages : Messages) × IsWarned messages × SendsAll out.old messages out.new) }
+    ensures { OnOk result ((messages : Messages) × AreWarningMessages messages × SendsAll out.old messages out.new) }
 {
     if warnings.is_empty() {
         Ok(())
@@ -61,7 +61,7 @@ fn tell_launched(
     request: &ClientRequest,
     out: &mut Outbox,
 ) -> Result<(), AllocError>
-    ensures { OnOk result ((warned : Messages) × IsWarned warned × SendsAll out.old (launch_told request.now warned) out.new) }
+    ensures { OnOk result ((warned : Messages) × AreWarningMessages warned × SendsAll out.old (launch_messages request.now warned) out.new) }
 {
     out.acknowledge(request)?;
     tell_warnings(alloc, warnings, out)?;
@@ -77,7 +77,7 @@ fn launched_text(
     limit: u32,
     schedule: Schedule,
     out: &mut Outbox,
-) -> Result<Option<Launched>, AllocError>
+) -> Result<Option<LaunchedProgram>, AllocError>
     ensures { IfOk result (λ new. (messages : Messages) × LaunchesText text.items path.now limit schedule request.now messages new × SendsAll out.old messages out.new) }
 {
     match open_program(alloc, path, text, limit) {
@@ -93,13 +93,13 @@ fn launched_text(
                 reported: [false; 144],
             };
             let settings = Configuration::new(alloc);
-            Ok(Some(Launched {
+            Ok(Some(LaunchedProgram {
                 program,
                 settings,
                 execution,
             }))
         }
-        Err(LaunchError::Fault(why)) => refuse_file(alloc, request, path, why.as_str(), out),
+        Err(LaunchError::SourceFault(why)) => refuse_file(alloc, request, path, why.as_str(), out),
         Err(LaunchError::Memory) => Err(AllocError),
     }
 }
@@ -113,7 +113,7 @@ fn launched_file<S: ProgramFiles>(
     limit: u32,
     schedule: Schedule,
     out: &mut Outbox,
-) -> Result<Option<Launched>, AllocError>
+) -> Result<Option<LaunchedProgram>, AllocError>
     ensures { IfOk result (λ new. (messages : Messages) × ReadsFile S.gives sources.old request.now path.now limit schedule messages sources.new new × SendsAll out.old messages out.new) }
 {
     match sources.read(alloc, path) {
@@ -130,8 +130,8 @@ fn launched_limit<S: ProgramFiles>(
     path: &str,
     limit: u32,
     out: &mut Outbox,
-) -> Result<Option<Launched>, AllocError>
-    ensures { IfOk result (λ new. (messages : Messages) × LaunchesAsked S.gives sources.old request.now (Some path.now) (Some limit) (parse_schedule (view request.now.arguments)) messages sources.new new × SendsAll out.old messages out.new) }
+) -> Result<Option<LaunchedProgram>, AllocError>
+    ensures { IfOk result (λ new. (messages : Messages) × LaunchesWithArguments S.gives sources.old request.now (Some path.now) (Some limit) (parse_schedule (view request.now.arguments)) messages sources.new new × SendsAll out.old messages out.new) }
 {
     match parse_schedule(&request.arguments) {
         None => refuse_launch(
@@ -150,8 +150,8 @@ fn launched_path<S: ProgramFiles>(
     request: &ClientRequest,
     path: &str,
     out: &mut Outbox,
-) -> Result<Option<Launched>, AllocError>
-    ensures { IfOk result (λ new. (messages : Messages) × LaunchesAsked S.gives sources.old request.now (Some path.now) (parse_limit (view request.now.arguments)) (parse_schedule (view request.now.arguments)) messages sources.new new × SendsAll out.old messages out.new) }
+) -> Result<Option<LaunchedProgram>, AllocError>
+    ensures { IfOk result (λ new. (messages : Messages) × LaunchesWithArguments S.gives sources.old request.now (Some path.now) (parse_limit (view request.now.arguments)) (parse_schedule (view request.now.arguments)) messages sources.new new × SendsAll out.old messages out.new) }
 {
     match parse_limit(&request.arguments) {
         None => refuse_launch(request, "launch: the limit is 1 to 100000000", out),
@@ -168,10 +168,10 @@ pub(crate) fn launch_program<S: ProgramFiles>(
     sources: &mut S,
     request: &ClientRequest,
     out: &mut Outbox,
-) -> Result<Option<Launched>, AllocError>
+) -> Result<Option<LaunchedProgram>, AllocError>
     ensures { IfOk result (λ new. (messages : Messages) × LaunchesFirst S.gives sources.old request.now messages sources.new new × SendsAll out.old messages out.new) }
 {
-    match text_at(&request.arguments, "program") {
+    match member_text(&request.arguments, "program") {
         None => refuse_launch(request, "launch: there is no program", out),
         Some(path) => launched_path(alloc, sources, request, path, out),
     }

@@ -9,18 +9,20 @@ ghost use Rattle.ga_source.specs.Made.{IsSoundSource};
 ghost use Rattle.ga_parser.specs.declared.fault.SourceCause.TheVariants.{Memory as Wanting};
 ghost use Rattle.ga_text.specs.Lines.{lines_of};
 ghost use Rattle.ga_lab.specs.Machine.{initial_state};
-ghost use Rattle.ga_console.specs.Run.{Opens as OpensImage};
-ghost use Rattle.ga_explorer.specs.Opening.{begins_as_image, OpensExploring, OpensSource};
-ghost use Rattle.ga_dap.specs.Opening.{OpensProgram, IsNoProgram, NodesShown, NodesOfSource, parts_explored};
+ghost use Rattle.ga_console.specs.Run.{IsOpenedOnImage as OpensImage};
+ghost use Rattle.ga_explorer.specs.Opening.{begins_as_image, OpensExplorer, OpensSource};
+ghost use Rattle.ga_dap.specs.Opening.{OpensProgram, IsNoProgram, AreProgramNodes, AreNodesOfSource, program_explorer_state};
 ghost use Rattle.ga_dap.specs.inner.Unopened.{IfFault};
 
 use ga_console::{open_image, refuse};
 use ga_dap_queries::Debuggee;
-use ga_debug_info::{DebugInfo, debug_info_of, text_of_faults};
+use ga_debug_info::{DebugInfo, debug_info_of, format_faults};
 use ga_grid::{Chip, NodeId};
 use ga_image::{ImageCause, ImageFault};
 use ga_lab::{Lab, LabFault};
-use ga_source::{Fault, Program as NodeProgram, SourceCause, Store, assemble, stores_over_code};
+use ga_source::{
+    Program as NodeProgram, SourceCause, SourceFault, Store, assemble, stores_over_code,
+};
 use std::alloc::{AllocError, Global};
 use thiserror::Error;
 
@@ -32,7 +34,7 @@ pub enum LaunchError {
     Memory,
     /// The program's text has a fault.
     #[error("{0}")]
-    Fault(String),
+    SourceFault(String),
 }
 
 impl From<AllocError> for LaunchError {
@@ -82,7 +84,7 @@ pub fn open_program(
 ) -> Result<OpenedProgram, LaunchError>
     ensures ok { IfOk result (λ opened. OpensProgram text.items limit opened.program) }
     ensures path { IfOk result (λ opened. string_bytes opened.program.path ≡ path.now) }
-    ensures nodes { IfOk result (λ opened. NodesShown text.items opened.program.nodes.items) }
+    ensures nodes { IfOk result (λ opened. AreProgramNodes text.items opened.program.nodes.items) }
     ensures err { IfErr result (λ why. IfFault why (IsNoProgram text.items)) }
 {
     match contents_of(alloc, text, limit) {
@@ -90,7 +92,7 @@ pub fn open_program(
             Ok(opened) => Ok(opened),
             Err(_) => Err(LaunchError::Memory),
         },
-        Err(LaunchError::Fault(why)) => Err(LaunchError::Fault(why)),
+        Err(LaunchError::SourceFault(why)) => Err(LaunchError::SourceFault(why)),
         Err(LaunchError::Memory) => Err(LaunchError::Memory),
     }
 }
@@ -111,7 +113,7 @@ fn program_of(alloc: Global, path: &str, contents: Contents) -> Result<OpenedPro
     let program = Debuggee {
         lab,
         source,
-        unsaid: DebugInfo::none(alloc),
+        empty_debug_info: DebugInfo::none(alloc),
         nodes,
         path: String::from_str(alloc, path)?,
         name: String::from_str(alloc, name_in(path))?,
@@ -127,8 +129,8 @@ fn is_image(text: &[u8]) -> bool
 }
 
 fn contents_of(alloc: Global, text: Vec<u8>, limit: u32) -> Result<Contents, LaunchError>
-    ensures ok { IfOk result (λ c. OpensExploring text.items limit (parts_explored c.lab c.source)) }
-    ensures nodes { IfOk result (λ c. NodesShown text.items c.nodes.items) }
+    ensures ok { IfOk result (λ c. OpensExplorer text.items limit (program_explorer_state c.lab c.source)) }
+    ensures nodes { IfOk result (λ c. AreProgramNodes text.items c.nodes.items) }
     ensures err { IfErr result (λ why. IfFault why (IsNoProgram text.items)) }
 {
     if is_image(text.as_slice()) {
@@ -139,7 +141,7 @@ fn contents_of(alloc: Global, text: Vec<u8>, limit: u32) -> Result<Contents, Lau
 
 fn image_contents(alloc: Global, text: Vec<u8>, limit: u32) -> Result<Contents, LaunchError>
     ensures opens { IfOk result (λ c. OpensImage text.items limit c.lab) }
-    ensures unsaid { IfOk result (λ c. c.source ≡ None) }
+    ensures empty_debug_info { IfOk result (λ c. c.source ≡ None) }
     ensures nodes { IfOk result (λ c. c.nodes.items ≡ []) }
     ensures err { IfErr result (λ why. IfFault why ((fault : AnImageFault) × IsFirstFault (lines_of text.items) fault)) }
 {
@@ -169,14 +171,14 @@ fn image_refused(alloc: Global, fault: ImageFault) -> LaunchError
 /// The text of a fault.
 fn told(alloc: Global, text: &[u8]) -> LaunchError {
     match String::from_utf8_lossy(alloc, text.trim_ascii_end()) {
-        Ok(text) => LaunchError::Fault(text),
+        Ok(text) => LaunchError::SourceFault(text),
         Err(_) => LaunchError::Memory,
     }
 }
 
 fn source_contents(alloc: Global, source: &[u8], limit: u32) -> Result<Contents, LaunchError>
-    ensures ok { IfOk result (λ c. OpensSource source.now limit (parts_explored c.lab c.source)) }
-    ensures nodes { IfOk result (λ c. NodesOfSource source.now c.nodes.items) }
+    ensures ok { IfOk result (λ c. OpensSource source.now limit (program_explorer_state c.lab c.source)) }
+    ensures nodes { IfOk result (λ c. AreNodesOfSource source.now c.nodes.items) }
     ensures err { IfErr result (λ why. IfFault why (IsSoundSource source.now → ⊥)) }
 {
     match assemble(alloc, source) {
@@ -207,13 +209,13 @@ fn lab_of(alloc: Global, chip: Chip, limit: u32) -> Result<Lab, AllocError>
 }
 
 /// The refusal of a source with this fault.
-fn source_refused<'s>(alloc: Global, source: &'s [u8], fault: Fault<'s>) -> LaunchError
+fn source_refused<'s>(alloc: Global, source: &'s [u8], fault: SourceFault<'s>) -> LaunchError
     ensures { IfFault result (fault.entry.cause ≢ Wanting) }
 {
     if fault.cause == SourceCause::Memory {
         return LaunchError::Memory;
     }
-    match text_of_faults(alloc, b"", source, fault) {
+    match format_faults(alloc, b"", source, fault) {
         Ok(text) => told(alloc, text.as_slice()),
         Err(_) => LaunchError::Memory,
     }

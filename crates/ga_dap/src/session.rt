@@ -2,12 +2,12 @@
 
 ghost use Rattle.std.specs.Prelude.{◌≡◌, ◌&&◌, [], ◌∷◌, Option, Some, None, codes, string_bytes, is_some, option_map, OnOk, OnErr};
 ghost use Rattle.ga_dap_control.specs.Requests.{AnswersAtOnce};
-ghost use Rattle.ga_dap_control.specs.declared.launched.Launched.{Launched as ALaunched};
-ghost use Rattle.ga_dap_queries.specs.Sending.{SendsAll, Messages, acknowledged};
-ghost use Rattle.ga_dap.specs.Answering.{AnswersRequest, AnswersKnown, DoesOfLaunched, DoesStanding, DoesIfLaunched, OfLaunch, Initializes, Disconnects, Terminates, ended_run, is_of_standing, begins_run, hindrance};
+ghost use Rattle.ga_dap_control.specs.declared.launched.LaunchedProgram.{LaunchedProgram as ALaunched};
+ghost use Rattle.ga_dap_queries.specs.Sending.{SendsAll, Messages, bare_success_response};
+ghost use Rattle.ga_dap.specs.Answering.{AnswersRequest, AnswersKnown, AnswersWhileLaunched, PerformsRequest, AnswersIfLaunched, ChangesLaunchedOnly, Initializes, Disconnects, Terminates, launched_with_run_ended, needs_stopped_chip, begins_run, request_refusal_reason};
 ghost use Rattle.ga_dap.specs.Client.{is_running, new_session};
-ghost use Rattle.ga_dap.specs.Going.{RunGoesOn};
-ghost use Rattle.ga_dap.specs.Launches.{Launches, event_alone};
+ghost use Rattle.ga_dap.specs.Going.{ContinuesRun};
+ghost use Rattle.ga_dap.specs.Launches.{Launches, bare_event_message};
 ghost use Rattle.ga_dap.specs.inner.Carrying.{Carries};
 
 use crate::back::{refuse, reverse, step_back};
@@ -16,15 +16,15 @@ use crate::console::evaluate;
 use crate::launching::launch_program;
 use crate::sources::ProgramFiles;
 use crate::unanswered::NoResponse;
-use ga_dap_control::{Execution, Launched, answer_at_once, make_slice};
+use ga_dap_control::{Execution, LaunchedProgram, answer_at_once, make_slice};
 use ga_dap_protocol::{ClientRequest, Outbox};
-use ga_dap_queries::{RequestName, initialize, parse_request_name, shown_nodes};
+use ga_dap_queries::{RequestName, initialize, parse_request_name, thread_marks};
 use std::alloc::{AllocError, Global};
 
 /// A session.
 #[derive(Drop)]
 pub(crate) struct Session {
-    pub launched: Option<Launched>,
+    pub launched: Option<LaunchedProgram>,
     /// Whether the client ended the session.
     pub is_over: bool,
 }
@@ -112,7 +112,7 @@ impl Session {
         request: &ClientRequest,
         out: &mut Outbox,
     ) -> Result<(), NoResponse>
-        ensures { Carries result (λ messages. OfLaunch (λ m l. Launches S.gives sources.old self.old.launched request.now m sources.new l) self.old messages self.new) (self.new ≡ self.old) out.old out.new }
+        ensures { Carries result (λ messages. ChangesLaunchedOnly (λ m l. Launches S.gives sources.old self.old.launched request.now m sources.new l) self.old messages self.new) (self.new ≡ self.old) out.old out.new }
     {
         match &self.launched {
             Some(_) => refuse(request, "launch: a program is launched already", out),
@@ -161,7 +161,7 @@ impl Session {
         out: &mut Outbox,
     ) -> Result<(), NoResponse>
         requires { out.old.bytes ≡ [] }
-        ensures { Carries result (λ messages. OfLaunch (DoesIfLaunched command self.old.launched request.now) self.old messages self.new) (self.new ≡ self.old) out.old out.new }
+        ensures { Carries result (λ messages. ChangesLaunchedOnly (AnswersIfLaunched command self.old.launched request.now) self.old messages self.new) (self.new ≡ self.old) out.old out.new }
     {
         match &mut self.launched {
             Some(launched) => answer_by(alloc, launched, command, request, out),
@@ -172,15 +172,15 @@ impl Session {
 
 /// Sends that the run ended.
 fn tell_terminated(request: &ClientRequest, out: &mut Outbox) -> Result<(), AllocError>
-    ensures { OnOk result (SendsAll out.old (acknowledged request.now ∷ event_alone (codes "terminated") ∷ []) out.new) }
+    ensures { OnOk result (SendsAll out.old (bare_success_response request.now ∷ bare_event_message (codes "terminated") ∷ []) out.new) }
 {
     out.acknowledge(request)?;
     out.add_bare_event("terminated")
 }
 
 /// Ends the run under way.
-fn end_run(launched: &mut Option<Launched>)
-    ensures { launched.new ≡ ended_run launched.old }
+fn end_run(launched: &mut Option<LaunchedProgram>)
+    ensures { launched.new ≡ launched_with_run_ended launched.old }
 {
     match launched {
         Some(launched) => launched.execution.goal = None,
@@ -189,8 +189,8 @@ fn end_run(launched: &mut Option<Launched>)
 }
 
 /// Whether a request needs a stopped chip.
-fn is_of_standing(command: RequestName) -> bool
-    ensures { result ≡ is_of_standing command }
+fn needs_stopped_chip(command: RequestName) -> bool
+    ensures { result ≡ needs_stopped_chip command }
 {
     match command {
         RequestName::Continue => true,
@@ -218,10 +218,10 @@ fn begins_run(command: RequestName) -> bool
 }
 
 /// Why a request that needs a program is not carried out now; none where it is.
-fn hindrance(command: RequestName, execution: &Execution) -> Option<&'static str>
-    ensures { option_map (λ why. why.now) result ≡ hindrance command execution.now }
+fn request_refusal_reason(command: RequestName, execution: &Execution) -> Option<&'static str>
+    ensures { option_map (λ why. why.now) result ≡ request_refusal_reason command execution.now }
 {
-    if execution.goal.is_some() && is_of_standing(command) {
+    if execution.goal.is_some() && needs_stopped_chip(command) {
         return Some("the chip runs");
     }
     if !execution.is_configured && begins_run(command) {
@@ -233,15 +233,15 @@ fn hindrance(command: RequestName, execution: &Execution) -> Option<&'static str
 /// Answers a request that needs a program.
 fn answer_by(
     alloc: Global,
-    launched: &mut Launched,
+    launched: &mut LaunchedProgram,
     command: RequestName,
     request: &ClientRequest,
     out: &mut Outbox,
 ) -> Result<(), NoResponse>
     requires { out.old.bytes ≡ [] }
-    ensures { Carries result (λ messages. DoesOfLaunched command launched.old request.now messages launched.new) (launched.new ≡ launched.old) out.old out.new }
+    ensures { Carries result (λ messages. AnswersWhileLaunched command launched.old request.now messages launched.new) (launched.new ≡ launched.old) out.old out.new }
 {
-    match hindrance(command, &launched.execution) {
+    match request_refusal_reason(command, &launched.execution) {
         Some(why) => refuse(request, why, out),
         None => answer_standing(alloc, launched, command, request, out),
     }
@@ -250,13 +250,13 @@ fn answer_by(
 /// Answers a request that needs a program, if the chip is stopped or the request doesn't need that.
 fn answer_standing(
     alloc: Global,
-    launched: &mut Launched,
+    launched: &mut LaunchedProgram,
     command: RequestName,
     request: &ClientRequest,
     out: &mut Outbox,
 ) -> Result<(), NoResponse>
     requires { out.old.bytes ≡ [] }
-    ensures { Carries result (λ messages. DoesStanding command launched.old request.now messages launched.new) (launched.new ≡ launched.old) out.old out.new }
+    ensures { Carries result (λ messages. PerformsRequest command launched.old request.now messages launched.new) (launched.new ≡ launched.old) out.old out.new }
 {
     match command {
         RequestName::StepBack => step_back(alloc, &mut launched.program, request, out),
@@ -275,7 +275,7 @@ fn answer_standing(
 /// Answers a request that makes no event and takes none back.
 fn in_place(
     alloc: Global,
-    launched: &mut Launched,
+    launched: &mut LaunchedProgram,
     command: RequestName,
     request: &ClientRequest,
     out: &mut Outbox,
@@ -292,13 +292,13 @@ fn in_place(
 #[tactic(auto, using(crate::proofs::Known::shown_so, crate::proofs::Known::carries_so))]
 pub(crate) fn go_on_launched(
     alloc: Global,
-    launched: &mut Launched,
+    launched: &mut LaunchedProgram,
     out: &mut Outbox,
 ) -> Result<(), NoResponse>
     requires { out.old.bytes ≡ [] }
-    ensures { Carries result (λ messages. RunGoesOn launched.old messages launched.new) (Unit {0}) out.old out.new }
+    ensures { Carries result (λ messages. ContinuesRun launched.old messages launched.new) (Unit {0}) out.old out.new }
 {
-    let before = shown_nodes(&launched.program.lab, launched.program.nodes.as_slice());
+    let before = thread_marks(&launched.program.lab, launched.program.nodes.as_slice());
     let stop = make_slice(
         &mut launched.program,
         &launched.settings,

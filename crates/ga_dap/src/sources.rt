@@ -3,7 +3,7 @@
 ghost use Rattle.std.specs.Prelude.{◌≡◌, Bool, Result, Ok, Err, IfOk, IfErr};
 ghost use Rattle.ga_text.specs.Lines.{Bytes};
 ghost use Rattle.ga_dap.specs.declared.sources.SourceError.{SourceError as WhyUnread};
-ghost use Rattle.ga_dap.specs.Launches.{unread_words};
+ghost use Rattle.ga_dap.specs.Launches.{source_error_text};
 
 use std::alloc::{AllocError, Global};
 use thiserror::Error;
@@ -30,7 +30,7 @@ pub enum SourceError {
 
 /// The text about a file that is not read.
 pub(crate) fn source_error_text(why: SourceError) -> &'static str
-    ensures { result.now ≡ unread_words why }
+    ensures { result.now ≡ source_error_text why }
 {
     match why {
         SourceError::Memory => "out of memory",

@@ -2,10 +2,10 @@
 
 ghost use Rattle.std.specs.Prelude.{◌≡◌, ◌++◌, [], Some, true, IfOk, IfErr, OnOk, OnErr, List, ℕ};
 ghost use Rattle.ga_text.specs.Lines.{Bytes};
-ghost use Rattle.ga_dap_protocol.specs.Inbox.{GivesNext};
+ghost use Rattle.ga_dap_protocol.specs.Inbox.{IsNextMessage};
 ghost use Rattle.ga_dap_protocol.specs.Messages.{HoldsNoRequest};
 ghost use Rattle.ga_dap_queries.specs.Sending.{SendsAll};
-ghost use Rattle.ga_dap.specs.Client.{IsTime, IsRequestIn, is_running, no_request_told, refused_for_memory, request_words, sent_from};
+ghost use Rattle.ga_dap.specs.Client.{IsReadDue, IsRequestIn, is_running, invalid_request_output, out_of_memory_messages, request_error_text, empty_sent_messages};
 ghost use Rattle.ga_dap.specs.inner.Turning.{AnswersOrEnds, DeclinesOrEnds, ContentOrEnds, TakesOrEnds, GoesOnOrEnds, TurnOrEnds, serving_at};
 
 use crate::serving::SessionEnd;
@@ -27,7 +27,7 @@ pub(crate) enum Progress {
 /// Takes the next message, and once more where memory was refused to it.
 fn next_message<R: Read>(inbox: &mut Inbox, reader: &mut R) -> Result<Next, AllocError>
     ensures next { (left : List ℕ) → R.remaining reader.old ≡ Some left → IfOk result (λ next.
-        (rest : List ℕ) × (R.remaining reader.new ≡ Some rest) × GivesNext (inbox.old ++ left) next (inbox.new ++ rest)) }
+        (rest : List ℕ) × (R.remaining reader.new ≡ Some rest) × IsNextMessage (inbox.old ++ left) next (inbox.new ++ rest)) }
     ensures refused { (left : List ℕ) → R.remaining reader.old ≡ Some left → OnErr result
         ((rest : List ℕ) × (R.remaining reader.new ≡ Some rest) × (inbox.old ++ left ≡ inbox.new ++ rest)) }
 {
@@ -51,7 +51,7 @@ fn request_in(alloc: Global, content: &[u8]) -> Result<ClientRequest, RequestErr
 
 /// The text about a message that is no request.
 fn request_error_text(why: RequestError) -> &'static str
-    ensures { result.now ≡ request_words why }
+    ensures { result.now ≡ request_error_text why }
 {
     match why {
         RequestError::Memory => "out of memory",
@@ -64,7 +64,7 @@ fn request_error_text(why: RequestError) -> &'static str
 
 /// Sends that a message is no request.
 fn tell_no_request(alloc: Global, why: RequestError, out: &mut Outbox) -> Result<(), AllocError>
-    ensures sent { OnOk result (SendsAll out.old (no_request_told why) out.new) }
+    ensures sent { OnOk result (SendsAll out.old (invalid_request_output why) out.new) }
     ensures err { OnErr result (out.new ≡ out.old) }
 {
     let words = request_error_text(why);
@@ -89,7 +89,7 @@ fn decline(alloc: Global, why: RequestError, out: &mut Outbox) -> Progress
 /// The refusal of a request for which an allocation failed, after the message of this number.
 #[tactic(auto, using(crate::proofs::Known::sent_again, ga_dap_queries::proofs::Sent::sent_one))]
 fn refusal_of(alloc: Global, request: &ClientRequest, seq: u64) -> Result<Outbox, AllocError>
-    ensures { IfOk result (λ out. SendsAll (sent_from seq) (refused_for_memory request.now) out) }
+    ensures { IfOk result (λ out. SendsAll (empty_sent_messages seq) (out_of_memory_messages request.now) out) }
 {
     let mut out = Outbox::new(alloc);
     out.discard_unsent(seq);
@@ -99,7 +99,7 @@ fn refusal_of(alloc: Global, request: &ClientRequest, seq: u64) -> Result<Outbox
 
 /// The refusal of a request for want of memory, made once more where memory was refused to it.
 fn refusal_for(alloc: Global, request: &ClientRequest, seq: u64) -> Result<Outbox, AllocError>
-    ensures { IfOk result (λ out. SendsAll (sent_from seq) (refused_for_memory request.now) out) }
+    ensures { IfOk result (λ out. SendsAll (empty_sent_messages seq) (out_of_memory_messages request.now) out) }
 {
     match refusal_of(alloc, request, seq) {
         Ok(refusal) => Ok(refusal),
@@ -201,7 +201,7 @@ fn go_on(alloc: Global, session: &mut Session, out: &mut Outbox) -> Progress
 
 /// Whether it is time for a request: no run is in progress, or what was read shows one, or more has come.
 fn is_time<A: PendingInput>(session: &Session, inbox: &Inbox, arrivals: &mut A) -> bool
-    ensures { IsTime A.tells (is_running session.now) inbox.now arrivals.old result arrivals.new }
+    ensures { IsReadDue A.tells (is_running session.now) inbox.now arrivals.old result arrivals.new }
 {
     if !session.is_running() {
         return true;

@@ -6,50 +6,50 @@ use Rattle.ga_lab.specs.Machine.{State}
 use Rattle.ga_debug_info.specs.declared.notes.DebugInfo.{DebugInfo}
 use Rattle.ga_dap_views.specs.declared.spots.SlotAddress.{SlotAddress}
 use Rattle.ga_dap_views.specs.Spots.{slot_address_after}
-use Rattle.ga_dap_breakpoints.specs.Lines.{op_at, place_back, line_on_spot, comes_on, begins_behind, beginning_from}
+use Rattle.ga_dap_breakpoints.specs.Lines.{op_of_step, previous_place, line_of_slot_address, enters_line, line_begins_after, nearest_line_start}
 
-abbrev Comes : DebugInfo → State → NodeId → ℕ → Option SlotAddress → Option SlotAddress → Option Op → Bool → Type 0
-Comes notes s node place before spot op begins = begins ≡ comes_on notes node before spot op (line_on_spot notes node spot)
+abbrev ArrivesAtSlot : DebugInfo → State → NodeId → ℕ → Option SlotAddress → Option SlotAddress → Option Op → Bool → Type 0
+ArrivesAtSlot notes s node place before spot op begins = begins ≡ enters_line notes node before spot op (line_of_slot_address notes node spot)
 
 began_so : (notes : DebugInfo) (s : State) (node : NodeId) (place left : ℕ) (there spot : Option SlotAddress) (op : Option Op) (begins : Bool) → 0 < place → 0 < left
-    → there ≡ slot_address_after s node (place_back 0 s node (place - 1)) → spot ≡ slot_address_after s node place → op ≡ op_at s node (place - 1) → Comes notes s node place there spot op begins
-    → beginning_from notes s node place left ≡ cond begins place (beginning_from notes s node (place_back 0 s node (place - 1)) (left - 1))
-unfolding beginning_from
+    → there ≡ slot_address_after s node (previous_place 0 s node (place - 1)) → spot ≡ slot_address_after s node place → op ≡ op_of_step s node (place - 1) → ArrivesAtSlot notes s node place there spot op begins
+    → nearest_line_start notes s node place left ≡ cond begins place (nearest_line_start notes s node (previous_place 0 s node (place - 1)) (left - 1))
+unfolding nearest_line_start
 began_so notes s node place left there spot op begins some more there_is spot_is op_is comes =
     let k : ℕ = place - 1 in
     let m : ℕ = left - 1 in
     let at : place ≡ suc k = omega arith in
     let room : left ≡ suc m = omega arith in
     let next : place ≡ k + 1 = omega arith in
-    let begins_is : begins ≡ begins_behind 0 notes s node k =
+    let begins_is : begins ≡ line_begins_after 0 notes s node k =
     comes
-    ∙ ap (λ (z : Option SlotAddress). comes_on notes node z spot op (line_on_spot notes node spot)) there_is
-    ∙ ap (λ (z : Option SlotAddress). comes_on notes node (slot_address_after s node (place_back 0 s node k)) z op (line_on_spot notes node z)) (spot_is ∙ ap (slot_address_after s node) next)
-    ∙ ap (λ (z : Option Op). comes_on notes node (slot_address_after s node (place_back 0 s node k)) (slot_address_after s node (k + 1)) z (line_on_spot notes node (slot_address_after s node (k + 1)))) op_is in
-    ap (λ (z : ℕ). beginning_from notes s node z left) at
-    ∙ ap (beginning_from notes s node (suc k)) room
-    ∙ ap (λ (b : Bool). cond b (suc k) (beginning_from notes s node (place_back 0 s node k) m)) (sym begins_is)
-    ∙ ap (λ (z : ℕ). cond begins z (beginning_from notes s node (place_back 0 s node k) m)) (sym at)
+    ∙ ap (λ (z : Option SlotAddress). enters_line notes node z spot op (line_of_slot_address notes node spot)) there_is
+    ∙ ap (λ (z : Option SlotAddress). enters_line notes node (slot_address_after s node (previous_place 0 s node k)) z op (line_of_slot_address notes node z)) (spot_is ∙ ap (slot_address_after s node) next)
+    ∙ ap (λ (z : Option Op). enters_line notes node (slot_address_after s node (previous_place 0 s node k)) (slot_address_after s node (k + 1)) z (line_of_slot_address notes node (slot_address_after s node (k + 1)))) op_is in
+    ap (λ (z : ℕ). nearest_line_start notes s node z left) at
+    ∙ ap (nearest_line_start notes s node (suc k)) room
+    ∙ ap (λ (b : Bool). cond b (suc k) (nearest_line_start notes s node (previous_place 0 s node k) m)) (sym begins_is)
+    ∙ ap (λ (z : ℕ). cond begins z (nearest_line_start notes s node (previous_place 0 s node k) m)) (sym at)
 
 pub began_here : (notes : DebugInfo) (s : State) (node : NodeId) (place left : ℕ) (there spot : Option SlotAddress) (op : Option Op) (begins : Bool) → 0 < place → 0 < left
-    → there ≡ slot_address_after s node (place_back 0 s node (place - 1)) → spot ≡ slot_address_after s node place → op ≡ op_at s node (place - 1) → Comes notes s node place there spot op begins
-    → begins ≡ true → beginning_from notes s node place left ≡ place
+    → there ≡ slot_address_after s node (previous_place 0 s node (place - 1)) → spot ≡ slot_address_after s node place → op ≡ op_of_step s node (place - 1) → ArrivesAtSlot notes s node place there spot op begins
+    → begins ≡ true → nearest_line_start notes s node place left ≡ place
 began_here notes s node place left there spot op begins some more there_is spot_is op_is comes is =
     began_so notes s node place left there spot op begins some more there_is spot_is op_is comes
-    ∙ ap (λ (b : Bool). cond b place (beginning_from notes s node (place_back 0 s node (place - 1)) (left - 1))) is
+    ∙ ap (λ (b : Bool). cond b place (nearest_line_start notes s node (previous_place 0 s node (place - 1)) (left - 1))) is
 
 pub began_before : (notes : DebugInfo) (s : State) (node : NodeId) (place left : ℕ) (there spot : Option SlotAddress) (op : Option Op) (begins : Bool) → 0 < place → 0 < left
-    → there ≡ slot_address_after s node (place_back 0 s node (place - 1)) → spot ≡ slot_address_after s node place → op ≡ op_at s node (place - 1) → Comes notes s node place there spot op begins
-    → begins ≡ false → beginning_from notes s node place left ≡ beginning_from notes s node (place_back 0 s node (place - 1)) (left - 1)
+    → there ≡ slot_address_after s node (previous_place 0 s node (place - 1)) → spot ≡ slot_address_after s node place → op ≡ op_of_step s node (place - 1) → ArrivesAtSlot notes s node place there spot op begins
+    → begins ≡ false → nearest_line_start notes s node place left ≡ nearest_line_start notes s node (previous_place 0 s node (place - 1)) (left - 1)
 began_before notes s node place left there spot op begins some more there_is spot_is op_is comes is =
     began_so notes s node place left there spot op begins some more there_is spot_is op_is comes
-    ∙ ap (λ (b : Bool). cond b place (beginning_from notes s node (place_back 0 s node (place - 1)) (left - 1))) is
+    ∙ ap (λ (b : Bool). cond b place (nearest_line_start notes s node (previous_place 0 s node (place - 1)) (left - 1))) is
 
-pub began_at_load : (notes : DebugInfo) (s : State) (node : NodeId) (place left : ℕ) → place ≡ 0 → beginning_from notes s node place left ≡ 0
-unfolding beginning_from
-began_at_load notes s node place left first = ap (λ (z : ℕ). beginning_from notes s node z left) first
+pub began_at_load : (notes : DebugInfo) (s : State) (node : NodeId) (place left : ℕ) → place ≡ 0 → nearest_line_start notes s node place left ≡ 0
+unfolding nearest_line_start
+began_at_load notes s node place left first = ap (λ (z : ℕ). nearest_line_start notes s node z left) first
 
-pub none_looked_at : (notes : DebugInfo) (s : State) (node : NodeId) (place left : ℕ) → left ≡ 0 → beginning_from notes s node place left ≡ 0
-unfolding beginning_from
+pub none_looked_at : (notes : DebugInfo) (s : State) (node : NodeId) (place left : ℕ) → left ≡ 0 → nearest_line_start notes s node place left ≡ 0
+unfolding nearest_line_start
 none_looked_at notes s node zero left none = refl
-none_looked_at notes s node (suc k) left none = ap (beginning_from notes s node (suc k)) none
+none_looked_at notes s node (suc k) left none = ap (nearest_line_start notes s node (suc k)) none

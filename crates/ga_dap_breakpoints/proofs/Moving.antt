@@ -7,21 +7,21 @@ use Rattle.ga_event.specs.declared.made.Made.{Made}
 use Rattle.ga_lab.specs.Machine.{State}
 use Rattle.ga_scheduler.specs.declared.watched.WatchedEnd.{WatchedEnd}
 use Rattle.ga_scheduler.specs.Running.{Running}
-use Rattle.ga_scheduler.specs.Watched.{told_first, first_moved, after_first, Watching, watching, ends_behind, NeverEnds, HasEndedWatched, chosen_first, seen_told, ends_told, watch_after}
+use Rattle.ga_scheduler.specs.Watched.{precedence_event, precedence_run_after_next, precedence_run_after, RunWatch, watching, watch_ends_after, HasNoWatchEnd, HasWatchedRunEnded, precedence_node, watch_after_event, watch_ends_at_event, watch_after}
 use Rattle.ga_dap_breakpoints.specs.declared.breakpoint.Breakpoint.{Breakpoint}
 use Rattle.ga_dap_breakpoints.specs.declared.hits.HitTally.{HitTally}
-use Rattle.ga_dap_breakpoints.specs.declared.going.Halt.{Halt}
-use Rattle.ga_dap_breakpoints.specs.Breakpoints.{tally_behind, is_stopping, ends_early}
-use Rattle.ga_dap_breakpoints.specs.Going.{Course, tally_told, tally_on, halts_told, halts_behind, NeverHalts, IsFirst, IsMoveResult, going_on, stepping_on}
+use Rattle.ga_dap_breakpoints.specs.declared.going.HaltReason.{HaltReason}
+use Rattle.ga_dap_breakpoints.specs.Breakpoints.{tally_after_event, is_ending_stop, ends_early}
+use Rattle.ga_dap_breakpoints.specs.Going.{MovePlan, tally_after_optional_event, tally_after_events, is_halting_event, halts_after_event, HasNoHaltBefore, IsFirstHalt, IsMoveResult, continue_plan, step_plan}
 use Rattle.ga_dap_breakpoints.specs.inner.Cells.{halt_hit, halt_of, with_hits, InstructionCells, ends_by}
 use Rattle.ga_scheduler.specs.Conditions.{is_step_of}
 use Rattle.ga_event.specs.Apply.{replay}
-use Rattle.ga_dap_breakpoints.specs.declared.halts.Halts.{Halts}
+use Rattle.ga_dap_breakpoints.specs.declared.halts.HaltConditions.{HaltConditions}
 use Rattle.ga_dap_breakpoints.specs.declared.halts.HaltMonitor.{HaltMonitor}
 use Rattle.ga_dap_breakpoints.specs.declared.moves.Steps.{Steps}
 use Rattle.ga_dap_breakpoints.specs.declared.stepping.StepMove.{StepMove}
 use Rattle.ga_dap_breakpoints.specs.declared.stepping.Granularity.TheVariants.{Line}
-use Rattle.ga_dap_breakpoints.specs.Stepping.{call_behind, step_seen, step_told, stepped_on}
+use Rattle.ga_dap_breakpoints.specs.Stepping.{pending_call_after_step, move_after_event, move_after_optional_event, move_after_events}
 use Rattle.ga_dap_breakpoints.specs.inner.Words.{word_seen, is_moved_by}
 use Rattle.ga_dap_breakpoints.proofs.Following.{IsWell, IsWord, word_told, well_next, word_next, moved_alike}
 use Rattle.ga_dap_breakpoints.proofs.Cells.{IsKnown, cells_told, tally_told_by, known_next, tally_next, replays_next, well_of}
@@ -29,10 +29,10 @@ use Rattle.ga_dap_breakpoints.proofs.Cells.{IsKnown, cells_told, tally_told_by, 
 -- ---- how a move ends, by how its run did
 
 -- the watch ends a run where the move halts
-abbrev pub AreAlike : {W : Type 0} → Watching W → W → Running → Course → Type 0
-AreAlike by w r g = (k : ℕ) → ends_behind by w r k ≡ halts_behind g r k
+abbrev pub AreAlike : {W : Type 0} → RunWatch W → W → Running → MovePlan → Type 0
+AreAlike by w r g = (k : ℕ) → watch_ends_after by w r k ≡ halts_after_event g r k
 
-never_so : {W : Type 0} (by : Watching W) (w : W) (r : Running) (g : Course) (n : ℕ) → AreAlike by w r g → NeverEnds by w r n → NeverHalts g r n
+never_so : {W : Type 0} (by : RunWatch W) (w : W) (r : Running) (g : MovePlan) (n : ℕ) → AreAlike by w r g → HasNoWatchEnd by w r n → HasNoHaltBefore g r n
 never_so by w r g n alike never k l = sym (alike k) ∙ never k l
 
 -- by an event that hits, stops or moves
@@ -41,46 +41,46 @@ or_right true b c h k is = absurd (cc)
 or_right false true c h k is = absurd (cc)
 or_right false false c h k is = is
 
-hit_so : (g : Course) (r : Running) (most n k : ℕ) (told : Made) (s : State) (hit : Option ℕ) (stopping : Bool) → s ≡ (first_moved g.node (after_first g.node r k)).state → IsFirst g r n k told
-    → (tally_behind g.breakpoints told s (g.tally k)).hit ≡ hit → is_stopping g.stops g.node told ≡ stopping → ((is_some hit || stopping) || g.ends k told s) ≡ true
+hit_so : (g : MovePlan) (r : Running) (most n k : ℕ) (told : Made) (s : State) (hit : Option ℕ) (stopping : Bool) → s ≡ (precedence_run_after_next g.node (precedence_run_after g.node r k)).state → IsFirstHalt g r n k told
+    → (tally_after_event g.breakpoints told s (g.tally k)).hit ≡ hit → is_ending_stop g.stops g.node told ≡ stopping → ((is_some hit || stopping) || g.ends k told s) ≡ true
     → IsMoveResult g r most n (halt_hit stopping told hit)
 hit_so g r most n k told s (Some which) stopping at first is stop ends =
-    (k, first, ap (λ (z : State). (tally_behind g.breakpoints told z (g.tally k)).hit) (sym at) ∙ is)
+    (k, first, ap (λ (z : State). (tally_after_event g.breakpoints told z (g.tally k)).hit) (sym at) ∙ is)
 hit_so g r most n k told s None true at first is stop ends =
-    (k, first, ap (λ (z : State). (tally_behind g.breakpoints told z (g.tally k)).hit) (sym at) ∙ is, stop)
+    (k, first, ap (λ (z : State). (tally_after_event g.breakpoints told z (g.tally k)).hit) (sym at) ∙ is, stop)
 hit_so g r most n k told s None false at first is stop ends =
-    (k, first, ap (λ (z : State). (tally_behind g.breakpoints told z (g.tally k)).hit) (sym at) ∙ is, stop, ap (g.ends k told) (sym at) ∙ or_right false false (g.ends k told s) refl refl ends)
+    (k, first, ap (λ (z : State). (tally_after_event g.breakpoints told z (g.tally k)).hit) (sym at) ∙ is, stop, ap (g.ends k told) (sym at) ∙ or_right false false (g.ends k told s) refl refl ends)
 
-after_more : (first : Option NodeId) (r : Running) (n k : ℕ) → n ≡ k + 1 → after_first first r n ≡ first_moved first (after_first first r k)
-after_more first r n k e = ap (after_first first r) (e ∙ add-one k)
+after_more : (first : Option NodeId) (r : Running) (n k : ℕ) → n ≡ k + 1 → precedence_run_after first r n ≡ precedence_run_after_next first (precedence_run_after first r k)
+after_more first r n k e = ap (precedence_run_after first r) (e ∙ add-one k)
 
 -- the newest of `n` events hit this
 pub counted_so : (first : Option NodeId) (breakpoints : List Breakpoint) (tally : HitTally) (r : Running) (n k : ℕ) (told : Made) → n ≡ k + 1
-    → told_first first (after_first first r k) ≡ Some told
-    → (tally_on first breakpoints tally r n).hit ≡ (tally_behind breakpoints told (first_moved first (after_first first r k)).state (tally_on first breakpoints tally r k)).hit
+    → precedence_event first (precedence_run_after first r k) ≡ Some told
+    → (tally_after_events first breakpoints tally r n).hit ≡ (tally_after_event breakpoints told (precedence_run_after_next first (precedence_run_after first r k)).state (tally_after_events first breakpoints tally r k)).hit
 counted_so first breakpoints tally r n k told e is =
-    ap (λ (z : ℕ). (tally_on first breakpoints tally r z).hit) (e ∙ add-one k)
-    ∙ ap (λ (o : Option Made). (tally_told breakpoints (tally_on first breakpoints tally r k) o (first_moved first (after_first first r k)).state).hit) is
+    ap (λ (z : ℕ). (tally_after_events first breakpoints tally r z).hit) (e ∙ add-one k)
+    ∙ ap (λ (o : Option Made). (tally_after_optional_event breakpoints (tally_after_events first breakpoints tally r k) o (precedence_run_after_next first (precedence_run_after first r k)).state).hit) is
 
-abbrev pub IsNewestHit : Course → Running → ℕ → Option ℕ → Type 0
-IsNewestHit g r n hit = (k : ℕ) (told : Made) → n ≡ k + 1 → told_first g.node (after_first g.node r k) ≡ Some told
-    → hit ≡ (tally_behind g.breakpoints told (first_moved g.node (after_first g.node r k)).state (g.tally k)).hit
+abbrev pub IsNewestHit : MovePlan → Running → ℕ → Option ℕ → Type 0
+IsNewestHit g r n hit = (k : ℕ) (told : Made) → n ≡ k + 1 → precedence_event g.node (precedence_run_after g.node r k) ≡ Some told
+    → hit ≡ (tally_after_event g.breakpoints told (precedence_run_after_next g.node (precedence_run_after g.node r k)).state (g.tally k)).hit
 
-pub went_so : {W : Type 0} (ends : W → Made → State → Bool) (seen : W → Made → State → W) (w : W) (r now : Running) (g : Course) (most n : ℕ) (end : WatchedEnd) (halt : Halt) (hit : Option ℕ)
-    → AreAlike (watching g.node ends seen) w r g → now ≡ after_first g.node r n → HasEndedWatched (watching g.node ends seen) w r most n end
+pub went_so : {W : Type 0} (ends : W → Made → State → Bool) (seen : W → Made → State → W) (w : W) (r now : Running) (g : MovePlan) (most n : ℕ) (end : WatchedEnd) (halt : HaltReason) (hit : Option ℕ)
+    → AreAlike (watching g.node ends seen) w r g → now ≡ precedence_run_after g.node r n → HasWatchedRunEnded (watching g.node ends seen) w r most n end
     → IsNewestHit g r n hit → halt ≡ halt_of hit g.stops g.node end → IsMoveResult g r most n halt
 went_so ends seen w r now g most n (the_end.Seen told) halt hit alike at h counted is =
     let by = watching g.node ends seen in
     let k : ℕ = h.0 in
-    let next : Running = first_moved g.node (after_first g.node r k) in
+    let next : Running = precedence_run_after_next g.node (precedence_run_after g.node r k) in
     let here : now ≡ next = at ∙ after_more g.node r n k h.1 in
-    let says : halts_told g k (told_first g.node (after_first g.node r k)) next.state ≡ true = sym (alike k) ∙ h.4 in
-    let ends_so : halts_told g k (Some told) now.state ≡ true =
-    ap (λ (z : Running). halts_told g k (Some told) z.state) here ∙ sym (ap (λ (o : Option Made). halts_told g k o next.state) h.3) ∙ says in
-    let tallied : Option ℕ = (tally_behind g.breakpoints told now.state (g.tally k)).hit in
-    let same : hit ≡ tallied = counted k told h.1 h.3 ∙ ap (λ (z : Running). (tally_behind g.breakpoints told z.state (g.tally k)).hit) (sym here) in
-    subst (IsMoveResult g r most n) (sym (is ∙ ap (halt_hit (is_stopping g.stops g.node told) told) same))
-    (hit_so g r most n k told now.state tallied (is_stopping g.stops g.node told) (ap (λ (z : Running). z.state) here)
+    let says : is_halting_event g k (precedence_event g.node (precedence_run_after g.node r k)) next.state ≡ true = sym (alike k) ∙ h.4 in
+    let ends_so : is_halting_event g k (Some told) now.state ≡ true =
+    ap (λ (z : Running). is_halting_event g k (Some told) z.state) here ∙ sym (ap (λ (o : Option Made). is_halting_event g k o next.state) h.3) ∙ says in
+    let tallied : Option ℕ = (tally_after_event g.breakpoints told now.state (g.tally k)).hit in
+    let same : hit ≡ tallied = counted k told h.1 h.3 ∙ ap (λ (z : Running). (tally_after_event g.breakpoints told z.state (g.tally k)).hit) (sym here) in
+    subst (IsMoveResult g r most n) (sym (is ∙ ap (halt_hit (is_ending_stop g.stops g.node told) told) same))
+    (hit_so g r most n k told now.state tallied (is_ending_stop g.stops g.node told) (ap (λ (z : Running). z.state) here)
     (record { last = h.1; before = never_so by w r g k alike h.2; made = h.3 }) refl refl ends_so)
 went_so ends seen w r now g most n the_end.Made halt hit alike at h counted is =
     subst (IsMoveResult g r most n) (sym is) (h.0, never_so (watching g.node ends seen) w r g n alike h.1)
@@ -98,39 +98,39 @@ Replays s = IsSome (replay s.load s.kept)
 abbrev pub cells_on : Option NodeId → List Breakpoint → InstructionCells → Running → ℕ → InstructionCells
 cells_on first breakpoints cells r zero = cells
 cells_on first breakpoints cells r (suc k) =
-    cells_told breakpoints (told_first first (after_first first r k)) (first_moved first (after_first first r k)).state (cells_on first breakpoints cells r k)
+    cells_told breakpoints (precedence_event first (precedence_run_after first r k)) (precedence_run_after_next first (precedence_run_after first r k)).state (cells_on first breakpoints cells r k)
 
-replays_on : (first : Option NodeId) (r : Running) (k : ℕ) → Replays r.state → Replays (after_first first r k).state
+replays_on : (first : Option NodeId) (r : Running) (k : ℕ) → Replays r.state → Replays (precedence_run_after first r k).state
 replays_on first r zero some = some
-replays_on first r (suc k) some = replays_next (after_first first r k) (chosen_first first (after_first first r k)) (replays_on first r k some)
+replays_on first r (suc k) some = replays_next (precedence_run_after first r k) (precedence_node first (precedence_run_after first r k)) (replays_on first r k some)
 
 known_on : (first : Option NodeId) (breakpoints : List Breakpoint) (cells : InstructionCells) (r : Running) (k : ℕ) → Replays r.state → IsKnown r.state cells
-    → IsKnown (after_first first r k).state (cells_on first breakpoints cells r k)
+    → IsKnown (precedence_run_after first r k).state (cells_on first breakpoints cells r k)
 known_on first breakpoints cells r zero some known = known
 known_on first breakpoints cells r (suc k) some known =
-    known_next (after_first first r k) (chosen_first first (after_first first r k)) breakpoints (cells_on first breakpoints cells r k) (replays_on first r k some)
+    known_next (precedence_run_after first r k) (precedence_node first (precedence_run_after first r k)) breakpoints (cells_on first breakpoints cells r k) (replays_on first r k some)
     (known_on first breakpoints cells r k some known)
 
 -- the hits by the cells, after the event with number `k`
 tally_alike : (first : Option NodeId) (breakpoints : List Breakpoint) (cells : InstructionCells) (tally : HitTally) (r : Running) (k : ℕ) (o : Option Made) → Replays r.state → IsKnown r.state cells
-    → told_first first (after_first first r k) ≡ o
-    → tally_told_by breakpoints tally (cells_on first breakpoints cells r k) o (first_moved first (after_first first r k)).state
-    ≡ tally_told breakpoints tally o (first_moved first (after_first first r k)).state
+    → precedence_event first (precedence_run_after first r k) ≡ o
+    → tally_told_by breakpoints tally (cells_on first breakpoints cells r k) o (precedence_run_after_next first (precedence_run_after first r k)).state
+    ≡ tally_after_optional_event breakpoints tally o (precedence_run_after_next first (precedence_run_after first r k)).state
 tally_alike first breakpoints cells tally r k o some known is =
-    let at : Running = after_first first r k in
-    let s : State = (first_moved first at).state in
+    let at : Running = precedence_run_after first r k in
+    let s : State = (precedence_run_after_next first at).state in
     let then : InstructionCells = cells_on first breakpoints cells r k in
     sym (ap (λ (z : Option Made). tally_told_by breakpoints tally then z s) is)
-    ∙ tally_next at (chosen_first first at) breakpoints then tally (replays_on first r k some) (known_on first breakpoints cells r k some known)
-    ∙ ap (λ (z : Option Made). tally_told breakpoints tally z s) is
+    ∙ tally_next at (precedence_node first at) breakpoints then tally (replays_on first r k some) (known_on first breakpoints cells r k some known)
+    ∙ ap (λ (z : Option Made). tally_after_optional_event breakpoints tally z s) is
 
 -- ---- `continue`
 
 -- no cell is known at first
-abbrev pub halting_by : Halts → HaltMonitor
+abbrev pub halting_by : HaltConditions → HaltMonitor
 halting_by halts = record { halts = halts; cells = replicate 144 None }
 
-abbrev pub by_halts : Watching HaltMonitor
+abbrev pub by_halts : RunWatch HaltMonitor
 by_halts =
     watching None (λ (w : HaltMonitor) (told : Made) (s : State). ends_by w.halts.breakpoints.now w.cells w.halts.tally w.halts.stops None told s)
     (λ (w : HaltMonitor) (told : Made) (s : State). with_hits w told s)
@@ -143,20 +143,20 @@ abbrev pub BeginsKnown : HaltMonitor → Running → Type 0
 BeginsKnown w r = Replays r.state × IsKnown r.state w.cells
 
 counts_told : (w : HaltMonitor) (tally : HitTally) (cells : InstructionCells) (o : Option Made) (s : State)
-    → seen_told by_halts (with_found w tally cells) o s ≡ with_found w (tally_told_by w.halts.breakpoints.now tally cells o s) (cells_told w.halts.breakpoints.now o s cells)
+    → watch_after_event by_halts (with_found w tally cells) o s ≡ with_found w (tally_told_by w.halts.breakpoints.now tally cells o s) (cells_told w.halts.breakpoints.now o s cells)
 counts_told w tally cells None s = refl
 counts_told w tally cells (Some told) s = refl
 
 pub hits_after : (w : HaltMonitor) (r : Running) (k : ℕ) → BeginsKnown w r
-    → watch_after by_halts w r k ≡ with_found w (tally_on None w.halts.breakpoints.now w.halts.tally r k) (cells_on None w.halts.breakpoints.now w.cells r k)
+    → watch_after by_halts w r k ≡ with_found w (tally_after_events None w.halts.breakpoints.now w.halts.tally r k) (cells_on None w.halts.breakpoints.now w.cells r k)
 hits_after w r zero begins = refl
 hits_after w r (suc k) begins =
-    let o : Option Made = told_first None (after_first None r k) in
-    let s : State = (first_moved None (after_first None r k)).state in
+    let o : Option Made = precedence_event None (precedence_run_after None r k) in
+    let s : State = (precedence_run_after_next None (precedence_run_after None r k)).state in
     let breakpoints : List Breakpoint = w.halts.breakpoints.now in
-    let tally : HitTally = tally_on None breakpoints w.halts.tally r k in
+    let tally : HitTally = tally_after_events None breakpoints w.halts.tally r k in
     let cells : InstructionCells = cells_on None breakpoints w.cells r k in
-    ap (λ (z : HaltMonitor). seen_told by_halts z o s) (hits_after w r k begins)
+    ap (λ (z : HaltMonitor). watch_after_event by_halts z o s) (hits_after w r k begins)
     ∙ counts_told w tally cells o s
     ∙ ap (λ (z : HitTally). with_found w z (cells_told breakpoints o s cells)) (tally_alike None breakpoints w.cells tally r k o begins.0 begins.1 refl)
 
@@ -164,37 +164,37 @@ or_false : (b : Bool) → b ≡ (b || false)
 or_false true = refl
 or_false false = refl
 
-told_alike : (w : HaltMonitor) (r : Running) (k : ℕ) → BeginsKnown w r → (o : Option Made) → told_first None (after_first None r k) ≡ o
-    → ends_told by_halts (with_found w (tally_on None w.halts.breakpoints.now w.halts.tally r k) (cells_on None w.halts.breakpoints.now w.cells r k)) o (first_moved None (after_first None r k)).state
-    ≡ halts_told (going_on w.halts.breakpoints.now w.halts.tally w.halts.stops r) k o (first_moved None (after_first None r k)).state
+told_alike : (w : HaltMonitor) (r : Running) (k : ℕ) → BeginsKnown w r → (o : Option Made) → precedence_event None (precedence_run_after None r k) ≡ o
+    → watch_ends_at_event by_halts (with_found w (tally_after_events None w.halts.breakpoints.now w.halts.tally r k) (cells_on None w.halts.breakpoints.now w.cells r k)) o (precedence_run_after_next None (precedence_run_after None r k)).state
+    ≡ is_halting_event (continue_plan w.halts.breakpoints.now w.halts.tally w.halts.stops r) k o (precedence_run_after_next None (precedence_run_after None r k)).state
 told_alike w r k begins None is = refl
 told_alike w r k begins (Some told) is =
-    let s : State = (first_moved None (after_first None r k)).state in
+    let s : State = (precedence_run_after_next None (precedence_run_after None r k)).state in
     let breakpoints : List Breakpoint = w.halts.breakpoints.now in
-    let tally : HitTally = tally_on None breakpoints w.halts.tally r k in
-    ap (λ (z : HitTally). is_some z.hit || is_stopping w.halts.stops None told) (tally_alike None breakpoints w.cells tally r k (Some told) begins.0 begins.1 is)
+    let tally : HitTally = tally_after_events None breakpoints w.halts.tally r k in
+    ap (λ (z : HitTally). is_some z.hit || is_ending_stop w.halts.stops None told) (tally_alike None breakpoints w.cells tally r k (Some told) begins.0 begins.1 is)
     ∙ or_false (ends_early breakpoints tally w.halts.stops None told s)
 
-pub go_alike : (w : HaltMonitor) (r : Running) → BeginsKnown w r → AreAlike by_halts w r (going_on w.halts.breakpoints.now w.halts.tally w.halts.stops r)
+pub go_alike : (w : HaltMonitor) (r : Running) → BeginsKnown w r → AreAlike by_halts w r (continue_plan w.halts.breakpoints.now w.halts.tally w.halts.stops r)
 go_alike w r begins k =
-    let o : Option Made = told_first None (after_first None r k) in
-    let s : State = (first_moved None (after_first None r k)).state in
-    ap (λ (z : HaltMonitor). ends_told by_halts z o s) (hits_after w r k begins) ∙ told_alike w r k begins o refl
+    let o : Option Made = precedence_event None (precedence_run_after None r k) in
+    let s : State = (precedence_run_after_next None (precedence_run_after None r k)).state in
+    ap (λ (z : HaltMonitor). watch_ends_at_event by_halts z o s) (hits_after w r k begins) ∙ told_alike w r k begins o refl
 
 -- ---- a move of a node
 
-abbrev pub by_steps : NodeId → Watching Steps
+abbrev pub by_steps : NodeId → RunWatch Steps
 by_steps node =
     watching (Some node)
     (λ (w : Steps) (told : Made) (s : State). ends_by w.halting.halts.breakpoints.now w.halting.cells w.halting.halts.tally w.halting.halts.stops (Some w.stepping.node) told s || is_moved_by w.notes.now w.stepping w.word told s)
-    (λ (w : Steps) (told : Made) (s : State). record w { halting = with_hits w.halting told s; stepping = step_seen w.stepping told s; word = word_seen w.stepping.node w.word told s })
+    (λ (w : Steps) (told : Made) (s : State). record w { halting = with_hits w.halting told s; stepping = move_after_event w.stepping told s; word = word_seen w.stepping.node w.word told s })
 
 abbrev pub with_parts : Steps → HitTally → InstructionCells → StepMove → Option ℕ → Steps
 with_parts w tally cells by word = record w { halting = with_found w.halting tally cells; stepping = by; word = word }
 
 goes_told : (node : NodeId) (w : Steps) (tally : HitTally) (cells : InstructionCells) (by : StepMove) (word : Option ℕ) (o : Option Made) (s : State)
-    → seen_told (by_steps node) (with_parts w tally cells by word) o s
-    ≡ with_parts w (tally_told_by w.halting.halts.breakpoints.now tally cells o s) (cells_told w.halting.halts.breakpoints.now o s cells) (step_told by o s) (word_told by.node word o s)
+    → watch_after_event (by_steps node) (with_parts w tally cells by word) o s
+    ≡ with_parts w (tally_told_by w.halting.halts.breakpoints.now tally cells o s) (cells_told w.halting.halts.breakpoints.now o s cells) (move_after_optional_event by o s) (word_told by.node word o s)
 goes_told node w tally cells by word None s = refl
 goes_told node w tally cells by word (Some told) s = refl
 
@@ -206,92 +206,92 @@ chosen_grain : (b : Bool) (by : StepMove) (call : Option ℕ) → (cond {A = Ste
 chosen_grain true by call = refl
 chosen_grain false by call = refl
 
-told_node : (by : StepMove) (o : Option Made) (s : State) → (step_told by o s).node ≡ by.node
+told_node : (by : StepMove) (o : Option Made) (s : State) → (move_after_optional_event by o s).node ≡ by.node
 told_node by None s = refl
-told_node by (Some told) s = chosen_node (is_step_of by.node.number told) by (call_behind s by.node by.over by.call)
+told_node by (Some told) s = chosen_node (is_step_of by.node.number told) by (pending_call_after_step s by.node by.over by.call)
 
-told_grain : (by : StepMove) (o : Option Made) (s : State) → (step_told by o s).grain ≡ by.grain
+told_grain : (by : StepMove) (o : Option Made) (s : State) → (move_after_optional_event by o s).grain ≡ by.grain
 told_grain by None s = refl
-told_grain by (Some told) s = chosen_grain (is_step_of by.node.number told) by (call_behind s by.node by.over by.call)
+told_grain by (Some told) s = chosen_grain (is_step_of by.node.number told) by (pending_call_after_step s by.node by.over by.call)
 
-same_node : (by : StepMove) (r : Running) (k : ℕ) → (stepped_on by r k).node ≡ by.node
+same_node : (by : StepMove) (r : Running) (k : ℕ) → (move_after_events by r k).node ≡ by.node
 same_node by r zero = refl
 same_node by r (suc k) =
     let first : Option NodeId = Some by.node in
-    told_node (stepped_on by r k) (told_first first (after_first first r k)) (first_moved first (after_first first r k)).state ∙ same_node by r k
+    told_node (move_after_events by r k) (precedence_event first (precedence_run_after first r k)) (precedence_run_after_next first (precedence_run_after first r k)).state ∙ same_node by r k
 
-same_grain : (by : StepMove) (r : Running) (k : ℕ) → (stepped_on by r k).grain ≡ by.grain
+same_grain : (by : StepMove) (r : Running) (k : ℕ) → (move_after_events by r k).grain ≡ by.grain
 same_grain by r zero = refl
 same_grain by r (suc k) =
     let first : Option NodeId = Some by.node in
-    told_grain (stepped_on by r k) (told_first first (after_first first r k)) (first_moved first (after_first first r k)).state ∙ same_grain by r k
+    told_grain (move_after_events by r k) (precedence_event first (precedence_run_after first r k)) (precedence_run_after_next first (precedence_run_after first r k)).state ∙ same_grain by r k
 
 -- the cell of the node's word after `n` events
 abbrev pub word_on : NodeId → Option ℕ → Running → ℕ → Option ℕ
 word_on node word r zero = word
 word_on node word r (suc k) =
-    word_told node (word_on node word r k) (told_first (Some node) (after_first (Some node) r k)) (first_moved (Some node) (after_first (Some node) r k)).state
+    word_told node (word_on node word r k) (precedence_event (Some node) (precedence_run_after (Some node) r k)) (precedence_run_after_next (Some node) (precedence_run_after (Some node) r k)).state
 
 pub goes_after : (w : Steps) (r : Running) (k : ℕ) → BeginsKnown w.halting r
     → watch_after (by_steps w.stepping.node) w r k
-    ≡ with_parts w (tally_on (Some w.stepping.node) w.halting.halts.breakpoints.now w.halting.halts.tally r k) (cells_on (Some w.stepping.node) w.halting.halts.breakpoints.now w.halting.cells r k)
-    (stepped_on w.stepping r k) (word_on w.stepping.node w.word r k)
+    ≡ with_parts w (tally_after_events (Some w.stepping.node) w.halting.halts.breakpoints.now w.halting.halts.tally r k) (cells_on (Some w.stepping.node) w.halting.halts.breakpoints.now w.halting.cells r k)
+    (move_after_events w.stepping r k) (word_on w.stepping.node w.word r k)
 goes_after w r zero begins = refl
 goes_after w r (suc k) begins =
     let first : Option NodeId = Some w.stepping.node in
-    let o : Option Made = told_first first (after_first first r k) in
-    let s : State = (first_moved first (after_first first r k)).state in
+    let o : Option Made = precedence_event first (precedence_run_after first r k) in
+    let s : State = (precedence_run_after_next first (precedence_run_after first r k)).state in
     let breakpoints : List Breakpoint = w.halting.halts.breakpoints.now in
-    let tally : HitTally = tally_on first breakpoints w.halting.halts.tally r k in
+    let tally : HitTally = tally_after_events first breakpoints w.halting.halts.tally r k in
     let cells : InstructionCells = cells_on first breakpoints w.halting.cells r k in
-    let by : StepMove = stepped_on w.stepping r k in
+    let by : StepMove = move_after_events w.stepping r k in
     let word : Option ℕ = word_on w.stepping.node w.word r k in
-    ap (λ (z : Steps). seen_told (by_steps w.stepping.node) z o s) (goes_after w r k begins)
+    ap (λ (z : Steps). watch_after_event (by_steps w.stepping.node) z o s) (goes_after w r k begins)
     ∙ goes_told w.stepping.node w tally cells by word o s
-    ∙ ap (λ (z : NodeId). with_parts w (tally_told_by breakpoints tally cells o s) (cells_told breakpoints o s cells) (step_told by o s) (word_told z word o s)) (same_node w.stepping r k)
-    ∙ ap (λ (z : HitTally). with_parts w z (cells_told breakpoints o s cells) (step_told by o s) (word_told w.stepping.node word o s))
+    ∙ ap (λ (z : NodeId). with_parts w (tally_told_by breakpoints tally cells o s) (cells_told breakpoints o s cells) (move_after_optional_event by o s) (word_told z word o s)) (same_node w.stepping r k)
+    ∙ ap (λ (z : HitTally). with_parts w z (cells_told breakpoints o s cells) (move_after_optional_event by o s) (word_told w.stepping.node word o s))
     (tally_alike first breakpoints w.halting.cells tally r k o begins.0 begins.1 refl)
 
-well_on : (node : NodeId) (r : Running) (k : ℕ) → IsWell r.state node.number → IsWell (after_first (Some node) r k).state node.number
+well_on : (node : NodeId) (r : Running) (k : ℕ) → IsWell r.state node.number → IsWell (precedence_run_after (Some node) r k).state node.number
 well_on node r zero well = well
 well_on node r (suc k) well =
-    well_next (after_first (Some node) r k) (chosen_first (Some node) (after_first (Some node) r k)) node.number (well_on node r k well)
+    well_next (precedence_run_after (Some node) r k) (precedence_node (Some node) (precedence_run_after (Some node) r k)) node.number (well_on node r k well)
 
-right_on : (node : NodeId) (word : Option ℕ) (r : Running) (k : ℕ) → IsWell r.state node.number → IsWord r.state node word → IsWord (after_first (Some node) r k).state node (word_on node word r k)
+right_on : (node : NodeId) (word : Option ℕ) (r : Running) (k : ℕ) → IsWell r.state node.number → IsWord r.state node word → IsWord (precedence_run_after (Some node) r k).state node (word_on node word r k)
 right_on node word r zero well is = is
 right_on node word r (suc k) well is =
-    word_next (after_first (Some node) r k) (chosen_first (Some node) (after_first (Some node) r k)) node (word_on node word r k) (well_on node r k well) (right_on node word r k well is)
+    word_next (precedence_run_after (Some node) r k) (precedence_node (Some node) (precedence_run_after (Some node) r k)) node (word_on node word r k) (well_on node r k well) (right_on node word r k well is)
 
 -- the watch begins with cells that are known rightly, and with that of the node's word, where the move is by lines
 abbrev pub BeginsWell : Steps → Running → Type 0
 BeginsWell w r = BeginsKnown w.halting r × (w.stepping.grain ≡ Line → IsWord r.state w.stepping.node w.word)
 
-step_alike_told : (w : Steps) (r : Running) (k : ℕ) → BeginsWell w r → (o : Option Made) → told_first (Some w.stepping.node) (after_first (Some w.stepping.node) r k) ≡ o
-    → ends_told (by_steps w.stepping.node) (with_parts w (tally_on (Some w.stepping.node) w.halting.halts.breakpoints.now w.halting.halts.tally r k) (cells_on (Some w.stepping.node) w.halting.halts.breakpoints.now w.halting.cells r k) (stepped_on w.stepping r k) (word_on w.stepping.node w.word r k)) o (first_moved (Some w.stepping.node) (after_first (Some w.stepping.node) r k)).state
-    ≡ halts_told (stepping_on w.notes.now w.halting.halts.breakpoints.now w.halting.halts.tally w.halting.halts.stops w.stepping r) k o (first_moved (Some w.stepping.node) (after_first (Some w.stepping.node) r k)).state
+step_alike_told : (w : Steps) (r : Running) (k : ℕ) → BeginsWell w r → (o : Option Made) → precedence_event (Some w.stepping.node) (precedence_run_after (Some w.stepping.node) r k) ≡ o
+    → watch_ends_at_event (by_steps w.stepping.node) (with_parts w (tally_after_events (Some w.stepping.node) w.halting.halts.breakpoints.now w.halting.halts.tally r k) (cells_on (Some w.stepping.node) w.halting.halts.breakpoints.now w.halting.cells r k) (move_after_events w.stepping r k) (word_on w.stepping.node w.word r k)) o (precedence_run_after_next (Some w.stepping.node) (precedence_run_after (Some w.stepping.node) r k)).state
+    ≡ is_halting_event (step_plan w.notes.now w.halting.halts.breakpoints.now w.halting.halts.tally w.halting.halts.stops w.stepping r) k o (precedence_run_after_next (Some w.stepping.node) (precedence_run_after (Some w.stepping.node) r k)).state
 step_alike_told w r k begins None is = refl
 step_alike_told w r k begins (Some told) is =
     let node : NodeId = w.stepping.node in
-    let at : Running = after_first (Some node) r k in
-    let s : State = (first_moved (Some node) at).state in
-    let by : StepMove = stepped_on w.stepping r k in
+    let at : Running = precedence_run_after (Some node) r k in
+    let s : State = (precedence_run_after_next (Some node) at).state in
+    let by : StepMove = move_after_events w.stepping r k in
     let breakpoints : List Breakpoint = w.halting.halts.breakpoints.now in
     let stops : Bool = w.halting.halts.stops in
-    let tally : HitTally = tally_on (Some node) breakpoints w.halting.halts.tally r k in
+    let tally : HitTally = tally_after_events (Some node) breakpoints w.halting.halts.tally r k in
     let cells : InstructionCells = cells_on (Some node) breakpoints w.halting.cells r k in
     let word : Option ℕ = word_on node w.word r k in
     let same : node ≡ by.node = sym (same_node w.stepping r k) in
     let well : IsWell r.state node.number = well_of r.state begins.0.0 node.number in
     ap (λ (z : NodeId). ends_by breakpoints cells tally stops (Some z) told s || is_moved_by w.notes.now by word told s) (same_node w.stepping r k)
-    ∙ ap (λ (z : HitTally). (is_some z.hit || is_stopping stops (Some node) told) || is_moved_by w.notes.now by word told s)
+    ∙ ap (λ (z : HitTally). (is_some z.hit || is_ending_stop stops (Some node) told) || is_moved_by w.notes.now by word told s)
     (tally_alike (Some node) breakpoints w.halting.cells tally r k (Some told) begins.0.0 begins.0.1 is)
     ∙ ap (λ (z : Bool). ends_early breakpoints tally stops (Some node) told s || z)
-    (moved_alike w.notes.now by word at (chosen_first (Some node) at) told is (subst (λ (z : NodeId). IsWell at.state z.number) same (well_on node r k well))
+    (moved_alike w.notes.now by word at (precedence_node (Some node) at) told is (subst (λ (z : NodeId). IsWell at.state z.number) same (well_on node r k well))
     (λ line. subst (λ (z : NodeId). IsWord at.state z word) same (right_on node w.word r k well (begins.1 (sym (same_grain w.stepping r k) ∙ line)))))
 
-pub step_alike : (w : Steps) (r : Running) → BeginsWell w r → AreAlike (by_steps w.stepping.node) w r (stepping_on w.notes.now w.halting.halts.breakpoints.now w.halting.halts.tally w.halting.halts.stops w.stepping r)
+pub step_alike : (w : Steps) (r : Running) → BeginsWell w r → AreAlike (by_steps w.stepping.node) w r (step_plan w.notes.now w.halting.halts.breakpoints.now w.halting.halts.tally w.halting.halts.stops w.stepping r)
 step_alike w r begins k =
     let first : Option NodeId = Some w.stepping.node in
-    let o : Option Made = told_first first (after_first first r k) in
-    let s : State = (first_moved first (after_first first r k)).state in
-    ap (λ (z : Steps). ends_told (by_steps w.stepping.node) z o s) (goes_after w r k begins.0) ∙ step_alike_told w r k begins o refl
+    let o : Option Made = precedence_event first (precedence_run_after first r k) in
+    let s : State = (precedence_run_after_next first (precedence_run_after first r k)).state in
+    ap (λ (z : Steps). watch_ends_at_event (by_steps w.stepping.node) z o s) (goes_after w r k begins.0) ∙ step_alike_told w r k begins o refl

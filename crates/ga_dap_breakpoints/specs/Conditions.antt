@@ -4,8 +4,8 @@ use Rattle.std.specs.Prelude.{ℕ, ◌%◌, ◌==◌, nat_le, Bool, true, not, �
 use Rattle.ga_node.specs.Record.{NodeRecord}
 use Rattle.ga_scheduler.specs.Values.{passes}
 use Rattle.ga_scheduler.specs.declared.value_test.ValueTest.{ValueTest}
-use Rattle.ga_dap_breakpoints.specs.declared.condition.HitCount.{HitCount}
-use Rattle.ga_dap_breakpoints.specs.declared.condition.HitCount.TheVariants.{Only, From, Each}
+use Rattle.ga_dap_breakpoints.specs.declared.condition.HitCondition.{HitCondition}
+use Rattle.ga_dap_breakpoints.specs.declared.condition.HitCondition.TheVariants.{Only, From, Each}
 
 -- a node that made `steps` steps meets a condition, if there is one
 abbrev pub meets_test : Option ValueTest → NodeRecord → ℕ → Bool
@@ -14,7 +14,7 @@ meets_test (Some test) n steps = passes test n steps
 
 -- ---- the hits, by their numbers from 1 on
 
-abbrev pub meets_hit_condition : Option HitCount → ℕ → Bool
+abbrev pub meets_hit_condition : Option HitCondition → ℕ → Bool
 meets_hit_condition None number = true
 meets_hit_condition (Some (Only asked)) number = number == asked
 meets_hit_condition (Some (From first)) number = nat_le first number

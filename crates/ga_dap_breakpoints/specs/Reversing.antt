@@ -7,101 +7,101 @@ use Rattle.ga_node.specs.Record.{NodeRecord}
 use Rattle.ga_grid.specs.declared.node_id.NodeId.{NodeId}
 use Rattle.ga_event.specs.declared.made.Made.{Made}
 use Rattle.ga_event.specs.declared.made.Made.TheVariants as made
-use Rattle.ga_event.specs.Told.{steps_of}
+use Rattle.ga_event.specs.Told.{count_steps}
 use Rattle.ga_lab.specs.Machine.{State, history_of}
 use Rattle.ga_provenance.specs.Origins.{node_after}
-use Rattle.ga_scheduler.specs.Conditions.{stores_in, is_step_of}
+use Rattle.ga_scheduler.specs.Conditions.{stores_in_cell, is_step_of}
 use Rattle.ga_dap_breakpoints.specs.declared.back.Watched.{Watched}
-use Rattle.ga_dap_breakpoints.specs.declared.back.Watched.TheVariants.{Comes, Writes}
-use Rattle.ga_dap_breakpoints.specs.Back.{reaches_slot, gone_back}
+use Rattle.ga_dap_breakpoints.specs.declared.back.Watched.TheVariants.{ArrivesAtSlot, Writes}
+use Rattle.ga_dap_breakpoints.specs.Back.{reaches_slot, rolled_back_past}
 use Rattle.ga_dap_breakpoints.specs.declared.breakpoint.Breakpoint.{Breakpoint}
 use Rattle.ga_dap_breakpoints.specs.declared.hits.HitTally.{HitTally}
-use Rattle.ga_dap_breakpoints.specs.declared.condition.HitCount.{HitCount}
+use Rattle.ga_dap_breakpoints.specs.declared.condition.HitCondition.{HitCondition}
 use Rattle.ga_dap_breakpoints.specs.Conditions.{meets_test, meets_hit_condition}
 
 -- ---- hits among the kept steps of a node
 
 -- a step stored in the cell, where the node was so before it
-abbrev pub stores_told : ℕ → NodeRecord → Option Made → Bool
-stores_told cell before None = false
-stores_told cell before (Some (made.Own node step kind)) = stores_in cell before kind
-stores_told cell before (Some (made.Pass writer i reader j word)) = false
+abbrev pub is_store_event : ℕ → NodeRecord → Option Made → Bool
+is_store_event cell before None = false
+is_store_event cell before (Some (made.Own node step kind)) = stores_in_cell cell before kind
+is_store_event cell before (Some (made.Pass writer i reader j word)) = false
 
 -- the step after the first `n` arrived at the slot, or stored in the cell of RAM, which has two addresses
 abbrev pub is_watched_step : State → NodeId → Watched → ℕ → Bool
-is_watched_step s node (Comes at) k = reaches_slot s node at k
-is_watched_step s node (Writes address) k = stores_told (address % 64) (node_after s node.number k) (slice_get (history_of s node.number) k)
+is_watched_step s node (ArrivesAtSlot at) k = reaches_slot s node at k
+is_watched_step s node (Writes address) k = is_store_event (address % 64) (node_after s node.number k) (slice_get (history_of s node.number) k)
 
 -- the step after the first `n` hit the breakpoint: it did what is watched, and the node met the condition after it
-abbrev pub has_hit : State → NodeId → Breakpoint → ℕ → Bool
-has_hit s node one k = meets_test one.condition (node_after s node.number (k + 1)) (k + 1) && is_watched_step s node one.watched k
+abbrev pub is_hit_step : State → NodeId → Breakpoint → ℕ → Bool
+is_hit_step s node one k = meets_test one.condition (node_after s node.number (k + 1)) (k + 1) && is_watched_step s node one.watched k
 
 -- how many of the first `n` steps hit the breakpoint
 abbrev pub hits_among : State → NodeId → Breakpoint → ℕ → ℕ
 hits_among s node one zero = 0
-hits_among s node one (suc k) = hits_among s node one k + from_bool (has_hit s node one k)
+hits_among s node one (suc k) = hits_among s node one k + from_bool (is_hit_step s node one k)
 
 -- ---- how often each breakpoint was hit, where its hits are asked for by their numbers
 
-abbrev pub counted_by : Option HitCount → State → Breakpoint → ℕ
+abbrev pub counted_by : Option HitCondition → State → Breakpoint → ℕ
 counted_by None s one = 0
-counted_by (Some hits) s one = hits_among s one.node one (steps_of one.node.number s.kept)
+counted_by (Some hits) s one = hits_among s one.node one (count_steps one.node.number s.kept)
 
-abbrev pub counted_kept : State → Breakpoint → ℕ
-counted_kept s one = counted_by one.hits s one
+abbrev pub kept_hit_count : State → Breakpoint → ℕ
+kept_hit_count s one = counted_by one.hits s one
 
-abbrev pub with_count : ℕ → ℕ → List ℕ → List ℕ
-with_count place count counts = if nat_lt place 64 then slice_set counts place count else counts
+abbrev pub with_hit_count : ℕ → ℕ → List ℕ → List ℕ
+with_hit_count place count counts = if nat_lt place 64 then slice_set counts place count else counts
 
-abbrev pub hits_from : State → ℕ → List Breakpoint → List ℕ → List ℕ
-hits_from s place [] counts = counts
-hits_from s place (one ∷ rest) counts = hits_from s (place + 1) rest (with_count place (counted_kept s one) counts)
+abbrev pub hit_counts_from : State → ℕ → List Breakpoint → List ℕ → List ℕ
+hit_counts_from s place [] counts = counts
+hit_counts_from s place (one ∷ rest) counts = hit_counts_from s (place + 1) rest (with_hit_count place (kept_hit_count s one) counts)
 
 abbrev pub kept_tally : State → List Breakpoint → HitTally
-kept_tally s breakpoints = record { counts = hits_from s 0 breakpoints (replicate 64 0); hit = None }
+kept_tally s breakpoints = record { counts = hit_counts_from s 0 breakpoints (replicate 64 0); hit = None }
 
 -- ---- what the newest event hit
 
 -- the step after the first `n` of its node hit the breakpoint, which wants its newest hit
-abbrev pub is_asked_hit : State → Breakpoint → ℕ → Bool
-is_asked_hit s one k = has_hit s one.node one k && meets_hit_condition one.hits (counted_kept s one)
+abbrev pub is_matching_hit : State → Breakpoint → ℕ → Bool
+is_matching_hit s one k = is_hit_step s one.node one k && meets_hit_condition one.hits (kept_hit_count s one)
 
 -- the newest step of its node did
 abbrev pub is_newest_hit : State → Breakpoint → Bool
-is_newest_hit s one = nat_lt 0 (steps_of one.node.number s.kept) && is_asked_hit s one (steps_of one.node.number s.kept - 1)
+is_newest_hit s one = nat_lt 0 (count_steps one.node.number s.kept) && is_matching_hit s one (count_steps one.node.number s.kept - 1)
 
 -- the newest event hit the breakpoint and satisfied its hit condition
-abbrev pub has_been_hit : Made → State → Breakpoint → Bool
-has_been_hit told s one = is_step_of one.node.number told && is_newest_hit s one
+abbrev pub is_hit_by_newest_event : Made → State → Breakpoint → Bool
+is_hit_by_newest_event told s one = is_step_of one.node.number told && is_newest_hit s one
 
 -- ---- `reverseContinue`
 
 -- the number of the newest of the first `n` steps that hit the breakpoint and satisfied its hit condition
-abbrev pub newest_asked : State → NodeId → Breakpoint → ℕ → Option ℕ
-newest_asked s node one zero = None
-newest_asked s node one (suc k) =
-    if has_hit s node one k && meets_hit_condition one.hits (hits_among s node one (k + 1)) then Some (k + 1) else newest_asked s node one k
+abbrev pub newest_matching_hit : State → NodeId → Breakpoint → ℕ → Option ℕ
+newest_matching_hit s node one zero = None
+newest_matching_hit s node one (suc k) =
+    if is_hit_step s node one k && meets_hit_condition one.hits (hits_among s node one (k + 1)) then Some (k + 1) else newest_matching_hit s node one k
 
 -- How many steps remain if the node returns to the newest hit, by at least one step. A node is then after the step by which it
 -- arrived at a slot, and before the one by which it wrote a cell.
-abbrev pub steps_left_by : Watched → State → NodeId → Breakpoint → Option ℕ
-steps_left_by (Comes at) s node one = newest_asked s node one (steps_of node.number s.kept - 1)
-steps_left_by (Writes address) s node one = option_map (λ step. step - 1) (newest_asked s node one (steps_of node.number s.kept))
+abbrev pub steps_left_by_watch : Watched → State → NodeId → Breakpoint → Option ℕ
+steps_left_by_watch (ArrivesAtSlot at) s node one = newest_matching_hit s node one (count_steps node.number s.kept - 1)
+steps_left_by_watch (Writes address) s node one = option_map (λ step. step - 1) (newest_matching_hit s node one (count_steps node.number s.kept))
 
 -- how many steps stay where the newest hit of a breakpoint of the node is gone back to
-abbrev pub steps_left_of : State → NodeId → Breakpoint → Option ℕ
-steps_left_of s node one = if one.node.number == node.number then steps_left_by one.watched s node one else None
+abbrev pub steps_left_by_breakpoint : State → NodeId → Breakpoint → Option ℕ
+steps_left_by_breakpoint s node one = if one.node.number == node.number then steps_left_by_watch one.watched s node one else None
 
-abbrev pub later_of : Option ℕ → Option ℕ → Option ℕ
-later_of None other = other
-later_of (Some a) None = Some a
-later_of (Some a) (Some b) = if nat_lt a b then Some b else Some a
+abbrev pub later_step : Option ℕ → Option ℕ → Option ℕ
+later_step None other = other
+later_step (Some a) None = Some a
+later_step (Some a) (Some b) = if nat_lt a b then Some b else Some a
 
 -- the most steps that stay, of this number and of those by the breakpoints
-abbrev pub latest_hit : State → NodeId → Option ℕ → List Breakpoint → Option ℕ
-latest_hit s node best [] = best
-latest_hit s node best (one ∷ rest) = latest_hit s node (later_of best (steps_left_of s node one)) rest
+abbrev pub most_steps_left : State → NodeId → Option ℕ → List Breakpoint → Option ℕ
+most_steps_left s node best [] = best
+most_steps_left s node best (one ∷ rest) = most_steps_left s node (later_step best (steps_left_by_breakpoint s node one)) rest
 
 -- the node is gone back to the newest hit of one of its breakpoints, and else to the load
-abbrev pub reversed_to : State → NodeId → List Breakpoint → State
-reversed_to s node breakpoints = gone_back s node (unwrap_or (latest_hit s node None breakpoints) 0)
+abbrev pub state_after_reverse : State → NodeId → List Breakpoint → State
+state_after_reverse s node breakpoints = rolled_back_past s node (unwrap_or (most_steps_left s node None breakpoints) 0)

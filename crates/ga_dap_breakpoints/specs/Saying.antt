@@ -2,23 +2,23 @@
 use Rattle.std.specs.Prelude.{ℕ, ◌==◌, if◌then◌else◌, codes, bytes_eq, Option, Some, None, option_map, option_and_then}
 use Rattle.ga_text.specs.Lines.{Text}
 use Rattle.ga_text.specs.Parsing.{split_at_space, parse_number}
-use Rattle.ga_dap_breakpoints.specs.declared.condition.HitCount.{HitCount}
-use Rattle.ga_dap_breakpoints.specs.declared.condition.HitCount.TheVariants.{Only, From, Each}
+use Rattle.ga_dap_breakpoints.specs.declared.condition.HitCondition.{HitCondition}
+use Rattle.ga_dap_breakpoints.specs.declared.condition.HitCondition.TheVariants.{Only, From, Each}
 
 -- ---- the hits that are asked for: N, >= N or % N, with N from 1 on
 
-abbrev pub from_one : ℕ → Option ℕ
-from_one number = if number == 0 then None else Some number
+abbrev pub positive_number : ℕ → Option ℕ
+positive_number number = if number == 0 then None else Some number
 
 abbrev pub hit_number : Text → Option ℕ
-hit_number text = option_and_then from_one (parse_number text)
+hit_number text = option_and_then positive_number (parse_number text)
 
-abbrev pub hits_by_sign : Text → ℕ → Option HitCount
-hits_by_sign sign number = if bytes_eq sign (codes ">=") then Some (From number) else if bytes_eq sign (codes "%") then Some (Each number) else None
+abbrev pub hit_condition_by_operator : Text → ℕ → Option HitCondition
+hit_condition_by_operator sign number = if bytes_eq sign (codes ">=") then Some (From number) else if bytes_eq sign (codes "%") then Some (Each number) else None
 
-abbrev pub hits_cut : Text → Option (Text × Text) → Option HitCount
-hits_cut text None = option_map (λ number. Only number) (hit_number text)
-hits_cut text (Some parts) = option_and_then (hits_by_sign parts.0) (hit_number parts.1)
+abbrev pub hit_condition_of_parts : Text → Option (Text × Text) → Option HitCondition
+hit_condition_of_parts text None = option_map (λ number. Only number) (hit_number text)
+hit_condition_of_parts text (Some parts) = option_and_then (hit_condition_by_operator parts.0) (hit_number parts.1)
 
-abbrev pub parse_hit_condition : Text → Option HitCount
-parse_hit_condition text = hits_cut text (split_at_space text)
+abbrev pub parse_hit_condition : Text → Option HitCondition
+parse_hit_condition text = hit_condition_of_parts text (split_at_space text)

@@ -1,20 +1,20 @@
 //! The requests that go back.
 
 ghost use Rattle.std.specs.Prelude.{◌≡◌, ◌<◌, ◌≤◌, ◌+◌, ℕ, Ok};
-ghost use Rattle.ga_event.specs.Told.{steps_of};
+ghost use Rattle.ga_event.specs.Told.{count_steps};
 ghost use Rattle.ga_lab.specs.Machine.{node_at_step, rewind_answer};
-ghost use Rattle.ga_dap_breakpoints.specs.Back.{gone_back, stepped_back, can_reach_slot, is_at_spot, reaches_slot};
+ghost use Rattle.ga_dap_breakpoints.specs.Back.{rolled_back_past, state_after_step_back, can_reach_slot, is_at_slot_address, reaches_slot};
 
 use ga_dap_views::{SlotAddress, slot_address_at};
 use ga_grid::NodeId;
-use ga_lab::{Lab, Made, Walk};
-use ga_node::Kind;
+use ga_lab::{Lab, Made, NodeWalk};
+use ga_node::OwnEventKind;
 
 /// What is watched of a node.
 #[derive(Clone, Copy, PartialEq, Eq, Debug)]
 pub enum Watched {
     /// The node comes to a slot.
-    Comes(SlotAddress),
+    ArrivesAtSlot(SlotAddress),
     /// The node writes the cell of RAM at an address.
     Writes(u8),
 }
@@ -22,9 +22,9 @@ pub enum Watched {
 /// Rolls back what a node did after its first `keeps` steps, with all dependents and nothing else. Returns the number of
 /// removed events. The time is linear in that number.
 pub fn roll_back_past(lab: &mut Lab, node: NodeId, keeps: u32) -> u32
-    ensures state { lab.new ≡ gone_back lab.old node keeps }
-    ensures gone { (gone : ℕ) → keeps < steps_of node.number lab.old.kept → rewind_answer lab.old node.number (keeps + 1) ≡ Ok gone → result ≡ gone }
-    ensures none { steps_of node.number lab.old.kept ≤ keeps → result ≡ 0 }
+    ensures state { lab.new ≡ rolled_back_past lab.old node keeps }
+    ensures gone { (gone : ℕ) → keeps < count_steps node.number lab.old.kept → rewind_answer lab.old node.number (keeps + 1) ≡ Ok gone → result ≡ gone }
+    ensures none { count_steps node.number lab.old.kept ≤ keeps → result ≡ 0 }
 {
     if keeps >= lab.steps(node) {
         return 0;
@@ -38,7 +38,7 @@ pub fn roll_back_past(lab: &mut Lab, node: NodeId, keeps: u32) -> u32
 /// `stepBack` by an instruction (Debug Adapter Protocol, "StepBackRequest"): takes back a node's last step, with all that depends on it, and says how
 /// many events that were.
 pub fn step_back(lab: &mut Lab, node: NodeId) -> u32
-    ensures { lab.new ≡ stepped_back lab.old node }
+    ensures { lab.new ≡ state_after_step_back lab.old node }
 {
     let keeps = lab.steps(node).saturating_sub(1);
     roll_back_past(lab, node, keeps)
@@ -50,18 +50,18 @@ pub(crate) fn can_reach_slot(told: &Option<Made>) -> bool
 {
     match told {
         Some(Made::Own { step, kind, .. }) => match kind {
-            Kind::Run(_) => true,
-            Kind::Fetch => *step == 1,
-            Kind::Wait => false,
-            Kind::Stop(_) => false,
+            OwnEventKind::Run(_) => true,
+            OwnEventKind::Fetch => *step == 1,
+            OwnEventKind::Wait => false,
+            OwnEventKind::Stop(_) => false,
         },
         Some(Made::Pass { .. }) => true,
         None => false,
     }
 }
 
-pub(crate) fn is_at_spot(at: SlotAddress, found: Option<SlotAddress>) -> bool
-    ensures { result ≡ is_at_spot at found }
+pub(crate) fn is_at_slot_address(at: SlotAddress, found: Option<SlotAddress>) -> bool
+    ensures { result ≡ is_at_slot_address at found }
 {
     match found {
         Some(found) => found.cell == at.cell && found.slot == at.slot,
@@ -73,7 +73,7 @@ pub(crate) fn is_at_spot(at: SlotAddress, found: Option<SlotAddress>) -> bool
 /// just after it.
 pub fn reaches_slot(
     lab: &Lab,
-    walk: &mut Walk<'_>,
+    walk: &mut NodeWalk<'_>,
     node: NodeId,
     at: SlotAddress,
     place: u32,
@@ -86,5 +86,5 @@ pub fn reaches_slot(
 {
     walk.step();
     let found = slot_address_at(lab, walk, node, place + 1);
-    can_reach_slot(&lab.made_by_step(node, place)) && is_at_spot(at, found)
+    can_reach_slot(&lab.made_event_of_step(node, place)) && is_at_slot_address(at, found)
 }

@@ -1,11 +1,11 @@
 //! Breakpoints, and where they stand.
 
 ghost use Rattle.std.specs.Prelude.{◌≡◌};
-ghost use Rattle.ga_debug_info.specs.Notes.{worded_slot};
-ghost use Rattle.ga_dap_breakpoints.specs.Breakpoints.{on_slot, on_word, breakpoint_of_line, breakpoint_of_address};
+ghost use Rattle.ga_debug_info.specs.Notes.{displayed_slot};
+ghost use Rattle.ga_dap_breakpoints.specs.Breakpoints.{slot_breakpoint, word_breakpoint, breakpoint_of_line, breakpoint_of_address};
 
 use crate::back::Watched;
-use crate::condition::HitCount;
+use crate::condition::HitCondition;
 use ga_dap_views::{SlotAddress, memory_cell};
 use ga_debug_info::{DebugInfo, SlotWord};
 use ga_grid::NodeId;
@@ -21,7 +21,7 @@ pub struct Breakpoint {
     /// What must hold of the node after the step that did what is watched.
     pub condition: Option<ValueTest>,
     /// Which of the events that did what is watched end a run.
-    pub hits: Option<HitCount>,
+    pub hits: Option<HitCondition>,
 }
 
 /// A breakpoint on a line of the source.
@@ -34,12 +34,12 @@ pub struct LineBreakpoint {
 }
 
 /// A breakpoint that a node hits by coming to a slot of a cell.
-fn on_slot(node: NodeId, cell: u8, slot: u8) -> Breakpoint
-    ensures { result ≡ on_slot node cell slot }
+fn slot_breakpoint(node: NodeId, cell: u8, slot: u8) -> Breakpoint
+    ensures { result ≡ slot_breakpoint node cell slot }
 {
     Breakpoint {
         node,
-        watched: Watched::Comes(SlotAddress { cell, slot }),
+        watched: Watched::ArrivesAtSlot(SlotAddress { cell, slot }),
         condition: None,
         hits: None,
     }
@@ -47,17 +47,17 @@ fn on_slot(node: NodeId, cell: u8, slot: u8) -> Breakpoint
 
 /// The slot that a word begins.
 fn slot_of(first: usize) -> u8
-    ensures { result ≡ worded_slot first }
+    ensures { result ≡ displayed_slot first }
 {
     if first < 4 { first as u8 } else { 0 }
 }
 
 /// A breakpoint on the first slot of a word, with its line.
-fn on_word(word: SlotWord) -> LineBreakpoint
-    ensures { result ≡ on_word word }
+fn word_breakpoint(word: SlotWord) -> LineBreakpoint
+    ensures { result ≡ word_breakpoint word }
 {
     LineBreakpoint {
-        breakpoint: on_slot(word.node, word.cell, slot_of(word.first)),
+        breakpoint: slot_breakpoint(word.node, word.cell, slot_of(word.first)),
         line: word.line,
     }
 }
@@ -68,7 +68,7 @@ pub fn breakpoint_of_line(notes: &DebugInfo, line: u32) -> Option<LineBreakpoint
     ensures { result ≡ breakpoint_of_line notes.now line }
 {
     match notes.first_word(line) {
-        Some(word) => Some(on_word(word)),
+        Some(word) => Some(word_breakpoint(word)),
         None => None,
     }
 }
@@ -78,7 +78,7 @@ pub fn breakpoint_of_address(node: NodeId, address: u32) -> Option<Breakpoint>
     ensures { result ≡ breakpoint_of_address node address }
 {
     match memory_cell(address) {
-        Some(cell) => Some(on_slot(node, cell, 0)),
+        Some(cell) => Some(slot_breakpoint(node, cell, 0)),
         None => None,
     }
 }

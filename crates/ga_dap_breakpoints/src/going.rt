@@ -1,19 +1,19 @@
 //! How a move ends, and `continue`.
 
 ghost use Rattle.std.specs.Prelude.{◌≡◌, ◌≤◌, None};
-ghost use Rattle.ga_scheduler.specs.Running.{running, after_events};
-ghost use Rattle.ga_dap_breakpoints.specs.Going.{IsMoveResult, tally_on, going_on};
+ghost use Rattle.ga_scheduler.specs.Running.{running, run_after_events};
+ghost use Rattle.ga_dap_breakpoints.specs.Going.{IsMoveResult, tally_after_events, continue_plan};
 ghost use Rattle.ga_dap_breakpoints.specs.inner.Cells.{halt_by, halt_of};
 
-use crate::halts::{HaltMonitor, Halts, is_stopping};
+use crate::halts::{HaltConditions, HaltMonitor, is_ending_stop};
 use crate::hits::HitTally;
-use ga_grid::{NODES, NodeId};
+use ga_grid::{CHIP_NODES, NodeId};
 use ga_lab::{Lab, LabFault, Made};
 use ga_scheduler::{Schedule, WatchedEnd, WatchedRun, run_watched};
 
 /// Why a move ended, or a slice of it.
 #[derive(Clone, Copy, PartialEq, Eq, Debug)]
-pub enum Halt {
+pub enum HaltReason {
     /// This event hit the breakpoint at this place of the list, the first of those that it hit.
     Hit { made: Made, which: usize },
     /// This event was a stop, and hit no breakpoint.
@@ -34,7 +34,7 @@ pub struct MoveResult {
     /// How many events were made.
     pub events: u64,
     /// Why no more events were made.
-    pub halt: Halt,
+    pub halt: HaltReason,
     /// The schedule after the last event, with which a further move continues.
     pub schedule: Schedule,
     /// How often each breakpoint was hit: a further move counts on.
@@ -42,33 +42,37 @@ pub struct MoveResult {
 }
 
 /// Why a move ended by an event.
-fn halt_by(halts: &Halts<'_>, node: Option<NodeId>, made: Made) -> Halt
+fn halt_by(halts: &HaltConditions<'_>, node: Option<NodeId>, made: Made) -> HaltReason
     ensures { result ≡ halt_by halts.now.tally.hit halts.now.stops node made }
 {
     if let Some(which) = halts.tally.hit {
-        return Halt::Hit { made, which };
+        return HaltReason::Hit { made, which };
     }
-    if is_stopping(halts.stops, node, &made) {
-        Halt::Stopped(made)
+    if is_ending_stop(halts.stops, node, &made) {
+        HaltReason::Stopped(made)
     } else {
-        Halt::Moved(made)
+        HaltReason::Moved(made)
     }
 }
 
 /// Why a move ended, by how its run did.
-fn halt_of(halts: &Halts<'_>, node: Option<NodeId>, end: WatchedEnd) -> Halt
+fn halt_of(halts: &HaltConditions<'_>, node: Option<NodeId>, end: WatchedEnd) -> HaltReason
     ensures { result ≡ halt_of halts.now.tally.hit halts.now.stops node end }
 {
     match end {
         WatchedEnd::Seen(made) => halt_by(halts, node, made),
-        WatchedEnd::Made => Halt::Cut,
-        WatchedEnd::Quiet => Halt::Quiet,
-        WatchedEnd::Refused(why) => Halt::Refused(why),
+        WatchedEnd::Made => HaltReason::Cut,
+        WatchedEnd::Quiet => HaltReason::Quiet,
+        WatchedEnd::Refused(why) => HaltReason::Refused(why),
     }
 }
 
 /// How a move went by a run that was watched so.
-pub(crate) fn move_result(run: WatchedRun, halts: &Halts<'_>, node: Option<NodeId>) -> MoveResult
+pub(crate) fn move_result(
+    run: WatchedRun,
+    halts: &HaltConditions<'_>,
+    node: Option<NodeId>,
+) -> MoveResult
     ensures events { result.events ≡ run.events }
     ensures halt { result.halt ≡ halt_of halts.now.tally.hit halts.now.stops node run.end }
     ensures schedule { result.schedule ≡ run.schedule }
@@ -86,17 +90,22 @@ pub(crate) fn move_result(run: WatchedRun, halts: &Halts<'_>, node: Option<NodeI
 /// one hits a breakpoint, or is a stop if stops end it. The returned schedule continues a slice that was cut. The time is
 /// linear in the number of events and in the number of breakpoints; in addition, for each node that arrives at the slot number
 /// of a breakpoint, once in a slice, in how long it is within its word.
-pub fn continue_run(lab: &mut Lab, schedule: Schedule, halts: Halts<'_>, most: u64) -> MoveResult
-    ensures state { running lab.new result.schedule ≡ after_events (running lab.old schedule) result.events }
-    ensures hits { result.tally ≡ tally_on None halts.entry.breakpoints.now halts.entry.tally (running lab.old schedule) result.events }
+pub fn continue_run(
+    lab: &mut Lab,
+    schedule: Schedule,
+    halts: HaltConditions<'_>,
+    most: u64,
+) -> MoveResult
+    ensures state { running lab.new result.schedule ≡ run_after_events (running lab.old schedule) result.events }
+    ensures hits { result.tally ≡ tally_after_events None halts.entry.breakpoints.now halts.entry.tally (running lab.old schedule) result.events }
     ensures most { result.events ≤ most }
-    ensures end { IsMoveResult (going_on halts.entry.breakpoints.now halts.entry.tally halts.entry.stops (running lab.old schedule)) (running lab.old schedule) most result.events result.halt }
+    ensures end { IsMoveResult (continue_plan halts.entry.breakpoints.now halts.entry.tally halts.entry.stops (running lab.old schedule)) (running lab.old schedule) most result.events result.halt }
 {
     // It is called for its contract only: the history can be replayed.
     lab.chip();
     let mut watch = HaltMonitor {
         halts,
-        cells: [None; NODES],
+        cells: [None; CHIP_NODES],
     };
     let run = run_watched(lab, schedule, None, most, &mut watch);
     move_result(run, &watch.halts, None)

@@ -17,12 +17,12 @@ mod words;
 
 pub use back::{Watched, reaches_slot, roll_back_past, step_back};
 pub use breakpoint::{Breakpoint, LineBreakpoint, breakpoint_of_address, breakpoint_of_line};
-pub use condition::HitCount;
-pub use going::{Halt, MoveResult, continue_run};
-pub use halts::Halts;
-pub use hits::{HitTally, MAX_COUNTED};
+pub use condition::HitCondition;
+pub use going::{HaltReason, MoveResult, continue_run};
+pub use halts::HaltConditions;
+pub use hits::{HitTally, MAX_COUNTED_BREAKPOINTS};
 pub use lines::step_back_line;
 pub use moves::continue_step;
 pub use parsing::parse_hit_condition;
-pub use reversing::{has_been_hit, kept_hits, reverse_to};
+pub use reversing::{is_hit_by_newest_event, kept_hits, reverse_to};
 pub use stepping::{Granularity, StepMove};

@@ -1,28 +1,30 @@
 //! A node gone back by lines of its source.
 
 ghost use Rattle.std.specs.Prelude.{◌≡◌, ◌<◌, ◌≤◌};
-ghost use Rattle.ga_event.specs.Told.{steps_of};
+ghost use Rattle.ga_event.specs.Told.{count_steps};
 ghost use Rattle.ga_lab.specs.Machine.{node_at_step};
 ghost use Rattle.ga_dap_breakpoints.specs.inner.Words.{spot_before, begins_by};
-ghost use Rattle.ga_dap_breakpoints.specs.Lines.{op_told, is_return_op, is_jump, place_back, line_on_spot, begins_at, comes_on, beginning_from, stepped_back_line};
+ghost use Rattle.ga_dap_breakpoints.specs.Lines.{executed_op, is_return_op, is_jump, previous_place, line_of_slot_address, starts_line_at, enters_line, nearest_line_start, state_after_line_back};
 
 use crate::back::roll_back_past;
-use crate::words::spot_by;
-use ga_dap_views::{SlotAddress, is_calling, line_at, line_start, pushed_by_step, slot_address_at};
+use crate::words::node_slot_address;
+use ga_dap_views::{
+    SlotAddress, is_call_step, line_start, pushed_by_step, slot_address_at, source_line_of_slot,
+};
 use ga_debug_info::DebugInfo;
 use ga_grid::NodeId;
-use ga_lab::{Lab, Made, Walk};
-use ga_node::Kind;
+use ga_lab::{Lab, Made, NodeWalk};
+use ga_node::OwnEventKind;
 use ga_slots::Op;
 
 /// The opcode that the step with this event executed.
-fn op_told(told: &Option<Made>) -> Option<Op>
-    ensures { result ≡ op_told told.now }
+fn executed_op(told: &Option<Made>) -> Option<Op>
+    ensures { result ≡ executed_op told.now }
 {
     match told {
         Some(
             Made::Own {
-                kind: Kind::Run(code),
+                kind: OwnEventKind::Run(code),
                 ..
             },
         ) => Some(Op::from_code(*code % 32)),
@@ -52,16 +54,16 @@ fn is_jump(op: Option<Op>) -> bool
 
 /// Of the step at a place, the place before it; if it returned from a call that the node made after its first `began` steps,
 /// the place of that call.
-fn place_back(lab: &Lab, node: NodeId, place: u32, began: u32) -> u32
-    requires { place ≤ steps_of node.number lab.now.kept }
-    ensures value { result ≡ place_back began lab.now node place }
+fn previous_place(lab: &Lab, node: NodeId, place: u32, began: u32) -> u32
+    requires { place ≤ count_steps node.number lab.now.kept }
+    ensures value { result ≡ previous_place began lab.now node place }
     ensures within { result ≤ place }
 {
-    if !is_return_op(op_told(&lab.made_by_step(node, place))) {
+    if !is_return_op(executed_op(&lab.made_event_of_step(node, place))) {
         return place;
     }
     let call = pushed_by_step(lab, node, place, 0);
-    if began < call && is_calling(lab, node, call) {
+    if began < call && is_call_step(lab, node, call) {
         call.saturating_sub(1)
     } else {
         place
@@ -69,15 +71,15 @@ fn place_back(lab: &Lab, node: NodeId, place: u32, began: u32) -> u32
 }
 
 /// The line of a node at a slot.
-fn line_on_spot(notes: &DebugInfo, node: NodeId, spot: Option<SlotAddress>) -> Option<u32>
-    ensures { result ≡ line_on_spot notes.now node spot }
+fn line_of_slot_address(notes: &DebugInfo, node: NodeId, spot: Option<SlotAddress>) -> Option<u32>
+    ensures { result ≡ line_of_slot_address notes.now node spot }
 {
-    line_at(notes, node, spot?)
+    source_line_of_slot(notes, node, spot?)
 }
 
 /// Whether a slot is the first of a line.
-fn begins_at(notes: &DebugInfo, node: NodeId, line: u32, spot: SlotAddress) -> bool
-    ensures { result ≡ begins_at notes.now node line spot }
+fn starts_line_at(notes: &DebugInfo, node: NodeId, line: u32, spot: SlotAddress) -> bool
+    ensures { result ≡ starts_line_at notes.now node line spot }
 {
     match line_start(notes, node, line) {
         Some(word) => word.cell == spot.cell && word.first == usize::from(spot.slot),
@@ -86,23 +88,23 @@ fn begins_at(notes: &DebugInfo, node: NodeId, line: u32, spot: SlotAddress) -> b
 }
 
 /// Whether a node that is at a slot arrived at a line by this step: from another line, or by a jump to its first slot.
-fn comes_on(
+fn enters_line(
     notes: &DebugInfo,
     node: NodeId,
     before: Option<SlotAddress>,
     spot: Option<SlotAddress>,
     op: Option<Op>,
 ) -> bool
-    ensures { result ≡ comes_on notes.now node before spot op (line_on_spot notes.now node spot) }
+    ensures { result ≡ enters_line notes.now node before spot op (line_of_slot_address notes.now node spot) }
 {
     let Some(at) = spot else {
         return false;
     };
-    let Some(line) = line_at(notes, node, at) else {
+    let Some(line) = source_line_of_slot(notes, node, at) else {
         return false;
     };
-    match line_on_spot(notes, node, before) {
-        Some(other) => other != line || is_jump(op) && begins_at(notes, node, line, at),
+    match line_of_slot_address(notes, node, before) {
+        Some(other) => other != line || is_jump(op) && starts_line_at(notes, node, line, at),
         None => true,
     }
 }
@@ -111,7 +113,7 @@ fn comes_on(
 /// from one that the node made after its first `began` steps. The node is walked back there.
 fn spot_before(
     lab: &Lab,
-    walk: &mut Walk<'_>,
+    walk: &mut NodeWalk<'_>,
     node: NodeId,
     place: u32,
     began: u32,
@@ -119,13 +121,13 @@ fn spot_before(
 ) -> Option<SlotAddress>
     requires walk { walk.old ≡ node_at_step lab.now node walk.old.step }
     requires order { place ≤ walk.old.step }
-    requires within { place ≤ steps_of node.number lab.now.kept }
+    requires within { place ≤ count_steps node.number lab.now.kept }
     ensures { result ≡ spot_before began lab.now node place word }
 {
-    let before = place_back(lab, node, place, began);
+    let before = previous_place(lab, node, place, began);
     if before == place {
-        walk.back_to(place);
-        spot_by(walk.node(), word)
+        walk.walk_back_to(place);
+        node_slot_address(walk.node(), word)
     } else {
         slot_address_at(lab, walk, node, before)
     }
@@ -144,23 +146,23 @@ pub(crate) fn begins_by(
     before: Option<u8>,
     behind: Option<u8>,
 ) -> bool
-    requires { step < steps_of node.number lab.now.kept }
+    requires { step < count_steps node.number lab.now.kept }
     ensures { result ≡ begins_by began notes.now lab.now node step before behind }
 {
     // It is less than the node's steps, so that one more can be counted.
     let steps = lab.steps(node);
     prove!(step < steps);
     let mut walk = lab.walk(node, step + 1);
-    let spot = spot_by(walk.node(), behind);
+    let spot = node_slot_address(walk.node(), behind);
     let there = spot_before(lab, &mut walk, node, step, began, before);
-    let told = lab.made_by_step(node, step);
-    comes_on(notes, node, there, spot, op_told(&told))
+    let told = lab.made_event_of_step(node, step);
+    enters_line(notes, node, there, spot, executed_op(&told))
 }
 
 /// The nearest beginning of a line at a place or before it, among at most `most` places.
-fn beginning_from(lab: &Lab, notes: &DebugInfo, node: NodeId, from: u32, most: u32) -> u32
-    requires { from ≤ steps_of node.number lab.now.kept }
-    ensures { result ≡ beginning_from notes.now lab.now node from most }
+fn nearest_line_start(lab: &Lab, notes: &DebugInfo, node: NodeId, from: u32, most: u32) -> u32
+    requires { from ≤ count_steps node.number lab.now.kept }
+    ensures { result ≡ nearest_line_start notes.now lab.now node from most }
 {
     let mut walk = lab.walk(node, from);
     let mut spot = slot_address_at(lab, &mut walk, node, from);
@@ -170,11 +172,11 @@ fn beginning_from(lab: &Lab, notes: &DebugInfo, node: NodeId, from: u32, most: u
         if place == 0 {
             return 0;
         }
-        let before = place_back(lab, node, place - 1, 0);
+        let before = previous_place(lab, node, place - 1, 0);
         let there = slot_address_at(lab, &mut walk, node, before);
-        let told = lab.made_by_step(node, place - 1);
-        let op = op_told(&told);
-        if comes_on(notes, node, there, spot, op) {
+        let told = lab.made_event_of_step(node, place - 1);
+        let op = executed_op(&told);
+        if enters_line(notes, node, there, spot, op) {
             return place;
         }
         place = before;
@@ -188,13 +190,13 @@ fn beginning_from(lab: &Lab, notes: &DebugInfo, node: NodeId, from: u32, most: u
 /// it is at the beginning of one, to that of the line before; steps over calls, and removes all dependents. Returns the number
 /// of removed events.
 pub fn step_back_line(lab: &mut Lab, notes: &DebugInfo, node: NodeId) -> u32
-    ensures { lab.new ≡ stepped_back_line notes.now lab.old node }
+    ensures { lab.new ≡ state_after_line_back notes.now lab.old node }
 {
     let steps = lab.steps(node);
     if steps == 0 {
         return 0;
     }
-    let from = place_back(lab, node, steps - 1, 0);
-    let keeps = beginning_from(lab, notes, node, from, steps);
+    let from = previous_place(lab, node, steps - 1, 0);
+    let keeps = nearest_line_start(lab, notes, node, from, steps);
     roll_back_past(lab, node, keeps)
 }

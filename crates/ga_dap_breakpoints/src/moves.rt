@@ -1,26 +1,26 @@
 //! A move of one node.
 
 ghost use Rattle.std.specs.Prelude.{◌≡◌, ◌-◌, ◌<◌, ◌≤◌, ◌&&◌, Some, true, position};
-ghost use Rattle.ga_event.specs.Told.{steps_of};
+ghost use Rattle.ga_event.specs.Told.{count_steps};
 ghost use Rattle.ga_scheduler.specs.Conditions.{is_step_of};
 ghost use Rattle.ga_scheduler.specs.Running.{running};
-ghost use Rattle.ga_scheduler.specs.Watched.{IsNewestMade, after_first};
-ghost use Rattle.ga_dap_views.specs.Calls.{is_calling, return_entry_sources};
+ghost use Rattle.ga_scheduler.specs.Watched.{IsNewestReport, precedence_run_after};
+ghost use Rattle.ga_dap_views.specs.Calls.{is_call_step, return_entry_sources};
 ghost use Rattle.ga_provenance.specs.Fetched.{fetched_cell};
 ghost use Rattle.ga_dap_breakpoints.specs.declared.stepping.Granularity.TheVariants.{Line};
-ghost use Rattle.ga_dap_breakpoints.specs.Stepping.{is_from, call_behind, step_seen, stepped_on};
+ghost use Rattle.ga_dap_breakpoints.specs.Stepping.{is_entry_source, pending_call_after_step, move_after_event, move_after_events};
 ghost use Rattle.ga_dap_breakpoints.specs.inner.Words.{word_seen, reaches_by, is_moved_by};
-ghost use Rattle.ga_dap_breakpoints.specs.Going.{IsMoveResult, tally_on, stepping_on};
+ghost use Rattle.ga_dap_breakpoints.specs.Going.{IsMoveResult, tally_after_events, step_plan};
 
 use crate::going::{MoveResult, move_result};
-use crate::halts::{HaltMonitor, Halts, check_halt};
+use crate::halts::{HaltConditions, HaltMonitor, check_halt};
 use crate::hits::is_step_of;
 use crate::lines::begins_by;
 use crate::stepping::{Granularity, StepMove};
 use crate::words::{instruction_cell_after, word_after};
-use ga_dap_views::{is_calling, return_entry_sources};
+use ga_dap_views::{is_call_step, return_entry_sources};
 use ga_debug_info::DebugInfo;
-use ga_grid::{NODES, NodeId};
+use ga_grid::{CHIP_NODES, NodeId};
 use ga_lab::{Lab, Made};
 use ga_scheduler::{Schedule, StopCondition, run_watched};
 
@@ -35,8 +35,8 @@ struct Steps<'a> {
 }
 
 /// Whether an entry of the return stack stood at this place before.
-fn is_from(from: Option<u8>, place: usize) -> bool
-    ensures { result ≡ is_from place from }
+fn is_entry_source(from: Option<u8>, place: usize) -> bool
+    ensures { result ≡ is_entry_source place from }
 {
     match from {
         Some(from) => usize::from(from) == place,
@@ -46,23 +46,30 @@ fn is_from(from: Option<u8>, place: usize) -> bool
 
 /// The place of the entry after the node's newest step, if it was at `place` before.
 fn place_behind(lab: &Lab, node: NodeId, place: usize) -> Option<usize>
-    ensures { result ≡ position (is_from place) (return_entry_sources lab.now node (steps_of node.number lab.now.kept - 1)) }
+    ensures { result ≡ position (is_entry_source place) (return_entry_sources lab.now node (count_steps node.number lab.now.kept - 1)) }
 {
     let steps = lab.steps(node);
     let entries = return_entry_sources(lab, node, steps.saturating_sub(1));
-    entries.iter().position(|from| is_from(*from, place))
+    entries
+        .iter()
+        .position(|from| is_entry_source(*from, place))
 }
 
 /// Whether the node's newest step was a call and calls are stepped over.
 fn is_gone_over(lab: &Lab, node: NodeId, over: bool) -> bool
-    ensures { result ≡ (over && is_calling lab.now node (steps_of node.number lab.now.kept)) }
+    ensures { result ≡ (over && is_call_step lab.now node (count_steps node.number lab.now.kept)) }
 {
-    over && is_calling(lab, node, lab.steps(node))
+    over && is_call_step(lab, node, lab.steps(node))
 }
 
 /// The call from which the node is to return first, after its newest step.
-fn call_behind(lab: &Lab, node: NodeId, over: bool, call: Option<usize>) -> Option<usize>
-    ensures { result ≡ call_behind lab.now node over call }
+fn pending_call_after_step(
+    lab: &Lab,
+    node: NodeId,
+    over: bool,
+    call: Option<usize>,
+) -> Option<usize>
+    ensures { result ≡ pending_call_after_step lab.now node over call }
 {
     match call {
         Some(place) => place_behind(lab, node, place),
@@ -78,10 +85,10 @@ fn call_behind(lab: &Lab, node: NodeId, over: bool, call: Option<usize>) -> Opti
 
 /// By how many steps of a node its newest one was preceded, where the newest event is one.
 fn newest_step(lab: &Lab, made: &Made, node: NodeId) -> u32
-    requires newest { IsNewestMade lab.now made.now }
+    requires newest { IsNewestReport lab.now made.now }
     requires own { is_step_of node.number made.now ≡ true }
-    ensures step { result ≡ steps_of node.number lab.now.kept - 1 }
-    ensures within { result < steps_of node.number lab.now.kept }
+    ensures step { result ≡ count_steps node.number lab.now.kept - 1 }
+    ensures within { result < count_steps node.number lab.now.kept }
 {
     // It is called for its contract only: the history can be replayed.
     lab.chip();
@@ -89,19 +96,19 @@ fn newest_step(lab: &Lab, made: &Made, node: NodeId) -> u32
 }
 
 /// A move after the newest event.
-fn step_seen(lab: &Lab, by: StepMove, made: &Made) -> StepMove
-    ensures { result ≡ step_seen by made.now lab.now }
+fn move_after_event(lab: &Lab, by: StepMove, made: &Made) -> StepMove
+    ensures { result ≡ move_after_event by made.now lab.now }
 {
     if !is_step_of(made, by.node) {
         return by;
     }
-    let call = call_behind(lab, by.node, by.over, by.call);
+    let call = pending_call_after_step(lab, by.node, by.over, by.call);
     StepMove { call, ..by }
 }
 
 /// The cell from which a node's word came, after the newest event, if the word before it came from `word`.
 fn word_seen(lab: &Lab, node: NodeId, word: Option<u8>, made: &Made) -> Option<u8>
-    requires { IsNewestMade lab.now made.now }
+    requires { IsNewestReport lab.now made.now }
     ensures { result ≡ word_seen node word made.now lab.now }
 {
     if !is_step_of(made, node) {
@@ -123,7 +130,7 @@ fn reaches_by(
     before: Option<u8>,
     behind: Option<u8>,
 ) -> bool
-    requires { step < steps_of node.number lab.now.kept }
+    requires { step < count_steps node.number lab.now.kept }
     ensures { result ≡ reaches_by grain began notes.now node lab.now step before behind }
 {
     match grain {
@@ -143,8 +150,8 @@ fn is_moved_by(
     behind: Option<u8>,
     made: &Made,
 ) -> bool
-    requires newest { IsNewestMade lab.now made.now }
-    requires call { is_step_of by.now.node.number made.now ≡ true → call ≡ call_behind lab.now by.now.node by.now.over by.now.call }
+    requires newest { IsNewestReport lab.now made.now }
+    requires call { is_step_of by.now.node.number made.now ≡ true → call ≡ pending_call_after_step lab.now by.now.node by.now.over by.now.call }
     requires behind { behind ≡ word_seen by.now.node before made.now lab.now }
     ensures { result ≡ is_moved_by notes.now by.now before made.now lab.now }
 {
@@ -163,17 +170,17 @@ fn is_moved_by(
 impl<'a> StopCondition for Steps<'a> {
     ghost use Rattle.std.specs.Prelude.{Some, ◌||◌};
     ghost use Rattle.ga_dap_breakpoints.specs.inner.Cells.{ends_by, with_hits};
-    ghost use Rattle.ga_dap_breakpoints.specs.Stepping.{step_seen};
+    ghost use Rattle.ga_dap_breakpoints.specs.Stepping.{move_after_event};
     ghost use Rattle.ga_dap_breakpoints.specs.inner.Words.{word_seen, is_moved_by};
 
     ghost ends = { λ w told s. ends_by w.halting.halts.breakpoints.now w.halting.cells w.halting.halts.tally w.halting.halts.stops (Some w.stepping.node) told s || is_moved_by w.notes.now w.stepping w.word told s };
 
-    ghost seen = { λ w told s. record w { halting = with_hits w.halting told s; stepping = step_seen w.stepping told s; word = word_seen w.stepping.node w.word told s } };
+    ghost seen = { λ w told s. record w { halting = with_hits w.halting told s; stepping = move_after_event w.stepping told s; word = word_seen w.stepping.node w.word told s } };
 
     fn sees(&mut self, made: &Made, lab: &Lab) -> bool {
         let by = self.stepping;
         let before = self.word;
-        let next = step_seen(lab, by, made);
+        let next = move_after_event(lab, by, made);
         let behind = word_seen(lab, by.node, before, made);
         self.stepping = next;
         self.word = behind;
@@ -184,7 +191,7 @@ impl<'a> StopCondition for Steps<'a> {
 
 /// The cell from which the word of a node came, where a move of it is by lines.
 fn word_begun(lab: &Lab, by: &StepMove) -> Option<u8>
-    ensures { by.now.grain ≡ Line → result ≡ fetched_cell lab.now by.now.node (steps_of by.now.node.number lab.now.kept) }
+    ensures { by.now.grain ≡ Line → result ≡ fetched_cell lab.now by.now.node (count_steps by.now.node.number lab.now.kept) }
 {
     match by.grain {
         Granularity::Instruction => None,
@@ -202,14 +209,14 @@ pub fn continue_step(
     schedule: Schedule,
     stepping: &mut StepMove,
     notes: &DebugInfo,
-    halts: Halts<'_>,
+    halts: HaltConditions<'_>,
     most: u64,
 ) -> MoveResult
-    ensures state { running lab.new result.schedule ≡ after_first (Some stepping.old.node) (running lab.old schedule) result.events }
-    ensures stepping { stepping.new ≡ stepped_on stepping.old (running lab.old schedule) result.events }
-    ensures hits { result.tally ≡ tally_on (Some stepping.old.node) halts.entry.breakpoints.now halts.entry.tally (running lab.old schedule) result.events }
+    ensures state { running lab.new result.schedule ≡ precedence_run_after (Some stepping.old.node) (running lab.old schedule) result.events }
+    ensures stepping { stepping.new ≡ move_after_events stepping.old (running lab.old schedule) result.events }
+    ensures hits { result.tally ≡ tally_after_events (Some stepping.old.node) halts.entry.breakpoints.now halts.entry.tally (running lab.old schedule) result.events }
     ensures most { result.events ≤ most }
-    ensures end { IsMoveResult (stepping_on notes.now halts.entry.breakpoints.now halts.entry.tally halts.entry.stops stepping.old (running lab.old schedule)) (running lab.old schedule) most result.events result.halt }
+    ensures end { IsMoveResult (step_plan notes.now halts.entry.breakpoints.now halts.entry.tally halts.entry.stops stepping.old (running lab.old schedule)) (running lab.old schedule) most result.events result.halt }
 {
     let node = stepping.node;
     // It is called for its contract only: the history can be replayed.
@@ -218,7 +225,7 @@ pub fn continue_step(
         notes,
         halting: HaltMonitor {
             halts,
-            cells: [None; NODES],
+            cells: [None; CHIP_NODES],
         },
         stepping: *stepping,
         word: word_begun(lab, stepping),

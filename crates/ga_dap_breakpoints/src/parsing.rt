@@ -1,9 +1,9 @@
 //! Hit conditions as a client says them.
 
 ghost use Rattle.std.specs.Prelude.{◌≡◌};
-ghost use Rattle.ga_dap_breakpoints.specs.Saying.{hit_number, hits_by_sign, parse_hit_condition};
+ghost use Rattle.ga_dap_breakpoints.specs.Saying.{hit_number, hit_condition_by_operator, parse_hit_condition};
 
-use crate::condition::HitCount;
+use crate::condition::HitCondition;
 use ga_text::{parse_number, split_at_space};
 
 /// A number of hits.
@@ -15,24 +15,24 @@ fn hit_number(text: &[u8]) -> Option<u32>
 }
 
 /// The hits that a sign and a number ask for.
-fn hits_by_sign(sign: &[u8], number: u32) -> Option<HitCount>
-    ensures { result ≡ hits_by_sign sign.now number }
+fn hit_condition_by_operator(sign: &[u8], number: u32) -> Option<HitCondition>
+    ensures { result ≡ hit_condition_by_operator sign.now number }
 {
     if sign == b">=".as_slice() {
-        Some(HitCount::From(number))
+        Some(HitCondition::From(number))
     } else if sign == b"%".as_slice() {
-        Some(HitCount::Each(number))
+        Some(HitCondition::Each(number))
     } else {
         None
     }
 }
 
 /// The hits that a text asks for: `N`, `>= N` or `% N`, with N from 1 on; none where it asks for none. Takes time by its length.
-pub fn parse_hit_condition(text: &[u8]) -> Option<HitCount>
+pub fn parse_hit_condition(text: &[u8]) -> Option<HitCondition>
     ensures { result ≡ parse_hit_condition text.now }
 {
     match split_at_space(text) {
-        Some((sign, number)) => hits_by_sign(sign, hit_number(number)?),
-        None => Some(HitCount::Only(hit_number(text)?)),
+        Some((sign, number)) => hit_condition_by_operator(sign, hit_number(number)?),
+        None => Some(HitCondition::Only(hit_number(text)?)),
     }
 }

@@ -3,30 +3,30 @@
 
 ghost use Rattle.std.specs.Prelude.{◌≡◌, ◌<◌, ◌≤◌, ◌+◌, true};
 ghost use Rattle.ga_node.specs.Record.{record_of};
-ghost use Rattle.ga_event.specs.Told.{steps_of};
+ghost use Rattle.ga_event.specs.Told.{count_steps};
 ghost use Rattle.ga_lab.specs.Machine.{node_at_step};
 ghost use Rattle.ga_provenance.specs.Fetched.{fetched_cell};
-ghost use Rattle.ga_dap_views.specs.Spots.{spot_by};
+ghost use Rattle.ga_dap_views.specs.Spots.{node_slot_address};
 ghost use Rattle.ga_grid.specs.Chip.{record_at};
 ghost use Rattle.ga_lab.specs.Machine.{chip_of};
 ghost use Rattle.ga_dap_breakpoints.specs.inner.Words.{keeps_kind, awaits_code, keeps_word, word_after};
 ghost use Rattle.ga_dap_breakpoints.specs.inner.Cells.{cells_left, cell_known, cell_in, asks_word, cells_with, cells_asked};
 
 use ga_dap_views::{SlotAddress, memory_cell, slot_and_p};
-use ga_grid::{NODES, NodeId};
-use ga_lab::{Lab, Made, Walk};
-use ga_node::{Kind, Node, Wait};
+use ga_grid::{CHIP_NODES, NodeId};
+use ga_lab::{Lab, Made, NodeWalk};
+use ga_node::{Node, OwnEventKind, Wait};
 use ga_provenance::fetched_cell_at;
 
 /// Whether an event of a node's own leaves its word.
-fn keeps_kind(kind: Kind) -> bool
+fn keeps_kind(kind: OwnEventKind) -> bool
     ensures { result ≡ keeps_kind kind }
 {
     match kind {
-        Kind::Fetch => false,
-        Kind::Run(code) => code < 32,
-        Kind::Wait => true,
-        Kind::Stop(_) => true,
+        OwnEventKind::Fetch => false,
+        OwnEventKind::Run(code) => code < 32,
+        OwnEventKind::Wait => true,
+        OwnEventKind::Stop(_) => true,
     }
 }
 
@@ -61,7 +61,7 @@ fn keeps_word(told: &Option<Made>, before: &Node, node: NodeId) -> bool
 /// The cell from which the word of a node came, after its first `step` steps. The time is linear in the number of steps since
 /// the fetch.
 pub(crate) fn instruction_cell_after(lab: &Lab, node: NodeId, step: u32) -> Option<u8>
-    requires { step ≤ steps_of node.number lab.now.kept }
+    requires { step ≤ count_steps node.number lab.now.kept }
     ensures { result ≡ fetched_cell lab.now node step }
 {
     fetched_cell_at(lab, &lab.walk(node, step), node, node, step)
@@ -69,16 +69,21 @@ pub(crate) fn instruction_cell_after(lab: &Lab, node: NodeId, step: u32) -> Opti
 
 /// The cell of a node's word after the step at which a walk of the node is, if the word before it came from this cell. Constant
 /// time.
-pub(crate) fn word_after(lab: &Lab, walk: &Walk<'_>, node: NodeId, word: Option<u8>) -> Option<u8>
+pub(crate) fn word_after(
+    lab: &Lab,
+    walk: &NodeWalk<'_>,
+    node: NodeId,
+    word: Option<u8>,
+) -> Option<u8>
     requires walk { walk.now ≡ node_at_step lab.now node walk.now.step }
-    requires within { walk.now.step < steps_of node.number lab.now.kept }
+    requires within { walk.now.step < count_steps node.number lab.now.kept }
     ensures { result ≡ word_after lab.now node walk.now.step word }
 {
     // It is less than the node's steps, so that one more can be counted.
     let steps = lab.steps(node);
     let place = walk.step();
     prove!(place < steps);
-    if keeps_word(&lab.made_by_step(node, place), walk.node(), node) {
+    if keeps_word(&lab.made_event_of_step(node, place), walk.node(), node) {
         word
     } else {
         instruction_cell_after(lab, node, place + 1)
@@ -86,8 +91,8 @@ pub(crate) fn word_after(lab: &Lab, walk: &Walk<'_>, node: NodeId, word: Option<
 }
 
 /// The slot of a node whose word came from this cell.
-pub(crate) fn spot_by(node: &Node, word: Option<u8>) -> Option<SlotAddress>
-    ensures { result ≡ spot_by (record_of node.now) word }
+pub(crate) fn node_slot_address(node: &Node, word: Option<u8>) -> Option<SlotAddress>
+    ensures { result ≡ node_slot_address (record_of node.now) word }
 {
     let (slot, p) = slot_and_p(node);
     if slot == 4 {
@@ -104,7 +109,7 @@ pub(crate) fn spot_by(node: &Node, word: Option<u8>) -> Option<SlotAddress>
 
 /// The cells from which the words of the nodes came, as far as they were looked back for, by the numbers of the nodes; and none where a word came from no
 /// memory.
-pub(crate) type InstructionCells = [Option<Option<u8>>; NODES];
+pub(crate) type InstructionCells = [Option<Option<u8>>; CHIP_NODES];
 
 /// Forgets the cell of a node that may have taken another word by an event.
 #[inline(always)]

@@ -7,95 +7,95 @@ use Rattle.ga_debug_info.specs.declared.notes.DebugInfo.{DebugInfo}
 use Rattle.ga_scheduler.specs.Running.{Running}
 use Rattle.ga_dap_breakpoints.specs.declared.breakpoint.Breakpoint.{Breakpoint}
 use Rattle.ga_grid.specs.declared.node_id.NodeId.{NodeId}
-use Rattle.ga_dap_breakpoints.specs.declared.going.Halt.{Halt}
+use Rattle.ga_dap_breakpoints.specs.declared.going.HaltReason.{HaltReason}
 use Rattle.ga_dap_breakpoints.specs.declared.hits.HitTally.{HitTally}
-use Rattle.ga_dap_breakpoints.specs.Going.{IsMoveResult, tally_on, going_on, stepping_on}
+use Rattle.ga_dap_breakpoints.specs.Going.{IsMoveResult, tally_after_events, continue_plan, step_plan}
 use Rattle.ga_dap_protocol.specs.Sent.{SentMessages}
 use Rattle.ga_dap_protocol.specs.declared.request.ClientRequest.{ClientRequest}
 use Rattle.ga_dap_breakpoints.specs.declared.stepping.StepMove.{StepMove}
-use Rattle.ga_dap_queries.specs.Events.{changed_messages, changed_below}
+use Rattle.ga_dap_queries.specs.Events.{thread_change_messages, thread_changes_below}
 use Rattle.ga_dap_queries.specs.Sending.{Message, Messages, Sends, SendsAll}
 use Rattle.ga_dap_queries.specs.declared.request_name.RequestName.{RequestName}
 use Rattle.ga_dap_queries.specs.declared.debuggee.Debuggee.{Debuggee}
 use Rattle.ga_dap_queries.proofs.Sent.{sent_one}
 use Rattle.ga_dap_control.specs.declared.configuration.Configuration.{Configuration}
 use Rattle.ga_dap_control.specs.declared.execution.Execution.{Execution}
-use Rattle.ga_dap_control.specs.declared.launched.Launched.{Launched}
+use Rattle.ga_dap_control.specs.declared.launched.LaunchedProgram.{LaunchedProgram}
 use Rattle.ga_dap_control.specs.declared.moving.DapStepKind.{DapStepKind}
-use Rattle.ga_dap_control.specs.Breakpoints.{SetsLinesIf, SetsFiltersIf}
-use Rattle.ga_dap_control.specs.Moving.{BeginsStep, BeginsStepping, BeginsUnless}
-use Rattle.ga_dap_control.specs.Requests.{OnlyAnswers, Moves, Steps, Sets, AnswersAtOnce}
+use Rattle.ga_dap_control.specs.Breakpoints.{SetsLineBreakpointsIfOwnFile, SetsFiltersIfKnown}
+use Rattle.ga_dap_control.specs.Moving.{BeginsStep, BeginsStepMove, BeginsStepUnlessStopped}
+use Rattle.ga_dap_control.specs.Requests.{SendsOneResponse, ChangesExecution, AnswersStep, ChangesConfiguration, AnswersAtOnce}
 
-pub only_answers : {T E : Type 0} → (Answers : Message → Type 0) (r : Result T E) (l new : Launched) (old out : SentMessages)
-    → OnOk r ((message : Message) × Answers message × Sends old message out) → new ≡ l → OnOk r ((messages : Messages) × OnlyAnswers Answers l messages new × SendsAll old messages out)
+pub only_answers : {T E : Type 0} → (Answers : Message → Type 0) (r : Result T E) (l new : LaunchedProgram) (old out : SentMessages)
+    → OnOk r ((message : Message) × Answers message × Sends old message out) → new ≡ l → OnOk r ((messages : Messages) × SendsOneResponse Answers l messages new × SendsAll old messages out)
 only_answers Answers (Ok x) l new old out p same = (p.0 ∷ [], (p.0, p.1, refl, same), sent_one old p.0 out p.2)
 only_answers Answers (Err e) l new old out p same = tt
 
-pub moves_so : {T E : Type 0} → (Begins : Messages → Execution → Type 0) (r : Result T E) (l new : Launched) (execution : Execution) (old out : SentMessages)
+pub moves_so : {T E : Type 0} → (Begins : Messages → Execution → Type 0) (r : Result T E) (l new : LaunchedProgram) (execution : Execution) (old out : SentMessages)
     → OnOk r ((messages : Messages) × Begins messages execution × SendsAll old messages out) → new ≡ record l { execution = execution }
-    → OnOk r ((messages : Messages) × Moves Begins l messages new × SendsAll old messages out)
+    → OnOk r ((messages : Messages) × ChangesExecution Begins l messages new × SendsAll old messages out)
 moves_so Begins (Ok x) l new execution old out p same = (p.0, (execution, p.1, same), p.2)
 moves_so Begins (Err e) l new execution old out p same = tt
 
-pub steps_so : {T E : Type 0} → (kind : DapStepKind) (r : Result T E) (l new : Launched) (request : ClientRequest) (execution : Execution) (old out : SentMessages)
+pub steps_so : {T E : Type 0} → (kind : DapStepKind) (r : Result T E) (l new : LaunchedProgram) (request : ClientRequest) (execution : Execution) (old out : SentMessages)
     → OnOk r ((message : Message) × BeginsStep l.program kind l.execution request message execution × Sends old message out) → new ≡ record l { execution = execution }
-    → OnOk r ((messages : Messages) × Steps kind l request messages new × SendsAll old messages out)
+    → OnOk r ((messages : Messages) × AnswersStep kind l request messages new × SendsAll old messages out)
 steps_so kind (Ok x) l new request execution old out p same = (p.0 ∷ [], (p.0, execution, p.1, refl, same), sent_one old p.0 out p.2)
 steps_so kind (Err e) l new request execution old out p same = tt
 
 -- what the client set is set, and hits are counted anew
-abbrev set_anew : Launched → Configuration → Launched
+abbrev set_anew : LaunchedProgram → Configuration → LaunchedProgram
 set_anew l settings = record l { settings = settings; execution = record l.execution { tally = None } }
 
-pub sets_so : (Becomes : Message → Configuration → Type 0) (l : Launched) (settings : Configuration) (old out : SentMessages)
+pub sets_so : (Becomes : Message → Configuration → Type 0) (l : LaunchedProgram) (settings : Configuration) (old out : SentMessages)
     → ((message : Message) × Becomes message settings × Sends old message out)
-    → (messages : Messages) × Sets Becomes l messages (set_anew l settings) × SendsAll old messages out
+    → (messages : Messages) × ChangesConfiguration Becomes l messages (set_anew l settings) × SendsAll old messages out
 sets_so Becomes l settings old out p = (p.0 ∷ [], (p.0, settings, p.1, refl, refl), sent_one old p.0 out p.2)
 
-pub with_command : {T E : Type 0} → (r : Result T E) (a b : RequestName) (l : Launched) (request : ClientRequest) (new : Launched) (old out : SentMessages) → b ≡ a
+pub with_command : {T E : Type 0} → (r : Result T E) (a b : RequestName) (l : LaunchedProgram) (request : ClientRequest) (new : LaunchedProgram) (old out : SentMessages) → b ≡ a
     → OnOk r ((messages : Messages) × AnswersAtOnce a l request messages new × SendsAll old messages out)
     → OnOk r ((messages : Messages) × AnswersAtOnce b l request messages new × SendsAll old messages out)
 with_command r a b l request new old out e p =
     subst (λ (z : RequestName). OnOk r ((messages : Messages) × AnswersAtOnce z l request messages new × SendsAll old messages out)) (sym e) p
 
 pub begins_unless : (b can : Bool) (kind : DapStepKind) (r : Execution) (request : ClientRequest) (stepping : Option StepMove) (message : Message) (new : Execution) → can ≡ b
-    → can ≡ true → BeginsStepping r request stepping message new → BeginsUnless b kind r request stepping message new
-begins_unless b can kind r request stepping message new e is p = subst (λ (z : Bool). BeginsUnless z kind r request stepping message new) (sym is ∙ e) p
+    → can ≡ true → BeginsStepMove r request stepping message new → BeginsStepUnlessStopped b kind r request stepping message new
+begins_unless b can kind r request stepping message new e is p = subst (λ (z : Bool). BeginsStepUnlessStopped z kind r request stepping message new) (sym is ∙ e) p
 
 pub stopped_unless : (b can : Bool) (kind : DapStepKind) (r : Execution) (request : ClientRequest) (stepping : Option StepMove) (message : Message) (new : Execution) → can ≡ b
-    → can ≡ false → BeginsUnless false kind r request stepping message new → BeginsUnless b kind r request stepping message new
-stopped_unless b can kind r request stepping message new e is p = subst (λ (z : Bool). BeginsUnless z kind r request stepping message new) (sym is ∙ e) p
+    → can ≡ false → BeginsStepUnlessStopped false kind r request stepping message new → BeginsStepUnlessStopped b kind r request stepping message new
+stopped_unless b can kind r request stepping message new e is p = subst (λ (z : Bool). BeginsStepUnlessStopped z kind r request stepping message new) (sym is ∙ e) p
 
 pub lines_if : (b own : Bool) (p : Debuggee) (set : Configuration) (request : ClientRequest) (message : Message) (new : Configuration) (to : Bool) → own ≡ b → own ≡ to
-    → SetsLinesIf to p set request message new → SetsLinesIf b p set request message new
-lines_if b own p set request message new to e is sets = subst (λ (z : Bool). SetsLinesIf z p set request message new) (sym is ∙ e) sets
+    → SetsLineBreakpointsIfOwnFile to p set request message new → SetsLineBreakpointsIfOwnFile b p set request message new
+lines_if b own p set request message new to e is sets = subst (λ (z : Bool). SetsLineBreakpointsIfOwnFile z p set request message new) (sym is ∙ e) sets
 
 -- marks that are the same change the same
-pub changed_alike : (f g now : ℕ → Bool) → ((n : ℕ) → f n ≡ g n) → (k : ℕ) → changed_below f now k ≡ changed_below g now k
-unfolding changed_below
+pub changed_alike : (f g now : ℕ → Bool) → ((n : ℕ) → f n ≡ g n) → (k : ℕ) → thread_changes_below f now k ≡ thread_changes_below g now k
+unfolding thread_changes_below
 changed_alike f g now same zero = refl
 changed_alike f g now same (suc n) =
-    ap (λ (z : List Message). z ++ changed_messages (f n) (now n) n) (changed_alike f g now same n)
-    ∙ ap (λ (z : Bool). changed_below g now n ++ changed_messages z (now n) n) (same n)
+    ap (λ (z : List Message). z ++ thread_change_messages (f n) (now n) n) (changed_alike f g now same n)
+    ∙ ap (λ (z : Bool). thread_changes_below g now n ++ thread_change_messages z (now n) n) (same n)
 
-pub gone_by : (a b : List Breakpoint) (u v : HitTally) (s t : Bool) (r : Running) (most events : ℕ) (halt : Halt) → a ≡ b → u ≡ v → s ≡ t
-    → IsMoveResult (going_on a u s r) r most events halt → IsMoveResult (going_on b v t r) r most events halt
+pub gone_by : (a b : List Breakpoint) (u v : HitTally) (s t : Bool) (r : Running) (most events : ℕ) (halt : HaltReason) → a ≡ b → u ≡ v → s ≡ t
+    → IsMoveResult (continue_plan a u s r) r most events halt → IsMoveResult (continue_plan b v t r) r most events halt
 gone_by a b u v s t r most events halt e g f p =
-    subst (λ (z : List Breakpoint). IsMoveResult (going_on z v t r) r most events halt) e
-    (subst (λ (z : HitTally). IsMoveResult (going_on a z t r) r most events halt) g (subst (λ (z : Bool). IsMoveResult (going_on a u z r) r most events halt) f p))
+    subst (λ (z : List Breakpoint). IsMoveResult (continue_plan z v t r) r most events halt) e
+    (subst (λ (z : HitTally). IsMoveResult (continue_plan a z t r) r most events halt) g (subst (λ (z : Bool). IsMoveResult (continue_plan a u z r) r most events halt) f p))
 
-pub stepped_so : (notes : DebugInfo) (a b : List Breakpoint) (u v : HitTally) (s t : Bool) (by : StepMove) (r : Running) (most events : ℕ) (halt : Halt) → a ≡ b → u ≡ v → s ≡ t
-    → IsMoveResult (stepping_on notes a u s by r) r most events halt → IsMoveResult (stepping_on notes b v t by r) r most events halt
+pub stepped_so : (notes : DebugInfo) (a b : List Breakpoint) (u v : HitTally) (s t : Bool) (by : StepMove) (r : Running) (most events : ℕ) (halt : HaltReason) → a ≡ b → u ≡ v → s ≡ t
+    → IsMoveResult (step_plan notes a u s by r) r most events halt → IsMoveResult (step_plan notes b v t by r) r most events halt
 stepped_so notes a b u v s t by r most events halt e g f p =
-    subst (λ (z : List Breakpoint). IsMoveResult (stepping_on notes z v t by r) r most events halt) e
-    (subst (λ (z : HitTally). IsMoveResult (stepping_on notes a z t by r) r most events halt) g
-    (subst (λ (z : Bool). IsMoveResult (stepping_on notes a u z by r) r most events halt) f p))
+    subst (λ (z : List Breakpoint). IsMoveResult (step_plan notes z v t by r) r most events halt) e
+    (subst (λ (z : HitTally). IsMoveResult (step_plan notes a z t by r) r most events halt) g
+    (subst (λ (z : Bool). IsMoveResult (step_plan notes a u z by r) r most events halt) f p))
 
 -- what was hit so often, by what counted it
 pub hits_so : (first : Option NodeId) (a b : List Breakpoint) (u v : HitTally) (r : Running) (events : ℕ) (tally : HitTally) → a ≡ b → u ≡ v
-    → tally ≡ tally_on first a u r events → tally ≡ tally_on first b v r events
+    → tally ≡ tally_after_events first a u r events → tally ≡ tally_after_events first b v r events
 hits_so first a b u v r events tally e g is =
-    is ∙ ap (λ (z : List Breakpoint). tally_on first z u r events) e ∙ ap (λ (z : HitTally). tally_on first b z r events) g
+    is ∙ ap (λ (z : List Breakpoint). tally_after_events first z u r events) e ∙ ap (λ (z : HitTally). tally_after_events first b z r events) g
 
 pub none_more : (f : ℕ → Bool) (k : ℕ) (b : Bool) → ((n : ℕ) → n < k → f n ≡ false) → b ≡ f k → b ≡ false → (n : ℕ) → n < k + 1 → f n ≡ false
 none_more f k b before e is n lt = elim (cases_eq n k) as (λ w. f n ≡ false) [

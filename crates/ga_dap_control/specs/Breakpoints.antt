@@ -15,28 +15,28 @@ use Rattle.ga_dap_control.specs.declared.configuration.Configuration.{Configurat
 use Rattle.ga_dap_control.specs.declared.configuration.BreakpointKind.{BreakpointKind}
 use Rattle.ga_dap_control.specs.declared.configuration.BreakpointKind.TheVariants as family
 use Rattle.ga_dap_control.specs.declared.configuration.PlacedBreakpoint.{PlacedBreakpoint}
-use Rattle.ga_dap_control.specs.Placing.{Placement, Places}
+use Rattle.ga_dap_control.specs.Placing.{Placement, PlacesBreakpoints}
 use Rattle.ga_dap_queries.specs.Arguments.{member_values}
-use Rattle.ga_dap_queries.specs.Sending.{Message, answered, acknowledged, refused_response}
+use Rattle.ga_dap_queries.specs.Sending.{Message, success_response, bare_success_response, refused_response}
 
 -- ---- breakpoints
 
 -- a request that sets breakpoints, by a number; and another request set a breakpoint
-abbrev pub family_number : BreakpointKind → ℕ
-family_number family.Source = 0
-family_number family.Function = 1
-family_number family.Instruction = 2
-family_number family.Data = 3
+abbrev pub breakpoint_kind_number : BreakpointKind → ℕ
+breakpoint_kind_number family.Source = 0
+breakpoint_kind_number family.Function = 1
+breakpoint_kind_number family.Instruction = 2
+breakpoint_kind_number family.Data = 3
 
-abbrev pub is_of_another : BreakpointKind → PlacedBreakpoint → Bool
-is_of_another kind one = not (family_number one.family == family_number kind)
+abbrev pub is_other_breakpoint_kind : BreakpointKind → PlacedBreakpoint → Bool
+is_other_breakpoint_kind kind one = not (breakpoint_kind_number one.family == breakpoint_kind_number kind)
 
 -- the breakpoints that other requests set remain, and the requested ones follow them
-abbrev pub without_family : BreakpointKind → Configuration → Placement
-without_family kind set = record { told = []; placed = filter (is_of_another kind) set.points.placed.items; next = set.points.next_id }
+abbrev pub without_breakpoint_kind : BreakpointKind → Configuration → Placement
+without_breakpoint_kind kind set = record { told = []; placed = filter (is_other_breakpoint_kind kind) set.points.placed.items; next = set.points.next_id }
 
 -- these breakpoints are set now, and what else the client set stays
-pub record IsSetTo (placement : Placement) (set new : Configuration) : Type 0 where
+pub record AreBreakpointsSet (placement : Placement) (set new : Configuration) : Type 0 where
   pub placed : new.points.placed.items ≡ placement.placed
   pub points : new.points.points.items ≡ map (λ (one : PlacedBreakpoint). one.breakpoint) placement.placed
   pub next : new.points.next_id ≡ placement.next
@@ -45,50 +45,50 @@ pub record IsSetTo (placement : Placement) (set new : Configuration) : Type 0 wh
 abbrev pub breakpoints_body : List Data → Data
 breakpoints_body told = object_of (codes "breakpoints") (array (items_of told))
 
-abbrev pub SetsPoints : Debuggee → BreakpointKind → Configuration → ClientRequest → Message → Configuration → Type 0
-SetsPoints p kind set request message new =
-    (placement : Placement) × Places p kind (member_values (codes "breakpoints") (view request.arguments)) (without_family kind set) placement
-    × (message ≡ answered request (breakpoints_body placement.told)) × IsSetTo placement set new
+abbrev pub ReplacesBreakpoints : Debuggee → BreakpointKind → Configuration → ClientRequest → Message → Configuration → Type 0
+ReplacesBreakpoints p kind set request message new =
+    (placement : Placement) × PlacesBreakpoints p kind (member_values (codes "breakpoints") (view request.arguments)) (without_breakpoint_kind kind set) placement
+    × (message ≡ success_response request (breakpoints_body placement.told)) × AreBreakpointsSet placement set new
 
 -- `setBreakpoints`, for the program's own file; in another no breakpoint can stand
-abbrev pub is_same_text : Text → Option Text → Bool
-is_same_text name None = false
-is_same_text name (Some text) = bytes_eq text name
+abbrev pub equals_text : Text → Option Text → Bool
+equals_text name None = false
+equals_text name (Some text) = bytes_eq text name
 
 abbrev pub is_own_path : Text → Option Data → Bool
 is_own_path path None = false
-is_own_path path (Some source) = is_same_text path (member_text (codes "path") source)
+is_own_path path (Some source) = equals_text path (member_text (codes "path") source)
 
 abbrev pub is_own_file : Debuggee → Data → Bool
 is_own_file p d = is_own_path (string_bytes p.path) (get (codes "source") d)
 
-unfoldable pub elsewhere : Data
-elsewhere = object (member (codes "message") (string (codes "the program is another file")) (member (codes "verified") (boolean false) no_members))
+unfoldable pub other_file_object : Data
+other_file_object = object (member (codes "message") (string (codes "the program is another file")) (member (codes "verified") (boolean false) no_members))
 
-abbrev pub SetsLinesIf : Bool → Debuggee → Configuration → ClientRequest → Message → Configuration → Type 0
-SetsLinesIf true p set request message new = SetsPoints p family.Source set request message new
-SetsLinesIf false p set request message new =
-    (message ≡ answered request (breakpoints_body (replicate (length (member_values (codes "breakpoints") (view request.arguments))) elsewhere))) × (new ≡ set)
+abbrev pub SetsLineBreakpointsIfOwnFile : Bool → Debuggee → Configuration → ClientRequest → Message → Configuration → Type 0
+SetsLineBreakpointsIfOwnFile true p set request message new = ReplacesBreakpoints p family.Source set request message new
+SetsLineBreakpointsIfOwnFile false p set request message new =
+    (message ≡ success_response request (breakpoints_body (replicate (length (member_values (codes "breakpoints") (view request.arguments))) other_file_object))) × (new ≡ set)
 
-abbrev pub SetsLines : Debuggee → Configuration → ClientRequest → Message → Configuration → Type 0
-SetsLines p set request message new = SetsLinesIf (is_own_file p (view request.arguments)) p set request message new
+abbrev pub SetsLineBreakpoints : Debuggee → Configuration → ClientRequest → Message → Configuration → Type 0
+SetsLineBreakpoints p set request message new = SetsLineBreakpointsIfOwnFile (is_own_file p (view request.arguments)) p set request message new
 
 -- ---- filters
 
-abbrev pub is_text : Text → Data → Bool
-is_text name d = is_same_text name (as_str d)
+abbrev pub is_text_value : Text → Data → Bool
+is_text_value name d = equals_text name (as_str d)
 
 -- a filter: a node that stops, or that can never go on, ends a run
 abbrev pub is_filter : Data → Bool
-is_filter d = is_text (codes "stop") d || is_text (codes "stuck") d
+is_filter d = is_text_value (codes "stop") d || is_text_value (codes "stuck") d
 
 -- the filters that are asked for are set, where each is one
-abbrev pub SetsFiltersIf : Bool → List Data → Configuration → ClientRequest → Message → Configuration → Type 0
-SetsFiltersIf true names set request message new =
-    (message ≡ acknowledged request) × (new ≡ record set { stops = list_any (is_text (codes "stop")) names; stuck = list_any (is_text (codes "stuck")) names })
-SetsFiltersIf false names set request message new =
+abbrev pub SetsFiltersIfKnown : Bool → List Data → Configuration → ClientRequest → Message → Configuration → Type 0
+SetsFiltersIfKnown true names set request message new =
+    (message ≡ bare_success_response request) × (new ≡ record set { stops = list_any (is_text_value (codes "stop")) names; stuck = list_any (is_text_value (codes "stuck")) names })
+SetsFiltersIfKnown false names set request message new =
     (message ≡ refused_response request (codes "setExceptionBreakpoints: the filters are stop and stuck")) × (new ≡ set)
 
-abbrev pub SetsFilters : Configuration → ClientRequest → Message → Configuration → Type 0
-SetsFilters set request message new =
-    let names = member_values (codes "filters") (view request.arguments) in SetsFiltersIf (list_all is_filter names) names set request message new
+abbrev pub SetsExceptionFilters : Configuration → ClientRequest → Message → Configuration → Type 0
+SetsExceptionFilters set request message new =
+    let names = member_values (codes "filters") (view request.arguments) in SetsFiltersIfKnown (list_all is_filter names) names set request message new

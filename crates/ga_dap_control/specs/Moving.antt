@@ -16,35 +16,35 @@ use Rattle.ga_dap_control.specs.declared.execution.Goal.{Goal}
 use Rattle.ga_dap_control.specs.declared.execution.Goal.TheVariants.{Continue, Step}
 use Rattle.ga_dap_control.specs.declared.moving.DapStepKind.{DapStepKind}
 use Rattle.ga_dap_control.specs.declared.moving.DapStepKind.TheVariants.{Over, In, Out}
-use Rattle.ga_dap_queries.specs.Arguments.{AsksOfThread}
+use Rattle.ga_dap_queries.specs.Arguments.{IsThreadArgument}
 use Rattle.ga_dap_control.specs.Back.{requested_granularity}
-use Rattle.ga_dap_queries.specs.Events.{IsFirstShown}
-use Rattle.ga_dap_control.specs.Stopping.{stopped}
-use Rattle.ga_dap_queries.specs.Sending.{Message, Messages, answered, acknowledged, refused_response}
+use Rattle.ga_dap_queries.specs.Events.{IsFirstThreadNode}
+use Rattle.ga_dap_control.specs.Stopping.{stopped_message}
+use Rattle.ga_dap_queries.specs.Sending.{Message, Messages, success_response, bare_success_response, refused_response}
 
 -- a run for this goal is in progress, which first counts the hits in the history; or none is, and the chip is stopped
-abbrev pub run_started : Execution → Goal → Execution
-run_started r goal = record r { goal = Some goal; tally = None }
+abbrev pub execution_with_goal : Execution → Goal → Execution
+execution_with_goal r goal = record r { goal = Some goal; tally = None }
 
-abbrev pub run_ended : Execution → Execution
-run_ended r = record r { goal = None }
+abbrev pub execution_without_goal : Execution → Execution
+execution_without_goal r = record r { goal = None }
 
 -- `continue`
-unfoldable pub continued : Data
-continued = object (member (codes "allThreadsContinued") (boolean true) no_members)
+unfoldable pub continue_body : Data
+continue_body = object (member (codes "allThreadsContinued") (boolean true) no_members)
 
-abbrev pub Continues : Execution → ClientRequest → Messages → Execution → Type 0
-Continues r request messages new = (messages ≡ answered request continued ∷ []) × (new ≡ run_started r Continue)
+abbrev pub AnswersContinue : Execution → ClientRequest → Messages → Execution → Type 0
+AnswersContinue r request messages new = (messages ≡ success_response request continue_body ∷ []) × (new ≡ execution_with_goal r Continue)
 
 -- the requested move of a node; none if no call is open from which it could return
-abbrev pub stepping_of : Debuggee → DapStepKind → NodeId → Data → Option StepMove
-stepping_of p Over node d = Some (step_over p.lab node (requested_granularity p d))
-stepping_of p In node d = Some (step_in p.lab node (requested_granularity p d))
-stepping_of p Out node d = step_out p.lab node
+abbrev pub requested_step_move : Debuggee → DapStepKind → NodeId → Data → Option StepMove
+requested_step_move p Over node d = Some (step_over p.lab node (requested_granularity p d))
+requested_step_move p In node d = Some (step_in p.lab node (requested_granularity p d))
+requested_step_move p Out node d = step_out p.lab node
 
-abbrev pub BeginsStepping : Execution → ClientRequest → Option StepMove → Message → Execution → Type 0
-BeginsStepping r request None message new = (message ≡ refused_response request (codes "stepOut: the node is in no call that is kept")) × (new ≡ r)
-BeginsStepping r request (Some stepping) message new = (message ≡ acknowledged request) × (new ≡ run_started r (Step stepping))
+abbrev pub BeginsStepMove : Execution → ClientRequest → Option StepMove → Message → Execution → Type 0
+BeginsStepMove r request None message new = (message ≡ refused_response request (codes "stepOut: the node is in no call that is kept")) × (new ≡ r)
+BeginsStepMove r request (Some stepping) message new = (message ≡ bare_success_response request) × (new ≡ execution_with_goal r (Step stepping))
 
 abbrev pub no_thread_words : DapStepKind → Text
 no_thread_words Over = codes "next: no such thread"
@@ -56,32 +56,32 @@ node_stopped_words Over = codes "next: the node is stopped"
 node_stopped_words In = codes "stepIn: the node is stopped"
 node_stopped_words Out = codes "stepOut: the node is stopped"
 
-abbrev pub BeginsUnless : Bool → DapStepKind → Execution → ClientRequest → Option StepMove → Message → Execution → Type 0
-BeginsUnless true kind r request stepping message new = BeginsStepping r request stepping message new
-BeginsUnless false kind r request stepping message new = (message ≡ refused_response request (node_stopped_words kind)) × (new ≡ r)
+abbrev pub BeginsStepUnlessStopped : Bool → DapStepKind → Execution → ClientRequest → Option StepMove → Message → Execution → Type 0
+BeginsStepUnlessStopped true kind r request stepping message new = BeginsStepMove r request stepping message new
+BeginsStepUnlessStopped false kind r request stepping message new = (message ≡ refused_response request (node_stopped_words kind)) × (new ≡ r)
 
-abbrev pub BeginsStepBy : Debuggee → DapStepKind → Execution → ClientRequest → NodeId → Message → Execution → Type 0
-BeginsStepBy p kind r request node message new =
-    BeginsUnless ((record_at (chip_of p.lab) node.number).stop == 0) kind r request (stepping_of p kind node (view request.arguments)) message new
+abbrev pub BeginsStepOfNode : Debuggee → DapStepKind → Execution → ClientRequest → NodeId → Message → Execution → Type 0
+BeginsStepOfNode p kind r request node message new =
+    BeginsStepUnlessStopped ((record_at (chip_of p.lab) node.number).stop == 0) kind r request (requested_step_move p kind node (view request.arguments)) message new
 
-abbrev pub BeginsStepOf : Debuggee → DapStepKind → Execution → ClientRequest → Option NodeId → Message → Execution → Type 0
-BeginsStepOf p kind r request None message new = (message ≡ refused_response request (no_thread_words kind)) × (new ≡ r)
-BeginsStepOf p kind r request (Some node) message new = BeginsStepBy p kind r request node message new
+abbrev pub BeginsStepOfThread : Debuggee → DapStepKind → Execution → ClientRequest → Option NodeId → Message → Execution → Type 0
+BeginsStepOfThread p kind r request None message new = (message ≡ refused_response request (no_thread_words kind)) × (new ≡ r)
+BeginsStepOfThread p kind r request (Some node) message new = BeginsStepOfNode p kind r request node message new
 
 -- `next`, `stepIn` and `stepOut`
 abbrev pub BeginsStep : Debuggee → DapStepKind → Execution → ClientRequest → Message → Execution → Type 0
 BeginsStep p kind r request message new =
-    (asked : Option NodeId) × AsksOfThread (view request.arguments) asked × BeginsStepOf p kind r request asked message new
+    (asked : Option NodeId) × IsThreadArgument (view request.arguments) asked × BeginsStepOfThread p kind r request asked message new
 
 -- `pause`: a run in progress ends, and the chip is stopped; the message names the thread of the request, else the first
-abbrev pub PausesRun : Debuggee → ClientRequest → Messages → Type 0
-PausesRun p request messages = (first : NodeId) × (asked : Option NodeId) × IsFirstShown p.lab p.nodes.items first.number
-    × AsksOfThread (view request.arguments) asked
-    × (messages ≡ acknowledged request ∷ stopped (codes "pause") (codes "pause") (unwrap_or asked first).number ∷ [])
+abbrev pub ArePauseMessages : Debuggee → ClientRequest → Messages → Type 0
+ArePauseMessages p request messages = (first : NodeId) × (asked : Option NodeId) × IsFirstThreadNode p.lab p.nodes.items first.number
+    × IsThreadArgument (view request.arguments) asked
+    × (messages ≡ bare_success_response request ∷ stopped_message (codes "pause") (codes "pause") (unwrap_or asked first).number ∷ [])
 
-abbrev pub PausesAt : Debuggee → ClientRequest → Option Goal → Messages → Type 0
-PausesAt p request None messages = messages ≡ acknowledged request ∷ []
-PausesAt p request (Some goal) messages = PausesRun p request messages
+abbrev pub PausesIfRunning : Debuggee → ClientRequest → Option Goal → Messages → Type 0
+PausesIfRunning p request None messages = messages ≡ bare_success_response request ∷ []
+PausesIfRunning p request (Some goal) messages = ArePauseMessages p request messages
 
-abbrev pub Pauses : Debuggee → Execution → ClientRequest → Messages → Execution → Type 0
-Pauses p r request messages new = PausesAt p request r.goal messages × (new ≡ run_ended r)
+abbrev pub AnswersPause : Debuggee → Execution → ClientRequest → Messages → Execution → Type 0
+AnswersPause p r request messages new = PausesIfRunning p request r.goal messages × (new ≡ execution_without_goal r)

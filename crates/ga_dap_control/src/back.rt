@@ -2,8 +2,8 @@
 
 ghost use Rattle.std.specs.Prelude.{◌≡◌, ◌++◌, length, string_bytes, slice_index_or, IfOk, OnOk};
 ghost use Rattle.serde_json.specs.View.{view};
-ghost use Rattle.ga_event.specs.Told.{steps_of};
-ghost use Rattle.ga_dap_control.specs.Back.{requested_granularity, stepped_by, reversed_by, AreStepsOf, RollsBackNode, gone_line, gone_with_it, gone_of, gone_below, gone_head, gone_words};
+ghost use Rattle.ga_event.specs.Told.{count_steps};
+ghost use Rattle.ga_dap_control.specs.Back.{requested_granularity, program_after_step_back, program_after_reverse, AreStepCounts, IsRollbackSummary, removed_steps_line, removed_steps_text, removed_steps_of_node, removed_steps_below, rollback_head_text, rollback_summary_text};
 
 use crate::moving::requested_granularity;
 use ga_dap_breakpoints::{Breakpoint, Granularity, reverse_to, step_back, step_back_line};
@@ -23,7 +23,7 @@ pub struct RollbackSummary {
 
 /// How many steps of each node are kept.
 fn steps_kept(lab: &Lab) -> [u32; 144]
-    ensures steps { AreStepsOf lab.now result }
+    ensures steps { AreStepCounts lab.now result }
     ensures size { length result ≡ 144 }
 {
     let mut steps = [0u32; 144];
@@ -36,7 +36,7 @@ fn steps_kept(lab: &Lab) -> [u32; 144]
 
 /// Rolls a node back by a line or a step.
 fn step_by(program: &mut Debuggee, node: NodeId, grain: Granularity)
-    ensures { program.new ≡ stepped_by grain program.old node }
+    ensures { program.new ≡ program_after_step_back grain program.old node }
 {
     match grain {
         Granularity::Instruction => {
@@ -48,23 +48,23 @@ fn step_by(program: &mut Debuggee, node: NodeId, grain: Granularity)
 
 /// Rolls a node back by a line.
 fn step_line(program: &mut Debuggee, node: NodeId)
-    ensures { program.new ≡ stepped_by Granularity.Line program.old node }
+    ensures { program.new ≡ program_after_step_back Granularity.Line program.old node }
 {
     match &program.source {
         Some(notes) => {
             step_back_line(&mut program.lab, notes, node);
         }
         None => {
-            step_back_line(&mut program.lab, &program.unsaid, node);
+            step_back_line(&mut program.lab, &program.empty_debug_info, node);
         }
     }
 }
 
 /// Rolls a node back by a line or a step, and returns what was removed.
 pub fn step_back_node(program: &mut Debuggee, node: NodeId, arguments: &Value) -> RollbackSummary
-    ensures program { program.new ≡ stepped_by (requested_granularity program.old (view arguments.now)) program.old node }
+    ensures program { program.new ≡ program_after_step_back (requested_granularity program.old (view arguments.now)) program.old node }
     ensures node { result.node ≡ node }
-    ensures went { RollsBackNode program.old.lab program.new.lab result.before result.removed }
+    ensures went { IsRollbackSummary program.old.lab program.new.lab result.before result.removed }
 {
     let before = steps_kept(&program.lab);
     let kept = program.lab.counts().kept;
@@ -84,9 +84,9 @@ pub fn reverse_continue_node(
     node: NodeId,
     points: &[Breakpoint],
 ) -> RollbackSummary
-    ensures program { program.new ≡ reversed_by program.old node points.now }
+    ensures program { program.new ≡ program_after_reverse program.old node points.now }
     ensures node { result.node ≡ node }
-    ensures went { RollsBackNode program.old.lab program.new.lab result.before result.removed }
+    ensures went { IsRollbackSummary program.old.lab program.new.lab result.before result.removed }
 {
     let before = steps_kept(&program.lab);
     let kept = program.lab.counts().kept;
@@ -100,8 +100,12 @@ pub fn reverse_continue_node(
 }
 
 /// The line about the node that was rolled back.
-fn gone_head(alloc: Global, lab: &Lab, gone: &RollbackSummary) -> Result<String, AllocError>
-    ensures { IfOk result (λ text. string_bytes text ≡ gone_head gone.now.node gone.now.removed lab.now) }
+fn rollback_head_text(
+    alloc: Global,
+    lab: &Lab,
+    gone: &RollbackSummary,
+) -> Result<String, AllocError>
+    ensures { IfOk result (λ text. string_bytes text ≡ rollback_head_text gone.now.node gone.now.removed lab.now) }
 {
     let kept = lab.counts().kept;
     let step = u64::from(lab.steps(gone.node)) + 1;
@@ -118,9 +122,9 @@ pub fn rollback_summary_text(
     lab: &Lab,
     gone: &RollbackSummary,
 ) -> Result<String, AllocError>
-    ensures { IfOk result (λ text. string_bytes text ≡ gone_words gone.now.node gone.now.before gone.now.removed lab.now) }
+    ensures { IfOk result (λ text. string_bytes text ≡ rollback_summary_text gone.now.node gone.now.before gone.now.removed lab.now) }
 {
-    let mut text = gone_head(alloc, lab, gone)?;
+    let mut text = rollback_head_text(alloc, lab, gone)?;
     add_others(alloc, &mut text, lab, gone)?;
     Ok(text)
 }
@@ -132,7 +136,7 @@ fn add_others(
     lab: &Lab,
     gone: &RollbackSummary,
 ) -> Result<(), AllocError>
-    ensures { OnOk result (string_bytes text.new ≡ string_bytes text.old ++ gone_below gone.now.node.number gone.now.before lab.now 144) }
+    ensures { OnOk result (string_bytes text.new ≡ string_bytes text.old ++ removed_steps_below gone.now.node.number gone.now.before lab.now 144) }
 {
     'nodes: for number in 0..144u8 {
         let node = NodeId::new(number);
@@ -149,7 +153,7 @@ fn add_gone(
     gone: &RollbackSummary,
     node: NodeId,
 ) -> Result<(), AllocError>
-    ensures { OnOk result (string_bytes text.new ≡ string_bytes text.old ++ gone_of gone.now.node.number gone.now.before lab.now node.number) }
+    ensures { OnOk result (string_bytes text.new ≡ string_bytes text.old ++ removed_steps_of_node gone.now.node.number gone.now.before lab.now node.number) }
 {
     if node.number == gone.node.number {
         return Ok(());
@@ -164,8 +168,13 @@ fn add_gone(
 }
 
 /// The line about another node.
-fn gone_line(alloc: Global, node: NodeId, first: u64, before: u32) -> Result<String, AllocError>
-    ensures { IfOk result (λ text. string_bytes text ≡ gone_line node.number first before) }
+fn removed_steps_line(
+    alloc: Global,
+    node: NodeId,
+    first: u64,
+    before: u32,
+) -> Result<String, AllocError>
+    ensures { IfOk result (λ text. string_bytes text ≡ removed_steps_line node.number first before) }
 {
     let mut text = String::from_str(alloc, "  with it ")?;
     add_name(&mut text, node)?;
@@ -181,9 +190,9 @@ fn add_line(
     first: u64,
     before: u32,
 ) -> Result<(), AllocError>
-    ensures { OnOk result (string_bytes text.new ≡ string_bytes text.old ++ gone_line node.number first before) }
+    ensures { OnOk result (string_bytes text.new ≡ string_bytes text.old ++ removed_steps_line node.number first before) }
 {
-    let line = gone_line(alloc, node, first, before)?;
+    let line = removed_steps_line(alloc, node, first, before)?;
     text.push_str(line.as_str())?;
     Ok(())
 }
@@ -196,7 +205,7 @@ fn add_other(
     before: u32,
     left: u32,
 ) -> Result<(), AllocError>
-    ensures { OnOk result (string_bytes text.new ≡ string_bytes text.old ++ gone_with_it node.number before left) }
+    ensures { OnOk result (string_bytes text.new ≡ string_bytes text.old ++ removed_steps_text node.number before left) }
 {
     if before <= left {
         return Ok(());

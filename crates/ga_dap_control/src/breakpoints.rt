@@ -4,18 +4,18 @@ ghost use Rattle.std.specs.Prelude.{◌≡◌, [], codes, map, length, replicate
 ghost use Rattle.std.specs.List.{list_all, list_any};
 ghost use Rattle.serde_json.specs.View.{view};
 ghost use Rattle.serde_json.specs.declared.value.Value.{Value as AValue};
-ghost use Rattle.ga_dap_control.specs.Placing.{Places};
-ghost use Rattle.ga_dap_control.specs.Breakpoints.{without_family, breakpoints_body, elsewhere, is_own_file, is_text, is_filter, IsSetTo, SetsFiltersIf, SetsFilters, SetsLines, SetsPoints};
+ghost use Rattle.ga_dap_control.specs.Placing.{PlacesBreakpoints};
+ghost use Rattle.ga_dap_control.specs.Breakpoints.{without_breakpoint_kind, breakpoints_body, other_file_object, is_own_file, is_text_value, is_filter, AreBreakpointsSet, SetsFiltersIfKnown, SetsExceptionFilters, SetsLineBreakpoints, ReplacesBreakpoints};
 ghost use Rattle.ga_dap_control.specs.inner.{placement_of};
 ghost use Rattle.ga_dap_queries.specs.Arguments.{member_values};
-ghost use Rattle.ga_dap_queries.specs.Sending.{Sends, Message, answered};
+ghost use Rattle.ga_dap_queries.specs.Sending.{Sends, Message, success_response};
 
 use crate::configuration::{
     BreakpointKind, BreakpointSet, Configuration, PlacedBreakpoint, breakpoints_of,
 };
 use crate::placing::{Placing, place_all};
-use ga_dap_protocol::{ClientRequest, Outbox, text_at};
-use ga_dap_queries::{Debuggee, values_at};
+use ga_dap_protocol::{ClientRequest, Outbox, member_text};
+use ga_dap_queries::{Debuggee, member_values};
 use serde_json::{Map, Value, json, push, put};
 use std::alloc::{AllocError, Global};
 
@@ -26,16 +26,16 @@ fn is_own_file(program: &Debuggee, arguments: &Value) -> bool
     let Some(source) = arguments.get("source") else {
         return false;
     };
-    match text_at(source, "path") {
+    match member_text(source, "path") {
         Some(path) => path == program.path.as_str(),
         None => false,
     }
 }
 
 /// A breakpoint in another file.
-#[tactic(auto, unfolding(crate::specs::Breakpoints::elsewhere))]
-fn elsewhere(alloc: Global) -> Result<Value, AllocError>
-    ensures { IfOk result (λ v. view v ≡ elsewhere) }
+#[tactic(auto, unfolding(crate::specs::Breakpoints::other_file_object))]
+fn other_file_object(alloc: Global) -> Result<Value, AllocError>
+    ensures { IfOk result (λ v. view v ≡ other_file_object) }
 {
     json!(in alloc; {"message": "the program is another file", "verified": false})
 }
@@ -43,11 +43,11 @@ fn elsewhere(alloc: Global) -> Result<Value, AllocError>
 /// What is sent for each breakpoint if the request names another file.
 #[tactic(auto, using(std::proofs::lemmas::List::map_push, std::proofs::lemmas::List::replicate_more))]
 fn place_nowhere(alloc: Global, count: usize) -> Result<Vec<Value>, AllocError>
-    ensures { IfOk result (λ list. map view list.items ≡ replicate count elsewhere) }
+    ensures { IfOk result (λ list. map view list.items ≡ replicate count other_file_object) }
 {
     let mut list = Vec::new(alloc);
     'asked: for _place in 0..count {
-        let told = elsewhere(alloc)?;
+        let told = other_file_object(alloc)?;
         push(&mut list, told)?;
     }
     Ok(list)
@@ -69,7 +69,7 @@ pub fn set_line_breakpoints(
     request: &ClientRequest,
     out: &mut Outbox,
 ) -> Result<(), AllocError>
-    ensures sent { OnOk result ((message : Message) × SetsLines program.now settings.old request.now message settings.new × Sends out.old message out.new) }
+    ensures sent { OnOk result ((message : Message) × SetsLineBreakpoints program.now settings.old request.now message settings.new × Sends out.old message out.new) }
     ensures kept { OnErr result (settings.new ≡ settings.old) }
 {
     if is_own_file(program, &request.arguments) {
@@ -91,12 +91,12 @@ pub fn set_line_breakpoints(
 fn count_asked(arguments: &Value) -> usize
     ensures { result ≡ length (member_values (codes "breakpoints") (view arguments.now)) }
 {
-    values_at(arguments, "breakpoints").len()
+    member_values(arguments, "breakpoints").len()
 }
 
 /// Reports that no breakpoint can be in another file.
 fn tell_nowhere(alloc: Global, request: &ClientRequest, out: &mut Outbox) -> Result<(), AllocError>
-    ensures sent { OnOk result (Sends out.old (answered request.now (breakpoints_body (replicate (length (member_values (codes "breakpoints") (view request.now.arguments))) elsewhere))) out.new) }
+    ensures sent { OnOk result (Sends out.old (success_response request.now (breakpoints_body (replicate (length (member_values (codes "breakpoints") (view request.now.arguments))) other_file_object))) out.new) }
     ensures err { OnErr result (out.new ≡ out.old) }
 {
     let count = count_asked(&request.arguments);
@@ -125,11 +125,11 @@ fn placing_of(
     family: BreakpointKind,
     request: &ClientRequest,
 ) -> Result<Placing, AllocError>
-    ensures { IfOk result (λ placing. Places program.now family (member_values (codes "breakpoints") (view request.now.arguments)) (without_family family settings.now) (placement_of placing)) }
+    ensures { IfOk result (λ placing. PlacesBreakpoints program.now family (member_values (codes "breakpoints") (view request.now.arguments)) (without_breakpoint_kind family settings.now) (placement_of placing)) }
 {
-    let placed = settings.points.without_family(alloc, family)?;
+    let placed = settings.points.without_breakpoint_kind(alloc, family)?;
     let mut placing = placing_new(alloc, placed, settings.points.next_id);
-    let asked = values_at(&request.arguments, "breakpoints");
+    let asked = member_values(&request.arguments, "breakpoints");
     place_all(alloc, program, family, asked, &mut placing)?;
     Ok(placing)
 }
@@ -142,7 +142,7 @@ fn set_placing(
     request: &ClientRequest,
     out: &mut Outbox,
 ) -> Result<(), AllocError>
-    ensures sent { OnOk result ((message : Message) × (message ≡ answered request.now (breakpoints_body (placement_of placing).told)) × IsSetTo (placement_of placing) settings.old settings.new × Sends out.old message out.new) }
+    ensures sent { OnOk result ((message : Message) × (message ≡ success_response request.now (breakpoints_body (placement_of placing).told)) × AreBreakpointsSet (placement_of placing) settings.old settings.new × Sends out.old message out.new) }
     ensures kept { OnErr result (settings.new ≡ settings.old) }
 {
     let points = breakpoints_of(alloc, placing.placed.as_slice())?;
@@ -167,7 +167,7 @@ pub fn replace_breakpoints(
     request: &ClientRequest,
     out: &mut Outbox,
 ) -> Result<(), AllocError>
-    ensures sent { OnOk result ((message : Message) × SetsPoints program.now family settings.old request.now message settings.new × Sends out.old message out.new) }
+    ensures sent { OnOk result ((message : Message) × ReplacesBreakpoints program.now family settings.old request.now message settings.new × Sends out.old message out.new) }
     ensures kept { OnErr result (settings.new ≡ settings.old) }
 {
     let placing = placing_of(alloc, program, settings, family, request)?;
@@ -175,8 +175,8 @@ pub fn replace_breakpoints(
 }
 
 /// Whether an item is a text, this one.
-fn is_text(item: &Value, name: &str) -> bool
-    ensures { result ≡ is_text name.now (view item.now) }
+fn is_text_value(item: &Value, name: &str) -> bool
+    ensures { result ≡ is_text_value name.now (view item.now) }
 {
     match item.as_str() {
         Some(text) => text == name,
@@ -188,7 +188,7 @@ fn is_text(item: &Value, name: &str) -> bool
 fn is_filter(item: &Value) -> bool
     ensures { result ≡ is_filter (view item.now) }
 {
-    is_text(item, "stop") || is_text(item, "stuck")
+    is_text_value(item, "stop") || is_text_value(item, "stuck")
 }
 
 fn each_is_filter(items: &[Value]) -> bool
@@ -205,13 +205,13 @@ fn are_filters(items: &[Value]) -> bool
 }
 
 fn one_is_text(items: &[Value], name: &str) -> bool
-    ensures { result ≡ list_any (λ (item : AValue). is_text name.now (view item)) items.now }
+    ensures { result ≡ list_any (λ (item : AValue). is_text_value name.now (view item)) items.now }
 {
-    items.iter().any(|item| is_text(item, name))
+    items.iter().any(|item| is_text_value(item, name))
 }
 
 fn has_filter(items: &[Value], name: &str) -> bool
-    ensures { result ≡ list_any (is_text name.now) (map view items.now) }
+    ensures { result ≡ list_any (is_text_value name.now) (map view items.now) }
 {
     one_is_text(items, name)
 }
@@ -224,7 +224,7 @@ fn set_filters_if(
     request: &ClientRequest,
     out: &mut Outbox,
 ) -> Result<(), AllocError>
-    ensures sent { OnOk result ((message : Message) × SetsFiltersIf known (map view filters.now) settings.old request.now message settings.new × Sends out.old message out.new) }
+    ensures sent { OnOk result ((message : Message) × SetsFiltersIfKnown known (map view filters.now) settings.old request.now message settings.new × Sends out.old message out.new) }
     ensures kept { OnErr result (settings.new ≡ settings.old) }
 {
     if known {
@@ -249,10 +249,10 @@ pub fn set_exception_filters(
     request: &ClientRequest,
     out: &mut Outbox,
 ) -> Result<(), AllocError>
-    ensures sent { OnOk result ((message : Message) × SetsFilters settings.old request.now message settings.new × Sends out.old message out.new) }
+    ensures sent { OnOk result ((message : Message) × SetsExceptionFilters settings.old request.now message settings.new × Sends out.old message out.new) }
     ensures kept { OnErr result (settings.new ≡ settings.old) }
 {
-    let filters = values_at(&request.arguments, "filters");
+    let filters = member_values(&request.arguments, "filters");
     let known = are_filters(filters);
     set_filters_if(settings, filters, known, request, out)
 }

@@ -2,10 +2,10 @@
 
 ghost use Rattle.std.specs.Prelude.{◌≡◌, map, IfOk};
 ghost use Rattle.ga_dap_control.specs.declared.configuration.PlacedBreakpoint.{PlacedBreakpoint as ASetBy};
-ghost use Rattle.ga_dap_control.specs.Breakpoints.{family_number, is_of_another};
+ghost use Rattle.ga_dap_control.specs.Breakpoints.{breakpoint_kind_number, is_other_breakpoint_kind};
 ghost use Rattle.ga_dap_control.specs.Stopping.{is_one_hit};
 
-use ga_dap_breakpoints::{Breakpoint, Halts, HitTally, has_been_hit};
+use ga_dap_breakpoints::{Breakpoint, HaltConditions, HitTally, is_hit_by_newest_event};
 use ga_lab::{Lab, Made};
 use std::alloc::{AllocError, Global};
 
@@ -51,8 +51,8 @@ pub struct Configuration {
     pub stuck: bool,
 }
 
-fn family_number(family: BreakpointKind) -> u8
-    ensures { result ≡ family_number family }
+fn breakpoint_kind_number(family: BreakpointKind) -> u8
+    ensures { result ≡ breakpoint_kind_number family }
 {
     match family {
         BreakpointKind::Source => 0,
@@ -63,10 +63,10 @@ fn family_number(family: BreakpointKind) -> u8
 }
 
 /// Whether another request set a breakpoint.
-fn is_of_another(family: BreakpointKind, one: PlacedBreakpoint) -> bool
-    ensures { result ≡ is_of_another family one }
+fn is_other_breakpoint_kind(family: BreakpointKind, one: PlacedBreakpoint) -> bool
+    ensures { result ≡ is_other_breakpoint_kind family one }
 {
-    family_number(one.family) != family_number(family)
+    breakpoint_kind_number(one.family) != breakpoint_kind_number(family)
 }
 
 /// The breakpoints of a list, without who set them.
@@ -88,7 +88,7 @@ pub(crate) fn breakpoints_of(
 fn is_one_hit(lab: &Lab, made: &Made, one: PlacedBreakpoint) -> bool
     ensures { result ≡ is_one_hit made.now lab.now one }
 {
-    has_been_hit(lab, made, &one.breakpoint)
+    is_hit_by_newest_event(lab, made, &one.breakpoint)
 }
 
 /// The numbers of some breakpoints.
@@ -105,8 +105,8 @@ fn ids_of(alloc: Global, placed: &[PlacedBreakpoint]) -> Result<Vec<u64>, AllocE
 impl BreakpointSet {
     ghost use Rattle.std.specs.Prelude.{◌≡◌, [], filter, IfOk};
     ghost use Rattle.std.specs.List.{slice_get};
-    ghost use Rattle.ga_dap_control.specs.Breakpoints.{is_of_another};
-    ghost use Rattle.ga_dap_control.specs.Stopping.{is_one_hit, ids_hit};
+    ghost use Rattle.ga_dap_control.specs.Breakpoints.{is_other_breakpoint_kind};
+    ghost use Rattle.ga_dap_control.specs.Stopping.{is_one_hit, hit_breakpoint_ids};
 
     /// No breakpoints.
     pub fn none(alloc: Global) -> Self
@@ -122,16 +122,16 @@ impl BreakpointSet {
     }
 
     /// The breakpoints that other requests set.
-    pub fn without_family(
+    pub fn without_breakpoint_kind(
         &self,
         alloc: Global,
         family: BreakpointKind,
     ) -> Result<Vec<PlacedBreakpoint>, AllocError>
-        ensures { IfOk result (λ list. list.items ≡ filter (is_of_another family) self.now.placed.items) }
+        ensures { IfOk result (λ list. list.items ≡ filter (is_other_breakpoint_kind family) self.now.placed.items) }
     {
         let mut list = Vec::new(alloc);
         'placed: for one in &self.placed {
-            if is_of_another(family, *one) {
+            if is_other_breakpoint_kind(family, *one) {
                 list.push(*one)?;
             }
         }
@@ -157,8 +157,13 @@ impl BreakpointSet {
     }
 
     /// The numbers of the breakpoints that what was made, the newest event, hit as they are asked for.
-    pub fn ids_hit(&self, alloc: Global, lab: &Lab, made: &Made) -> Result<Vec<u64>, AllocError>
-        ensures { IfOk result (λ ids. ids.items ≡ ids_hit made.now lab.now self.now.placed.items) }
+    pub fn hit_breakpoint_ids(
+        &self,
+        alloc: Global,
+        lab: &Lab,
+        made: &Made,
+    ) -> Result<Vec<u64>, AllocError>
+        ensures { IfOk result (λ ids. ids.items ≡ hit_breakpoint_ids made.now lab.now self.now.placed.items) }
     {
         let hits = self.hits(alloc, lab, made)?;
         ids_of(alloc, hits.as_slice())
@@ -194,12 +199,12 @@ impl Configuration {
     }
 
     /// What ends a run early, where each breakpoint was hit so often.
-    pub fn halts(&self, tally: HitTally) -> Halts<'_>
+    pub fn halts(&self, tally: HitTally) -> HaltConditions<'_>
         ensures points { result.breakpoints.now ≡ self.now.points.points.items }
         ensures stops { result.stops ≡ self.now.stops }
         ensures hits { result.tally ≡ tally }
     {
-        Halts {
+        HaltConditions {
             breakpoints: self.points.points.as_slice(),
             stops: self.stops,
             tally,

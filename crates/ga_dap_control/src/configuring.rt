@@ -3,27 +3,29 @@
 ghost use Rattle.std.specs.Prelude.{◌≡◌, OnOk, OnErr};
 ghost use Rattle.ga_dap_queries.specs.Sending.{SendsAll, Messages};
 ghost use Rattle.ga_causal.specs.Dependence.{is_marked};
-ghost use Rattle.ga_dap_queries.specs.Events.{IsFirstShown};
-ghost use Rattle.ga_dap_control.specs.Configuring.{AreShown, threads_told, BeginsSo, Configures, ConfiguresIf, ConfiguresOnce};
+ghost use Rattle.ga_dap_queries.specs.Events.{IsFirstThreadNode};
+ghost use Rattle.ga_dap_control.specs.Configuring.{AreThreadMarks, thread_start_messages, StopsOnEntryOrRuns, AnswersConfigurationDone, ConfiguresUnlessDone, CompletesConfiguration};
 
 use crate::execution::{Execution, Goal};
 use ga_dap_protocol::{ClientRequest, Outbox};
-use ga_dap_queries::{Debuggee, emit_stopped, emit_thread_changes, first_shown, shown_nodes};
+use ga_dap_queries::{
+    Debuggee, emit_stopped, emit_thread_changes, first_thread_node, thread_marks,
+};
 use ga_grid::NodeId;
 use std::alloc::{AllocError, Global};
 
 /// The first node that has something to show; 000 where none has.
 pub(crate) fn first_of(program: &Debuggee) -> NodeId
-    ensures { IsFirstShown program.now.lab program.now.nodes.items result.number }
+    ensures { IsFirstThreadNode program.now.lab program.now.nodes.items result.number }
 {
-    first_shown(&program.lab, program.nodes.as_slice())
+    first_thread_node(&program.lab, program.nodes.as_slice())
 }
 
 /// The nodes that have something to show.
 fn shown_of(program: &Debuggee) -> [bool; 144]
-    ensures { AreShown program.now (is_marked result) }
+    ensures { AreThreadMarks program.now (is_marked result) }
 {
-    shown_nodes(&program.lab, program.nodes.as_slice())
+    thread_marks(&program.lab, program.nodes.as_slice())
 }
 
 /// `configurationDone`: sends the threads; the chip is then stopped at load or runs.
@@ -34,7 +36,7 @@ pub fn configure(
     request: &ClientRequest,
     out: &mut Outbox,
 ) -> Result<(), AllocError>
-    ensures sent { OnOk result ((messages : Messages) × Configures program.now execution.old request.now messages execution.new × SendsAll out.old messages out.new) }
+    ensures sent { OnOk result ((messages : Messages) × AnswersConfigurationDone program.now execution.old request.now messages execution.new × SendsAll out.old messages out.new) }
     ensures kept { OnErr result (execution.new ≡ execution.old) }
 {
     let done = execution.is_configured;
@@ -50,7 +52,7 @@ fn configure_if(
     done: bool,
     out: &mut Outbox,
 ) -> Result<(), AllocError>
-    ensures sent { OnOk result ((messages : Messages) × ConfiguresIf done program.now execution.old request.now messages execution.new × SendsAll out.old messages out.new) }
+    ensures sent { OnOk result ((messages : Messages) × ConfiguresUnlessDone done program.now execution.old request.now messages execution.new × SendsAll out.old messages out.new) }
     ensures kept { OnErr result (execution.new ≡ execution.old) }
 {
     if done {
@@ -67,7 +69,7 @@ fn tell_threads_started(
     now: &[bool; 144],
     out: &mut Outbox,
 ) -> Result<(), AllocError>
-    ensures { OnOk result (SendsAll out.old (threads_told request.now (is_marked now.now)) out.new) }
+    ensures { OnOk result (SendsAll out.old (thread_start_messages request.now (is_marked now.now)) out.new) }
 {
     out.acknowledge(request)?;
     emit_thread_changes(alloc, &[false; 144], now, out)
@@ -81,7 +83,7 @@ fn configure_once(
     request: &ClientRequest,
     out: &mut Outbox,
 ) -> Result<(), AllocError>
-    ensures sent { OnOk result ((messages : Messages) × ConfiguresOnce program.now execution.old request.now messages execution.new × SendsAll out.old messages out.new) }
+    ensures sent { OnOk result ((messages : Messages) × CompletesConfiguration program.now execution.old request.now messages execution.new × SendsAll out.old messages out.new) }
     ensures kept { OnErr result (execution.new ≡ execution.old) }
 {
     let now = shown_of(program);
@@ -98,7 +100,7 @@ fn begin_so(
     stops: bool,
     out: &mut Outbox,
 ) -> Result<(), AllocError>
-    ensures sent { OnOk result ((messages : Messages) × BeginsSo stops program.now execution.old messages execution.new × SendsAll out.old messages out.new) }
+    ensures sent { OnOk result ((messages : Messages) × StopsOnEntryOrRuns stops program.now execution.old messages execution.new × SendsAll out.old messages out.new) }
     ensures kept { OnErr result (execution.new ≡ execution.old) }
 {
     if stops {

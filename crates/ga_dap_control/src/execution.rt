@@ -2,17 +2,17 @@
 
 ghost use Rattle.std.specs.Prelude.{◌≡◌, ◌≤◌, Option, Some, None};
 ghost use Rattle.ga_scheduler.specs.Running.{running};
-ghost use Rattle.ga_scheduler.specs.Watched.{after_first};
-ghost use Rattle.ga_dap_breakpoints.specs.Going.{IsMoveResult, tally_on, stepping_on};
-ghost use Rattle.ga_dap_breakpoints.specs.Stepping.{stepped_on};
+ghost use Rattle.ga_scheduler.specs.Watched.{precedence_run_after};
+ghost use Rattle.ga_dap_breakpoints.specs.Going.{IsMoveResult, tally_after_events, step_plan};
+ghost use Rattle.ga_dap_breakpoints.specs.Stepping.{move_after_events};
 ghost use Rattle.ga_lab.specs.Machine.{chip_of};
 ghost use Rattle.ga_grid.specs.declared.node_id.NodeId.{NodeId as ANode};
 ghost use Rattle.ga_causal.specs.Dependence.{is_marked};
-ghost use Rattle.ga_dap_control.specs.Slices.{slice_limit, tally_begun, GoesOn, StepsOn, Advances, MarksStuck, MakesSliceOf, MakesSlice, MakesEvents, IsFirstNewly, is_newly_by, is_newly, asked_stuck, is_stuck_stop, reported_behind, hit_at, hit_of, end_of_move, node_told, stop_by, ended_stuck, goal_behind};
+ghost use Rattle.ga_dap_control.specs.Slices.{slice_limit, tally_before_slice, ContinuesForSlice, StepsForSlice, AdvancesByGoal, IsGreatestDeadlock, MakesSliceOfGoal, MakesSlice, MakesSliceEvents, IsFirstNewlyDeadlocked, is_newly_deadlocked_by, is_newly_deadlocked, filtered_deadlock, is_stuck_stop, reported_deadlocks, stop_reason_at_place, breakpoint_stop_reason, end_of_move, event_node, slice_stop_reason, deadlock_stop_reason, execution_after_stop};
 
 use crate::configuration::Configuration;
 use ga_dap_breakpoints::{
-    Breakpoint, Halt, HitTally, MoveResult, StepMove, Watched, continue_run, continue_step,
+    Breakpoint, HaltReason, HitTally, MoveResult, StepMove, Watched, continue_run, continue_step,
     kept_hits,
 };
 use ga_dap_queries::Debuggee;
@@ -24,7 +24,7 @@ use ga_races::find_deadlocked;
 use ga_scheduler::Schedule;
 
 /// How many events are made before the client is listened to again.
-pub const SLICE: u64 = 4096;
+pub const MAX_SLICE_EVENTS: u64 = 4096;
 
 /// What a run is for.
 #[derive(Clone, Copy, PartialEq, Eq, Debug)]
@@ -73,7 +73,7 @@ pub enum StopReason {
 
 /// The node of what was made, of a pass its reader.
 fn node_of(made: Made) -> NodeId
-    ensures { result ≡ node_told made }
+    ensures { result ≡ event_node made }
 {
     match made {
         Made::Own { node, .. } => node,
@@ -82,13 +82,13 @@ fn node_of(made: Made) -> NodeId
 }
 
 /// Why a run stops by what was made, which hit a breakpoint.
-fn hit_of(point: Option<Breakpoint>, made: Made) -> StopReason
-    ensures { result ≡ hit_of point made }
+fn breakpoint_stop_reason(point: Option<Breakpoint>, made: Made) -> StopReason
+    ensures { result ≡ breakpoint_stop_reason point made }
 {
     match point {
         None => StopReason::Step(node_of(made)),
         Some(point) => match point.watched {
-            Watched::Comes(_) => StopReason::Breakpoint {
+            Watched::ArrivesAtSlot(_) => StopReason::Breakpoint {
                 node: point.node,
                 made,
             },
@@ -101,15 +101,15 @@ fn hit_of(point: Option<Breakpoint>, made: Made) -> StopReason
 }
 
 /// Why a run stops by what was made, which hit the breakpoint at a place, and none before it.
-fn hit_at(settings: &Configuration, made: Made, place: usize) -> StopReason
-    ensures { result ≡ hit_at settings.now made place }
+fn stop_reason_at_place(settings: &Configuration, made: Made, place: usize) -> StopReason
+    ensures { result ≡ stop_reason_at_place settings.now made place }
 {
-    hit_of(settings.points.breakpoint_at(place), made)
+    breakpoint_stop_reason(settings.points.breakpoint_at(place), made)
 }
 
 /// Whether a node that has something to show, and isn't stopped, can never go on and is not among those known.
-fn is_newly(program: &Debuggee, known: bool, now: bool, node: NodeId) -> bool
-    ensures { result ≡ is_newly_by known now program.now node.number }
+fn is_newly_deadlocked(program: &Debuggee, known: bool, now: bool, node: NodeId) -> bool
+    ensures { result ≡ is_newly_deadlocked_by known now program.now node.number }
 {
     let lab = &program.lab;
     now && !known && has_thread(lab, program.nodes.as_slice(), node) && lab.node(node).stop() == 0
@@ -117,14 +117,14 @@ fn is_newly(program: &Debuggee, known: bool, now: bool, node: NodeId) -> bool
 
 /// Whether a node that has something to show, and isn't stopped, can never go on and is not among those known, by marks of the nodes.
 fn is_newly_marked(program: &Debuggee, known: &[bool; 144], now: &[bool; 144], node: NodeId) -> bool
-    ensures { result ≡ is_newly (is_marked known.now) (is_marked now.now) program.now node.number }
+    ensures { result ≡ is_newly_deadlocked (is_marked known.now) (is_marked now.now) program.now node.number }
 {
-    is_newly(program, known[node.index()], now[node.index()], node)
+    is_newly_deadlocked(program, known[node.index()], now[node.index()], node)
 }
 
 /// The first node that has something to show, isn't stopped, and can never go on but is not among those known.
 fn newly_stuck(program: &Debuggee, known: &[bool; 144], now: &[bool; 144]) -> Option<NodeId>
-    ensures { IsFirstNewly (is_marked known.now) (is_marked now.now) program.now result }
+    ensures { IsFirstNewlyDeadlocked (is_marked known.now) (is_marked now.now) program.now result }
 {
     'nodes: for number in 0..144u8 {
         let node = NodeId::new(number);
@@ -136,8 +136,8 @@ fn newly_stuck(program: &Debuggee, known: &[bool; 144], now: &[bool; 144]) -> Op
 }
 
 /// How often each breakpoint was hit before a slice: as the slice before left it, or as the kept events say.
-fn tally_begun(lab: &Lab, settings: &Configuration, tally: Option<HitTally>) -> HitTally
-    ensures { result ≡ tally_begun lab.now settings.now tally }
+fn tally_before_slice(lab: &Lab, settings: &Configuration, tally: Option<HitTally>) -> HitTally
+    ensures { result ≡ tally_before_slice lab.now settings.now tally }
 {
     match tally {
         Some(tally) => tally,
@@ -151,11 +151,16 @@ fn go_on_slice(
     settings: &Configuration,
     execution: &mut Execution,
 ) -> MoveResult
-    ensures { GoesOn program.old settings.now execution.old program.new execution.new result }
+    ensures { ContinuesForSlice program.old settings.now execution.old program.new execution.new result }
 {
-    let tally = tally_begun(&program.lab, settings, execution.tally);
+    let tally = tally_before_slice(&program.lab, settings, execution.tally);
     let halts = settings.halts(tally);
-    let went = continue_run(&mut program.lab, execution.schedule, halts, SLICE);
+    let went = continue_run(
+        &mut program.lab,
+        execution.schedule,
+        halts,
+        MAX_SLICE_EVENTS,
+    );
     execution.schedule = went.schedule;
     execution.tally = Some(went.tally);
     went
@@ -169,16 +174,23 @@ fn step_by(
     execution: &mut Execution,
     stepping: StepMove,
 ) -> MoveResult
-    ensures state { running lab.new result.schedule ≡ after_first (Some stepping.node) (running lab.old execution.old.schedule) result.events }
+    ensures state { running lab.new result.schedule ≡ precedence_run_after (Some stepping.node) (running lab.old execution.old.schedule) result.events }
     ensures most { result.events ≤ slice_limit }
-    ensures hits { result.tally ≡ tally_on (Some stepping.node) settings.now.points.points.items (tally_begun lab.old settings.now execution.old.tally) (running lab.old execution.old.schedule) result.events }
-    ensures end { IsMoveResult (stepping_on notes.now settings.now.points.points.items (tally_begun lab.old settings.now execution.old.tally) settings.now.stops stepping (running lab.old execution.old.schedule)) (running lab.old execution.old.schedule) slice_limit result.events result.halt }
-    ensures next { execution.new ≡ record execution.old { schedule = result.schedule; tally = Some result.tally; goal = Some (Goal.Step (stepped_on stepping (running lab.old execution.old.schedule) result.events)) } }
+    ensures hits { result.tally ≡ tally_after_events (Some stepping.node) settings.now.points.points.items (tally_before_slice lab.old settings.now execution.old.tally) (running lab.old execution.old.schedule) result.events }
+    ensures end { IsMoveResult (step_plan notes.now settings.now.points.points.items (tally_before_slice lab.old settings.now execution.old.tally) settings.now.stops stepping (running lab.old execution.old.schedule)) (running lab.old execution.old.schedule) slice_limit result.events result.halt }
+    ensures next { execution.new ≡ record execution.old { schedule = result.schedule; tally = Some result.tally; goal = Some (Goal.Step (move_after_events stepping (running lab.old execution.old.schedule) result.events)) } }
 {
     let mut by = stepping;
-    let tally = tally_begun(lab, settings, execution.tally);
+    let tally = tally_before_slice(lab, settings, execution.tally);
     let halts = settings.halts(tally);
-    let went = continue_step(lab, execution.schedule, &mut by, notes, halts, SLICE);
+    let went = continue_step(
+        lab,
+        execution.schedule,
+        &mut by,
+        notes,
+        halts,
+        MAX_SLICE_EVENTS,
+    );
     execution.schedule = went.schedule;
     execution.tally = Some(went.tally);
     execution.goal = Some(Goal::Step(by));
@@ -192,13 +204,13 @@ fn step_slice(
     execution: &mut Execution,
     stepping: StepMove,
 ) -> MoveResult
-    ensures { StepsOn stepping program.old settings.now execution.old program.new execution.new result }
+    ensures { StepsForSlice stepping program.old settings.now execution.old program.new execution.new result }
 {
     match &program.source {
         Some(notes) => step_by(&mut program.lab, notes, settings, execution, stepping),
         None => step_by(
             &mut program.lab,
-            &program.unsaid,
+            &program.empty_debug_info,
             settings,
             execution,
             stepping,
@@ -213,7 +225,7 @@ fn advance(
     execution: &mut Execution,
     goal: Goal,
 ) -> MoveResult
-    ensures { Advances goal program.old settings.now execution.old program.new execution.new result }
+    ensures { AdvancesByGoal goal program.old settings.now execution.old program.new execution.new result }
 {
     match goal {
         Goal::Continue => go_on_slice(program, settings, execution),
@@ -231,8 +243,12 @@ fn end_of_move(goal: Goal, made: Made) -> StopReason
 }
 
 /// Why a run ends: a node came to be stuck, where that ends it; else another reason.
-fn ended_stuck(asked: bool, stuck: Option<NodeId>, other: Option<StopReason>) -> Option<StopReason>
-    ensures { result ≡ ended_stuck asked stuck other }
+fn deadlock_stop_reason(
+    asked: bool,
+    stuck: Option<NodeId>,
+    other: Option<StopReason>,
+) -> Option<StopReason>
+    ensures { result ≡ deadlock_stop_reason asked stuck other }
 {
     if !asked {
         return other;
@@ -244,27 +260,31 @@ fn ended_stuck(asked: bool, stuck: Option<NodeId>, other: Option<StopReason>) ->
 }
 
 /// Why a run ended after a slice with this result; none if it continues.
-fn stop_by(
+fn slice_stop_reason(
     settings: &Configuration,
     goal: Goal,
     stuck: Option<NodeId>,
-    halt: Halt,
+    halt: HaltReason,
 ) -> Option<StopReason>
-    ensures { result ≡ stop_by settings.now goal stuck halt }
+    ensures { result ≡ slice_stop_reason settings.now goal stuck halt }
 {
     match halt {
-        Halt::Hit { made, which } => Some(hit_at(settings, made, which)),
-        Halt::Stopped(made) => Some(StopReason::Stopped(node_of(made))),
-        Halt::Moved(made) => ended_stuck(settings.stuck, stuck, Some(end_of_move(goal, made))),
-        Halt::Refused(why) => Some(StopReason::Refused(why)),
-        Halt::Cut => ended_stuck(settings.stuck, stuck, None),
-        Halt::Quiet => ended_stuck(settings.stuck, stuck, Some(StopReason::Quiet)),
+        HaltReason::Hit { made, which } => Some(stop_reason_at_place(settings, made, which)),
+        HaltReason::Stopped(made) => Some(StopReason::Stopped(node_of(made))),
+        HaltReason::Moved(made) => deadlock_stop_reason(
+            settings.stuck,
+            stuck,
+            Some(end_of_move(goal, made)),
+        ),
+        HaltReason::Refused(why) => Some(StopReason::Refused(why)),
+        HaltReason::Cut => deadlock_stop_reason(settings.stuck, stuck, None),
+        HaltReason::Quiet => deadlock_stop_reason(settings.stuck, stuck, Some(StopReason::Quiet)),
     }
 }
 
 /// The nodes that can never go on.
 fn stuck_of(program: &Debuggee) -> [bool; 144]
-    ensures { MarksStuck (chip_of program.now.lab) (is_marked result) }
+    ensures { IsGreatestDeadlock (chip_of program.now.lab) (is_marked result) }
 {
     find_deadlocked(program.lab.chip())
 }
@@ -288,7 +308,7 @@ fn make_slice_for(
     execution: &mut Execution,
     goal: Option<Goal>,
 ) -> Option<StopReason>
-    ensures { MakesSliceOf goal program.old settings.now execution.old program.new execution.new result }
+    ensures { MakesSliceOfGoal goal program.old settings.now execution.old program.new execution.new result }
 {
     match goal {
         Some(goal) => make_slice_of(program, settings, execution, goal),
@@ -303,7 +323,7 @@ fn unreported(
     execution: &Execution,
     now: &[bool; 144],
 ) -> Option<NodeId>
-    ensures { (stuck : Option ANode) × IsFirstNewly (is_marked execution.now.reported) (is_marked now.now) program.now stuck × (result ≡ asked_stuck settings.now.stuck stuck) }
+    ensures { (stuck : Option ANode) × IsFirstNewlyDeadlocked (is_marked execution.now.reported) (is_marked now.now) program.now stuck × (result ≡ filtered_deadlock settings.now.stuck stuck) }
 {
     let stuck = newly_stuck(program, &execution.reported, now);
     if settings.stuck { stuck } else { None }
@@ -334,7 +354,7 @@ fn keep_reported(
     before: &[bool; 144],
     now: &[bool; 144],
 )
-    ensures { execution.new ≡ record execution.old { reported = reported_behind asked stop.now before.now now.now } }
+    ensures { execution.new ≡ record execution.old { reported = reported_deadlocks asked stop.now before.now now.now } }
 {
     if !asked {
         execution.reported = [false; 144];
@@ -352,7 +372,7 @@ fn make_slice_of(
     execution: &mut Execution,
     goal: Goal,
 ) -> Option<StopReason>
-    ensures { MakesSliceOf (Some goal) program.old settings.now execution.old program.new execution.new result }
+    ensures { MakesSliceOfGoal (Some goal) program.old settings.now execution.old program.new execution.new result }
 {
     let before = stuck_of(program);
     match unreported(program, settings, execution, &before) {
@@ -379,12 +399,12 @@ fn make_events(
     goal: Goal,
     before: &[bool; 144],
 ) -> Option<StopReason>
-    ensures { MakesEvents goal before.now program.old settings.now execution.old program.new execution.new result }
+    ensures { MakesSliceEvents goal before.now program.old settings.now execution.old program.new execution.new result }
 {
     let went = advance(program, settings, execution, goal);
     let now = stuck_of(program);
     let stuck = newly_stuck(program, before, &now);
-    let stop = stop_by(settings, goal, stuck, went.halt);
+    let stop = slice_stop_reason(settings, goal, stuck, went.halt);
     keep_reported(execution, settings.stuck, &stop, before, &now);
     end_for(execution, stop);
     stop
@@ -392,7 +412,7 @@ fn make_events(
 
 /// Ends a run, where there is a reason to.
 fn end_for(execution: &mut Execution, stop: Option<StopReason>)
-    ensures { execution.new ≡ goal_behind execution.old stop }
+    ensures { execution.new ≡ execution_after_stop execution.old stop }
 {
     match stop {
         Some(_) => execution.goal = None,

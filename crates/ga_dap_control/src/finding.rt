@@ -3,19 +3,19 @@
 ghost use Rattle.std.specs.Prelude.{◌≡◌, ◌<◌, length, position, codes, option_map, option_and_then, Some, IfSome};
 ghost use Rattle.serde_json.specs.View.{view};
 ghost use Rattle.ga_dap_protocol.specs.Messages.{member_text};
-ghost use Rattle.ga_dap_queries.specs.Disassembling.{offset_given, addresses_after};
+ghost use Rattle.ga_dap_queries.specs.Disassembling.{offset_given, wrapped_address_offset};
 ghost use Rattle.ga_dap_breakpoints.specs.Saying.{parse_hit_condition};
 ghost use Rattle.ga_conditions.specs.Tests.{test_in};
-ghost use Rattle.ga_dap_control.specs.Placing.{line_asked, found_on_line, is_label, at_any_label, at_label_of, names_node, node_named_before, at_label, at_cell_on, on_writes, on_no_line, is_no_text, on_condition, with_condition, on_hits, with_hits, asked_there, requested_breakpoint, unfound_words, unplaced_words, IsReferredBy, IsPlaceOf};
+ghost use Rattle.ga_dap_control.specs.Placing.{requested_line, source_breakpoint_location, has_label_text, breakpoint_of_any_label, breakpoint_of_node_label, has_node_prefix, node_prefix, function_breakpoint, instruction_breakpoint_at, data_breakpoint_at, location_without_line, is_member_not_text, with_parsed_condition, with_condition, with_parsed_hit_condition, with_hit_condition, location_with_conditions, requested_breakpoint, no_location_text, placement_error_text, IsBreakpointOfReference, IsBreakpointLocation};
 
 use crate::configuration::BreakpointKind;
 use ga_conditions::parse_test;
 use ga_dap_breakpoints::{
-    Breakpoint, MAX_COUNTED, Watched, breakpoint_of_address, breakpoint_of_line,
+    Breakpoint, MAX_COUNTED_BREAKPOINTS, Watched, breakpoint_of_address, breakpoint_of_line,
     parse_hit_condition,
 };
-use ga_dap_protocol::{number_at, text_at};
-use ga_dap_queries::{Debuggee, addresses_after, offset_at, resolve_memory_reference};
+use ga_dap_protocol::{member_number, member_text};
+use ga_dap_queries::{Debuggee, offset_at, resolve_memory_reference, wrapped_address_offset};
 use ga_debug_info::{DebugInfo, LabelAddress};
 use ga_grid::NodeId;
 use ga_scheduler::ValueTest;
@@ -50,10 +50,10 @@ pub fn resolve_breakpoint(
     family: BreakpointKind,
     asked: &Value,
 ) -> Option<BreakpointLocation>
-    ensures { IsPlaceOf program.now family (view asked.now) result }
+    ensures { IsBreakpointLocation program.now family (view asked.now) result }
 {
     match family {
-        BreakpointKind::Source => found_on_line(program.notes(), asked),
+        BreakpointKind::Source => source_breakpoint_location(program.notes(), asked),
         BreakpointKind::Function => found_at_label(program.notes(), asked),
         BreakpointKind::Instruction => found_at_address(program, asked),
         BreakpointKind::Data => found_cell(program, asked),
@@ -62,7 +62,7 @@ pub fn resolve_breakpoint(
 
 /// Why there is no such place as the request names.
 fn unfound(family: BreakpointKind) -> &'static str
-    ensures { result.now ≡ unfound_words family }
+    ensures { result.now ≡ no_location_text family }
 {
     match family {
         BreakpointKind::Source => "no code stands on this line or behind it",
@@ -74,7 +74,7 @@ fn unfound(family: BreakpointKind) -> &'static str
 
 /// Why a breakpoint is not set.
 pub fn placement_error_text(family: BreakpointKind, why: PlacementError) -> &'static str
-    ensures { result.now ≡ unplaced_words family why }
+    ensures { result.now ≡ placement_error_text family why }
 {
     match why {
         PlacementError::Nowhere => unfound(family),
@@ -87,8 +87,8 @@ pub fn placement_error_text(family: BreakpointKind, why: PlacementError) -> &'st
 }
 
 /// Whether a member is there, and is neither text nor null.
-fn is_no_text(asked: &Value, name: &str) -> bool
-    ensures { result ≡ is_no_text name.now (view asked.now) }
+fn is_member_not_text(asked: &Value, name: &str) -> bool
+    ensures { result ≡ is_member_not_text name.now (view asked.now) }
 {
     match asked.get(name) {
         Some(given) => !given.is_string() && !given.is_null(),
@@ -110,12 +110,12 @@ fn with_test(place: BreakpointLocation, test: ValueTest) -> BreakpointLocation
 }
 
 /// A breakpoint at a place, with the condition that a text says.
-fn on_condition(
+fn with_parsed_condition(
     names: &[LabelAddress],
     place: BreakpointLocation,
     text: &[u8],
 ) -> Result<BreakpointLocation, PlacementError>
-    ensures { result ≡ on_condition place (test_in names.now place.breakpoint.node text.now) }
+    ensures { result ≡ with_parsed_condition place (test_in names.now place.breakpoint.node text.now) }
 {
     match parse_test(names, place.breakpoint.node, text) {
         Some(test) => {
@@ -135,28 +135,28 @@ fn with_condition(
     place: BreakpointLocation,
     asked: &Value,
 ) -> Result<BreakpointLocation, PlacementError>
-    ensures { result ≡ with_condition names.now place (is_no_text (codes "condition") (view asked.now)) (member_text (codes "condition") (view asked.now)) }
+    ensures { result ≡ with_condition names.now place (is_member_not_text (codes "condition") (view asked.now)) (member_text (codes "condition") (view asked.now)) }
 {
-    if is_no_text(asked, "condition") {
+    if is_member_not_text(asked, "condition") {
         return Err(PlacementError::Condition);
     }
-    match text_at(asked, "condition") {
-        Some(text) => on_condition(names, place, text.as_bytes()),
+    match member_text(asked, "condition") {
+        Some(text) => with_parsed_condition(names, place, text.as_bytes()),
         None => Ok(place),
     }
 }
 
 /// A breakpoint at a place, with the hit condition of a text, given the number of breakpoints before it.
-fn on_hits(
+fn with_parsed_hit_condition(
     place: BreakpointLocation,
     before: usize,
     text: &[u8],
 ) -> Result<BreakpointLocation, PlacementError>
-    ensures { result ≡ on_hits place before (parse_hit_condition text.now) }
+    ensures { result ≡ with_parsed_hit_condition place before (parse_hit_condition text.now) }
 {
     match parse_hit_condition(text) {
         Some(hits) => {
-            if before < MAX_COUNTED {
+            if before < MAX_COUNTED_BREAKPOINTS {
                 Ok(BreakpointLocation {
                     breakpoint: Breakpoint {
                         hits: Some(hits),
@@ -173,33 +173,33 @@ fn on_hits(
 }
 
 /// A breakpoint at a place, with the hits that are asked for, where any are.
-fn with_hits(
+fn with_hit_condition(
     place: BreakpointLocation,
     before: usize,
     asked: &Value,
 ) -> Result<BreakpointLocation, PlacementError>
-    ensures { result ≡ with_hits place before (is_no_text (codes "hitCondition") (view asked.now)) (member_text (codes "hitCondition") (view asked.now)) }
+    ensures { result ≡ with_hit_condition place before (is_member_not_text (codes "hitCondition") (view asked.now)) (member_text (codes "hitCondition") (view asked.now)) }
 {
-    if is_no_text(asked, "hitCondition") {
+    if is_member_not_text(asked, "hitCondition") {
         return Err(PlacementError::Hits);
     }
-    match text_at(asked, "hitCondition") {
-        Some(text) => on_hits(place, before, text.as_bytes()),
+    match member_text(asked, "hitCondition") {
+        Some(text) => with_parsed_hit_condition(place, before, text.as_bytes()),
         None => Ok(place),
     }
 }
 
 /// The requested breakpoint at a place, if its condition and its hit condition can be parsed.
-fn asked_there(
+fn location_with_conditions(
     names: &[LabelAddress],
     place: BreakpointLocation,
     before: usize,
     asked: &Value,
 ) -> Result<BreakpointLocation, PlacementError>
-    ensures { result ≡ asked_there names.now place before (view asked.now) }
+    ensures { result ≡ location_with_conditions names.now place before (view asked.now) }
 {
     match with_condition(names, place, asked) {
-        Ok(place) => with_hits(place, before, asked),
+        Ok(place) => with_hit_condition(place, before, asked),
         Err(why) => Err(why),
     }
 }
@@ -214,22 +214,22 @@ pub fn requested_breakpoint(
     ensures { result ≡ requested_breakpoint names.now found before (view asked.now) }
 {
     match found {
-        Some(place) => asked_there(names, place, before, asked),
+        Some(place) => location_with_conditions(names, place, before, asked),
         None => Err(PlacementError::Nowhere),
     }
 }
 
-fn line_asked(asked: &Value) -> Option<u32>
-    ensures { result ≡ line_asked (view asked.now) }
+fn requested_line(asked: &Value) -> Option<u32>
+    ensures { result ≡ requested_line (view asked.now) }
 {
-    let line = number_at(asked, "line")?;
+    let line = member_number(asked, "line")?;
     u32::try_from(line).ok()
 }
 
-fn found_on_line(notes: &DebugInfo, asked: &Value) -> Option<BreakpointLocation>
-    ensures { result ≡ found_on_line notes.now (view asked.now) }
+fn source_breakpoint_location(notes: &DebugInfo, asked: &Value) -> Option<BreakpointLocation>
+    ensures { result ≡ source_breakpoint_location notes.now (view asked.now) }
 {
-    let found = breakpoint_of_line(notes, line_asked(asked)?)?;
+    let found = breakpoint_of_line(notes, requested_line(asked)?)?;
     Some(BreakpointLocation {
         breakpoint: found.breakpoint,
         line: Some(found.line),
@@ -237,8 +237,8 @@ fn found_on_line(notes: &DebugInfo, asked: &Value) -> Option<BreakpointLocation>
 }
 
 /// The place of a breakpoint that is on no line.
-fn on_no_line(point: Option<Breakpoint>) -> Option<BreakpointLocation>
-    ensures { result ≡ option_map on_no_line point }
+fn location_without_line(point: Option<Breakpoint>) -> Option<BreakpointLocation>
+    ensures { result ≡ option_map location_without_line point }
 {
     match point {
         Some(breakpoint) => Some(BreakpointLocation {
@@ -249,22 +249,22 @@ fn on_no_line(point: Option<Breakpoint>) -> Option<BreakpointLocation>
     }
 }
 
-fn is_label(name: &LabelAddress, label: &[u8]) -> bool
-    ensures { result ≡ is_label label.now name.now }
+fn has_label_text(name: &LabelAddress, label: &[u8]) -> bool
+    ensures { result ≡ has_label_text label.now name.now }
 {
     name.text.as_slice() == label
 }
 
 /// The place in the list of the first node's label of this name.
 fn label_place(names: &[LabelAddress], label: &[u8]) -> Option<usize>
-    ensures { result ≡ position (is_label label.now) names.now }
+    ensures { result ≡ position (has_label_text label.now) names.now }
 {
-    names.iter().position(|name| is_label(name, label))
+    names.iter().position(|name| has_label_text(name, label))
 }
 
 /// A breakpoint at the label of the first node that has it.
-fn at_any_label(names: &[LabelAddress], label: &[u8]) -> Option<Breakpoint>
-    ensures { result ≡ at_any_label names.now label.now }
+fn breakpoint_of_any_label(names: &[LabelAddress], label: &[u8]) -> Option<Breakpoint>
+    ensures { result ≡ breakpoint_of_any_label names.now label.now }
 {
     let place = label_place(names, label)?;
     match names.get(place) {
@@ -274,28 +274,28 @@ fn at_any_label(names: &[LabelAddress], label: &[u8]) -> Option<Breakpoint>
 }
 
 /// A breakpoint at the label of a node.
-fn at_label_of(notes: &DebugInfo, node: NodeId, label: &[u8]) -> Option<Breakpoint>
-    ensures { result ≡ at_label_of notes.now.names.items node label.now }
+fn breakpoint_of_node_label(notes: &DebugInfo, node: NodeId, label: &[u8]) -> Option<Breakpoint>
+    ensures { result ≡ breakpoint_of_node_label notes.now.names.items node label.now }
 {
-    match notes.address_of(node, label) {
+    match notes.label_address_of(node, label) {
         Some(address) => breakpoint_of_address(node, address),
         None => None,
     }
 }
 
 /// Whether a node may be named before a label.
-fn names_node(text: &[u8]) -> bool
-    ensures { result ≡ names_node text.now }
+fn has_node_prefix(text: &[u8]) -> bool
+    ensures { result ≡ has_node_prefix text.now }
 {
     text.len() > 3 && (text[3] == b':' || text[3] == b' ')
 }
 
 /// The node that is named before a label.
-fn node_named_before(text: &[u8]) -> Option<NodeId>
-    ensures value { result ≡ node_named_before text.now }
+fn node_prefix(text: &[u8]) -> Option<NodeId>
+    ensures value { result ≡ node_prefix text.now }
     ensures within { IfSome result (λ node. 3 < length text.now) }
 {
-    if names_node(text) {
+    if has_node_prefix(text) {
         parse_node(&text[..3])
     } else {
         None
@@ -303,31 +303,31 @@ fn node_named_before(text: &[u8]) -> Option<NodeId>
 }
 
 /// A breakpoint at a label: `NNN LABEL`, `NNN:LABEL` or `LABEL`.
-fn at_label(notes: &DebugInfo, text: &[u8]) -> Option<Breakpoint>
-    ensures { result ≡ at_label notes.now.names.items text.now }
+fn function_breakpoint(notes: &DebugInfo, text: &[u8]) -> Option<Breakpoint>
+    ensures { result ≡ function_breakpoint notes.now.names.items text.now }
 {
-    match node_named_before(text) {
+    match node_prefix(text) {
         Some(node) => {
             let (_, label) = text.split_at(4);
-            at_label_of(notes, node, label)
+            breakpoint_of_node_label(notes, node, label)
         }
-        None => at_any_label(notes.names.as_slice(), text),
+        None => breakpoint_of_any_label(notes.names.as_slice(), text),
     }
 }
 
 fn found_at_label(notes: &DebugInfo, asked: &Value) -> Option<BreakpointLocation>
-    ensures { result ≡ option_map on_no_line (option_and_then (at_label notes.now.names.items) (member_text (codes "name") (view asked.now))) }
+    ensures { result ≡ option_map location_without_line (option_and_then (function_breakpoint notes.now.names.items) (member_text (codes "name") (view asked.now))) }
 {
-    match text_at(asked, "name") {
-        Some(text) => on_no_line(at_label(notes, text.as_bytes())),
+    match member_text(asked, "name") {
+        Some(text) => location_without_line(function_breakpoint(notes, text.as_bytes())),
         None => None,
     }
 }
 
 /// A breakpoint a number of addresses after a cell.
-fn at_cell_on(on: u32, at: (NodeId, u8)) -> Option<Breakpoint>
+fn instruction_breakpoint_at(on: u32, at: (NodeId, u8)) -> Option<Breakpoint>
     requires { on < 4096 }
-    ensures { result ≡ at_cell_on on at }
+    ensures { result ≡ instruction_breakpoint_at on at }
 {
     let address = (u32::from(at.1) + on) % 4096;
     if address < 256 {
@@ -340,7 +340,7 @@ fn at_cell_on(on: u32, at: (NodeId, u8)) -> Option<Breakpoint>
 /// A breakpoint a number of addresses after the cell of a memory reference.
 fn behind_reference(reference: Option<&str>, on: u32) -> Option<Breakpoint>
     requires { on < 4096 }
-    ensures { IsReferredBy (at_cell_on on) (option_map (λ text. text.now) reference.entry) result }
+    ensures { IsBreakpointOfReference (instruction_breakpoint_at on) (option_map (λ text. text.now) reference.entry) result }
 {
     match reference {
         Some(text) => behind_text(text, on),
@@ -350,33 +350,33 @@ fn behind_reference(reference: Option<&str>, on: u32) -> Option<Breakpoint>
 
 fn behind_text(text: &str, on: u32) -> Option<Breakpoint>
     requires { on < 4096 }
-    ensures { IsReferredBy (at_cell_on on) (Some text.now) result }
+    ensures { IsBreakpointOfReference (instruction_breakpoint_at on) (Some text.now) result }
 {
     match resolve_memory_reference(text) {
-        Some(at) => at_cell_on(on, at),
+        Some(at) => instruction_breakpoint_at(on, at),
         None => None,
     }
 }
 
 /// How many addresses after the reference the requested breakpoint is.
 fn cells_given(asked: &Value) -> u32
-    ensures value { result ≡ addresses_after (offset_given (codes "offset") (view asked.now)) }
+    ensures value { result ≡ wrapped_address_offset (offset_given (codes "offset") (view asked.now)) }
     ensures most { result < 4096 }
 {
-    addresses_after(offset_at(asked, "offset"))
+    wrapped_address_offset(offset_at(asked, "offset"))
 }
 
 #[tactic(auto, using(crate::proofs::Referred::referred_so, crate::proofs::Referred::referred_on))]
 fn found_at_address(program: &Debuggee, asked: &Value) -> Option<BreakpointLocation>
-    ensures { IsPlaceOf program.now BreakpointKind.Instruction (view asked.now) result }
+    ensures { IsBreakpointLocation program.now BreakpointKind.Instruction (view asked.now) result }
 {
     let on = cells_given(asked);
-    on_no_line(behind_reference(text_at(asked, "instructionReference"), on))
+    location_without_line(behind_reference(member_text(asked, "instructionReference"), on))
 }
 
 /// A breakpoint that is hit where a cell of RAM is written.
-fn on_writes(at: (NodeId, u8)) -> Option<Breakpoint>
-    ensures { result ≡ on_writes at }
+fn data_breakpoint_at(at: (NodeId, u8)) -> Option<Breakpoint>
+    ensures { result ≡ data_breakpoint_at at }
 {
     if at.1 < 128 {
         Some(Breakpoint {
@@ -392,7 +392,7 @@ fn on_writes(at: (NodeId, u8)) -> Option<Breakpoint>
 
 /// A breakpoint that is hit where the cell of a reference to memory is written.
 fn writes_referred(reference: Option<&str>) -> Option<Breakpoint>
-    ensures { IsReferredBy on_writes (option_map (λ text. text.now) reference.entry) result }
+    ensures { IsBreakpointOfReference data_breakpoint_at (option_map (λ text. text.now) reference.entry) result }
 {
     match reference {
         Some(text) => writes_text(text),
@@ -401,17 +401,17 @@ fn writes_referred(reference: Option<&str>) -> Option<Breakpoint>
 }
 
 fn writes_text(text: &str) -> Option<Breakpoint>
-    ensures { IsReferredBy on_writes (Some text.now) result }
+    ensures { IsBreakpointOfReference data_breakpoint_at (Some text.now) result }
 {
     match resolve_memory_reference(text) {
-        Some(at) => on_writes(at),
+        Some(at) => data_breakpoint_at(at),
         None => None,
     }
 }
 
 #[tactic(auto, using(crate::proofs::Referred::referred_so))]
 fn found_cell(program: &Debuggee, asked: &Value) -> Option<BreakpointLocation>
-    ensures { IsPlaceOf program.now BreakpointKind.Data (view asked.now) result }
+    ensures { IsBreakpointLocation program.now BreakpointKind.Data (view asked.now) result }
 {
-    on_no_line(writes_referred(text_at(asked, "dataId")))
+    location_without_line(writes_referred(member_text(asked, "dataId")))
 }

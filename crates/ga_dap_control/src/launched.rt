@@ -1,8 +1,8 @@
 //! What was launched, and the requests of it that make no event and take none back.
 
 ghost use Rattle.std.specs.Prelude.{◌≡◌, codes, OnOk, OnErr};
-ghost use Rattle.ga_dap_control.specs.Breakpoints.{SetsFilters, SetsLines, SetsPoints};
-ghost use Rattle.ga_dap_control.specs.Requests.{Sets, AnswersAtOnce};
+ghost use Rattle.ga_dap_control.specs.Breakpoints.{SetsExceptionFilters, SetsLineBreakpoints, ReplacesBreakpoints};
+ghost use Rattle.ga_dap_control.specs.Requests.{ChangesConfiguration, AnswersAtOnce};
 ghost use Rattle.ga_dap_queries.specs.Sending.{Sends, SendsAll, Messages, refused_response};
 
 use crate::breakpoints::{replace_breakpoints, set_exception_filters, set_line_breakpoints};
@@ -12,14 +12,15 @@ use crate::execution::Execution;
 use crate::moving::{DapStepKind, begin_continue, begin_step, pause};
 use ga_dap_protocol::{ClientRequest, Outbox};
 use ga_dap_queries::{
-    Debuggee, RequestName, respond_scopes, respond_stack_trace, respond_threads, respond_variables,
-    tell_data_info, tell_exception, tell_instructions,
+    Debuggee, RequestName, respond_data_breakpoint_info, respond_disassemble,
+    respond_exception_info, respond_scopes, respond_stack_trace, respond_threads,
+    respond_variables,
 };
 use std::alloc::{AllocError, Global};
 
 /// What was launched, what the client set of it, and its run.
 #[derive(Drop)]
-pub struct Launched {
+pub struct LaunchedProgram {
     pub program: Debuggee,
     pub settings: Configuration,
     pub execution: Execution,
@@ -29,11 +30,11 @@ pub struct Launched {
 #[tactic(auto, using(crate::proofs::Answered::sets_so))]
 fn set_lines_of(
     alloc: Global,
-    launched: &mut Launched,
+    launched: &mut LaunchedProgram,
     request: &ClientRequest,
     out: &mut Outbox,
 ) -> Result<(), AllocError>
-    ensures sent { OnOk result ((messages : Messages) × Sets (SetsLines launched.old.program launched.old.settings request.now) launched.old messages launched.new × SendsAll out.old messages out.new) }
+    ensures sent { OnOk result ((messages : Messages) × ChangesConfiguration (SetsLineBreakpoints launched.old.program launched.old.settings request.now) launched.old messages launched.new × SendsAll out.old messages out.new) }
     ensures kept { OnErr result (launched.new ≡ launched.old) }
 {
     let settings = &mut launched.settings;
@@ -45,12 +46,12 @@ fn set_lines_of(
 /// Sets the breakpoints on no line that a request asks for. Hits are counted anew.
 fn set_points_of(
     alloc: Global,
-    launched: &mut Launched,
+    launched: &mut LaunchedProgram,
     family: BreakpointKind,
     request: &ClientRequest,
     out: &mut Outbox,
 ) -> Result<(), AllocError>
-    ensures sent { OnOk result ((messages : Messages) × Sets (SetsPoints launched.old.program family launched.old.settings request.now) launched.old messages launched.new × SendsAll out.old messages out.new) }
+    ensures sent { OnOk result ((messages : Messages) × ChangesConfiguration (ReplacesBreakpoints launched.old.program family launched.old.settings request.now) launched.old messages launched.new × SendsAll out.old messages out.new) }
     ensures kept { OnErr result (launched.new ≡ launched.old) }
 {
     let settings = &mut launched.settings;
@@ -62,11 +63,11 @@ fn set_points_of(
 /// `setExceptionBreakpoints`. Hits are counted anew.
 #[tactic(auto, using(crate::proofs::Answered::sets_so))]
 fn set_filters_of(
-    launched: &mut Launched,
+    launched: &mut LaunchedProgram,
     request: &ClientRequest,
     out: &mut Outbox,
 ) -> Result<(), AllocError>
-    ensures sent { OnOk result ((messages : Messages) × Sets (SetsFilters launched.old.settings request.now) launched.old messages launched.new × SendsAll out.old messages out.new) }
+    ensures sent { OnOk result ((messages : Messages) × ChangesConfiguration (SetsExceptionFilters launched.old.settings request.now) launched.old messages launched.new × SendsAll out.old messages out.new) }
     ensures kept { OnErr result (launched.new ≡ launched.old) }
 {
     set_exception_filters(&mut launched.settings, request, out)?;
@@ -77,7 +78,7 @@ fn set_filters_of(
 /// Answers a request that makes no event and takes none back.
 pub fn answer_at_once(
     alloc: Global,
-    launched: &mut Launched,
+    launched: &mut LaunchedProgram,
     command: RequestName,
     request: &ClientRequest,
     out: &mut Outbox,
@@ -96,7 +97,7 @@ pub fn answer_at_once(
         RequestName::SetDataBreakpoints => {
             set_points_of(alloc, launched, BreakpointKind::Data, request, out)
         }
-        RequestName::DataBreakpointInfo => tell_data_info(alloc, request, out),
+        RequestName::DataBreakpointInfo => respond_data_breakpoint_info(alloc, request, out),
         RequestName::SetExceptionBreakpoints => set_filters_of(launched, request, out),
         RequestName::ConfigurationDone => configure(
             alloc,
@@ -109,8 +110,13 @@ pub fn answer_at_once(
         RequestName::StackTrace => respond_stack_trace(alloc, &launched.program, request, out),
         RequestName::Scopes => respond_scopes(alloc, request, out),
         RequestName::Variables => respond_variables(alloc, &launched.program, request, out),
-        RequestName::ExceptionInfo => tell_exception(alloc, &launched.program, request, out),
-        RequestName::Disassemble => tell_instructions(alloc, &launched.program, request, out),
+        RequestName::ExceptionInfo => respond_exception_info(
+            alloc,
+            &launched.program,
+            request,
+            out,
+        ),
+        RequestName::Disassemble => respond_disassemble(alloc, &launched.program, request, out),
         RequestName::Continue => begin_continue(alloc, &mut launched.execution, request, out),
         RequestName::Next => begin_step(
             &launched.program,

@@ -15,5 +15,5 @@ mod stops;
 pub use back::{RollbackSummary, reverse_continue_node, rollback_summary_text, step_back_node};
 pub use configuration::{BreakpointKind, BreakpointSet, Configuration, PlacedBreakpoint};
 pub use execution::{Execution, Goal, StopReason, make_slice};
-pub use launched::{Launched, answer_at_once};
+pub use launched::{LaunchedProgram, answer_at_once};
 pub use stops::emit_run_end;

@@ -5,24 +5,24 @@ ghost use Rattle.serde_json.specs.View.{view};
 ghost use Rattle.ga_grid.specs.Chip.{record_at};
 ghost use Rattle.ga_grid.specs.declared.node_id.NodeId.{NodeId as ANode};
 ghost use Rattle.ga_lab.specs.Machine.{chip_of};
-ghost use Rattle.ga_dap_queries.specs.Arguments.{AsksOfThread};
+ghost use Rattle.ga_dap_queries.specs.Arguments.{IsThreadArgument};
 ghost use Rattle.ga_dap_control.specs.Back.{requested_granularity};
-ghost use Rattle.ga_dap_queries.specs.Sending.{Sends, SendsAll, Message, Messages, acknowledged};
-ghost use Rattle.ga_dap_control.specs.Moving.{continued, run_started, no_thread_words, node_stopped_words, stepping_of, BeginsStep, BeginsStepBy, BeginsStepping, PausesRun, PausesAt, Pauses, Continues};
+ghost use Rattle.ga_dap_queries.specs.Sending.{Sends, SendsAll, Message, Messages, bare_success_response};
+ghost use Rattle.ga_dap_control.specs.Moving.{continue_body, execution_with_goal, no_thread_words, node_stopped_words, requested_step_move, BeginsStep, BeginsStepOfNode, BeginsStepMove, ArePauseMessages, PausesIfRunning, AnswersPause, AnswersContinue};
 
 use crate::configuring::first_of;
 use crate::execution::{Execution, Goal};
 use ga_dap_breakpoints::{Granularity, StepMove};
-use ga_dap_protocol::{ClientRequest, Outbox, text_at};
+use ga_dap_protocol::{ClientRequest, Outbox, member_text};
 use ga_dap_queries::{Debuggee, emit_stopped, thread_argument};
 use ga_grid::NodeId;
 use ga_lab::Lab;
 use serde_json::{Value, json};
 use std::alloc::{AllocError, Global};
 
-#[tactic(auto, unfolding(crate::specs::Moving::continued))]
-fn continued(alloc: Global) -> Result<Value, AllocError>
-    ensures { IfOk result (λ v. view v ≡ continued) }
+#[tactic(auto, unfolding(crate::specs::Moving::continue_body))]
+fn continue_body(alloc: Global) -> Result<Value, AllocError>
+    ensures { IfOk result (λ v. view v ≡ continue_body) }
 {
     json!(in alloc; {"allThreadsContinued": true})
 }
@@ -35,10 +35,10 @@ pub fn begin_continue(
     request: &ClientRequest,
     out: &mut Outbox,
 ) -> Result<(), AllocError>
-    ensures sent { OnOk result ((messages : Messages) × Continues execution.old request.now messages execution.new × SendsAll out.old messages out.new) }
+    ensures sent { OnOk result ((messages : Messages) × AnswersContinue execution.old request.now messages execution.new × SendsAll out.old messages out.new) }
     ensures kept { OnErr result (execution.new ≡ execution.old) }
 {
-    let body = continued(alloc)?;
+    let body = continue_body(alloc)?;
     out.respond(request, body)?;
     execution.goal = Some(Goal::Continue);
     execution.tally = None;
@@ -52,7 +52,7 @@ pub fn requested_granularity(program: &Debuggee, arguments: &Value) -> Granulari
     if program.source.is_none() {
         return Granularity::Instruction;
     }
-    match text_at(arguments, "granularity") {
+    match member_text(arguments, "granularity") {
         None => Granularity::Line,
         Some(name) => {
             if name == "instruction" {
@@ -98,13 +98,13 @@ fn node_stopped(kind: DapStepKind) -> &'static str
 }
 
 /// The move of a node; none where it is in no call from which it could come back.
-fn stepping_of(
+fn requested_step_move(
     program: &Debuggee,
     kind: DapStepKind,
     node: NodeId,
     arguments: &Value,
 ) -> Option<StepMove>
-    ensures { result ≡ stepping_of program.now kind node (view arguments.now) }
+    ensures { result ≡ requested_step_move program.now kind node (view arguments.now) }
 {
     match kind {
         DapStepKind::Over => Some(StepMove::next(
@@ -154,11 +154,11 @@ fn begin_step_of(
     node: NodeId,
     out: &mut Outbox,
 ) -> Result<(), AllocError>
-    ensures sent { OnOk result ((message : Message) × BeginsStepBy program.now kind execution.old request.now node message execution.new × Sends out.old message out.new) }
+    ensures sent { OnOk result ((message : Message) × BeginsStepOfNode program.now kind execution.old request.now node message execution.new × Sends out.old message out.new) }
     ensures kept { OnErr result (execution.new ≡ execution.old) }
 {
     if can_step(&program.lab, node) {
-        let stepping = stepping_of(program, kind, node, &request.arguments);
+        let stepping = requested_step_move(program, kind, node, &request.arguments);
         begin_stepping(execution, request, stepping, out)
     } else {
         out.refuse(request, node_stopped(kind))
@@ -172,7 +172,7 @@ fn begin_stepping(
     stepping: Option<StepMove>,
     out: &mut Outbox,
 ) -> Result<(), AllocError>
-    ensures sent { OnOk result ((message : Message) × BeginsStepping execution.old request.now stepping message execution.new × Sends out.old message out.new) }
+    ensures sent { OnOk result ((message : Message) × BeginsStepMove execution.old request.now stepping message execution.new × Sends out.old message out.new) }
     ensures kept { OnErr result (execution.new ≡ execution.old) }
 {
     match stepping {
@@ -188,7 +188,7 @@ fn begin(
     stepping: StepMove,
     out: &mut Outbox,
 ) -> Result<(), AllocError>
-    ensures sent { OnOk result (Sends out.old (acknowledged request.now) out.new × (execution.new ≡ run_started execution.old (Goal.Step stepping))) }
+    ensures sent { OnOk result (Sends out.old (bare_success_response request.now) out.new × (execution.new ≡ execution_with_goal execution.old (Goal.Step stepping))) }
     ensures kept { OnErr result (execution.new ≡ execution.old) }
 {
     out.acknowledge(request)?;
@@ -199,7 +199,7 @@ fn begin(
 
 /// The node of the requested thread, else another.
 fn node_or(arguments: &Value, first: NodeId) -> NodeId
-    ensures { (asked : Option ANode) × AsksOfThread (view arguments.now) asked × (result ≡ unwrap_or asked first) }
+    ensures { (asked : Option ANode) × IsThreadArgument (view arguments.now) asked × (result ≡ unwrap_or asked first) }
 {
     match thread_argument(arguments) {
         Some(node) => node,
@@ -214,7 +214,7 @@ fn tell_paused(
     request: &ClientRequest,
     out: &mut Outbox,
 ) -> Result<(), AllocError>
-    ensures { OnOk result ((messages : Messages) × PausesRun program.now request.now messages × SendsAll out.old messages out.new) }
+    ensures { OnOk result ((messages : Messages) × ArePauseMessages program.now request.now messages × SendsAll out.old messages out.new) }
 {
     out.acknowledge(request)?;
     let first = first_of(program);
@@ -230,7 +230,7 @@ fn tell_pause(
     request: &ClientRequest,
     out: &mut Outbox,
 ) -> Result<(), AllocError>
-    ensures { OnOk result ((messages : Messages) × PausesAt program.now request.now goal messages × SendsAll out.old messages out.new) }
+    ensures { OnOk result ((messages : Messages) × PausesIfRunning program.now request.now goal messages × SendsAll out.old messages out.new) }
 {
     match goal {
         None => out.acknowledge(request),
@@ -246,7 +246,7 @@ pub fn pause(
     request: &ClientRequest,
     out: &mut Outbox,
 ) -> Result<(), AllocError>
-    ensures sent { OnOk result ((messages : Messages) × Pauses program.now execution.old request.now messages execution.new × SendsAll out.old messages out.new) }
+    ensures sent { OnOk result ((messages : Messages) × AnswersPause program.now execution.old request.now messages execution.new × SendsAll out.old messages out.new) }
     ensures kept { OnErr result (execution.new ≡ execution.old) }
 {
     tell_pause(alloc, program, execution.goal, request, out)?;

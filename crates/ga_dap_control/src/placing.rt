@@ -3,7 +3,7 @@
 ghost use Rattle.std.specs.Prelude.{◌≡◌, ◌+◌, ◌%◌, ◌^◌, ◌++◌, ◌∷◌, [], map, string_bytes, Option, Some, IfOk, OnOk};
 ghost use Rattle.serde_json.specs.View.{view};
 ghost use Rattle.ga_dap_control.specs.declared.finding.BreakpointLocation.{BreakpointLocation as APlace};
-ghost use Rattle.ga_dap_control.specs.Placing.{Placement, IsPlaceOf, unverified_object, verified_object, lined_object, verified_on, told_placed, set_by, placed_next, PlacesOne, Places};
+ghost use Rattle.ga_dap_control.specs.Placing.{Placement, IsBreakpointLocation, unverified_object, verified_object, verified_line_object, verified_breakpoint, breakpoint_object, placed_breakpoints, next_placement, PlacesBreakpoint, PlacesBreakpoints};
 ghost use Rattle.ga_dap_control.specs.inner.{placement_of};
 
 use crate::configuration::{BreakpointKind, PlacedBreakpoint};
@@ -41,7 +41,7 @@ fn verified(alloc: Global, id: u64) -> Result<Value, AllocError>
     json!(in alloc; {"id": id, "verified": true})
 }
 
-#[tactic(auto, unfolding(crate::specs::Placing::lined_object))]
+#[tactic(auto, unfolding(crate::specs::Placing::verified_line_object))]
 fn verified_on_line(
     alloc: Global,
     name: &str,
@@ -49,18 +49,18 @@ fn verified_on_line(
     id: u64,
     line: u32,
 ) -> Result<Value, AllocError>
-    ensures { IfOk result (λ v. view v ≡ lined_object name.now path.now id line) }
+    ensures { IfOk result (λ v. view v ≡ verified_line_object name.now path.now id line) }
 {
     json!(in alloc; {"id": id, "line": line, "source": {"name": name, "path": path}, "verified": true})
 }
 
-fn verified_on(
+fn verified_breakpoint(
     alloc: Global,
     program: &Debuggee,
     id: u64,
     line: Option<u32>,
 ) -> Result<Value, AllocError>
-    ensures { IfOk result (λ v. view v ≡ verified_on program.now id line) }
+    ensures { IfOk result (λ v. view v ≡ verified_breakpoint program.now id line) }
 {
     match line {
         Some(line) => {
@@ -77,17 +77,17 @@ fn verified_on(
 }
 
 /// What is sent for a breakpoint.
-fn told_placed(
+fn breakpoint_object(
     alloc: Global,
     program: &Debuggee,
     family: BreakpointKind,
     id: u64,
     found: Result<BreakpointLocation, PlacementError>,
 ) -> Result<Value, AllocError>
-    ensures { IfOk result (λ v. view v ≡ told_placed program.now family id found) }
+    ensures { IfOk result (λ v. view v ≡ breakpoint_object program.now family id found) }
 {
     match found {
-        Ok(found) => verified_on(alloc, program, id, found.line),
+        Ok(found) => verified_breakpoint(alloc, program, id, found.line),
         Err(why) => unverified(alloc, id, placement_error_text(family, why)),
     }
 }
@@ -99,7 +99,7 @@ fn add_found(
     id: u64,
     found: Result<BreakpointLocation, PlacementError>,
 ) -> Result<(), AllocError>
-    ensures { OnOk result (placed.new.items ≡ placed.old.items ++ set_by family id found) }
+    ensures { OnOk result (placed.new.items ≡ placed.old.items ++ placed_breakpoints family id found) }
 {
     match found {
         Ok(found) => add_one(placed, family, id, found.breakpoint),
@@ -131,10 +131,10 @@ fn place_found(
     found: Result<BreakpointLocation, PlacementError>,
     placing: &mut Placing,
 ) -> Result<(), AllocError>
-    ensures { OnOk result (placement_of placing.new ≡ placed_next program.now family found (placement_of placing.old)) }
+    ensures { OnOk result (placement_of placing.new ≡ next_placement program.now family found (placement_of placing.old)) }
 {
     let id = placing.next;
-    let told = told_placed(alloc, program, family, id, found)?;
+    let told = breakpoint_object(alloc, program, family, id, found)?;
     push(&mut placing.told, told)?;
     add_found(&mut placing.placed, family, id, found)?;
     placing.next = id.wrapping_add(1);
@@ -149,7 +149,7 @@ fn place_one(
     asked: &Value,
     placing: &mut Placing,
 ) -> Result<(), AllocError>
-    ensures { OnOk result (PlacesOne program.now family (view asked.now) (placement_of placing.old) (placement_of placing.new)) }
+    ensures { OnOk result (PlacesBreakpoint program.now family (view asked.now) (placement_of placing.old) (placement_of placing.new)) }
 {
     let found = resolve_breakpoint(program, family, asked);
     let names = program.notes().names.as_slice();
@@ -166,7 +166,7 @@ pub(crate) fn place_all(
     asked: &[Value],
     placing: &mut Placing,
 ) -> Result<(), AllocError>
-    ensures { OnOk result (Places program.now family (map view asked.now) (placement_of placing.old) (placement_of placing.new)) }
+    ensures { OnOk result (PlacesBreakpoints program.now family (map view asked.now) (placement_of placing.old) (placement_of placing.new)) }
 {
     'asked: for one in asked {
         place_one(alloc, program, family, one, placing)?;

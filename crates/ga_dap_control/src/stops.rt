@@ -5,12 +5,12 @@ ghost use Rattle.serde_json.specs.View.{view};
 ghost use Rattle.ga_text.specs.Lines.{Text};
 ghost use Rattle.ga_dap_protocol.specs.Messages.{member_text};
 ghost use Rattle.ga_dap_queries.specs.Sending.{Sends, Message};
-ghost use Rattle.ga_dap_control.specs.Stopping.{hit, ids_hit, fault_words, fault_message, stop_message, TellsStop};
+ghost use Rattle.ga_dap_control.specs.Stopping.{hit, hit_breakpoint_ids, lab_fault_text, exception_stop_message, stop_message, IsStopMessage};
 
 use crate::configuration::Configuration;
 use crate::configuring::first_of;
 use crate::execution::StopReason;
-use ga_dap_protocol::{Outbox, text_at};
+use ga_dap_protocol::{Outbox, member_text};
 use ga_dap_queries::{Debuggee, emit_breakpoint_hit, emit_stopped, exception_info};
 use ga_grid::NodeId;
 use ga_lab::{LabFault, Made};
@@ -18,7 +18,7 @@ use serde_json::Value;
 use std::alloc::{AllocError, Global};
 
 fn words_of(why: LabFault) -> &'static str
-    ensures { result.now ≡ fault_words why }
+    ensures { result.now ≡ lab_fault_text why }
 {
     match why {
         LabFault::Full => "full: as many events are kept as may be",
@@ -36,7 +36,7 @@ fn text_behind(alloc: Global, info: &Value, behind: &str) -> Result<String, Allo
     ensures { IfOk result (λ text. (does : Text) → member_text (codes "description") (view info.now) ≡ Some does → string_bytes text ≡ does ++ behind.now) }
 {
     let mut text = String::new(alloc);
-    if let Some(does) = text_at(info, "description") {
+    if let Some(does) = member_text(info, "description") {
         text.push_str(does)?;
     }
     text.push_str(behind)?;
@@ -51,7 +51,7 @@ fn tell_fault(
     behind: &str,
     out: &mut Outbox,
 ) -> Result<(), AllocError>
-    ensures sent { OnOk result (Sends out.old (fault_message program.now node.number behind.now) out.new) }
+    ensures sent { OnOk result (Sends out.old (exception_stop_message program.now node.number behind.now) out.new) }
     ensures err { OnErr result (out.new ≡ out.old) }
 {
     let info = exception_info(alloc, &program.lab, false, node)?;
@@ -70,14 +70,16 @@ fn tell_hits(
     made: &Made,
     out: &mut Outbox,
 ) -> Result<(), AllocError>
-    ensures sent { OnOk result (Sends out.old (hit reason.now description.now node.number (ids_hit made.now program.now.lab settings.now.points.placed.items)) out.new) }
+    ensures sent { OnOk result (Sends out.old (hit reason.now description.now node.number (hit_breakpoint_ids made.now program.now.lab settings.now.points.placed.items)) out.new) }
     ensures err { OnErr result (out.new ≡ out.old) }
 {
-    let ids = settings.points.ids_hit(alloc, &program.lab, made)?;
+    let ids = settings
+        .points
+        .hit_breakpoint_ids(alloc, &program.lab, made)?;
     emit_breakpoint_hit(alloc, reason, description, node, ids.as_slice(), out)
 }
 
-/// `stopped` where a run ended for this reason.
+/// `stopped_message` where a run ended for this reason.
 #[tactic(auto, using(ga_dap_queries::proofs::Sent::ok_then))]
 pub fn emit_run_end(
     alloc: Global,
@@ -86,14 +88,14 @@ pub fn emit_run_end(
     stop: StopReason,
     out: &mut Outbox,
 ) -> Result<(), AllocError>
-    ensures sent { OnOk result ((message : Message) × TellsStop program.now settings.now stop message × Sends out.old message out.new) }
+    ensures sent { OnOk result ((message : Message) × IsStopMessage program.now settings.now stop message × Sends out.old message out.new) }
     ensures err { OnErr result (out.new ≡ out.old) }
 {
     let first = first_of(program);
     tell_stop_at(alloc, program, settings, stop, first, out)
 }
 
-/// `stopped` where a run ended for this reason, and this is the first node that has something to show.
+/// `stopped_message` where a run ended for this reason, and this is the first node that has something to show.
 fn tell_stop_at(
     alloc: Global,
     program: &Debuggee,

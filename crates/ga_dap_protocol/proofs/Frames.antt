@@ -8,7 +8,7 @@ use Rattle.std.proofs.Math.Seq.{take-add}
 use Rattle.std.specs.List.{All}
 use Rattle.ga_dap_protocol.specs.declared.framing.FramePrefix.TheVariants.{Message, Part, Wrong}
 use Rattle.ga_dap_protocol.specs.declared.broken.FrameError.TheVariants.{NoDigit, TooLong, ManyDigits, HeaderEnd}
-use Rattle.ga_dap_protocol.specs.Framing.{content_limit, digit_limit, field, header_end, header_part, IsDigit, value_from, IsLength, BeginsOne, BeginsNone, OneBeginsOther, Finds}
+use Rattle.ga_dap_protocol.specs.Framing.{content_limit, digit_limit, field, header_end, header_part, IsDigit, decimal_value_from, IsContentLength, IsMessagePrefix, CanBeginNoMessage, IsEitherPrefix, IsFramePrefix}
 use Rattle.ga_dap_protocol.proofs.Unique.{right_of, no_digit_first, run, grows, value_more}
 
 -- ---- what a test of a length implies
@@ -30,14 +30,14 @@ not_zero n b e f = elim (eqb_tells n 0) as (λ w. 0 < n) [
 at_most : (n : ℕ) (xs r : List ℕ) → n ≤ length xs → take n xs ≡ take n (xs ++ r)
 at_most n xs r le = sym (take-append-le n xs r le)
 
-pub agrees : (xs ys r s : List ℕ) → xs ++ r ≡ ys ++ s → OneBeginsOther xs ys
+pub agrees : (xs ys r s : List ℕ) → xs ++ r ≡ ys ++ s → IsEitherPrefix xs ys
 agrees xs ys r s e =
     at_most (min (length xs) (length ys)) xs r (omega arith)
     ∙ ap (take (min (length xs) (length ys))) e
     ∙ take-append-le (min (length xs) (length ys)) ys s (omega arith)
 
 -- where the first is no longer, it is that much of the second
-pub front_is : (xs ys : List ℕ) → length xs ≤ length ys → OneBeginsOther xs ys → xs ++ drop (length xs) ys ≡ ys
+pub front_is : (xs ys : List ℕ) → length xs ≤ length ys → IsEitherPrefix xs ys → xs ++ drop (length xs) ys ≡ ys
 front_is xs ys le h =
     let m : min (length xs) (length ys) ≡ length xs = omega arith in
     let t : take (length xs) xs ≡ take (length xs) ys = subst (λ n. take n xs ≡ take n ys) m h in
@@ -57,21 +57,21 @@ continued digits rest content text more after gs all every is e =
     run digits gs (rest ++ more) (10 ∷ (13 ∷ (10 ∷ (content ++ after)))) all every
     (parts field digits rest gs header_end content more after (e ∙ ap (λ z. z ++ after) is))
 
-pub no_field : (bytes : List ℕ) → (OneBeginsOther bytes field → ⊥) → BeginsNone bytes
+pub no_field : (bytes : List ℕ) → (IsEitherPrefix bytes field → ⊥) → CanBeginNoMessage bytes
 no_field bytes differ = λ content text more after m e.
     differ (agrees bytes field more (m.0 ++ header_end ++ content ++ after)
     (e ∙ ap (λ z. z ++ after) m.2 ∙ simp append_assoc))
 
-pub too_long : (digits rest : List ℕ) → All IsDigit digits → content_limit < value_from 0 digits → BeginsNone (field ++ digits ++ rest)
+pub too_long : (digits rest : List ℕ) → All IsDigit digits → content_limit < decimal_value_from 0 digits → CanBeginNoMessage (field ++ digits ++ rest)
 too_long digits rest all past = λ content text more after m e.
     let r = continued digits rest content text more after m.0 all m.1.2 m.2 e in
-    let v : value_from 0 m.0 ≡ value_from (value_from 0 digits) r.0 = ap (value_from 0) r.1 ∙ value_more 0 digits r.0 in
-    let g : value_from 0 digits ≤ value_from (value_from 0 digits) r.0 = grows (value_from 0 digits) r.0 in
-    let is : value_from 0 m.0 ≡ length content = m.1.3 in
+    let v : decimal_value_from 0 m.0 ≡ decimal_value_from (decimal_value_from 0 digits) r.0 = ap (decimal_value_from 0) r.1 ∙ value_more 0 digits r.0 in
+    let g : decimal_value_from 0 digits ≤ decimal_value_from (decimal_value_from 0 digits) r.0 = grows (decimal_value_from 0 digits) r.0 in
+    let is : decimal_value_from 0 m.0 ≡ length content = m.1.3 in
     let within : length content ≤ content_limit = m.1.4 in
     omega arith
 
-pub many_digits : (digits rest : List ℕ) → All IsDigit digits → digit_limit < length digits → BeginsNone (field ++ digits ++ rest)
+pub many_digits : (digits rest : List ℕ) → All IsDigit digits → digit_limit < length digits → CanBeginNoMessage (field ++ digits ++ rest)
 many_digits digits rest all past = λ content text more after m e.
     let r = continued digits rest content text more after m.0 all m.1.2 m.2 e in
     let l : length m.0 ≡ length digits + length r.0 = ap length r.1 ∙ length-append digits r.0 in
@@ -88,15 +88,15 @@ no_more digits byte rest content text more after gs all not_one every is e =
     (right_of IsDigit digits r.0 (subst (All IsDigit) r.1 every)) r.2 in
     (r.1 ∙ ap (λ z. digits ++ z) none ∙ append-nil digits, r.2 ∙ ap (λ z. z ++ (header_end ++ (content ++ after))) none)
 
-pub no_digit : (byte : ℕ) (rest : List ℕ) → (IsDigit byte → ⊥) → BeginsNone (field ++ (byte ∷ rest))
+pub no_digit : (byte : ℕ) (rest : List ℕ) → (IsDigit byte → ⊥) → CanBeginNoMessage (field ++ (byte ∷ rest))
 no_digit byte rest not_one = λ content text more after m e.
     let r = no_more [] byte rest content text more after m.0 (λ k d lt. absurd (omega arith)) not_one m.1.2 m.2 e in
     let l : length m.0 ≡ 0 = ap length r.0 in
     let some : 1 ≤ length m.0 = m.1.0 in
     omega arith
 
-pub no_end : (digits : List ℕ) (byte : ℕ) (rest : List ℕ) → All IsDigit digits → (IsDigit byte → ⊥) → (OneBeginsOther (byte ∷ rest) header_end → ⊥) →
-    BeginsNone (field ++ digits ++ (byte ∷ rest))
+pub no_end : (digits : List ℕ) (byte : ℕ) (rest : List ℕ) → All IsDigit digits → (IsDigit byte → ⊥) → (IsEitherPrefix (byte ∷ rest) header_end → ⊥) →
+    CanBeginNoMessage (field ++ digits ++ (byte ∷ rest))
 no_end digits byte rest all not_one differ = λ content text more after m e.
     let r = no_more digits byte rest content text more after m.0 all not_one m.1.2 m.2 e in
     differ (agrees (byte ∷ rest) header_end more (content ++ after) r.1)
@@ -106,7 +106,7 @@ no_end digits byte rest all not_one differ = λ content text more after m e.
 pub zeros : (n : ℕ) → length {A = ℕ} (replicate n 0) ≡ n
 zeros n = length-replicate n 0
 
-empty : (bytes more : List ℕ) → 1 ≤ length more → bytes ++ more ≡ header_part (48 ∷ []) → BeginsOne bytes
+empty : (bytes more : List ℕ) → 1 ≤ length more → bytes ++ more ≡ header_part (48 ∷ []) → IsMessagePrefix bytes
 empty bytes more some is = (
   [],
   more,
@@ -122,19 +122,19 @@ empty bytes more some is = (
     elim_one zero d lt = (omega arith, omega arith)
     elim_one (suc k) d lt = absurd (omega arith)
 
-pub part_of_field : (bytes : List ℕ) → length bytes < 16 → OneBeginsOther bytes field → BeginsOne bytes
+pub part_of_field : (bytes : List ℕ) → length bytes < 16 → IsEitherPrefix bytes field → IsMessagePrefix bytes
 part_of_field bytes short h =
     let is : bytes ++ drop (length bytes) field ≡ field = front_is bytes field (omega arith) h in
     let long : length (drop (length bytes) field ++ (48 ∷ header_end)) ≡ 16 - length bytes + 5 = length-append (drop (length bytes) field) (48 ∷ header_end) ∙ ap (λ n. n + 5) (length-drop (length bytes) field) in
     empty bytes (drop (length bytes) field ++ (48 ∷ header_end)) (omega arith)
     (sym (append_assoc bytes (drop (length bytes) field) (48 ∷ header_end)) ∙ ap (λ z. z ++ (48 ∷ header_end)) is)
 
-pub part_of_value : BeginsOne field
+pub part_of_value : IsMessagePrefix field
 part_of_value = empty field (48 ∷ header_end) (omega arith) refl
 
 -- the bytes of a message's header so far, and of its content part so far
-begun : (bytes digits content more : List ℕ) (n : ℕ) → IsLength digits n → length content + length more ≡ n → (rest : List ℕ) → 1 ≤ length (rest ++ more) →
-    bytes ++ rest ≡ header_part digits ++ content → BeginsOne bytes
+begun : (bytes digits content more : List ℕ) (n : ℕ) → IsContentLength digits n → length content + length more ≡ n → (rest : List ℕ) → 1 ≤ length (rest ++ more) →
+    bytes ++ rest ≡ header_part digits ++ content → IsMessagePrefix bytes
 begun bytes digits content more n is l rest some e =
     let long : length (content ++ more) ≡ n = length-append content more ∙ l in (
       content ++ more,
@@ -142,13 +142,13 @@ begun bytes digits content more n is l rest some e =
       some,
       (
         digits,
-        subst (IsLength digits) (sym long) is,
+        subst (IsContentLength digits) (sym long) is,
         sym (append_assoc bytes rest more) ∙ ap (λ z. z ++ more) e ∙ append_assoc (header_part digits) content more,
       ),
     )
 
 -- digits, and less than the end of the header
-pub part_of_end : (digits rest : List ℕ) (n : ℕ) → IsLength digits n → length rest < 4 → OneBeginsOther rest header_end → BeginsOne (field ++ digits ++ rest)
+pub part_of_end : (digits rest : List ℕ) (n : ℕ) → IsContentLength digits n → length rest < 4 → IsEitherPrefix rest header_end → IsMessagePrefix (field ++ digits ++ rest)
 part_of_end digits rest n is short h =
     let e : rest ++ drop (length rest) header_end ≡ header_end = front_is rest header_end (omega arith) h in
     let long : length (drop (length rest) header_end ++ replicate n 0) ≡ 4 - length rest + n =
@@ -157,35 +157,35 @@ part_of_end digits rest n is short h =
     (append_assoc (field ++ digits) rest (drop (length rest) header_end) ∙ ap (λ z. (field ++ digits) ++ z) e ∙ sym (append-nil (header_part digits)))
 
 -- a header part, and less than the content part
-pub part_of_content : (digits content : List ℕ) (n : ℕ) → IsLength digits n → length content < n → BeginsOne (header_part digits ++ content)
+pub part_of_content : (digits content : List ℕ) (n : ℕ) → IsContentLength digits n → length content < n → IsMessagePrefix (header_part digits ++ content)
 part_of_content digits content n is short =
     let l : length content + length {A = ℕ} (replicate (n - length content) 0) ≡ n = omega (arith, zeros (n - length content)) in
     begun (header_part digits ++ content) digits content (replicate (n - length content) 0) n is l [] (omega (arith, zeros (n - length content)))
     (append-nil (header_part digits ++ content))
 
 -- where the rest begins with the end of the header
-pub ended : (rest : List ℕ) → 4 ≤ length rest → OneBeginsOther rest header_end → rest ≡ header_end ++ drop 4 rest
+pub ended : (rest : List ℕ) → 4 ≤ length rest → IsEitherPrefix rest header_end → rest ≡ header_end ++ drop 4 rest
 ended rest long h =
     let m : min (length rest) 4 ≡ 4 = omega arith in
     let t : take 4 rest ≡ header_end = subst (λ n. take n rest ≡ take n header_end) m h in
     sym (take-append-drop 4 rest) ∙ ap (λ z. z ++ drop 4 rest) t
 
-in_header : (digits rest : List ℕ) → 4 ≤ length rest → OneBeginsOther rest header_end → header_part digits ++ drop 4 rest ≡ field ++ digits ++ rest
+in_header : (digits rest : List ℕ) → 4 ≤ length rest → IsEitherPrefix rest header_end → header_part digits ++ drop 4 rest ≡ field ++ digits ++ rest
 in_header digits rest long h = append_assoc (field ++ digits) header_end (drop 4 rest) ∙ ap (λ z. (field ++ digits) ++ z) (sym (ended rest long h))
 
 -- digits, and what does not reach the end of the message
-pub part_behind : (digits rest : List ℕ) (n : ℕ) → IsLength digits n → length rest < 4 + n → OneBeginsOther rest header_end → BeginsOne (field ++ digits ++ rest)
-part_behind digits rest n is short h = elim (cases_lt (length rest) 4) as (λ w. BeginsOne (field ++ digits ++ rest)) [
+pub part_behind : (digits rest : List ℕ) (n : ℕ) → IsContentLength digits n → length rest < 4 + n → IsEitherPrefix rest header_end → IsMessagePrefix (field ++ digits ++ rest)
+part_behind digits rest n is short h = elim (cases_lt (length rest) 4) as (λ w. IsMessagePrefix (field ++ digits ++ rest)) [
   | inl before ↦ part_of_end digits rest n is before h
   | inr behind ↦
-      subst BeginsOne (in_header digits rest behind h)
+      subst IsMessagePrefix (in_header digits rest behind h)
       (part_of_content digits (drop 4 rest) n is (omega (arith, length-drop 4 rest)))
 ]
 
 -- ---- a message
 
-pub whole : (bytes digits rest : List ℕ) (n : ℕ) → bytes ≡ field ++ digits ++ rest → IsLength digits n → 4 + n ≤ length rest → OneBeginsOther rest header_end →
-    Finds bytes (Message (16 + length digits + 4) (16 + length digits + 4 + n))
+pub whole : (bytes digits rest : List ℕ) (n : ℕ) → bytes ≡ field ++ digits ++ rest → IsContentLength digits n → 4 + n ≤ length rest → IsEitherPrefix rest header_end →
+    IsFramePrefix bytes (Message (16 + length digits + 4) (16 + length digits + 4 + n))
 whole bytes digits rest n e is long h =
     let all : bytes ≡ header_part digits ++ drop 4 rest = e ∙ sym (in_header digits rest (omega arith) h) in
     let front : length (header_part digits) ≡ 16 + length digits + 4 = length-append (field ++ digits) header_end ∙ ap (λ n. n + 4) (length-append field digits) in
@@ -197,7 +197,7 @@ whole bytes digits rest n e is long h =
     let text : take (16 + length digits + 4 + n) bytes ≡ header_part digits ++ drop (16 + length digits + 4) (take (16 + length digits + 4 + n) bytes) =
     take-add (16 + length digits + 4) n bytes ∙ ap (λ z. z ++ take n (drop (16 + length digits + 4) bytes)) start
     ∙ ap (λ z. header_part digits ++ z) (ap (take n) behind ∙ sym content) in
-    (omega arith, omega arith, (digits, subst (IsLength digits) (sym (ap length content ∙ size)) is, text))
+    (omega arith, omega arith, (digits, subst (IsContentLength digits) (sym (ap length content ∙ size)) is, text))
 
 -- ---- the front of bytes that begin with the field's name
 
@@ -206,26 +206,26 @@ three bytes n name =
     sym (take-append-drop 16 bytes) ∙ ap (λ z. z ++ drop 16 bytes) name ∙ ap (λ z. field ++ z) (sym (take-append-drop n (drop 16 bytes)))
     ∙ sym (append_assoc field (take n (drop 16 bytes)) (drop n (drop 16 bytes)))
 
-pub is_too_long : (bytes digits rest : List ℕ) → bytes ≡ field ++ digits ++ rest → All IsDigit digits → length digits ≤ 8 → content_limit < value_from 0 digits → Finds bytes (Wrong TooLong)
-is_too_long bytes digits rest e all most past = (subst BeginsNone (sym e) (too_long digits rest all past), (digits, rest, (e, all), most, past))
+pub is_too_long : (bytes digits rest : List ℕ) → bytes ≡ field ++ digits ++ rest → All IsDigit digits → length digits ≤ 8 → content_limit < decimal_value_from 0 digits → IsFramePrefix bytes (Wrong TooLong)
+is_too_long bytes digits rest e all most past = (subst CanBeginNoMessage (sym e) (too_long digits rest all past), (digits, rest, (e, all), most, past))
 
-pub is_many : (bytes digits rest : List ℕ) → bytes ≡ field ++ digits ++ rest → All IsDigit digits → length digits ≡ 8 → value_from 0 digits ≤ content_limit → Finds bytes (Wrong ManyDigits)
-is_many bytes digits rest e all most within = (subst BeginsNone (sym e) (many_digits digits rest all (omega arith)), (digits, rest, (e, all), most, within))
+pub is_many : (bytes digits rest : List ℕ) → bytes ≡ field ++ digits ++ rest → All IsDigit digits → length digits ≡ 8 → decimal_value_from 0 digits ≤ content_limit → IsFramePrefix bytes (Wrong ManyDigits)
+is_many bytes digits rest e all most within = (subst CanBeginNoMessage (sym e) (many_digits digits rest all (omega arith)), (digits, rest, (e, all), most, within))
 
-pub is_no_digit : (rest : List ℕ) → 0 < length rest → (0 < length rest → IsDigit (get_or rest 0 0) → ⊥) → Finds (field ++ rest) (Wrong NoDigit)
+pub is_no_digit : (rest : List ℕ) → 0 < length rest → (0 < length rest → IsDigit (get_or rest 0 0) → ⊥) → IsFramePrefix (field ++ rest) (Wrong NoDigit)
 is_no_digit [] some not_one = absurd (omega arith)
 is_no_digit (byte ∷ rest) some not_one = (no_digit byte rest (not_one some), (byte, rest, (refl, λ k d lt. absurd (omega arith)), not_one some))
 
-pub is_no_end : (bytes digits rest : List ℕ) → bytes ≡ field ++ digits ++ rest → IsLength digits (value_from 0 digits) → (0 < length rest → IsDigit (get_or rest 0 0) → ⊥) →
-    (OneBeginsOther rest header_end → ⊥) → Finds bytes (Wrong HeaderEnd)
+pub is_no_end : (bytes digits rest : List ℕ) → bytes ≡ field ++ digits ++ rest → IsContentLength digits (decimal_value_from 0 digits) → (0 < length rest → IsDigit (get_or rest 0 0) → ⊥) →
+    (IsEitherPrefix rest header_end → ⊥) → IsFramePrefix bytes (Wrong HeaderEnd)
 is_no_end bytes digits [] e is not_one differ = absurd (differ refl)
 is_no_end bytes digits (byte ∷ rest) e is not_one differ =
-    (subst BeginsNone (sym e) (no_end digits byte rest is.2 (not_one (omega arith)) differ), (digits, byte, rest, (e, is.2), is, not_one (omega arith), differ))
+    (subst CanBeginNoMessage (sym e) (no_end digits byte rest is.2 (not_one (omega arith)) differ), (digits, byte, rest, (e, is.2), is, not_one (omega arith), differ))
 
-pub is_part : (bytes digits rest : List ℕ) (n : ℕ) → bytes ≡ field ++ digits ++ rest → IsLength digits n → length rest < 4 + n → OneBeginsOther rest header_end → Finds bytes Part
-is_part bytes digits rest n e is short h = subst BeginsOne (sym e) (part_behind digits rest n is short h)
+pub is_part : (bytes digits rest : List ℕ) (n : ℕ) → bytes ≡ field ++ digits ++ rest → IsContentLength digits n → length rest < 4 + n → IsEitherPrefix rest header_end → IsFramePrefix bytes Part
+is_part bytes digits rest n e is short h = subst IsMessagePrefix (sym e) (part_behind digits rest n is short h)
 
-pub is_name : (rest : List ℕ) → length rest ≡ 0 → Finds (field ++ rest) Part
+pub is_name : (rest : List ℕ) → length rest ≡ 0 → IsFramePrefix (field ++ rest) Part
 is_name [] none = part_of_value
 is_name (r ∷ rest) none = absurd (omega arith)
 

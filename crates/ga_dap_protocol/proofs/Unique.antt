@@ -1,7 +1,7 @@
 -- The laws of framing.
 use Rattle.std.proofs.Common.{◌≡◌, ◌≤◌, ◌+◌, ◌*◌, ◌-◌, ◌++◌, ℕ, suc, List, [], ◌∷◌, refl, subst, arith, ◌<◌, ◌/◌, ◌%◌, ◌^◌, ◌∙◌, zero, length, take, drop, get_or, decimal, sym, ap, append_assoc, length-append}
 use Rattle.std.specs.List.{All}
-use Rattle.ga_dap_protocol.specs.Framing.{IsDigit, value_from, content_limit, field, header_end, header_part, IsLength, IsMessage, BeginsOne, BeginsNone, Finds, framed}
+use Rattle.ga_dap_protocol.specs.Framing.{IsDigit, decimal_value_from, content_limit, field, header_end, header_part, IsContentLength, IsMessage, IsMessagePrefix, CanBeginNoMessage, IsFramePrefix, framed_message}
 use Rattle.std.proofs.lemmas.List.{append_cancel_left, append-nil, take_at, drop_at, take-append-drop}
 use Rattle.std.proofs.lemmas.List.Elements.{All-append}
 use Rattle.std.proofs.lemmas.Fmt.{decimal_by_steps, length-decimal-le, decimal_nonempty}
@@ -41,11 +41,11 @@ run (d ∷ ds) (f ∷ es) xs zs h g e =
     let all_is : f ∷ es ≡ d ∷ (ds ++ r.0) = cc in
     (r.0, all_is, r.2)
 
-pub grows : (n : ℕ) (ds : List ℕ) → n ≤ value_from n ds
+pub grows : (n : ℕ) (ds : List ℕ) → n ≤ decimal_value_from n ds
 grows n [] = omega arith
 grows n (d ∷ ds) = let h = grows (10 * n + (d - 48)) ds in omega arith
 
-pub value_more : (n : ℕ) (ds es : List ℕ) → value_from n (ds ++ es) ≡ value_from (value_from n ds) es
+pub value_more : (n : ℕ) (ds es : List ℕ) → decimal_value_from n (ds ++ es) ≡ decimal_value_from (decimal_value_from n ds) es
 value_more n [] es = refl
 value_more n (d ∷ ds) es = value_more (10 * n + (d - 48)) ds es
 
@@ -73,12 +73,12 @@ both text other content inner after behind m k e =
     (right_of IsDigit m.0 r.0 (subst (All IsDigit) r.1 k.1.2)) r.2 in
     let digits : k.0 ≡ m.0 = r.1 ∙ ap (λ z. m.0 ++ z) none ∙ append-nil m.0 in
     let rest : header_end ++ (content ++ after) ≡ header_end ++ (inner ++ behind) = r.2 ∙ ap (λ z. z ++ (header_end ++ (inner ++ behind))) none in
-    let size : length content ≡ length inner = sym m.1.3 ∙ sym (ap (value_from 0) digits) ∙ k.1.3 in
+    let size : length content ≡ length inner = sym m.1.3 ∙ sym (ap (decimal_value_from 0) digits) ∙ k.1.3 in
     let h = halves content inner after behind size (append_cancel_left header_end (content ++ after) (inner ++ behind) rest) in
     let same : header_part m.0 ++ content ≡ header_part k.0 ++ inner = ap (λ z. header_part z ++ content) (sym digits) ∙ ap (λ z. header_part k.0 ++ z) h.0 in
     (h.0, m.2 ∙ same ∙ sym k.2, h.1)
 
-pub once : (content text after : List ℕ) → IsMessage content text → BeginsOne (text ++ after) → ⊥
+pub once : (content text after : List ℕ) → IsMessage content text → IsMessagePrefix (text ++ after) → ⊥
 once content text after m b =
     let all : text ++ (after ++ b.1) ≡ ((text ++ after) ++ b.1) ++ [] = sym (append_assoc text after b.1) ∙ sym (append-nil ((text ++ after) ++ b.1)) in
     let r = both text ((text ++ after) ++ b.1) content b.0 (after ++ b.1) [] m b.3 all in
@@ -87,17 +87,17 @@ once content text after m b =
     omega arith
 
 -- what begins with a message, or never will, begins no longer one
-pub not_begun : (bytes : List ℕ) (start end : ℕ) → Finds bytes (Message start end) → BeginsOne bytes → ⊥
+pub not_begun : (bytes : List ℕ) (start end : ℕ) → IsFramePrefix bytes (Message start end) → IsMessagePrefix bytes → ⊥
 not_begun bytes start end found b =
-    once (drop start (take end bytes)) (take end bytes) (drop end bytes) found.2 (subst BeginsOne (sym (take-append-drop end bytes)) b)
+    once (drop start (take end bytes)) (take end bytes) (drop end bytes) found.2 (subst IsMessagePrefix (sym (take-append-drop end bytes)) b)
 
-pub never_begun : (bytes : List ℕ) → BeginsNone bytes → BeginsOne bytes → ⊥
+pub never_begun : (bytes : List ℕ) → CanBeginNoMessage bytes → IsMessagePrefix bytes → ⊥
 never_begun bytes none b = none b.0 (bytes ++ b.1) b.1 [] b.3 (sym (append-nil (bytes ++ b.1)))
 
 -- ---- what is written is a message
 
 abbrev Spells : ℕ → List ℕ → Type 0
-Spells n digits = All IsDigit digits × (value_from 0 digits ≡ n)
+Spells n digits = All IsDigit digits × (decimal_value_from 0 digits ≡ n)
 
 one_digit : (n : ℕ) → n < 10 → All IsDigit ((48 + n) ∷ [])
 one_digit n small = λ k d lt. at k d lt
@@ -112,19 +112,19 @@ first n small = (one_digit n small, omega arith)
 further : (n : ℕ) (digits : List ℕ) → 10 ≤ n → Spells (n / 10) digits → Spells n (digits ++ ((48 + n % 10) ∷ []))
 further n digits long h =
     let low : n % 10 < 10 = omega arith in
-    let step : value_from 0 (digits ++ ((48 + n % 10) ∷ [])) ≡ 10 * value_from 0 digits + (48 + n % 10 - 48) = value_more 0 digits ((48 + n % 10) ∷ []) in
-    let tens : value_from 0 digits ≡ n / 10 = h.1 in
+    let step : decimal_value_from 0 (digits ++ ((48 + n % 10) ∷ [])) ≡ 10 * decimal_value_from 0 digits + (48 + n % 10 - 48) = value_more 0 digits ((48 + n % 10) ∷ []) in
+    let tens : decimal_value_from 0 digits ≡ n / 10 = h.1 in
     (All-append IsDigit digits ((48 + n % 10) ∷ []) h.0 (one_digit (n % 10) low), omega arith)
 
 spelled : (n : ℕ) → n < 2 ^ 64 → Spells n (decimal n)
 spelled = decimal_by_steps Spells first further
 
-pub is_length : (n : ℕ) → n ≤ content_limit → IsLength (decimal n) n
+pub is_length : (n : ℕ) → n ≤ content_limit → IsContentLength (decimal n) n
 is_length n within =
     let small : n < 2 ^ 64 = omega arith in
     let h = spelled n small in
     (decimal_nonempty n small, length-decimal-le 7 n (omega arith) (omega arith) small, h.0, h.1, within)
 
-pub written : (content : List ℕ) → length content ≤ content_limit → IsMessage content (framed content)
-unfolding framed
+pub written : (content : List ℕ) → length content ≤ content_limit → IsMessage content (framed_message content)
+unfolding framed_message
 written content within = (decimal (length content), is_length (length content) within, refl)

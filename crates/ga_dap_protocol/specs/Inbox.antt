@@ -3,18 +3,18 @@
 use Rattle.std.specs.Prelude.{◌≡◌, ◌≤◌, ◌++◌, ℕ, List, [], length}
 use Rattle.ga_dap_protocol.specs.declared.broken.FrameError.{FrameError}
 use Rattle.ga_dap_protocol.specs.declared.broken.FrameError.TheVariants.{Cut}
-use Rattle.ga_dap_protocol.specs.Framing.{IsMessage, BeginsOne, BeginsNone, Shows}
+use Rattle.ga_dap_protocol.specs.Framing.{IsMessage, IsMessagePrefix, CanBeginNoMessage, IsFrameErrorOf}
 use Rattle.ga_dap_protocol.specs.declared.inbox.Next.{Next}
 use Rattle.ga_dap_protocol.specs.declared.inbox.Next.TheVariants.{Message, End, Wrong, Failed}
 
 -- why an input that isn't at its end holds no further message: it ends within one, or begins with none whatever follows
-abbrev pub IsBroken : FrameError → List ℕ → Type 0
-IsBroken Cut all = (1 ≤ length all) × BeginsOne all
-IsBroken why all = BeginsNone all × Shows why all
+abbrev pub IsInputError : FrameError → List ℕ → Type 0
+IsInputError Cut all = (1 ≤ length all) × IsMessagePrefix all
+IsInputError why all = CanBeginNoMessage all × IsFrameErrorOf why all
 
 -- what comes next of an input, and what is left of it
-abbrev pub GivesNext : List ℕ → Next → List ℕ → Type 0
-GivesNext all (Message content) after = (text : List ℕ) × IsMessage content.items text × (all ≡ text ++ after)
-GivesNext all End after = (all ≡ []) × (after ≡ [])
-GivesNext all (Wrong why) after = (all ≡ after) × IsBroken why all
-GivesNext all Failed after = all ≡ after
+abbrev pub IsNextMessage : List ℕ → Next → List ℕ → Type 0
+IsNextMessage all (Message content) after = (text : List ℕ) × IsMessage content.items text × (all ≡ text ++ after)
+IsNextMessage all End after = (all ≡ []) × (after ≡ [])
+IsNextMessage all (Wrong why) after = (all ≡ after) × IsInputError why all
+IsNextMessage all Failed after = all ≡ after

@@ -1,4 +1,4 @@
--- The protocol's messages as JSON ("Base protocol": `ProtocolMessage`, `Request`, `Event`, `Response`). An object's members are
+-- The protocol's messages as JSON ("Base protocol": `ProtocolMessage`, `AssemblyRequest`, `Event`, `Response`). An object's members are
 -- in the order of their keys.
 use Rattle.std.specs.Prelude.{◌≡◌, ◌≢◌, ℕ, List, codes, true, false, Option, Some, None, option_and_then, unwrap_or, IsUtf8}
 use Rattle.serde_json.specs.Data.{Data, null, boolean, number, string, object, unsigned, member, no_members}
@@ -35,12 +35,12 @@ member_text name d = option_and_then as_str (get name d)
 abbrev pub member_number : List ℕ → Data → Option ℕ
 member_number name d = option_and_then as_u64 (option_and_then as_number (get name d))
 
-abbrev pub IsTyped : Data → Type 0
-IsTyped d = member_text (codes "type") d ≡ Some (codes "request")
+abbrev pub IsRequestType : Data → Type 0
+IsRequestType d = member_text (codes "type") d ≡ Some (codes "request")
 
 -- a value is the request with this number, command and arguments (null where it has none)
 abbrev pub IsRequest : Data → ℕ → List ℕ → Data → Type 0
-IsRequest d seq command arguments = IsTyped d × (member_number (codes "seq") d ≡ Some seq) × (member_text (codes "command") d ≡ Some command)
+IsRequest d seq command arguments = IsRequestType d × (member_number (codes "seq") d ≡ Some seq) × (member_text (codes "command") d ≡ Some command)
     × (arguments ≡ unwrap_or (get (codes "arguments") d) null)
 
 -- why a value is no request
@@ -48,8 +48,8 @@ abbrev pub IsNoRequest : Data → RequestError → Type 0
 IsNoRequest d Memory = Unit {0}
 IsNoRequest d Json = ⊥
 IsNoRequest d Kind = member_text (codes "type") d ≢ Some (codes "request")
-IsNoRequest d Seq = IsTyped d × (member_number (codes "seq") d ≡ None)
-IsNoRequest d Command = IsTyped d × (member_number (codes "seq") d ≢ None) × (member_text (codes "command") d ≡ None)
+IsNoRequest d Seq = IsRequestType d × (member_number (codes "seq") d ≡ None)
+IsNoRequest d Command = IsRequestType d × (member_number (codes "seq") d ≢ None) × (member_text (codes "command") d ≡ None)
 
 -- why a content part is no request
 abbrev pub HoldsNoRequest : List ℕ → RequestError → Type 0

@@ -3,7 +3,7 @@ use Rattle.std.specs.Prelude.{◌≡◌, ◌≤◌, ◌+◌, ◌%◌, ◌^◌, �
 use Rattle.serde_json.specs.Data.{Data, depth}
 use Rattle.serde_json.specs.Read.{max_depth, read}
 use Rattle.serde_json.specs.Written.{has_float, compact_text}
-use Rattle.ga_dap_protocol.specs.Framing.{framed}
+use Rattle.ga_dap_protocol.specs.Framing.{framed_message}
 
 -- messages that are to be written: the bytes, and the number of the last message
 pub record SentMessages : Type 0 where
@@ -17,7 +17,7 @@ next_seq seq = (seq + 1) % 2 ^ 64
 -- a message is added: its text is that of the value, without a space where it has no float, and is read back as the value
 pub record IsSent (old : SentMessages) (seq : ℕ) (message : Data) (new : SentMessages) : Type 0 where
   pub text : List ℕ
-  pub bytes : new.bytes ≡ old.bytes ++ framed text
+  pub bytes : new.bytes ≡ old.bytes ++ framed_message text
   pub compact : has_float message ≡ false → text ≡ compact_text message
   pub read_back : depth message ≤ max_depth → read text ≡ Some message
   pub number : new.seq ≡ seq

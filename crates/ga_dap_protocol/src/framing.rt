@@ -2,7 +2,7 @@
 
 ghost use Rattle.std.specs.Prelude.{◌≡◌, ◌≢◌, ◌≤◌, ◌<◌, ◌+◌, ◌++◌, ◌↔◌, [], length, take, drop, min, slice_index, IsTrue, IfSome, IfNone, OnOk, OnErr};
 ghost use Rattle.std.specs.List.{All};
-ghost use Rattle.ga_dap_protocol.specs.Framing.{OneBeginsOther, IsDigit, Finds, Reads, content_limit, digit_limit, field, framed, value_from};
+ghost use Rattle.ga_dap_protocol.specs.Framing.{IsEitherPrefix, IsDigit, IsFramePrefix, HasHeaderDigits, content_limit, digit_limit, field, framed_message, decimal_value_from};
 
 use crate::broken::FrameError;
 use std::alloc::{AllocError, Global};
@@ -32,7 +32,7 @@ pub enum FramePrefix {
 
 /// Whether one of two texts is the beginning of the other.
 fn agree(bytes: &[u8], text: &[u8]) -> bool
-    ensures { IsTrue result ↔ OneBeginsOther bytes.now text.now }
+    ensures { IsTrue result ↔ IsEitherPrefix bytes.now text.now }
 {
     let count = bytes.len().min(text.len());
     bytes[..count] == text[..count]
@@ -58,9 +58,9 @@ fn digits_in(bytes: &[u8]) -> usize
 /// The number of some digits, if a content part may have this length.
 fn length_of(digits: &[u8]) -> Option<usize>
     requires { All IsDigit digits.now }
-    ensures value { IfSome result (λ n. n ≡ value_from 0 digits.now) }
+    ensures value { IfSome result (λ n. n ≡ decimal_value_from 0 digits.now) }
     ensures within { IfSome result (λ n. n ≤ content_limit) }
-    ensures past { IfNone result (content_limit < value_from 0 digits.now) }
+    ensures past { IfNone result (content_limit < decimal_value_from 0 digits.now) }
 {
     let mut number = 0usize;
     for byte in digits {
@@ -74,7 +74,7 @@ fn length_of(digits: &[u8]) -> Option<usize>
 
 /// Returns the front of some bytes. Takes no memory, and time by the header alone.
 pub fn parse_frame_prefix(bytes: &[u8]) -> FramePrefix
-    ensures { Finds bytes.now result }
+    ensures { IsFramePrefix bytes.now result }
 {
     if !agree(bytes, FIELD) {
         return FramePrefix::Wrong(FrameError::Field);
@@ -89,7 +89,7 @@ pub fn parse_frame_prefix(bytes: &[u8]) -> FramePrefix
 fn value_behind(bytes: &[u8]) -> (&[u8], &[u8])
     requires long { 16 ≤ length bytes.now }
     requires name { take 16 bytes.now ≡ field }
-    ensures reads { Reads bytes.now result.0.now result.1.now }
+    ensures reads { HasHeaderDigits bytes.now result.0.now result.1.now }
     ensures most { length result.0.now ≤ digit_limit + 1 }
     ensures all { length result.0.now < digit_limit + 1 → 0 < length result.1.now → IsDigit (slice_index result.1.now 0) → ⊥ }
 {
@@ -102,7 +102,7 @@ fn value_behind(bytes: &[u8]) -> (&[u8], &[u8])
 fn front_behind(bytes: &[u8]) -> FramePrefix
     requires long { 16 ≤ length bytes.now }
     requires name { take 16 bytes.now ≡ field }
-    ensures { Finds bytes.now result }
+    ensures { IsFramePrefix bytes.now result }
 {
     let (digits, rest) = value_behind(bytes);
     let Some(number) = length_of(digits) else {
@@ -130,7 +130,7 @@ fn front_behind(bytes: &[u8]) -> FramePrefix
 /// The front of bytes in which no digit follows the field's name.
 fn without_digit(rest: &[u8]) -> FramePrefix
     requires { 0 < length rest.now → IsDigit (slice_index rest.now 0) → ⊥ }
-    ensures { Finds (field ++ rest.now) result }
+    ensures { IsFramePrefix (field ++ rest.now) result }
 {
     if rest.is_empty() {
         FramePrefix::Part
@@ -143,9 +143,9 @@ fn without_digit(rest: &[u8]) -> FramePrefix
 ///
 /// # Errors
 /// An allocation failed; nothing is added.
-#[tactic(auto, unfolding(crate::specs::Framing::framed))]
+#[tactic(auto, unfolding(crate::specs::Framing::framed_message))]
 pub fn push_frame(alloc: Global, out: &mut Vec<u8>, content: &[u8]) -> Result<(), AllocError>
-    ensures ok { OnOk result (out.new.items ≡ out.old.items ++ framed content.now) }
+    ensures ok { OnOk result (out.new.items ≡ out.old.items ++ framed_message content.now) }
     ensures err { OnErr result (out.new.items ≡ out.old.items) }
 {
     let mut buffer = itoa::Buffer::new();

@@ -47,8 +47,8 @@ impl Model for Inbox {
 
 impl Inbox {
     ghost use Rattle.std.specs.Prelude.{◌≡◌, ◌≤◌, ◌+◌, ◌++◌, ℕ, List, [], length, take, drop, Some, Ok, IfOk, OnErr, IsTrue, is_ok, ◌↔◌, if◌then◌else◌};
-    ghost use Rattle.ga_dap_protocol.specs.Framing.{BeginsOne};
-    ghost use Rattle.ga_dap_protocol.specs.Inbox.{GivesNext};
+    ghost use Rattle.ga_dap_protocol.specs.Framing.{IsMessagePrefix};
+    ghost use Rattle.ga_dap_protocol.specs.Inbox.{IsNextMessage};
 
     /// An input of which nothing was read.
     pub fn new(alloc: Global) -> Self
@@ -63,7 +63,7 @@ impl Inbox {
     /// Whether `next` needs no read to return the next message, or that there is none. Takes no memory, and time by the header
     /// alone.
     pub fn has_next(&self) -> bool
-        ensures { IsTrue result ↔ (BeginsOne self.now → ⊥) }
+        ensures { IsTrue result ↔ (IsMessagePrefix self.now → ⊥) }
     {
         match parse_frame_prefix(self.bytes.as_slice()) {
             FramePrefix::Message { .. } => true,
@@ -109,8 +109,8 @@ impl Inbox {
 
     /// What comes where the input ended.
     fn ended(&self) -> Next
-        requires { BeginsOne self.now }
-        ensures { GivesNext self.now result self.now }
+        requires { IsMessagePrefix self.now }
+        ensures { IsNextMessage self.now result self.now }
     {
         if self.bytes.is_empty() {
             Next::End
@@ -126,7 +126,7 @@ impl Inbox {
     /// An allocation failed. Nothing is lost: a further call continues.
     pub fn next<R: Read>(&mut self, reader: &mut R) -> Result<Next, AllocError>
         ensures next { (left : List ℕ) → R.remaining reader.old ≡ Some left → IfOk result (λ next.
-            (rest : List ℕ) × (R.remaining reader.new ≡ Some rest) × GivesNext (self.old ++ left) next (self.new ++ rest)) }
+            (rest : List ℕ) × (R.remaining reader.new ≡ Some rest) × IsNextMessage (self.old ++ left) next (self.new ++ rest)) }
         ensures refused { (left : List ℕ) → R.remaining reader.old ≡ Some left → OnErr result
             ((rest : List ℕ) × (R.remaining reader.new ≡ Some rest) × (self.old ++ left ≡ self.new ++ rest)) }
     {

@@ -78,16 +78,16 @@ fn request_of(alloc: Global, value: &Value) -> Result<ClientRequest, RequestErro
     ensures ok { IfOk result (λ r. IsRequest (view value.now) r.seq (string_bytes r.command) (view r.arguments)) }
     ensures err { IfErr result (λ why. IsNoRequest (view value.now) why) }
 {
-    let Some(kind) = text_at(value, "type") else {
+    let Some(kind) = member_text(value, "type") else {
         return Err(RequestError::Kind);
     };
     if kind != "request" {
         return Err(RequestError::Kind);
     }
-    let Some(seq) = number_at(value, "seq") else {
+    let Some(seq) = member_number(value, "seq") else {
         return Err(RequestError::Seq);
     };
-    let Some(command) = text_at(value, "command") else {
+    let Some(command) = member_text(value, "command") else {
         return Err(RequestError::Command);
     };
     let command = String::from_str(alloc, command)?;
@@ -103,14 +103,14 @@ fn request_of(alloc: Global, value: &Value) -> Result<ClientRequest, RequestErro
 }
 
 /// The text of a member. Takes no memory.
-pub fn text_at<'v>(value: &'v Value, name: &str) -> Option<&'v str>
+pub fn member_text<'v>(value: &'v Value, name: &str) -> Option<&'v str>
     ensures { option_map (λ t. t.now) result ≡ member_text name.now (view value.now) }
 {
     value.get(name).and_then(Value::as_str)
 }
 
 /// The number of a member, where it is a whole number from 0 on. Takes no memory.
-pub fn number_at(value: &Value, name: &str) -> Option<u64>
+pub fn member_number(value: &Value, name: &str) -> Option<u64>
     ensures { result ≡ member_number name.now (view value.now) }
 {
     value.get(name).and_then(Value::as_u64)

@@ -4,8 +4,8 @@ use Rattle.std.specs.Str.Parse.{digits_value, without_leading_plus}
 use Rattle.ga_text.specs.Lines.{Text}
 use Rattle.ga_grid.specs.Grid.{yxx_of}
 use Rattle.ga_grid.specs.declared.node_id.NodeId.{NodeId}
-use Rattle.ga_dap_views.specs.Numbers.{named_digits, chip_address}
-use Rattle.ga_dap_queries.specs.Disassembling.{SpellsHexadecimal, SpellsReference, RefersTo}
+use Rattle.ga_dap_views.specs.Numbers.{node_name_digits, chip_address}
+use Rattle.ga_dap_queries.specs.Disassembling.{SpellsHexadecimal, SpellsReference, IsMemoryReference}
 
 -- the same digits follow 0x
 same_digits : (text first other : Text) → text ≡ codes "0x" ++ first → text ≡ codes "0x" ++ other → first ≡ other
@@ -23,13 +23,13 @@ no_reference text digits e none n small spells =
 chip_below : (n cell : ℕ) → n < 144 → cell < 256 → chip_address n cell < 2 ^ 64
 chip_below n cell within low =
     let small : yxx_of n < 1000 = omega (arith, within) in
-    let digits : named_digits (yxx_of n) < 4096 = omega (arith, small) in
+    let digits : node_name_digits (yxx_of n) < 4096 = omega (arith, small) in
     omega (arith, digits, low)
 
 pub refers : (text : Text) (address : ℕ) (at : Option (NodeId × ℕ)) → SpellsReference text address → IfSome at (λ found. chip_address found.0.number found.1 ≡ address)
-    → IfNone at ((n cell : ℕ) → n < 144 → cell < 256 → chip_address n cell ≢ address) → RefersTo text at
+    → IfNone at ((n cell : ℕ) → n < 144 → cell < 256 → chip_address n cell ≢ address) → IsMemoryReference text at
 refers text address (Some at) spells found none = subst (λ (z : ℕ). SpellsReference text z) (sym found) spells
 refers text address None spells found none = λ n cell within low other. none n cell within low (spells_one text (chip_address n cell) address other spells)
 
-pub refers_nowhere : (text : Text) → ((address : ℕ) → address < 2 ^ 64 → SpellsReference text address → ⊥) → RefersTo text None
+pub refers_nowhere : (text : Text) → ((address : ℕ) → address < 2 ^ 64 → SpellsReference text address → ⊥) → IsMemoryReference text None
 refers_nowhere text none = λ n cell within low spells. none (chip_address n cell) (chip_below n cell within low) spells

@@ -4,8 +4,8 @@ use Rattle.ga_text.specs.Lines.{Text}
 use Rattle.ga_grid.specs.declared.node_id.NodeId.{NodeId}
 use Rattle.ga_dap_protocol.specs.declared.request.ClientRequest.{ClientRequest}
 use Rattle.ga_dap_queries.specs.declared.debuggee.Debuggee.{Debuggee}
-use Rattle.ga_dap_queries.specs.Disassembling.{TellsSome, TellsInstructions, TellsReferred}
-use Rattle.ga_dap_queries.specs.Sending.{Message, Sends, SendsAll, answered}
+use Rattle.ga_dap_queries.specs.Disassembling.{DisassemblesWithinLimit, DisassemblesRequestedCount, DisassemblesReference}
+use Rattle.ga_dap_queries.specs.Sending.{Message, Sends, SendsAll, success_response}
 use Rattle.std.specs.Prelude.{OnOk}
 use Rattle.serde_json.specs.Data.{Data}
 use Rattle.ga_dap_protocol.specs.Sent.{SentMessages}
@@ -17,20 +17,20 @@ use Rattle.ga_word.specs.Word.{hex6_of}
 use Rattle.std.proofs.lemmas.Bool.{cases_eq}
 use Rattle.std.proofs.lemmas.Grind.{get_or-set_at}
 use Rattle.ga_causal.specs.Dependence.{is_marked}
-use Rattle.ga_dap_queries.specs.Events.{changed_messages, changed_below}
+use Rattle.ga_dap_queries.specs.Events.{thread_change_messages, thread_changes_below}
 
 -- ---- what is sent about memory, by what the request names
 
-pub with_reference : (p : Debuggee) (request : ClientRequest) (a b : Option Text) (message : Message) → a ≡ b → TellsReferred p request a message → TellsReferred p request b message
-with_reference p request a b message e told = subst (λ (z : Option Text). TellsReferred p request z message) e told
+pub with_reference : (p : Debuggee) (request : ClientRequest) (a b : Option Text) (message : Message) → a ≡ b → DisassemblesReference p request a message → DisassemblesReference p request b message
+with_reference p request a b message e told = subst (λ (z : Option Text). DisassemblesReference p request z message) e told
 
-pub with_count : (p : Debuggee) (request : ClientRequest) (at : NodeId × ℕ) (a b : Option ℕ) (message : Message) → a ≡ b → TellsInstructions p request at a message
-    → TellsInstructions p request at b message
-with_count p request at a b message e told = subst (λ (z : Option ℕ). TellsInstructions p request at z message) e told
+pub with_count : (p : Debuggee) (request : ClientRequest) (at : NodeId × ℕ) (a b : Option ℕ) (message : Message) → a ≡ b → DisassemblesRequestedCount p request at a message
+    → DisassemblesRequestedCount p request at b message
+with_count p request at a b message e told = subst (λ (z : Option ℕ). DisassemblesRequestedCount p request at z message) e told
 
-pub with_within : (p : Debuggee) (request : ClientRequest) (at : NodeId × ℕ) (a b : Option ℕ) (message : Message) → a ≡ b → TellsSome p request at a message
-    → TellsSome p request at b message
-with_within p request at a b message e told = subst (λ (z : Option ℕ). TellsSome p request at z message) e told
+pub with_within : (p : Debuggee) (request : ClientRequest) (at : NodeId × ℕ) (a b : Option ℕ) (message : Message) → a ≡ b → DisassemblesWithinLimit p request at a message
+    → DisassemblesWithinLimit p request at b message
+with_within p request at a b message e told = subst (λ (z : Option ℕ). DisassemblesWithinLimit p request at z message) e told
 
 pub sent_one : (old : SentMessages) (message : Message) (new : SentMessages) → Sends old message new → SendsAll old (message ∷ []) new
 sent_one old message new one = (new, one, refl)
@@ -50,9 +50,9 @@ ok_then (Ok x) p f = f p
 ok_then (Err e) p f = tt
 
 -- a response whose body is what it is to be
-pub answers_so : (request : ClientRequest) (body wanted : Data) (old new : SentMessages) → body ≡ wanted → Sends old (answered request body) new
-    → (message : Message) × (message ≡ answered request wanted) × Sends old message new
-answers_so request body wanted old new e sent = (answered request body, ap (answered request) e, sent)
+pub answers_so : (request : ClientRequest) (body wanted : Data) (old new : SentMessages) → body ≡ wanted → Sends old (success_response request body) new
+    → (message : Message) × (message ≡ success_response request wanted) × Sends old message new
+answers_so request body wanted old new e sent = (success_response request body, ap (success_response request) e, sent)
 
 -- ---- digits of names and of references to memory
 
@@ -86,15 +86,15 @@ marked_more flags k b f within old e n lt = elim (cases_eq n k) as (λ w. is_mar
   | inr ne ↦ (let here : is_marked (set flags k b) n ≡ is_marked flags n = get_or-set_other flags k n b false ne in here ∙ old n (omega (arith, lt, ne)))
 ]
 
-pub none_changed : (before now : ℕ → Bool) (old : SentMessages) → SendsAll old (changed_below before now 0) old
-unfolding changed_below
+pub none_changed : (before now : ℕ → Bool) (old : SentMessages) → SendsAll old (thread_changes_below before now 0) old
+unfolding thread_changes_below
 none_changed before now old = refl
 
 pub next_changed : (before now : ℕ → Bool) (n m : ℕ) (b c : Bool) (old between new : SentMessages) → m ≡ n → b ≡ before m → c ≡ now m
-    → SendsAll old (changed_below before now n) between → SendsAll between (changed_messages b c m) new → SendsAll old (changed_below before now (n + 1)) new
-unfolding changed_below
+    → SendsAll old (thread_changes_below before now n) between → SendsAll between (thread_change_messages b c m) new → SendsAll old (thread_changes_below before now (n + 1)) new
+unfolding thread_changes_below
 next_changed before now n m b c old between new e was is first rest =
-    let same : SendsAll between (changed_messages (before n) (now n) n) new =
-    subst (λ (k : ℕ). SendsAll between (changed_messages (before k) (now k) k) new) e
-    (subst (λ (x : Bool). SendsAll between (changed_messages x (now m) m) new) was (subst (λ (y : Bool). SendsAll between (changed_messages b y m) new) is rest)) in
-    rw add-one (sent_both old (changed_below before now n) between (changed_messages (before n) (now n) n) new first same)
+    let same : SendsAll between (thread_change_messages (before n) (now n) n) new =
+    subst (λ (k : ℕ). SendsAll between (thread_change_messages (before k) (now k) k) new) e
+    (subst (λ (x : Bool). SendsAll between (thread_change_messages x (now m) m) new) was (subst (λ (y : Bool). SendsAll between (thread_change_messages b y m) new) is rest)) in
+    rw add-one (sent_both old (thread_changes_below before now n) between (thread_change_messages (before n) (now n) n) new first same)

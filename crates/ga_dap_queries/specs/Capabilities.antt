@@ -6,7 +6,7 @@ use Rattle.ga_text.specs.Lines.{Text}
 use Rattle.ga_dap_protocol.specs.Messages.{member_text}
 use Rattle.ga_dap_protocol.specs.declared.request.ClientRequest.{ClientRequest}
 use Rattle.ga_dap_queries.specs.Arguments.{member_flag}
-use Rattle.ga_dap_queries.specs.Sending.{Message, answered, refused_response}
+use Rattle.ga_dap_queries.specs.Sending.{Message, success_response, refused_response}
 
 -- lines and columns are counted from 1 on, where the client doesn't say otherwise
 abbrev pub counts_from_one : Text → Data → Bool
@@ -25,32 +25,32 @@ unfoldable pub filter_object : Text → Text → Data
 filter_object filter label =
     object (member (codes "default") (boolean true) (member (codes "filter") (string filter) (member (codes "label") (string label) no_members)))
 
-abbrev pub filters : Data
-filters = array (item (filter_object (codes "stop") (codes "A node stops")) (item (filter_object (codes "stuck") (codes "A node can never go on")) no_items))
+abbrev pub exception_breakpoint_filters : Data
+exception_breakpoint_filters = array (item (filter_object (codes "stop") (codes "A node stops")) (item (filter_object (codes "stuck") (codes "A node can never go on")) no_items))
 
 -- something that can be asked for
-abbrev pub can : Text → Members → Members
-can name rest = member name (boolean true) rest
+abbrev pub supported_capability : Text → Members → Members
+supported_capability name rest = member name (boolean true) rest
 
 -- what this debugger can do
 unfoldable pub capabilities : Data → Data
 capabilities faults =
-    object (member (codes "exceptionBreakpointFilters") faults (can (codes "supportsConditionalBreakpoints") (can (codes "supportsConfigurationDoneRequest") (can (codes "supportsDataBreakpoints")
-    (can (codes "supportsDisassembleRequest") (can (codes "supportsEvaluateForHovers") (can (codes "supportsExceptionInfoRequest")
-    (can (codes "supportsFunctionBreakpoints") (can (codes "supportsHitConditionalBreakpoints") (can (codes "supportsInstructionBreakpoints") (can (codes "supportsStepBack")
-    (can (codes "supportsSteppingGranularity") (can (codes "supportsTerminateRequest") no_members)))))))))))))
+    object (member (codes "exceptionBreakpointFilters") faults (supported_capability (codes "supportsConditionalBreakpoints") (supported_capability (codes "supportsConfigurationDoneRequest") (supported_capability (codes "supportsDataBreakpoints")
+    (supported_capability (codes "supportsDisassembleRequest") (supported_capability (codes "supportsEvaluateForHovers") (supported_capability (codes "supportsExceptionInfoRequest")
+    (supported_capability (codes "supportsFunctionBreakpoints") (supported_capability (codes "supportsHitConditionalBreakpoints") (supported_capability (codes "supportsInstructionBreakpoints") (supported_capability (codes "supportsStepBack")
+    (supported_capability (codes "supportsSteppingGranularity") (supported_capability (codes "supportsTerminateRequest") no_members)))))))))))))
 
 -- what the client does otherwise than this debugger
-abbrev pub unmet : Data → Option Text
-unmet d =
+abbrev pub unsupported_client_option : Data → Option Text
+unsupported_client_option d =
     if not (counts_from_one (codes "linesStartAt1") d) then Some (codes "initialize: lines are counted from 1 on")
     else if not (counts_from_one (codes "columnsStartAt1") d) then Some (codes "initialize: columns are counted from 1 on")
     else if not (names_paths d) then Some (codes "initialize: files are named by paths")
     else None
 
 abbrev pub initialize_message : ClientRequest → Option Text → Message
-initialize_message request None = answered request (capabilities filters)
+initialize_message request None = success_response request (capabilities exception_breakpoint_filters)
 initialize_message request (Some why) = refused_response request why
 
 abbrev pub AnswersInitialize : ClientRequest → Message → Type 0
-AnswersInitialize request message = message ≡ initialize_message request (unmet (view request.arguments))
+AnswersInitialize request message = message ≡ initialize_message request (unsupported_client_option (view request.arguments))

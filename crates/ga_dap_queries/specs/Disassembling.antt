@@ -11,24 +11,24 @@ use Rattle.serde_json.specs.View.{view}
 use Rattle.ga_text.specs.Lines.{Text}
 use Rattle.ga_grid.specs.declared.node_id.NodeId.{NodeId}
 use Rattle.ga_dap_views.specs.Numbers.{chip_address}
-use Rattle.ga_dap_views.specs.Disassembly.{disassembled}
+use Rattle.ga_dap_views.specs.Disassembly.{disassemble_body}
 use Rattle.ga_dap_protocol.specs.Messages.{member_text, member_number}
 use Rattle.ga_dap_protocol.specs.declared.request.ClientRequest.{ClientRequest}
-use Rattle.ga_dap_queries.specs.Sending.{Message, answered, refused_response}
+use Rattle.ga_dap_queries.specs.Sending.{Message, success_response, refused_response}
 
 -- ---- A program that was launched
 
 -- what the source of a program says of the cells
-abbrev pub notes_or : Option DebugInfo → DebugInfo → DebugInfo
-notes_or None unsaid = unsaid
-notes_or (Some notes) unsaid = notes
+abbrev pub debug_info_or_empty : Option DebugInfo → DebugInfo → DebugInfo
+debug_info_or_empty None empty_debug_info = empty_debug_info
+debug_info_or_empty (Some notes) empty_debug_info = notes
 
-abbrev pub program_notes : Debuggee → DebugInfo
-program_notes p = notes_or p.source p.unsaid
+abbrev pub program_debug_info : Debuggee → DebugInfo
+program_debug_info p = debug_info_or_empty p.source p.empty_debug_info
 
 -- the file of a program
-abbrev pub IsFileOf : Debuggee → SourceFile → Type 0
-IsFileOf p file = (file.name.now ≡ string_bytes p.name) × (file.path.now ≡ string_bytes p.path)
+abbrev pub IsSourceFileOf : Debuggee → SourceFile → Type 0
+IsSourceFileOf p file = (file.name.now ≡ string_bytes p.name) × (file.path.now ≡ string_bytes p.path)
 
 -- a text that is a number in hexadecimal digits, after 0x
 abbrev pub SpellsHexadecimal : Text → ℕ → Type 0
@@ -38,41 +38,41 @@ abbrev pub SpellsReference : Text → ℕ → Type 0
 SpellsReference text address = (digits : Text) × (text ≡ codes "0x" ++ digits) × SpellsHexadecimal digits address
 
 -- the node and the cell of a reference to memory, or that there are none
-abbrev pub RefersTo : Text → Option (NodeId × ℕ) → Type 0
-RefersTo text (Some at) = SpellsReference text (chip_address at.0.number at.1)
-RefersTo text None = (n cell : ℕ) → n < 144 → cell < 256 → SpellsReference text (chip_address n cell) → ⊥
+abbrev pub IsMemoryReference : Text → Option (NodeId × ℕ) → Type 0
+IsMemoryReference text (Some at) = SpellsReference text (chip_address at.0.number at.1)
+IsMemoryReference text None = (n cell : ℕ) → n < 144 → cell < 256 → SpellsReference text (chip_address n cell) → ⊥
 
 -- the number of a member, which may be less than 0; 0 where it has none
 abbrev pub offset_given : Text → Data → ℤ
 offset_given name d = unwrap_or (option_and_then as_i64 (option_and_then as_number (get name d))) (pos 0)
 
 -- how many addresses further an offset leads, among the 4096 of a node, of which the first follows the last
-abbrev pub addresses_after : ℤ → ℕ
-addresses_after offset = unsigned_abs (int_rem_euclid offset (pos 4096))
+abbrev pub wrapped_address_offset : ℤ → ℕ
+wrapped_address_offset offset = unsigned_abs (int_rem_euclid offset (pos 4096))
 
-abbrev pub first_told : Data → ℕ → ℕ
-first_told d cell = (cell + (addresses_after (offset_given (codes "offset") d) + addresses_after (offset_given (codes "instructionOffset") d))) % 4096
+abbrev pub first_instruction_address : Data → ℕ → ℕ
+first_instruction_address d cell = (cell + (wrapped_address_offset (offset_given (codes "offset") d) + wrapped_address_offset (offset_given (codes "instructionOffset") d))) % 4096
 
 -- exactly as many instructions are sent as are requested; more than 4096 are refused
-abbrev pub count_within : ℕ → Option ℕ
-count_within count = if nat_lt 4096 count then None else Some count
+abbrev pub instruction_count_in_limit : ℕ → Option ℕ
+instruction_count_in_limit count = if nat_lt 4096 count then None else Some count
 
-abbrev pub TellsSome : Debuggee → ClientRequest → NodeId × ℕ → Option ℕ → Message → Type 0
-TellsSome p request at None message = message ≡ refused_response request (codes "disassemble: 4096 instructions at most")
-TellsSome p request at (Some count) message = (file : SourceFile) × IsFileOf p file
-    × (message ≡ answered request (disassembled file (program_notes p) p.lab at.0 (first_told (view request.arguments) at.1) count))
+abbrev pub DisassemblesWithinLimit : Debuggee → ClientRequest → NodeId × ℕ → Option ℕ → Message → Type 0
+DisassemblesWithinLimit p request at None message = message ≡ refused_response request (codes "disassemble: 4096 instructions at most")
+DisassemblesWithinLimit p request at (Some count) message = (file : SourceFile) × IsSourceFileOf p file
+    × (message ≡ success_response request (disassemble_body file (program_debug_info p) p.lab at.0 (first_instruction_address (view request.arguments) at.1) count))
 
-abbrev pub TellsInstructions : Debuggee → ClientRequest → NodeId × ℕ → Option ℕ → Message → Type 0
-TellsInstructions p request at None message = message ≡ refused_response request (codes "disassemble: there is no instructionCount")
-TellsInstructions p request at (Some count) message = TellsSome p request at (count_within count) message
+abbrev pub DisassemblesRequestedCount : Debuggee → ClientRequest → NodeId × ℕ → Option ℕ → Message → Type 0
+DisassemblesRequestedCount p request at None message = message ≡ refused_response request (codes "disassemble: there is no instructionCount")
+DisassemblesRequestedCount p request at (Some count) message = DisassemblesWithinLimit p request at (instruction_count_in_limit count) message
 
-abbrev pub TellsMemory : Debuggee → ClientRequest → Option (NodeId × ℕ) → Message → Type 0
-TellsMemory p request None message = message ≡ refused_response request (codes "disassemble: no such memory")
-TellsMemory p request (Some at) message = TellsInstructions p request at (member_number (codes "instructionCount") (view request.arguments)) message
+abbrev pub DisassemblesMemory : Debuggee → ClientRequest → Option (NodeId × ℕ) → Message → Type 0
+DisassemblesMemory p request None message = message ≡ refused_response request (codes "disassemble: no such memory")
+DisassemblesMemory p request (Some at) message = DisassemblesRequestedCount p request at (member_number (codes "instructionCount") (view request.arguments)) message
 
-abbrev pub TellsReferred : Debuggee → ClientRequest → Option Text → Message → Type 0
-TellsReferred p request None message = message ≡ refused_response request (codes "disassemble: there is no memoryReference")
-TellsReferred p request (Some text) message = (at : Option (NodeId × ℕ)) × RefersTo text at × TellsMemory p request at message
+abbrev pub DisassemblesReference : Debuggee → ClientRequest → Option Text → Message → Type 0
+DisassemblesReference p request None message = message ≡ refused_response request (codes "disassemble: there is no memoryReference")
+DisassemblesReference p request (Some text) message = (at : Option (NodeId × ℕ)) × IsMemoryReference text at × DisassemblesMemory p request at message
 
-abbrev pub AnswersInstructions : Debuggee → ClientRequest → Message → Type 0
-AnswersInstructions p request message = TellsReferred p request (member_text (codes "memoryReference") (view request.arguments)) message
+abbrev pub AnswersDisassemble : Debuggee → ClientRequest → Message → Type 0
+AnswersDisassemble p request message = DisassemblesReference p request (member_text (codes "memoryReference") (view request.arguments)) message

@@ -2,7 +2,7 @@
 -- frame.
 use Rattle.std.specs.Prelude.{◌≡◌, ◌≢◌, ◌<◌, ◌⊎◌, ◌==◌, ◌&&◌, if◌then◌else◌, ℕ, Bool, length, slice_index, slice_range, codes, Option, Some, None, option_map}
 use Rattle.serde_json.specs.Data.{Data, string, object, no_members, member}
-use Rattle.ga_text.specs.Digits.{byte_in}
+use Rattle.ga_text.specs.Digits.{hex_byte_value}
 use Rattle.ga_text.specs.Lines.{Text}
 use Rattle.ga_lab.specs.Machine.{State}
 use Rattle.ga_dap_views.specs.Json.{whole_number}
@@ -15,18 +15,18 @@ use Rattle.ga_dap_views.specs.declared.variable.Variable.TheVariants.{Cell}
 -- a cell, by two hexadecimal digits in brackets
 abbrev pub cell_in_brackets : Text → Option Variable
 cell_in_brackets text =
-    if length text == 4 && slice_index text 0 == 91 && slice_index text 3 == 93 then option_map (λ address. Cell address) (byte_in (slice_range text 1 3)) else None
+    if length text == 4 && slice_index text 0 == 91 && slice_index text 3 == 93 then option_map (λ address. Cell address) (hex_byte_value (slice_range text 1 3)) else None
 
 -- a text asks for a register by its name, or for a cell
-abbrev pub AsksForVariable : Text → Variable → Type 0
-AsksForVariable text one = (variable_name one ≡ text) ⊎ (cell_in_brackets text ≡ Some one)
+abbrev pub DenotesVariable : Text → Variable → Type 0
+DenotesVariable text one = (variable_name one ≡ text) ⊎ (cell_in_brackets text ≡ Some one)
 
 -- a text asks for neither a register nor a cell
-abbrev pub AsksForNoVariable : Text → Type 0
-AsksForNoVariable text = ((k : ℕ) → k < variable_count Registers → variable_name (variable_at Registers k) ≢ text) × (cell_in_brackets text ≡ None)
+abbrev pub DenotesNoVariable : Text → Type 0
+DenotesNoVariable text = ((k : ℕ) → k < variable_count Registers → variable_name (variable_at Registers k) ≢ text) × (cell_in_brackets text ≡ None)
 
 unfoldable pub result_object : Text → Data
 result_object value = object (member (codes "result") (string value) (member (codes "variablesReference") (whole_number 0) no_members))
 
-abbrev pub evaluated : State → Bool → ℕ → Variable → Data
-evaluated s stuck n one = result_object (variable_value s stuck n one)
+abbrev pub evaluate_body : State → Bool → ℕ → Variable → Data
+evaluate_body s stuck n one = result_object (variable_value s stuck n one)

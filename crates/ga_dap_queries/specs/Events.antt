@@ -5,9 +5,9 @@ use Rattle.ga_text.specs.Lines.{Text}
 use Rattle.ga_dap_views.specs.Json.{whole_number, array_of}
 use Rattle.ga_grid.specs.declared.node_id.NodeId.{NodeId}
 use Rattle.ga_lab.specs.Machine.{State}
-use Rattle.ga_dap_views.specs.Numbers.{thread_of}
+use Rattle.ga_dap_views.specs.Numbers.{thread_id}
 use Rattle.ga_dap_views.specs.Threads.{has_thread}
-use Rattle.ga_dap_queries.specs.Sending.{Message, event_told}
+use Rattle.ga_dap_queries.specs.Sending.{Message, event_message}
 
 unfoldable pub output_body : Text → Text → Data
 output_body category text = object (member (codes "category") (string category) (member (codes "output") (string text) no_members))
@@ -18,40 +18,40 @@ thread_reason true = codes "started"
 thread_reason false = codes "exited"
 
 unfoldable pub thread_body : Text → ℕ → Data
-thread_body reason n = object (member (codes "reason") (string reason) (member (codes "threadId") (whole_number (thread_of n)) no_members))
+thread_body reason n = object (member (codes "reason") (string reason) (member (codes "threadId") (whole_number (thread_id n)) no_members))
 
 abbrev pub thread_message : Bool → ℕ → Message
-thread_message started n = event_told (codes "thread") (thread_body (thread_reason started) n)
+thread_message started n = event_message (codes "thread") (thread_body (thread_reason started) n)
 
 -- what is sent about a node that had something to show before or not, and has now or not
-abbrev pub changed_messages : Bool → Bool → ℕ → List Message
-changed_messages false false n = []
-changed_messages false true n = thread_message true n ∷ []
-changed_messages true false n = thread_message false n ∷ []
-changed_messages true true n = []
+abbrev pub thread_change_messages : Bool → Bool → ℕ → List Message
+thread_change_messages false false n = []
+thread_change_messages false true n = thread_message true n ∷ []
+thread_change_messages true false n = thread_message false n ∷ []
+thread_change_messages true true n = []
 
 -- what is sent about the first `n` nodes: each that has something to show and had not, or the other way round
-unfoldable pub changed_below : (ℕ → Bool) → (ℕ → Bool) → ℕ → List Message
-changed_below before now zero = []
-changed_below before now (suc n) = changed_below before now n ++ changed_messages (before n) (now n) n
+unfoldable pub thread_changes_below : (ℕ → Bool) → (ℕ → Bool) → ℕ → List Message
+thread_changes_below before now zero = []
+thread_changes_below before now (suc n) = thread_changes_below before now n ++ thread_change_messages (before n) (now n) n
 
 -- the first node that has something to show; 000 where none has
-abbrev pub IsFirstShown : State → List NodeId → ℕ → Type 0
-IsFirstShown s programs n =
+abbrev pub IsFirstThreadNode : State → List NodeId → ℕ → Type 0
+IsFirstThreadNode s programs n =
     ((has_thread s programs n ≡ true) × ((k : ℕ) → k < n → has_thread s programs k ≡ false)) ⊎ ((n ≡ 0) × ((k : ℕ) → k < 144 → has_thread s programs k ≡ false))
 
 -- the chip is stopped: all nodes are
 unfoldable pub stopped_body : Text → Text → ℕ → Data
 stopped_body reason description n =
     object (member (codes "allThreadsStopped") (boolean true) (member (codes "description") (string description) (member (codes "reason") (string reason)
-    (member (codes "text") (string description) (member (codes "threadId") (whole_number (thread_of n)) no_members)))))
+    (member (codes "text") (string description) (member (codes "threadId") (whole_number (thread_id n)) no_members)))))
 
 -- the chip is stopped at breakpoints with these numbers: all nodes are
-unfoldable pub hit_object : Text → Text → ℕ → Data → Data
-hit_object reason description n ids =
+unfoldable pub breakpoint_stopped_object : Text → Text → ℕ → Data → Data
+breakpoint_stopped_object reason description n ids =
     object (member (codes "allThreadsStopped") (boolean true) (member (codes "description") (string description)
     (member (codes "hitBreakpointIds") ids (member (codes "reason") (string reason)
-    (member (codes "text") (string description) (member (codes "threadId") (whole_number (thread_of n)) no_members))))))
+    (member (codes "text") (string description) (member (codes "threadId") (whole_number (thread_id n)) no_members))))))
 
-abbrev pub hit_body : Text → Text → ℕ → List ℕ → Data
-hit_body reason description n ids = hit_object reason description n (array_of whole_number ids)
+abbrev pub breakpoint_stopped_body : Text → Text → ℕ → List ℕ → Data
+breakpoint_stopped_body reason description n ids = breakpoint_stopped_object reason description n (array_of whole_number ids)

@@ -12,15 +12,15 @@ use Rattle.ga_node.specs.Record.{NodeRecord}
 use Rattle.ga_grid.specs.declared.node_id.NodeId.{NodeId}
 use Rattle.ga_dap_views.specs.declared.frames.SourceFile.{SourceFile}
 use Rattle.ga_dap_views.specs.declared.scope.Scope.{Scope}
-use Rattle.ga_dap_views.specs.Threads.{threads_in}
+use Rattle.ga_dap_views.specs.Threads.{threads_body}
 use Rattle.ga_dap_views.specs.Frames.{stack_trace}
-use Rattle.ga_dap_views.specs.Variables.{scopes_of, is_memory_scope, variables_in}
+use Rattle.ga_dap_views.specs.Variables.{scopes_body, is_memory_scope, variables_body}
 use Rattle.ga_dap_protocol.specs.Messages.{member_text}
 use Rattle.ga_dap_protocol.specs.declared.request.ClientRequest.{ClientRequest}
 use Rattle.ga_dap_queries.specs.declared.debuggee.Debuggee.{Debuggee}
-use Rattle.ga_dap_queries.specs.Arguments.{AsksOfThread, AsksOfFrame, AsksForVariables, number_given_or}
-use Rattle.ga_dap_queries.specs.Disassembling.{program_notes, IsFileOf}
-use Rattle.ga_dap_queries.specs.Sending.{Message, answered, refused_response}
+use Rattle.ga_dap_queries.specs.Arguments.{IsThreadArgument, IsFrameArgument, IsScopeArgument, number_or_default}
+use Rattle.ga_dap_queries.specs.Disassembling.{program_debug_info, IsSourceFileOf}
+use Rattle.ga_dap_queries.specs.Sending.{Message, success_response, refused_response}
 
 -- ---- the response to `exceptionInfo` (Debug Adapter Protocol, "ExceptionInfoRequest"): why the node of a thread can't go on
 
@@ -32,63 +32,63 @@ unfoldable pub exception_object : Text → Text → Data
 exception_object id description =
     object (member (codes "breakMode") (string (codes "always")) (member (codes "description") (string description) (member (codes "exceptionId") (string id) no_members)))
 
-abbrev pub exception_of : State → Bool → ℕ → Data
-exception_of s stuck n =
+abbrev pub exception_info_body : State → Bool → ℕ → Data
+exception_info_body s stuck n =
     exception_object (exception_filter (record_at (chip_of s) n).stop stuck) (codes "node " ++ named_activity (chip_of s) n)
 
 -- whether a node can never go on: it is in the greatest set of such nodes
-abbrev pub TellsStuck : List NodeRecord → ℕ → Bool → Type 0
-TellsStuck chip n stuck = (marks : ℕ → Bool) × AreDeadlocked chip marks × ((others : ℕ → Bool) → AreDeadlocked chip others → IsSubset others marks) × (stuck ≡ marks n)
+abbrev pub IsDeadlockStatus : List NodeRecord → ℕ → Bool → Type 0
+IsDeadlockStatus chip n stuck = (marks : ℕ → Bool) × AreDeadlocked chip marks × ((others : ℕ → Bool) → AreDeadlocked chip others → IsSubset others marks) × (stuck ≡ marks n)
 
 -- `threads`
 abbrev pub AnswersThreads : Debuggee → ClientRequest → Message → Type 0
-AnswersThreads p request message = message ≡ answered request (threads_in p.lab p.nodes.items)
+AnswersThreads p request message = message ≡ success_response request (threads_body p.lab p.nodes.items)
 
 -- `stackTrace`
-abbrev pub TellsStack : Debuggee → ClientRequest → Option NodeId → Message → Type 0
-TellsStack p request None message = message ≡ refused_response request (codes "stackTrace: no such thread")
-TellsStack p request (Some node) message = (file : SourceFile) × IsFileOf p file × (message ≡ answered request (stack_trace file (program_notes p) p.lab node
-    (number_given_or (codes "startFrame") 0 (view request.arguments)) (number_given_or (codes "levels") 0 (view request.arguments))))
+abbrev pub IsStackTraceResponse : Debuggee → ClientRequest → Option NodeId → Message → Type 0
+IsStackTraceResponse p request None message = message ≡ refused_response request (codes "stackTrace: no such thread")
+IsStackTraceResponse p request (Some node) message = (file : SourceFile) × IsSourceFileOf p file × (message ≡ success_response request (stack_trace file (program_debug_info p) p.lab node
+    (number_or_default (codes "startFrame") 0 (view request.arguments)) (number_or_default (codes "levels") 0 (view request.arguments))))
 
-abbrev pub AnswersStack : Debuggee → ClientRequest → Message → Type 0
-AnswersStack p request message = (asked : Option NodeId) × AsksOfThread (view request.arguments) asked × TellsStack p request asked message
+abbrev pub AnswersStackTrace : Debuggee → ClientRequest → Message → Type 0
+AnswersStackTrace p request message = (asked : Option NodeId) × IsThreadArgument (view request.arguments) asked × IsStackTraceResponse p request asked message
 
 -- `scopes`
-abbrev pub TellsScopes : ClientRequest → Option NodeId → Message → Type 0
-TellsScopes request None message = message ≡ refused_response request (codes "scopes: no such frame")
-TellsScopes request (Some node) message = message ≡ answered request (scopes_of node.number)
+abbrev pub IsScopesResponse : ClientRequest → Option NodeId → Message → Type 0
+IsScopesResponse request None message = message ≡ refused_response request (codes "scopes: no such frame")
+IsScopesResponse request (Some node) message = message ≡ success_response request (scopes_body node.number)
 
 abbrev pub AnswersScopes : ClientRequest → Message → Type 0
-AnswersScopes request message = (asked : Option NodeId) × AsksOfFrame (view request.arguments) asked × TellsScopes request asked message
+AnswersScopes request message = (asked : Option NodeId) × IsFrameArgument (view request.arguments) asked × IsScopesResponse request asked message
 
 -- `variables`: those of a memory are indexed, and all others named; a client may ask for one kind
-abbrev pub is_kind_asked : Scope → Option Text → Bool
-is_kind_asked of None = true
-is_kind_asked of (Some filter) = not (bytes_eq filter (if is_memory_scope of then codes "named" else codes "indexed"))
+abbrev pub matches_variables_filter : Scope → Option Text → Bool
+matches_variables_filter of None = true
+matches_variables_filter of (Some filter) = not (bytes_eq filter (if is_memory_scope of then codes "named" else codes "indexed"))
 
 unfoldable pub no_variables : Data
 no_variables = object (member (codes "variables") (array no_items) no_members)
 
-abbrev pub variables_asked : Bool → State → Bool → ℕ → Scope → ℕ → ℕ → Data
-variables_asked true s stuck n of start count = variables_in s stuck n of start count
-variables_asked false s stuck n of start count = no_variables
+abbrev pub filtered_variables : Bool → State → Bool → ℕ → Scope → ℕ → ℕ → Data
+filtered_variables true s stuck n of start count = variables_body s stuck n of start count
+filtered_variables false s stuck n of start count = no_variables
 
-abbrev pub TellsVariables : Debuggee → ClientRequest → NodeId × Scope → Message → Type 0
-TellsVariables p request at message = (stuck : Bool) × TellsStuck (chip_of p.lab) at.0.number stuck
-    × (message ≡ answered request (variables_asked (is_kind_asked at.1 (member_text (codes "filter") (view request.arguments))) p.lab stuck at.0.number at.1
-    (number_given_or (codes "start") 0 (view request.arguments)) (number_given_or (codes "count") 0 (view request.arguments))))
+abbrev pub IsVariablesResponse : Debuggee → ClientRequest → NodeId × Scope → Message → Type 0
+IsVariablesResponse p request at message = (stuck : Bool) × IsDeadlockStatus (chip_of p.lab) at.0.number stuck
+    × (message ≡ success_response request (filtered_variables (matches_variables_filter at.1 (member_text (codes "filter") (view request.arguments))) p.lab stuck at.0.number at.1
+    (number_or_default (codes "start") 0 (view request.arguments)) (number_or_default (codes "count") 0 (view request.arguments))))
 
-abbrev pub TellsVariablesOf : Debuggee → ClientRequest → Option (NodeId × Scope) → Message → Type 0
-TellsVariablesOf p request None message = message ≡ refused_response request (codes "variables: no such reference")
-TellsVariablesOf p request (Some at) message = TellsVariables p request at message
+abbrev pub AnswersVariablesReference : Debuggee → ClientRequest → Option (NodeId × Scope) → Message → Type 0
+AnswersVariablesReference p request None message = message ≡ refused_response request (codes "variables: no such reference")
+AnswersVariablesReference p request (Some at) message = IsVariablesResponse p request at message
 
 abbrev pub AnswersVariables : Debuggee → ClientRequest → Message → Type 0
-AnswersVariables p request message = (asked : Option (NodeId × Scope)) × AsksForVariables (view request.arguments) asked × TellsVariablesOf p request asked message
+AnswersVariables p request message = (asked : Option (NodeId × Scope)) × IsScopeArgument (view request.arguments) asked × AnswersVariablesReference p request asked message
 
 -- `exceptionInfo`
-abbrev pub TellsException : Debuggee → ClientRequest → Option NodeId → Message → Type 0
-TellsException p request None message = message ≡ refused_response request (codes "exceptionInfo: no such thread")
-TellsException p request (Some node) message = (stuck : Bool) × TellsStuck (chip_of p.lab) node.number stuck × (message ≡ answered request (exception_of p.lab stuck node.number))
+abbrev pub IsExceptionInfoResponse : Debuggee → ClientRequest → Option NodeId → Message → Type 0
+IsExceptionInfoResponse p request None message = message ≡ refused_response request (codes "exceptionInfo: no such thread")
+IsExceptionInfoResponse p request (Some node) message = (stuck : Bool) × IsDeadlockStatus (chip_of p.lab) node.number stuck × (message ≡ success_response request (exception_info_body p.lab stuck node.number))
 
-abbrev pub AnswersException : Debuggee → ClientRequest → Message → Type 0
-AnswersException p request message = (asked : Option NodeId) × AsksOfThread (view request.arguments) asked × TellsException p request asked message
+abbrev pub AnswersExceptionInfo : Debuggee → ClientRequest → Message → Type 0
+AnswersExceptionInfo p request message = (asked : Option NodeId) × IsThreadArgument (view request.arguments) asked × IsExceptionInfoResponse p request asked message

@@ -14,18 +14,18 @@ abbrev pub Messages : Type 0
 Messages = List Message
 
 -- the responses to a request: with a body, without one, and that it is refused
-abbrev pub answered : ClientRequest → Data → Message
-answered request body seq = response seq request.seq (string_bytes request.command) body
+abbrev pub success_response : ClientRequest → Data → Message
+success_response request body seq = response seq request.seq (string_bytes request.command) body
 
-abbrev pub acknowledged : ClientRequest → Message
-acknowledged request seq = bare_response seq request.seq (string_bytes request.command)
+abbrev pub bare_success_response : ClientRequest → Message
+bare_success_response request seq = bare_response seq request.seq (string_bytes request.command)
 
 abbrev pub refused_response : ClientRequest → Text → Message
 refused_response request why seq = error_response seq request.seq (string_bytes request.command) why
 
 -- an event
-abbrev pub event_told : Text → Data → Message
-event_told name body seq = event seq name body
+abbrev pub event_message : Text → Data → Message
+event_message name body seq = event seq name body
 
 -- a message is added with the next number
 abbrev pub Sends : SentMessages → Message → SentMessages → Type 0

@@ -14,8 +14,8 @@ use Rattle.ga_dap_views.specs.declared.variable.Variable.{Variable}
 use Rattle.ga_dap_views.specs.declared.variable.Variable.TheVariants.{Cell}
 use Rattle.ga_dap_protocol.specs.Messages.{member_text}
 use Rattle.ga_dap_protocol.specs.declared.request.ClientRequest.{ClientRequest}
-use Rattle.ga_dap_queries.specs.Arguments.{AsksForVariables}
-use Rattle.ga_dap_queries.specs.Sending.{Message, answered}
+use Rattle.ga_dap_queries.specs.Arguments.{IsScopeArgument}
+use Rattle.ga_dap_queries.specs.Sending.{Message, success_response}
 
 unfoldable pub watched_object : Text → Text → Data
 watched_object id description =
@@ -34,21 +34,21 @@ abbrev pub ram_cell : Variable → Option ℕ
 ram_cell (Cell cell) = if nat_lt cell 128 then Some cell else None
 ram_cell other = None
 
-abbrev pub ram_cell_named : Text → Option ℕ
-ram_cell_named name = option_and_then ram_cell (cell_in_brackets name)
+abbrev pub ram_cell_of_name : Text → Option ℕ
+ram_cell_of_name name = option_and_then ram_cell (cell_in_brackets name)
 
-abbrev pub watched_cell : NodeId → Option ℕ → Data
-watched_cell node None = unwatched_object
-watched_cell node (Some cell) = watched_object (memory_reference (chip_address node.number cell)) (cell_description node cell)
+abbrev pub data_info_of_cell : NodeId → Option ℕ → Data
+data_info_of_cell node None = unwatched_object
+data_info_of_cell node (Some cell) = watched_object (memory_reference (chip_address node.number cell)) (cell_description node cell)
 
-abbrev pub watched_in : Scope → NodeId → Option Text → Data
-watched_in Ram node name = watched_cell node (option_and_then ram_cell_named name)
-watched_in other node name = unwatched_object
+abbrev pub data_info_in_scope : Scope → NodeId → Option Text → Data
+data_info_in_scope Ram node name = data_info_of_cell node (option_and_then ram_cell_of_name name)
+data_info_in_scope other node name = unwatched_object
 
-abbrev pub watched_of_scope : Option (NodeId × Scope) → Option Text → Data
-watched_of_scope None name = unwatched_object
-watched_of_scope (Some at) name = watched_in at.1 at.0 name
+abbrev pub data_info_body : Option (NodeId × Scope) → Option Text → Data
+data_info_body None name = unwatched_object
+data_info_body (Some at) name = data_info_in_scope at.1 at.0 name
 
-abbrev pub AnswersDataInfo : ClientRequest → Message → Type 0
-AnswersDataInfo request message = (asked : Option (NodeId × Scope)) × AsksForVariables (view request.arguments) asked
-    × (message ≡ answered request (watched_of_scope asked (member_text (codes "name") (view request.arguments))))
+abbrev pub AnswersDataBreakpointInfo : ClientRequest → Message → Type 0
+AnswersDataBreakpointInfo request message = (asked : Option (NodeId × Scope)) × IsScopeArgument (view request.arguments) asked
+    × (message ≡ success_response request (data_info_body asked (member_text (codes "name") (view request.arguments))))

@@ -2,11 +2,11 @@
 
 ghost use Rattle.std.specs.Prelude.{◌≡◌, option_map, IfOk, OnOk, OnErr};
 ghost use Rattle.serde_json.specs.View.{view};
-ghost use Rattle.ga_dap_queries.specs.Sending.{Sends, Message, answered};
-ghost use Rattle.ga_dap_queries.specs.Capabilities.{AnswersInitialize, capabilities, filter_object, filters, counts_from_one, names_paths, unmet};
+ghost use Rattle.ga_dap_queries.specs.Sending.{Sends, Message, success_response};
+ghost use Rattle.ga_dap_queries.specs.Capabilities.{AnswersInitialize, capabilities, filter_object, exception_breakpoint_filters, counts_from_one, names_paths, unsupported_client_option};
 
-use crate::arguments::flag_at;
-use ga_dap_protocol::{ClientRequest, Outbox, text_at};
+use crate::arguments::member_flag;
+use ga_dap_protocol::{ClientRequest, Outbox, member_text};
 use serde_json::{Value, json};
 use std::alloc::{AllocError, Global};
 
@@ -18,8 +18,8 @@ fn filter_object(alloc: Global, filter: &str, label: &str) -> Result<Value, Allo
 }
 
 /// The faults that can end a run.
-fn filters(alloc: Global) -> Result<Value, AllocError>
-    ensures { IfOk result (λ v. view v ≡ filters) }
+fn exception_breakpoint_filters(alloc: Global) -> Result<Value, AllocError>
+    ensures { IfOk result (λ v. view v ≡ exception_breakpoint_filters) }
 {
     let stop = filter_object(alloc, "stop", "A node stops")?;
     let stuck = filter_object(alloc, "stuck", "A node can never go on")?;
@@ -28,11 +28,11 @@ fn filters(alloc: Global) -> Result<Value, AllocError>
 
 /// What this debugger can do (Debug Adapter Protocol, "Capabilities"), beside its filters.
 #[tactic(auto, unfolding(crate::specs::Capabilities::capabilities))]
-fn capabilities(alloc: Global, filters: Value) -> Result<Value, AllocError>
-    ensures { IfOk result (λ v. view v ≡ capabilities (view filters)) }
+fn capabilities(alloc: Global, exception_breakpoint_filters: Value) -> Result<Value, AllocError>
+    ensures { IfOk result (λ v. view v ≡ capabilities (view exception_breakpoint_filters)) }
 {
     json!(in alloc; {
-        "exceptionBreakpointFilters": filters,
+        "exceptionBreakpointFilters": exception_breakpoint_filters,
         "supportsConditionalBreakpoints": true,
         "supportsConfigurationDoneRequest": true,
         "supportsDataBreakpoints": true,
@@ -52,22 +52,22 @@ fn capabilities(alloc: Global, filters: Value) -> Result<Value, AllocError>
 fn counts_from_one(arguments: &Value, name: &str) -> bool
     ensures { result ≡ counts_from_one name.now (view arguments.now) }
 {
-    flag_at(arguments, name).unwrap_or(true)
+    member_flag(arguments, name).unwrap_or(true)
 }
 
 /// Whether files are named by their paths.
 fn names_paths(arguments: &Value) -> bool
     ensures { result ≡ names_paths (view arguments.now) }
 {
-    match text_at(arguments, "pathFormat") {
+    match member_text(arguments, "pathFormat") {
         Some(format) => format == "path",
         None => true,
     }
 }
 
 /// What the client does otherwise than this debugger.
-fn unmet(arguments: &Value) -> Option<&'static str>
-    ensures { option_map (λ why. why.now) result ≡ unmet (view arguments.now) }
+fn unsupported_client_option(arguments: &Value) -> Option<&'static str>
+    ensures { option_map (λ why. why.now) result ≡ unsupported_client_option (view arguments.now) }
 {
     if !counts_from_one(arguments, "linesStartAt1") {
         return Some("initialize: lines are counted from 1 on");
@@ -87,11 +87,11 @@ fn tell_capabilities(
     request: &ClientRequest,
     out: &mut Outbox,
 ) -> Result<(), AllocError>
-    ensures sent { OnOk result (Sends out.old (answered request.now (capabilities filters)) out.new) }
+    ensures sent { OnOk result (Sends out.old (success_response request.now (capabilities exception_breakpoint_filters)) out.new) }
     ensures err { OnErr result (out.new ≡ out.old) }
 {
-    let filters = filters(alloc)?;
-    let body = capabilities(alloc, filters)?;
+    let exception_breakpoint_filters = exception_breakpoint_filters(alloc)?;
+    let body = capabilities(alloc, exception_breakpoint_filters)?;
     out.respond(request, body)
 }
 
@@ -104,7 +104,7 @@ pub fn initialize(
     ensures sent { OnOk result ((message : Message) × AnswersInitialize request.now message × Sends out.old message out.new) }
     ensures err { OnErr result (out.new ≡ out.old) }
 {
-    match unmet(&request.arguments) {
+    match unsupported_client_option(&request.arguments) {
         Some(why) => out.refuse(request, why),
         None => tell_capabilities(alloc, request, out),
     }

@@ -1,7 +1,7 @@
 //! A program that was launched.
 
 ghost use Rattle.std.specs.Prelude.{◌≡◌, string_bytes};
-ghost use Rattle.ga_dap_queries.specs.Disassembling.{program_notes};
+ghost use Rattle.ga_dap_queries.specs.Disassembling.{program_debug_info};
 
 use ga_dap_views::SourceFile;
 use ga_debug_info::DebugInfo;
@@ -16,7 +16,7 @@ pub struct Debuggee {
     /// What the source says of the cells; nothing of an image.
     pub source: Option<DebugInfo>,
     /// The debug info if there is no source: empty.
-    pub unsaid: DebugInfo,
+    pub empty_debug_info: DebugInfo,
     /// The nodes that have a program in the source.
     pub nodes: Vec<NodeId>,
     /// The path of the file.
@@ -27,15 +27,15 @@ pub struct Debuggee {
 
 impl Debuggee {
     ghost use Rattle.std.specs.Prelude.{◌≡◌, string_bytes};
-    ghost use Rattle.ga_dap_queries.specs.Disassembling.{program_notes};
+    ghost use Rattle.ga_dap_queries.specs.Disassembling.{program_debug_info};
 
     /// What the source says of the cells.
     pub fn notes(&self) -> &DebugInfo
-        ensures { result.now ≡ program_notes self.now }
+        ensures { result.now ≡ program_debug_info self.now }
     {
         match &self.source {
             Some(notes) => notes,
-            None => &self.unsaid,
+            None => &self.empty_debug_info,
         }
     }
 

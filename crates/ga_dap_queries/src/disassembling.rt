@@ -3,11 +3,11 @@
 ghost use Rattle.std.specs.Prelude.{◌≡◌, ◌≢◌, ◌<◌, ◌≤◌, ◌^◌, ℕ, Some, IfSome, IfNone, OnOk, OnErr};
 ghost use Rattle.serde_json.specs.View.{view};
 ghost use Rattle.ga_dap_queries.specs.Sending.{Sends, Message};
-ghost use Rattle.ga_dap_queries.specs.Disassembling.{SpellsHexadecimal, SpellsReference, RefersTo, offset_given, addresses_after, first_told, count_within, TellsSome, TellsInstructions, TellsMemory, TellsReferred, AnswersInstructions};
+ghost use Rattle.ga_dap_queries.specs.Disassembling.{SpellsHexadecimal, SpellsReference, IsMemoryReference, offset_given, wrapped_address_offset, first_instruction_address, instruction_count_in_limit, DisassemblesWithinLimit, DisassemblesRequestedCount, DisassemblesMemory, DisassemblesReference, AnswersDisassemble};
 
 use crate::debuggee::Debuggee;
-use ga_dap_protocol::{ClientRequest, Outbox, number_at, text_at};
-use ga_dap_views::{cell_at_chip_address, disassembled};
+use ga_dap_protocol::{ClientRequest, Outbox, member_number, member_text};
+use ga_dap_views::{cell_at_chip_address, disassemble_body};
 use ga_grid::NodeId;
 use serde_json::Value;
 use std::alloc::{AllocError, Global};
@@ -45,26 +45,26 @@ fn address_asked(reference: &str) -> Option<u64>
 }
 
 /// How many addresses on an offset leads, of the 4096 of a node.
-pub fn addresses_after(offset: i64) -> u32
-    ensures value { result ≡ addresses_after offset }
+pub fn wrapped_address_offset(offset: i64) -> u32
+    ensures value { result ≡ wrapped_address_offset offset }
     ensures most { result < 4096 }
 {
     offset.rem_euclid(4096).unsigned_abs() as u32
 }
 
 /// The address of the first requested instruction.
-fn first_told(arguments: &Value, cell: u8) -> u32
-    ensures value { result ≡ first_told (view arguments.now) cell }
+fn first_instruction_address(arguments: &Value, cell: u8) -> u32
+    ensures value { result ≡ first_instruction_address (view arguments.now) cell }
     ensures most { result < 4096 }
 {
-    let behind = addresses_after(offset_at(arguments, "offset"))
-        + addresses_after(offset_at(arguments, "instructionOffset"));
+    let behind = wrapped_address_offset(offset_at(arguments, "offset"))
+        + wrapped_address_offset(offset_at(arguments, "instructionOffset"));
     (u32::from(cell) + behind) % 4096
 }
 
 /// The node and the cell of a reference to memory, where there are.
 pub fn resolve_memory_reference(reference: &str) -> Option<(NodeId, u8)>
-    ensures { RefersTo reference.now result }
+    ensures { IsMemoryReference reference.now result }
 {
     match address_asked(reference) {
         Some(address) => cell_at_chip_address(address),
@@ -73,16 +73,16 @@ pub fn resolve_memory_reference(reference: &str) -> Option<(NodeId, u8)>
 }
 
 /// `disassemble`.
-pub fn tell_instructions(
+pub fn respond_disassemble(
     alloc: Global,
     program: &Debuggee,
     request: &ClientRequest,
     out: &mut Outbox,
 ) -> Result<(), AllocError>
-    ensures sent { OnOk result ((message : Message) × AnswersInstructions program.now request.now message × Sends out.old message out.new) }
+    ensures sent { OnOk result ((message : Message) × AnswersDisassemble program.now request.now message × Sends out.old message out.new) }
     ensures err { OnErr result (out.new ≡ out.old) }
 {
-    match text_at(&request.arguments, "memoryReference") {
+    match member_text(&request.arguments, "memoryReference") {
         None => out.refuse(request, "disassemble: there is no memoryReference"),
         Some(reference) => tell_referred(alloc, program, request, reference, out),
     }
@@ -96,7 +96,7 @@ fn tell_referred(
     reference: &str,
     out: &mut Outbox,
 ) -> Result<(), AllocError>
-    ensures sent { OnOk result ((message : Message) × TellsReferred program.now request.now (Some reference.now) message × Sends out.old message out.new) }
+    ensures sent { OnOk result ((message : Message) × DisassemblesReference program.now request.now (Some reference.now) message × Sends out.old message out.new) }
     ensures err { OnErr result (out.new ≡ out.old) }
 {
     match resolve_memory_reference(reference) {
@@ -113,18 +113,18 @@ fn tell_instructions_at(
     at: (NodeId, u8),
     out: &mut Outbox,
 ) -> Result<(), AllocError>
-    ensures sent { OnOk result ((message : Message) × TellsMemory program.now request.now (Some at) message × Sends out.old message out.new) }
+    ensures sent { OnOk result ((message : Message) × DisassemblesMemory program.now request.now (Some at) message × Sends out.old message out.new) }
     ensures err { OnErr result (out.new ≡ out.old) }
 {
-    match number_at(&request.arguments, "instructionCount") {
+    match member_number(&request.arguments, "instructionCount") {
         None => out.refuse(request, "disassemble: there is no instructionCount"),
         Some(count) => tell_counted(alloc, program, request, at, count, out),
     }
 }
 
 /// The number of instructions to send, if it is not too large.
-fn count_within(count: u64) -> Option<u32>
-    ensures value { result ≡ count_within count }
+fn instruction_count_in_limit(count: u64) -> Option<u32>
+    ensures value { result ≡ instruction_count_in_limit count }
     ensures most { IfSome result (λ count. count ≤ 4096) }
 {
     if count > MOST_INSTRUCTIONS {
@@ -142,10 +142,10 @@ fn tell_counted(
     count: u64,
     out: &mut Outbox,
 ) -> Result<(), AllocError>
-    ensures sent { OnOk result ((message : Message) × TellsInstructions program.now request.now at (Some count) message × Sends out.old message out.new) }
+    ensures sent { OnOk result ((message : Message) × DisassemblesRequestedCount program.now request.now at (Some count) message × Sends out.old message out.new) }
     ensures err { OnErr result (out.new ≡ out.old) }
 {
-    match count_within(count) {
+    match instruction_count_in_limit(count) {
         None => out.refuse(request, "disassemble: 4096 instructions at most"),
         Some(count) => tell_some(alloc, program, request, at, count, out),
     }
@@ -161,11 +161,11 @@ fn tell_some(
     out: &mut Outbox,
 ) -> Result<(), AllocError>
     requires { count ≤ 4096 }
-    ensures sent { OnOk result ((message : Message) × TellsSome program.now request.now at (Some count) message × Sends out.old message out.new) }
+    ensures sent { OnOk result ((message : Message) × DisassemblesWithinLimit program.now request.now at (Some count) message × Sends out.old message out.new) }
     ensures err { OnErr result (out.new ≡ out.old) }
 {
-    let first = first_told(&request.arguments, at.1);
+    let first = first_instruction_address(&request.arguments, at.1);
     let (lab, notes) = (&program.lab, program.notes());
-    let body = disassembled(alloc, program.file(), lab, notes, at.0, first, count)?;
+    let body = disassemble_body(alloc, program.file(), lab, notes, at.0, first, count)?;
     out.respond(request, body)
 }

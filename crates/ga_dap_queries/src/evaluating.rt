@@ -4,7 +4,7 @@ ghost use Rattle.std.specs.Prelude.{◌≡◌, ◌≢◌, ◌<◌, ◌↔◌, �
 ghost use Rattle.serde_json.specs.View.{view};
 ghost use Rattle.ga_dap_views.specs.declared.scope.Scope.TheVariants.{Registers};
 ghost use Rattle.ga_dap_views.specs.Shown.{IsVariable, variable_at, variable_count, variable_name};
-ghost use Rattle.ga_dap_queries.specs.Evaluating.{cell_in_brackets, AsksForVariable, AsksForNoVariable, result_object, evaluated};
+ghost use Rattle.ga_dap_queries.specs.Evaluating.{cell_in_brackets, DenotesVariable, DenotesNoVariable, result_object, evaluate_body};
 
 use ga_dap_views::{Scope, Variable, count_variables, value_of, variable_name, variable_of};
 use ga_grid::NodeId;
@@ -57,10 +57,10 @@ fn cell_named(text: &[u8]) -> Option<Variable>
 ///
 /// # Errors
 /// Memory was refused.
-pub fn asked_variable(alloc: Global, expression: &str) -> Result<Option<Variable>, AllocError>
-    ensures found { IfOk result (λ found. IfSome found (AsksForVariable expression.now)) }
+pub fn parse_variable(alloc: Global, expression: &str) -> Result<Option<Variable>, AllocError>
+    ensures found { IfOk result (λ found. IfSome found (DenotesVariable expression.now)) }
     ensures valid { IfOk result (λ found. IfSome found IsVariable) }
-    ensures none { IfOk result (λ found. IfNone found (AsksForNoVariable expression.now)) }
+    ensures none { IfOk result (λ found. IfNone found (DenotesNoVariable expression.now)) }
 {
     match register_named(alloc, expression)? {
         Some(one) => Ok(Some(one)),
@@ -88,7 +88,7 @@ pub fn evaluate(
     variable: Variable,
 ) -> Result<Value, AllocError>
     requires { IsVariable variable }
-    ensures { IfOk result (λ v. view v ≡ evaluated lab.now stuck node.number variable) }
+    ensures { IfOk result (λ v. view v ≡ evaluate_body lab.now stuck node.number variable) }
 {
     let value = value_of(alloc, lab, stuck, node, variable)?;
     answer(alloc, value.as_str())

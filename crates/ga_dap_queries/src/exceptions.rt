@@ -2,7 +2,7 @@
 
 ghost use Rattle.std.specs.Prelude.{◌≡◌, IfOk};
 ghost use Rattle.serde_json.specs.View.{view};
-ghost use Rattle.ga_dap_queries.specs.Readings.{exception_filter, exception_object, exception_of};
+ghost use Rattle.ga_dap_queries.specs.Readings.{exception_filter, exception_object, exception_info_body};
 
 use ga_dap_views::thread_title;
 use ga_grid::NodeId;
@@ -40,7 +40,7 @@ pub fn exception_info(
     stuck: bool,
     node: NodeId,
 ) -> Result<Value, AllocError>
-    ensures { IfOk result (λ v. view v ≡ exception_of lab.now stuck node.number) }
+    ensures { IfOk result (λ v. view v ≡ exception_info_body lab.now stuck node.number) }
 {
     let description = thread_title(alloc, "node ", lab, node)?;
     described(

@@ -3,10 +3,10 @@
 ghost use Rattle.std.specs.Prelude.{◌≡◌, ◌≤◌, option_map, IfSome};
 ghost use Rattle.serde_json.specs.View.{view};
 ghost use Rattle.ga_scheduler.specs.Schedules.{random};
-ghost use Rattle.ga_dap_queries.specs.Launching.{parse_limit, seed_asked, parse_schedule, stops_on_entry};
+ghost use Rattle.ga_dap_queries.specs.Launching.{parse_limit, parse_seed, parse_schedule, stops_on_entry};
 
-use crate::arguments::flag_at;
-use ga_dap_protocol::{number_at, text_at};
+use crate::arguments::member_flag;
+use ga_dap_protocol::{member_number, member_text};
 use ga_scheduler::Schedule;
 use serde_json::Value;
 
@@ -23,7 +23,7 @@ pub fn parse_limit(arguments: &Value) -> Option<u32>
     if arguments.get("limit").is_none() {
         return Some(USUAL_LIMIT);
     }
-    let limit = number_at(arguments, "limit")?;
+    let limit = member_number(arguments, "limit")?;
     if limit < 1 || limit > MAX_LIMIT {
         return None;
     }
@@ -31,20 +31,20 @@ pub fn parse_limit(arguments: &Value) -> Option<u32>
 }
 
 /// The requested seed, if it is valid; 0 if none is requested.
-fn seed_asked(arguments: &Value) -> Option<u32>
-    ensures { result ≡ seed_asked (view arguments.now) }
+fn parse_seed(arguments: &Value) -> Option<u32>
+    ensures { result ≡ parse_seed (view arguments.now) }
 {
     if arguments.get("seed").is_none() {
         return Some(0);
     }
-    u32::try_from(number_at(arguments, "seed")?).ok()
+    u32::try_from(member_number(arguments, "seed")?).ok()
 }
 
 /// An order that is drawn, where its seed can be.
 fn drawn_order(arguments: &Value) -> Option<Schedule>
-    ensures { result ≡ option_map random (seed_asked (view arguments.now)) }
+    ensures { result ≡ option_map random (parse_seed (view arguments.now)) }
 {
-    match seed_asked(arguments) {
+    match parse_seed(arguments) {
         Some(seed) => Some(Schedule::random(u64::from(seed))),
         None => None,
     }
@@ -57,7 +57,7 @@ pub fn parse_schedule(arguments: &Value) -> Option<Schedule>
     if arguments.get("order").is_none() {
         return Some(Schedule::round_robin());
     }
-    let order = text_at(arguments, "order")?;
+    let order = member_text(arguments, "order")?;
     if order == "rounds" {
         Some(Schedule::round_robin())
     } else if order == "greedy" {
@@ -73,5 +73,5 @@ pub fn parse_schedule(arguments: &Value) -> Option<Schedule>
 pub fn stops_on_entry(arguments: &Value) -> bool
     ensures { result ≡ stops_on_entry (view arguments.now) }
 {
-    flag_at(arguments, "stopOnEntry").unwrap_or(true)
+    member_flag(arguments, "stopOnEntry").unwrap_or(true)
 }

@@ -15,20 +15,23 @@ mod stuck;
 mod telling;
 mod watching;
 
-pub use arguments::{framed_node_asked, thread_argument, values_at};
+pub use arguments::{frame_argument, member_values, thread_argument};
 pub use capabilities::initialize;
 pub use debuggee::Debuggee;
-pub use disassembling::{addresses_after, offset_at, resolve_memory_reference, tell_instructions};
-pub use evaluating::{asked_variable, evaluate};
+pub use disassembling::{
+    offset_at, resolve_memory_reference, respond_disassemble, wrapped_address_offset,
+};
+pub use evaluating::{evaluate, parse_variable};
 pub use exceptions::exception_info;
 pub use launch::{parse_limit, parse_schedule, stops_on_entry};
 pub use naming::add_name;
 pub use readings::{
-    respond_scopes, respond_stack_trace, respond_threads, respond_variables, tell_exception,
+    respond_exception_info, respond_scopes, respond_stack_trace, respond_threads, respond_variables,
 };
 pub use request_name::{RequestName, parse_request_name};
 pub use stuck::is_deadlocked;
 pub use telling::{
-    emit_breakpoint_hit, emit_output, emit_stopped, emit_thread_changes, first_shown, shown_nodes,
+    emit_breakpoint_hit, emit_output, emit_stopped, emit_thread_changes, first_thread_node,
+    thread_marks,
 };
-pub use watching::tell_data_info;
+pub use watching::respond_data_breakpoint_info;

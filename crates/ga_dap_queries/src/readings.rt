@@ -4,13 +4,13 @@ ghost use Rattle.std.specs.Prelude.{◌≡◌, if◌then◌else◌, codes, optio
 ghost use Rattle.serde_json.specs.View.{view};
 ghost use Rattle.ga_dap_queries.specs.Sending.{Sends, Message};
 ghost use Rattle.ga_dap_views.specs.Variables.{is_memory_scope};
-ghost use Rattle.ga_dap_queries.specs.Readings.{is_kind_asked, no_variables, variables_asked, TellsVariables, AnswersThreads, AnswersStack, AnswersScopes, AnswersVariables, AnswersException};
+ghost use Rattle.ga_dap_queries.specs.Readings.{matches_variables_filter, no_variables, filtered_variables, IsVariablesResponse, AnswersThreads, AnswersStackTrace, AnswersScopes, AnswersVariables, AnswersExceptionInfo};
 
-use crate::arguments::{framed_node_asked, number_given_or, scope_argument, thread_argument};
+use crate::arguments::{frame_argument, number_or_default, scope_argument, thread_argument};
 use crate::debuggee::Debuggee;
 use crate::exceptions::exception_info;
 use crate::stuck::is_deadlocked;
-use ga_dap_protocol::{ClientRequest, Outbox, text_at};
+use ga_dap_protocol::{ClientRequest, Outbox, member_text};
 use ga_dap_views::{Scope, scopes, stack_trace, threads, variables};
 use ga_grid::NodeId;
 use ga_lab::Lab;
@@ -39,14 +39,14 @@ pub fn respond_stack_trace(
     request: &ClientRequest,
     out: &mut Outbox,
 ) -> Result<(), AllocError>
-    ensures sent { OnOk result ((message : Message) × AnswersStack program.now request.now message × Sends out.old message out.new) }
+    ensures sent { OnOk result ((message : Message) × AnswersStackTrace program.now request.now message × Sends out.old message out.new) }
     ensures err { OnErr result (out.new ≡ out.old) }
 {
     match thread_argument(&request.arguments) {
         None => out.refuse(request, "stackTrace: no such thread"),
         Some(node) => {
-            let start = number_given_or(&request.arguments, "startFrame", 0);
-            let count = number_given_or(&request.arguments, "levels", 0);
+            let start = number_or_default(&request.arguments, "startFrame", 0);
+            let count = number_or_default(&request.arguments, "levels", 0);
             let (lab, notes) = (&program.lab, program.notes());
             let body = stack_trace(alloc, program.file(), lab, notes, node, start, count)?;
             out.respond(request, body)
@@ -63,7 +63,7 @@ pub fn respond_scopes(
     ensures sent { OnOk result ((message : Message) × AnswersScopes request.now message × Sends out.old message out.new) }
     ensures err { OnErr result (out.new ≡ out.old) }
 {
-    match framed_node_asked(&request.arguments) {
+    match frame_argument(&request.arguments) {
         None => out.refuse(request, "scopes: no such frame"),
         Some(node) => {
             let body = scopes(alloc, node)?;
@@ -89,8 +89,8 @@ pub fn respond_variables(
 }
 
 /// Whether those of a memory are asked for, which are indexed, or all others, which are named.
-fn is_kind_asked(of: Scope, filter: Option<&str>) -> bool
-    ensures { result ≡ is_kind_asked of (option_map (λ text. text.now) filter.entry) }
+fn matches_variables_filter(of: Scope, filter: Option<&str>) -> bool
+    ensures { result ≡ matches_variables_filter of (option_map (λ text. text.now) filter.entry) }
 {
     match filter {
         Some(filter) => filter != left_out(of),
@@ -120,7 +120,7 @@ fn no_variables(alloc: Global) -> Result<Value, AllocError>
 }
 
 /// The variables of a scope, where they are asked for.
-fn variables_asked(
+fn filtered_variables(
     alloc: Global,
     lab: &Lab,
     asked: bool,
@@ -129,7 +129,7 @@ fn variables_asked(
     start: u64,
     count: u64,
 ) -> Result<Value, AllocError>
-    ensures { IfOk result (λ v. view v ≡ variables_asked asked lab.now stuck at.0.number at.1 start count) }
+    ensures { IfOk result (λ v. view v ≡ filtered_variables asked lab.now stuck at.0.number at.1 start count) }
 {
     if asked {
         variables(alloc, lab, stuck, at, start, count)
@@ -146,25 +146,25 @@ fn tell_variables_at(
     at: (NodeId, Scope),
     out: &mut Outbox,
 ) -> Result<(), AllocError>
-    ensures sent { OnOk result ((message : Message) × TellsVariables program.now request.now at message × Sends out.old message out.new) }
+    ensures sent { OnOk result ((message : Message) × IsVariablesResponse program.now request.now at message × Sends out.old message out.new) }
     ensures err { OnErr result (out.new ≡ out.old) }
 {
-    let start = number_given_or(&request.arguments, "start", 0);
-    let count = number_given_or(&request.arguments, "count", 0);
+    let start = number_or_default(&request.arguments, "start", 0);
+    let count = number_or_default(&request.arguments, "count", 0);
     let stuck = is_deadlocked(program.lab.chip(), at.0);
-    let asked = is_kind_asked(at.1, text_at(&request.arguments, "filter"));
-    let body = variables_asked(alloc, &program.lab, asked, stuck, at, start, count)?;
+    let asked = matches_variables_filter(at.1, member_text(&request.arguments, "filter"));
+    let body = filtered_variables(alloc, &program.lab, asked, stuck, at, start, count)?;
     out.respond(request, body)
 }
 
 /// `exceptionInfo`.
-pub fn tell_exception(
+pub fn respond_exception_info(
     alloc: Global,
     program: &Debuggee,
     request: &ClientRequest,
     out: &mut Outbox,
 ) -> Result<(), AllocError>
-    ensures sent { OnOk result ((message : Message) × AnswersException program.now request.now message × Sends out.old message out.new) }
+    ensures sent { OnOk result ((message : Message) × AnswersExceptionInfo program.now request.now message × Sends out.old message out.new) }
     ensures err { OnErr result (out.new ≡ out.old) }
 {
     match thread_argument(&request.arguments) {

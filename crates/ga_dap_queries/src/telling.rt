@@ -5,11 +5,11 @@ ghost use Rattle.serde_json.specs.View.{view};
 ghost use Rattle.ga_causal.specs.Dependence.{is_marked};
 ghost use Rattle.ga_dap_views.specs.Json.{whole_number};
 ghost use Rattle.ga_dap_views.specs.Threads.{has_thread};
-ghost use Rattle.ga_dap_queries.specs.Sending.{Sends, SendsAll, event_told};
-ghost use Rattle.ga_dap_queries.specs.Events.{output_body, thread_body, thread_reason, stopped_body, hit_object, hit_body, changed_messages, changed_below, IsFirstShown};
+ghost use Rattle.ga_dap_queries.specs.Sending.{Sends, SendsAll, event_message};
+ghost use Rattle.ga_dap_queries.specs.Events.{output_body, thread_body, thread_reason, stopped_body, breakpoint_stopped_object, breakpoint_stopped_body, thread_change_messages, thread_changes_below, IsFirstThreadNode};
 
 use ga_dap_protocol::Outbox;
-use ga_dap_views::{has_thread, thread_of};
+use ga_dap_views::{has_thread, thread_id};
 use ga_grid::NodeId;
 use ga_lab::Lab;
 use serde_json::{Value, json, push};
@@ -29,7 +29,7 @@ pub fn emit_output(
     text: &str,
     out: &mut Outbox,
 ) -> Result<(), AllocError>
-    ensures sent { OnOk result (Sends out.old (event_told (codes "output") (output_body category.now text.now)) out.new) }
+    ensures sent { OnOk result (Sends out.old (event_message (codes "output") (output_body category.now text.now)) out.new) }
     ensures err { OnErr result (out.new ≡ out.old) }
 {
     let body = output_body(alloc, category, text)?;
@@ -46,7 +46,7 @@ fn thread_reason(started: bool) -> &'static str
 fn thread_body(alloc: Global, reason: &str, node: NodeId) -> Result<Value, AllocError>
     ensures { IfOk result (λ v. view v ≡ thread_body reason.now node.number) }
 {
-    json!(in alloc; {"reason": reason, "threadId": thread_of(node)})
+    json!(in alloc; {"reason": reason, "threadId": thread_id(node)})
 }
 
 /// `thread` (Debug Adapter Protocol, "ThreadEvent").
@@ -56,7 +56,7 @@ pub fn emit_thread(
     node: NodeId,
     out: &mut Outbox,
 ) -> Result<(), AllocError>
-    ensures sent { OnOk result (Sends out.old (event_told (codes "thread") (thread_body (thread_reason started) node.number)) out.new) }
+    ensures sent { OnOk result (Sends out.old (event_message (codes "thread") (thread_body (thread_reason started) node.number)) out.new) }
     ensures err { OnErr result (out.new ≡ out.old) }
 {
     let body = thread_body(alloc, thread_reason(started), node)?;
@@ -64,7 +64,7 @@ pub fn emit_thread(
 }
 
 /// The nodes that have something to show.
-pub fn shown_nodes(lab: &Lab, programs: &[NodeId]) -> [bool; 144]
+pub fn thread_marks(lab: &Lab, programs: &[NodeId]) -> [bool; 144]
     ensures marks { (n : ℕ) → n < 144 → is_marked result n ≡ has_thread lab.now programs.now n }
     ensures size { length result ≡ 144 }
 {
@@ -84,7 +84,7 @@ pub fn emit_thread_changes(
     now: &[bool; 144],
     out: &mut Outbox,
 ) -> Result<(), AllocError>
-    ensures { OnOk result (SendsAll out.old (changed_below (is_marked before.now) (is_marked now.now) 144) out.new) }
+    ensures { OnOk result (SendsAll out.old (thread_changes_below (is_marked before.now) (is_marked now.now) 144) out.new) }
 {
     'nodes: for number in 0..144u8 {
         let node = NodeId::new(number);
@@ -109,7 +109,7 @@ fn tell_if_changed(
     node: NodeId,
     out: &mut Outbox,
 ) -> Result<(), AllocError>
-    ensures sent { OnOk result (SendsAll out.old (changed_messages before now node.number) out.new) }
+    ensures sent { OnOk result (SendsAll out.old (thread_change_messages before now node.number) out.new) }
 {
     match (before, now) {
         (false, true) => emit_thread(alloc, true, node, out),
@@ -120,8 +120,8 @@ fn tell_if_changed(
 }
 
 /// The first node that has something to show; 000 where none has.
-pub fn first_shown(lab: &Lab, programs: &[NodeId]) -> NodeId
-    ensures { IsFirstShown lab.now programs.now result.number }
+pub fn first_thread_node(lab: &Lab, programs: &[NodeId]) -> NodeId
+    ensures { IsFirstThreadNode lab.now programs.now result.number }
 {
     'nodes: for number in 0..144u8 {
         let node = NodeId::new(number);
@@ -146,7 +146,7 @@ fn stopped_body(
         "description": description,
         "reason": reason,
         "text": description,
-        "threadId": thread_of(node)
+        "threadId": thread_id(node)
     })
 }
 
@@ -158,7 +158,7 @@ pub fn emit_stopped(
     node: NodeId,
     out: &mut Outbox,
 ) -> Result<(), AllocError>
-    ensures sent { OnOk result (Sends out.old (event_told (codes "stopped") (stopped_body reason.now description.now node.number)) out.new) }
+    ensures sent { OnOk result (Sends out.old (event_message (codes "stopped") (stopped_body reason.now description.now node.number)) out.new) }
     ensures err { OnErr result (out.new ≡ out.old) }
 {
     let body = stopped_body(alloc, reason, description, node)?;
@@ -177,15 +177,15 @@ fn numbers_of(alloc: Global, ids: &[u64]) -> Result<Vec<Value>, AllocError>
     Ok(list)
 }
 
-#[tactic(auto, unfolding(crate::specs::Events::hit_object))]
-fn hit_object(
+#[tactic(auto, unfolding(crate::specs::Events::breakpoint_stopped_object))]
+fn breakpoint_stopped_object(
     alloc: Global,
     reason: &str,
     description: &str,
     node: NodeId,
     ids: Value,
 ) -> Result<Value, AllocError>
-    ensures { IfOk result (λ v. view v ≡ hit_object reason.now description.now node.number (view ids)) }
+    ensures { IfOk result (λ v. view v ≡ breakpoint_stopped_object reason.now description.now node.number (view ids)) }
 {
     json!(in alloc; {
         "allThreadsStopped": true,
@@ -193,21 +193,21 @@ fn hit_object(
         "hitBreakpointIds": ids,
         "reason": reason,
         "text": description,
-        "threadId": thread_of(node)
+        "threadId": thread_id(node)
     })
 }
 
-fn hit_body(
+fn breakpoint_stopped_body(
     alloc: Global,
     reason: &str,
     description: &str,
     node: NodeId,
     ids: &[u64],
 ) -> Result<Value, AllocError>
-    ensures { IfOk result (λ v. view v ≡ hit_body reason.now description.now node.number ids.now) }
+    ensures { IfOk result (λ v. view v ≡ breakpoint_stopped_body reason.now description.now node.number ids.now) }
 {
     let numbers = numbers_of(alloc, ids)?;
-    hit_object(alloc, reason, description, node, Value::Array(numbers))
+    breakpoint_stopped_object(alloc, reason, description, node, Value::Array(numbers))
 }
 
 /// `stopped` at breakpoints (Debug Adapter Protocol, "StoppedEvent"): the chip is stopped.
@@ -219,9 +219,9 @@ pub fn emit_breakpoint_hit(
     ids: &[u64],
     out: &mut Outbox,
 ) -> Result<(), AllocError>
-    ensures sent { OnOk result (Sends out.old (event_told (codes "stopped") (hit_body reason.now description.now node.number ids.now)) out.new) }
+    ensures sent { OnOk result (Sends out.old (event_message (codes "stopped") (breakpoint_stopped_body reason.now description.now node.number ids.now)) out.new) }
     ensures err { OnErr result (out.new ≡ out.old) }
 {
-    let body = hit_body(alloc, reason, description, node, ids)?;
+    let body = breakpoint_stopped_body(alloc, reason, description, node, ids)?;
     out.add_event("stopped", body)
 }

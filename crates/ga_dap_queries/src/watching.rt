@@ -10,11 +10,11 @@ ghost use Rattle.ga_dap_views.specs.Variables.{memory_reference};
 ghost use Rattle.ga_dap_views.specs.declared.scope.Scope.TheVariants.{Ram};
 ghost use Rattle.ga_dap_views.specs.declared.variable.Variable.TheVariants.{Cell};
 ghost use Rattle.ga_dap_queries.specs.Sending.{Sends, Message};
-ghost use Rattle.ga_dap_queries.specs.Watching.{watched_object, unwatched_object, cell_description, ram_cell_named, watched_cell, watched_in, watched_of_scope, AnswersDataInfo};
+ghost use Rattle.ga_dap_queries.specs.Watching.{watched_object, unwatched_object, cell_description, ram_cell_of_name, data_info_of_cell, data_info_in_scope, data_info_body, AnswersDataBreakpointInfo};
 
 use crate::arguments::scope_argument;
 use crate::naming::add_name;
-use ga_dap_protocol::{ClientRequest, Outbox, text_at};
+use ga_dap_protocol::{ClientRequest, Outbox, member_text};
 use ga_dap_views::{Scope, chip_address};
 use ga_grid::NodeId;
 use ga_text::parse_hex_byte;
@@ -101,8 +101,8 @@ fn cell_in_brackets(text: &[u8]) -> Option<u8>
 }
 
 /// The cell of RAM of a name.
-fn ram_cell_named(text: &[u8]) -> Option<u8>
-    ensures { result ≡ ram_cell_named text.now }
+fn ram_cell_of_name(text: &[u8]) -> Option<u8>
+    ensures { result ≡ ram_cell_of_name text.now }
 {
     match cell_in_brackets(text) {
         Some(cell) => { if cell < 128 { Some(cell) } else { None } }
@@ -111,8 +111,8 @@ fn ram_cell_named(text: &[u8]) -> Option<u8>
 }
 
 /// What is sent about a cell of RAM.
-fn watched_cell(alloc: Global, node: NodeId, cell: Option<u8>) -> Result<Value, AllocError>
-    ensures { IfOk result (λ v. view v ≡ watched_cell node cell) }
+fn data_info_of_cell(alloc: Global, node: NodeId, cell: Option<u8>) -> Result<Value, AllocError>
+    ensures { IfOk result (λ v. view v ≡ data_info_of_cell node cell) }
 {
     match cell {
         Some(cell) => watched_named(alloc, node, cell),
@@ -121,7 +121,7 @@ fn watched_cell(alloc: Global, node: NodeId, cell: Option<u8>) -> Result<Value, 
 }
 
 fn watched_named(alloc: Global, node: NodeId, cell: u8) -> Result<Value, AllocError>
-    ensures { IfOk result (λ v. view v ≡ watched_cell node (Some cell)) }
+    ensures { IfOk result (λ v. view v ≡ data_info_of_cell node (Some cell)) }
 {
     let id = reference_text(alloc, chip_address(node, cell))?;
     let description = cell_description(alloc, node, cell)?;
@@ -130,22 +130,22 @@ fn watched_named(alloc: Global, node: NodeId, cell: u8) -> Result<Value, AllocEr
 
 /// What is sent about the variable of a name in the RAM of a node.
 fn watched_in_ram(alloc: Global, node: NodeId, name: Option<&str>) -> Result<Value, AllocError>
-    ensures { IfOk result (λ v. view v ≡ watched_in Ram node (option_map (λ text. text.now) name.entry)) }
+    ensures { IfOk result (λ v. view v ≡ data_info_in_scope Ram node (option_map (λ text. text.now) name.entry)) }
 {
     match name {
-        Some(text) => watched_cell(alloc, node, ram_cell_named(text.as_bytes())),
+        Some(text) => data_info_of_cell(alloc, node, ram_cell_of_name(text.as_bytes())),
         None => unwatched_object(alloc),
     }
 }
 
 /// What is sent about the variable of a name in a scope.
-fn watched_in(
+fn data_info_in_scope(
     alloc: Global,
     scope: Scope,
     node: NodeId,
     name: Option<&str>,
 ) -> Result<Value, AllocError>
-    ensures { IfOk result (λ v. view v ≡ watched_in scope node (option_map (λ text. text.now) name.entry)) }
+    ensures { IfOk result (λ v. view v ≡ data_info_in_scope scope node (option_map (λ text. text.now) name.entry)) }
 {
     match scope {
         Scope::Ram => watched_in_ram(alloc, node, name),
@@ -157,29 +157,29 @@ fn watched_in(
     }
 }
 
-fn watched_of_scope(
+fn data_info_body(
     alloc: Global,
     at: Option<(NodeId, Scope)>,
     name: Option<&str>,
 ) -> Result<Value, AllocError>
-    ensures { IfOk result (λ v. view v ≡ watched_of_scope at (option_map (λ text. text.now) name.entry)) }
+    ensures { IfOk result (λ v. view v ≡ data_info_body at (option_map (λ text. text.now) name.entry)) }
 {
     match at {
-        Some(at) => watched_in(alloc, at.1, at.0, name),
+        Some(at) => data_info_in_scope(alloc, at.1, at.0, name),
         None => unwatched_object(alloc),
     }
 }
 
 /// `dataBreakpointInfo`.
-pub fn tell_data_info(
+pub fn respond_data_breakpoint_info(
     alloc: Global,
     request: &ClientRequest,
     out: &mut Outbox,
 ) -> Result<(), AllocError>
-    ensures sent { OnOk result ((message : Message) × AnswersDataInfo request.now message × Sends out.old message out.new) }
+    ensures sent { OnOk result ((message : Message) × AnswersDataBreakpointInfo request.now message × Sends out.old message out.new) }
     ensures err { OnErr result (out.new ≡ out.old) }
 {
     let at = scope_argument(&request.arguments);
-    let body = watched_of_scope(alloc, at, text_at(&request.arguments, "name"))?;
+    let body = data_info_body(alloc, at, member_text(&request.arguments, "name"))?;
     out.respond(request, body)
 }

@@ -9,35 +9,35 @@ use Rattle.serde_json.specs.View.{view, items_of}
 use Rattle.serde_json.specs.declared.value.Value.{Value}
 use Rattle.ga_grid.specs.declared.node_id.NodeId.{NodeId}
 use Rattle.ga_lab.specs.Machine.{State}
-use Rattle.ga_dap_views.specs.Threads.{has_thread, thread_in, with_threads}
+use Rattle.ga_dap_views.specs.Threads.{has_thread, thread_in, nodes_with_threads}
 use Rattle.ga_debug_info.specs.declared.notes.DebugInfo.{DebugInfo}
 use Rattle.ga_dap_views.specs.declared.frames.SourceFile.{SourceFile}
 use Rattle.ga_dap_views.specs.Calls.{open_calls}
-use Rattle.ga_dap_views.specs.Frames.{frame, level_spot, stack_object, stack_trace}
+use Rattle.ga_dap_views.specs.Frames.{frame, frame_slot_address, stack_object, stack_trace}
 use Rattle.ga_dap_views.specs.Json.{array_of}
-use Rattle.ga_dap_views.specs.Variables.{places_asked}
+use Rattle.ga_dap_views.specs.Variables.{requested_range}
 
 range_more : (n : ℕ) → range_with_len 0 (n + 1) ≡ range_with_len 0 n ++ n ∷ []
 range_more n = sym (map-id (range_with_len 0 (n + 1))) ∙ map-range_with_len_more (λ (x : ℕ). x) 0 n n (omega arith) ∙ ap (λ (z : List ℕ). z ++ n ∷ []) (map-id (range_with_len 0 n))
 
 chosen_more : (s : State) (programs : List NodeId) (n : ℕ)
-    → with_threads s programs (n + 1) ≡ with_threads s programs n ++ filter (has_thread s programs) (n ∷ [])
-unfolding with_threads
+    → nodes_with_threads s programs (n + 1) ≡ nodes_with_threads s programs n ++ filter (has_thread s programs) (n ∷ [])
+unfolding nodes_with_threads
 chosen_more s programs n =
     ap (λ (z : List ℕ). filter (has_thread s programs) z) (range_more n) ∙ filter-append (has_thread s programs) (range_with_len 0 n) (n ∷ [])
 
-pub no_threads : (s : State) (programs : List NodeId) → with_threads s programs 0 ≡ []
-unfolding with_threads
+pub no_threads : (s : State) (programs : List NodeId) → nodes_with_threads s programs 0 ≡ []
+unfolding nodes_with_threads
 no_threads s programs = refl
 
 -- the thread of one more node, where it has one
-pub thread_step : (s : State) (programs : List NodeId) (n at : ℕ) (old new : List Data) → at ≡ n → old ≡ map (thread_in s) (with_threads s programs n)
-    → new ≡ old ++ map (thread_in s) (filter (has_thread s programs) (at ∷ [])) → new ≡ map (thread_in s) (with_threads s programs (n + 1))
+pub thread_step : (s : State) (programs : List NodeId) (n at : ℕ) (old new : List Data) → at ≡ n → old ≡ map (thread_in s) (nodes_with_threads s programs n)
+    → new ≡ old ++ map (thread_in s) (filter (has_thread s programs) (at ∷ [])) → new ≡ map (thread_in s) (nodes_with_threads s programs (n + 1))
 thread_step s programs n at old new same before grown =
     grown
     ∙ ap (λ (z : List Data). z ++ map (thread_in s) (filter (has_thread s programs) (at ∷ []))) before
-    ∙ ap (λ (z : ℕ). map (thread_in s) (with_threads s programs n) ++ map (thread_in s) (filter (has_thread s programs) (z ∷ []))) same
-    ∙ sym (map-append (thread_in s) (with_threads s programs n) (filter (has_thread s programs) (n ∷ [])))
+    ∙ ap (λ (z : ℕ). map (thread_in s) (nodes_with_threads s programs n) ++ map (thread_in s) (filter (has_thread s programs) (z ∷ []))) same
+    ∙ sym (map-append (thread_in s) (nodes_with_threads s programs n) (filter (has_thread s programs) (n ∷ [])))
     ∙ sym (ap (λ (z : List ℕ). map (thread_in s) z) (chosen_more s programs n))
 
 -- one more value after those of a range
@@ -74,7 +74,7 @@ at_most true left count = omega arith
 at_most false left count = omega arith
 
 pub places_so : (first end total start count : ℕ) → first ≡ min start total → end ≡ first + cond (count == 0) (total - start) (min count (total - start))
-    → range_with_len first (end - first) ≡ places_asked total start count
+    → range_with_len first (end - first) ≡ requested_range total start count
 places_so first end total start count at size =
     let many : ℕ = cond (count == 0) (total - start) (min count (total - start)) in
     let few : many ≤ total - start = at_most (count == 0) (total - start) count in
@@ -83,9 +83,9 @@ places_so first end total start count at size =
     ∙ from_min total start many few
 
 pub stack_so : (file : SourceFile) (notes : DebugInfo) (s : State) (node : NodeId) (start count total : ℕ) (list : List Data) (range : List ℕ) → total ≡ length (open_calls s node) + 1
-    → list ≡ map (λ (k : ℕ). frame file notes node k (level_spot s node k)) range → range ≡ places_asked total start count
+    → list ≡ map (λ (k : ℕ). frame file notes node k (frame_slot_address s node k)) range → range ≡ requested_range total start count
     → stack_object (array (items_of list)) total ≡ stack_trace file notes s node start count
 stack_so file notes s node start count total list range many are places =
-    let of : ℕ → Data = λ k. frame file notes node k (level_spot s node k) in
+    let of : ℕ → Data = λ k. frame file notes node k (frame_slot_address s node k) in
     ap (λ (z : List Data). stack_object (array (items_of z)) total) (are ∙ ap (λ (z : List ℕ). map of z) places)
-    ∙ ap (λ (z : ℕ). stack_object (array_of of (places_asked z start count)) z) many
+    ∙ ap (λ (z : ℕ). stack_object (array_of of (requested_range z start count)) z) many

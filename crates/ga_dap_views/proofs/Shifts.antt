@@ -5,30 +5,30 @@ use Rattle.std.proofs.lemmas.Bool.{eqb-true}
 use Rattle.ga_slots.specs.Codes.{code_of, op_of}
 use Rattle.ga_slots.specs.declared.op.Op.{Op}
 use Rattle.ga_slots.specs.declared.op.Op.TheVariants as op
-use Rattle.ga_ports.specs.Address.{classified, is_single, side_of}
+use Rattle.ga_ports.specs.Address.{address_target, is_single_side, side_of}
 use Rattle.ga_ports.specs.declared.address.Target.{Target}
 use Rattle.ga_ports.specs.declared.address.Target.TheVariants as target
 use Rattle.ga_node.specs.Record.{NodeRecord}
 use Rattle.ga_node.specs.Changes.{Change}
-use Rattle.ga_node.specs.Table.{Access, Plain, Reads, Writes, t, r, is_extended, found, stored, followed, carried_out, opcode_effect, fetches, next_action_of, posts, stop_effect, with_kind, done_by, own_event, own}
-use Rattle.ga_node.specs.declared.kind.Kind.{Kind}
-use Rattle.ga_node.specs.declared.kind.Kind.TheVariants as kind
+use Rattle.ga_node.specs.Table.{Access, Plain, Reads, Writes, t, r, is_extended, found, stored, followed, access_result, opcode_effect, fetch_access, next_action_of, wait_effect, stop_effect, with_kind, action_result, own_event, own}
+use Rattle.ga_node.specs.declared.kind.OwnEventKind.{OwnEventKind}
+use Rattle.ga_node.specs.declared.kind.OwnEventKind.TheVariants as kind
 use Rattle.ga_node.specs.declared.seen.Seen.{Seen}
 use Rattle.ga_node.specs.declared.due.NextAction.{NextAction}
 use Rattle.ga_node.specs.declared.due.NextAction.TheVariants as due
 use Rattle.ga_node.specs.declared.wait.Wait.{Wait}
 use Rattle.ga_node.specs.declared.wait.Wait.TheVariants as wait
-use Rattle.ga_node.specs.declared.wait.Reader.{Reader}
-use Rattle.ga_node.specs.declared.wait.Reader.TheVariants.{Instruction, Stack}
+use Rattle.ga_node.specs.declared.wait.ReadKind.{ReadKind}
+use Rattle.ga_node.specs.declared.wait.ReadKind.TheVariants.{Instruction, Stack}
 use Rattle.ga_grid.specs.declared.node_id.NodeId.{NodeId}
 use Rattle.ga_event.specs.declared.made.Made.{Made}
 use Rattle.ga_event.specs.declared.made.Made.TheVariants as made
 use Rattle.ga_lab.specs.Machine.{State, history_of}
-use Rattle.ga_event.specs.declared.flow.part.Part.TheVariants.{Return, Ram, Rom, A, P, Outside}
-use Rattle.ga_event.specs.Flow.{Flow, Flows, Same, Move, PushData, PopData, PushReturn, PopReturn, SetTopReturn, SetP, SetA, SetI, SetWait, SetStop, GoOn, Skip, StartAgain, top, top_return, from, jump_moves, add_moves, read_moves, write_moves, moves, moves_by, moved, moved_all, send_moves, take_moves, own_flow, send_flow, take_flow}
-use Rattle.ga_provenance.specs.Origins.{node_after, flow_told, flow_at}
+use Rattle.ga_event.specs.declared.flow.part.NodePart.TheVariants.{Return, Ram, Rom, A, P, Outside}
+use Rattle.ga_event.specs.Flow.{Flow, PartFlows, Same, Move, PushData, PopData, PushReturn, PopReturn, SetTopReturn, SetP, SetA, SetI, SetWait, SetStop, GoOn, Skip, StartAgain, top, top_return, from, jump_moves, add_moves, read_moves, write_moves, moves, action_moves, flows_after_move, flows_after_moves, send_moves, take_moves, own_flow, send_flow, take_flow}
+use Rattle.ga_provenance.specs.Origins.{node_after, optional_event_flow, flow_at}
 use Rattle.ga_provenance.proofs.Ran.{WasNext, ran_so}
-use Rattle.ga_dap_views.specs.Calls.{kept_from, is_call_op, is_call, is_calling}
+use Rattle.ga_dap_views.specs.Calls.{return_entry_source, is_call_op, is_call_event, is_call_step}
 use Rattle.ga_dap_views.specs.declared.calls.ReturnStackEffect.{ReturnStackEffect}
 use Rattle.ga_dap_views.specs.declared.calls.ReturnStackEffect.TheVariants as shift
 use Rattle.ga_dap_views.specs.inner.{shift_op, shift_kind, shift_told, shift_at, entry_before, is_calls}
@@ -43,30 +43,30 @@ never p from other = go (p == 8) (from == 1) refl refl
     go true false last second = refl
     go false b last second = refl
 
-kept_so : (p from : ℕ) → (p ≡ 8 → from ≡ 1 → ⊥) → kept_from (Same (Return from)) p ≡ Some from
+kept_so : (p from : ℕ) → (p ≡ 8 → from ≡ 1 → ⊥) → return_entry_source (Same (Return from)) p ≡ Some from
 kept_so p from other = ap (λ (b : Bool). cond b None (Some from)) (never p from other)
 
-stays : (p : ℕ) → kept_from (Same (Return p)) p ≡ Some p
+stays : (p : ℕ) → return_entry_source (Same (Return p)) p ≡ Some p
 stays p = kept_so p p (λ last second. omega arith)
 
-pushed : (flow : Flow) (p : ℕ) → kept_from flow p ≡ None → kept_from (cond (p == 0) flow (Same (Return (p - 1)))) p ≡ cond (p == 0) None (Some (p - 1))
+pushed : (flow : Flow) (p : ℕ) → return_entry_source flow p ≡ None → return_entry_source (cond (p == 0) flow (Same (Return (p - 1)))) p ≡ cond (p == 0) None (Some (p - 1))
 pushed flow p new = go (p == 0)
   where
-    go : (top : Bool) → kept_from (cond top flow (Same (Return (p - 1)))) p ≡ cond top None (Some (p - 1))
+    go : (top : Bool) → return_entry_source (cond top flow (Same (Return (p - 1)))) p ≡ cond top None (Some (p - 1))
     go true = new
     go false = kept_so p (p - 1) (λ last second. omega arith)
 
-popped : (p : ℕ) → kept_from (cond (p == 8) (Same (Return 1)) (Same (Return (p + 1)))) p ≡ cond (p == 8) None (Some (p + 1))
+popped : (p : ℕ) → return_entry_source (cond (p == 8) (Same (Return 1)) (Same (Return (p + 1)))) p ≡ cond (p == 8) None (Some (p + 1))
 popped p = go (p == 8) refl
   where
-    go : (last : Bool) → (p == 8) ≡ last → kept_from (cond last (Same (Return 1)) (Same (Return (p + 1)))) p ≡ cond last None (Some (p + 1))
+    go : (last : Bool) → (p == 8) ≡ last → return_entry_source (cond last (Same (Return 1)) (Same (Return (p + 1)))) p ≡ cond last None (Some (p + 1))
     go true is = ap (λ (b : Bool). cond (b && (1 == 1)) None (Some 1)) is
     go false is = kept_so p (p + 1) (λ last second. omega arith)
 
-replaced : (flow : Flow) (p : ℕ) → kept_from flow p ≡ None → kept_from (cond (p == 0) flow (Same (Return p))) p ≡ cond (p == 0) None (Some p)
+replaced : (flow : Flow) (p : ℕ) → return_entry_source flow p ≡ None → return_entry_source (cond (p == 0) flow (Same (Return p))) p ≡ cond (p == 0) None (Some p)
 replaced flow p new = go (p == 0)
   where
-    go : (top : Bool) → kept_from (cond top flow (Same (Return p))) p ≡ cond top None (Some p)
+    go : (top : Bool) → return_entry_source (cond top flow (Same (Return p))) p ≡ cond top None (Some p)
     go true = new
     go false = stays p
 
@@ -82,13 +82,13 @@ all_keep : List Move → Bool
 all_keep [] = true
 all_keep (move ∷ rest) = cond (keeps move) (all_keep rest) false
 
-stays_over : (some : List Move) (f : Flows) (p : ℕ) → all_keep some ≡ true → moved_all some f (Return p) ≡ f (Return p)
+stays_over : (some : List Move) (f : PartFlows) (p : ℕ) → all_keep some ≡ true → flows_after_moves some f (Return p) ≡ f (Return p)
 unfolding keeps all_keep
 stays_over [] f p keep = refl
 stays_over (PushReturn word ∷ rest) f p keep = absurd (cc)
 stays_over (PopReturn ∷ rest) f p keep = absurd (cc)
 stays_over (SetTopReturn word ∷ rest) f p keep = absurd (cc)
-stays_over (move ∷ rest) f p keep = stays_over rest (moved move f) p keep
+stays_over (move ∷ rest) f p keep = stays_over rest (flows_after_move move f) p keep
 
 keep_test : (test : Bool) (some others : List Move) → all_keep some ≡ true → all_keep others ≡ true → all_keep (cond test some others) ≡ true
 keep_test true some others first second = first
@@ -107,7 +107,7 @@ unfolding keeps all_keep
 keep_write (target.Ram c) rest keep = keep
 keep_write (target.Rom c) rest keep = keep
 keep_write target.Io rest keep = keep
-keep_write (target.Ports sides) rest keep = keep_test (is_single sides) (SetWait ∷ []) (SetStop ∷ []) refl refl
+keep_write (target.Ports sides) rest keep = keep_test (is_single_side sides) (SetWait ∷ []) (SetStop ∷ []) refl refl
 keep_write target.Bad rest keep = refl
 
 keep_jump : (test : Bool) → all_keep (cond test jump_moves (Skip ∷ [])) ≡ true
@@ -122,7 +122,7 @@ keep_add false = refl
 
 -- ---- the kind of an access that leaves the return stack alone
 
-read_told : (ran : Kind) (at : Target) (reader : Reader) (seen : Seen) (n : NodeRecord) (more : ℕ → List Change) (last : Bool) → shift_kind ran last ≡ shift.Stays
+read_told : (ran : OwnEventKind) (at : Target) (reader : ReadKind) (seen : Seen) (n : NodeRecord) (more : ℕ → List Change) (last : Bool) → shift_kind ran last ≡ shift.Stays
     → shift_kind (with_kind ran (followed (found at reader seen n) more)).0 last ≡ shift.Stays
 unfolding found followed
 read_told ran (target.Ram c) reader seen n more last is = is
@@ -131,38 +131,38 @@ read_told ran target.Io reader seen n more last is = is
 read_told ran (target.Ports sides) reader seen n more last is = refl
 read_told ran target.Bad reader seen n more last is = refl
 
-write_told : (ran : Kind) (at : Target) (n : NodeRecord) (more : List Change) (last : Bool) → shift_kind ran last ≡ shift.Stays
+write_told : (ran : OwnEventKind) (at : Target) (n : NodeRecord) (more : List Change) (last : Bool) → shift_kind ran last ≡ shift.Stays
     → shift_kind (with_kind ran (followed (stored at n) (λ changes. changes ++ more))).0 last ≡ shift.Stays
 unfolding stored followed
 write_told ran (target.Ram c) n more last is = is
 write_told ran (target.Rom c) n more last is = is
 write_told ran target.Io n more last is = is
-write_told ran (target.Ports sides) n more last is = at_port (is_single sides)
+write_told ran (target.Ports sides) n more last is = at_port (is_single_side sides)
   where
-    at_port : (single : Bool) → shift_kind (cond single (posts (wait.Write (side_of sides))) (stop_effect 1)).0 last ≡ shift.Stays
+    at_port : (single : Bool) → shift_kind (cond single (wait_effect (wait.Write (side_of sides))) (stop_effect 1)).0 last ≡ shift.Stays
     at_port true = refl
     at_port false = refl
 write_told ran target.Bad n more last is = refl
 
-all_told : (ran : Kind) (reader : Reader) (access : Access) (seen : Seen) (n : NodeRecord) (last : Bool) → shift_kind ran last ≡ shift.Stays
-    → shift_kind (with_kind ran (carried_out reader access seen n)).0 last ≡ shift.Stays
+all_told : (ran : OwnEventKind) (reader : ReadKind) (access : Access) (seen : Seen) (n : NodeRecord) (last : Bool) → shift_kind ran last ≡ shift.Stays
+    → shift_kind (with_kind ran (access_result reader access seen n)).0 last ≡ shift.Stays
 all_told ran reader (Plain changes) seen n last is = is
-all_told ran reader (Reads address more) seen n last is = read_told ran (classified address) reader seen n more last is
-all_told ran reader (Writes address more) seen n last is = write_told ran (classified address) n more last is
+all_told ran reader (Reads address more) seen n last is = read_told ran (address_target address) reader seen n more last is
+all_told ran reader (Writes address more) seen n last is = write_told ran (address_target address) n more last is
 
 -- ---- each opcode
 
 abbrev Shifts : NextAction → Seen → NodeRecord → ℕ → Type 0
-Shifts what seen n p = kept_from (moved_all (moves_by what n) Same (Return p)) p ≡ entry_before (shift_kind (done_by what seen n).0 (r n == 0)) p
+Shifts what seen n p = return_entry_source (flows_after_moves (action_moves what n) Same (Return p)) p ≡ entry_before (shift_kind (action_result what seen n).0 (r n == 0)) p
 
 rests : (o : Op) (seen : Seen) (n : NodeRecord) (p : ℕ) → all_keep (moves o n) ≡ true → shift_kind (kind.Run (code_of o)) (r n == 0) ≡ shift.Stays → Shifts (due.Run o) seen n p
 rests o seen n p keep is =
-    ap (λ (f : Flow). kept_from f p) (stays_over (moves o n) Same p keep) ∙ stays p
+    ap (λ (f : Flow). return_entry_source f p) (stays_over (moves o n) Same p keep) ∙ stays p
     ∙ sym (ap (λ (z : ReturnStackEffect). entry_before z p) (all_told (kind.Run (code_of o)) Stack (opcode_effect o n) seen n (r n == 0) is))
 
-counts : (last : Bool) (p : ℕ) (ends goes : List Move) → kept_from (moved_all ends Same (Return p)) p ≡ entry_before shift.Pops p
-    → kept_from (moved_all goes Same (Return p)) p ≡ entry_before shift.Replaces p
-    → kept_from (moved_all (cond last ends goes) Same (Return p)) p ≡ entry_before (shift_op op.Unext last) p
+counts : (last : Bool) (p : ℕ) (ends goes : List Move) → return_entry_source (flows_after_moves ends Same (Return p)) p ≡ entry_before shift.Pops p
+    → return_entry_source (flows_after_moves goes Same (Return p)) p ≡ entry_before shift.Replaces p
+    → return_entry_source (flows_after_moves (cond last ends goes) Same (Return p)) p ≡ entry_before (shift_op op.Unext last) p
 counts true p ends goes first second = first
 counts false p ends goes first second = second
 
@@ -178,24 +178,24 @@ op_shifts op.Push seen n p = pushed (Same top) p refl
 op_shifts op.If seen n p = rests op.If seen n p (keep_jump (t n == 0)) refl
 op_shifts op.MinusIf seen n p = rests op.MinusIf seen n p (keep_jump (t n / 2 ^ 17 == 0)) refl
 op_shifts op.Plus seen n p = rests op.Plus seen n p (keep_add (is_extended n)) refl
-op_shifts op.FetchP seen n p = rests op.FetchP seen n p (keep_read (classified n.p) (λ word. PushData word ∷ SetP (from P) ∷ GoOn ∷ []) (λ word. refl)) refl
-op_shifts op.FetchPlus seen n p = rests op.FetchPlus seen n p (keep_read (classified n.a) (λ word. PushData word ∷ SetA (from A) ∷ GoOn ∷ []) (λ word. refl)) refl
-op_shifts op.FetchB seen n p = rests op.FetchB seen n p (keep_read (classified n.b) (λ word. PushData word ∷ GoOn ∷ []) (λ word. refl)) refl
-op_shifts op.Fetch seen n p = rests op.Fetch seen n p (keep_read (classified n.a) (λ word. PushData word ∷ GoOn ∷ []) (λ word. refl)) refl
-op_shifts op.StoreP seen n p = rests op.StoreP seen n p (keep_write (classified n.p) (PopData ∷ SetP (from P) ∷ GoOn ∷ []) refl) refl
-op_shifts op.StorePlus seen n p = rests op.StorePlus seen n p (keep_write (classified n.a) (PopData ∷ SetA (from A) ∷ GoOn ∷ []) refl) refl
-op_shifts op.StoreB seen n p = rests op.StoreB seen n p (keep_write (classified n.b) (PopData ∷ GoOn ∷ []) refl) refl
-op_shifts op.Store seen n p = rests op.Store seen n p (keep_write (classified n.a) (PopData ∷ GoOn ∷ []) refl) refl
+op_shifts op.FetchP seen n p = rests op.FetchP seen n p (keep_read (address_target n.p) (λ word. PushData word ∷ SetP (from P) ∷ GoOn ∷ []) (λ word. refl)) refl
+op_shifts op.FetchPlus seen n p = rests op.FetchPlus seen n p (keep_read (address_target n.a) (λ word. PushData word ∷ SetA (from A) ∷ GoOn ∷ []) (λ word. refl)) refl
+op_shifts op.FetchB seen n p = rests op.FetchB seen n p (keep_read (address_target n.b) (λ word. PushData word ∷ GoOn ∷ []) (λ word. refl)) refl
+op_shifts op.Fetch seen n p = rests op.Fetch seen n p (keep_read (address_target n.a) (λ word. PushData word ∷ GoOn ∷ []) (λ word. refl)) refl
+op_shifts op.StoreP seen n p = rests op.StoreP seen n p (keep_write (address_target n.p) (PopData ∷ SetP (from P) ∷ GoOn ∷ []) refl) refl
+op_shifts op.StorePlus seen n p = rests op.StorePlus seen n p (keep_write (address_target n.a) (PopData ∷ SetA (from A) ∷ GoOn ∷ []) refl) refl
+op_shifts op.StoreB seen n p = rests op.StoreB seen n p (keep_write (address_target n.b) (PopData ∷ GoOn ∷ []) refl) refl
+op_shifts op.Store seen n p = rests op.Store seen n p (keep_write (address_target n.a) (PopData ∷ GoOn ∷ []) refl) refl
 op_shifts o seen n p = rests o seen n p refl refl
 
 due_shifts : (what : NextAction) (seen : Seen) (n : NodeRecord) (p : ℕ) → Shifts what seen n p
 unfolding keeps all_keep
 due_shifts due.Fetch seen n p =
-    ap (λ (f : Flow). kept_from f p) (stays_over (moves_by due.Fetch n) Same p (keep_read (classified n.p) (λ word. SetI word ∷ SetP (from P) ∷ StartAgain ∷ []) (λ word. refl))) ∙ stays p
-    ∙ sym (ap (λ (z : ReturnStackEffect). entry_before z p) (all_told kind.Fetch Instruction (fetches n) seen n (r n == 0) refl))
+    ap (λ (f : Flow). return_entry_source f p) (stays_over (action_moves due.Fetch n) Same p (keep_read (address_target n.p) (λ word. SetI word ∷ SetP (from P) ∷ StartAgain ∷ []) (λ word. refl))) ∙ stays p
+    ∙ sym (ap (λ (z : ReturnStackEffect). entry_before z p) (all_told kind.Fetch Instruction (fetch_access n) seen n (r n == 0) refl))
 due_shifts (due.Run o) seen n p = op_shifts o seen n p
 
-own_shifts : (seen : Seen) (n : NodeRecord) (p : ℕ) → kept_from (own_flow n (Return p)) p ≡ entry_before (shift_kind (own seen n).0 (r n == 0)) p
+own_shifts : (seen : Seen) (n : NodeRecord) (p : ℕ) → return_entry_source (own_flow n (Return p)) p ≡ entry_before (shift_kind (own seen n).0 (r n == 0)) p
 unfolding own_flow own own_event
 own_shifts seen n p = due_shifts (next_action_of n) seen n p
 
@@ -208,21 +208,21 @@ keep_taken (wait.Read sides) = refl
 keep_taken (wait.Write side) = refl
 keep_taken wait.Nothing = refl
 
-pass_shifts : (taken : Bool) (at : Wait) (p : ℕ) → kept_from (cond taken (take_flow at (Return p)) (send_flow (Return p))) p ≡ Some p
+pass_shifts : (taken : Bool) (at : Wait) (p : ℕ) → return_entry_source (cond taken (take_flow at (Return p)) (send_flow (Return p))) p ≡ Some p
 unfolding keeps all_keep take_flow send_flow
-pass_shifts true at p = ap (λ (f : Flow). kept_from f p) (stays_over (take_moves at) Same p (keep_taken at)) ∙ stays p
-pass_shifts false at p = ap (λ (f : Flow). kept_from f p) (stays_over send_moves Same p refl) ∙ stays p
+pass_shifts true at p = ap (λ (f : Flow). return_entry_source f p) (stays_over (take_moves at) Same p (keep_taken at)) ∙ stays p
+pass_shifts false at p = ap (λ (f : Flow). return_entry_source f p) (stays_over send_moves Same p refl) ∙ stays p
 
 -- ---- a step of a node
 
-told_shifts : (told : Option Made) (before : NodeRecord) (n p : ℕ) → ((m : NodeId) (step : ℕ) (ran : Kind) → told ≡ Some (made.Own m step ran) → WasNext before ran)
-    → kept_from (flow_told told before n (Return p)) p ≡ entry_before (shift_told told (r before == 0)) p
+told_shifts : (told : Option Made) (before : NodeRecord) (n p : ℕ) → ((m : NodeId) (step : ℕ) (ran : OwnEventKind) → told ≡ Some (made.Own m step ran) → WasNext before ran)
+    → return_entry_source (optional_event_flow told before n (Return p)) p ≡ entry_before (shift_told told (r before == 0)) p
 told_shifts None before n p next = stays p
 told_shifts (Some (made.Own m step ran)) before n p next =
-    let was = next m step ran refl in own_shifts was.seen before p ∙ ap (λ (z : Kind). entry_before (shift_kind z (r before == 0)) p) was.is
+    let was = next m step ran refl in own_shifts was.seen before p ∙ ap (λ (z : OwnEventKind). entry_before (shift_kind z (r before == 0)) p) was.is
 told_shifts (Some (made.Pass writer i reader j word)) before n p next = pass_shifts (n == reader.number) before.wait p
 
-pub shifted : (s : State) (n k p : ℕ) → kept_from (flow_at s n k (Return p)) p ≡ entry_before (shift_at s n k) p
+pub shifted : (s : State) (n k p : ℕ) → return_entry_source (flow_at s n k (Return p)) p ≡ entry_before (shift_at s n k) p
 shifted s n k p = told_shifts (slice_get (history_of s n) k) (node_after s n k) n p (λ m step ran h. ran_so s n k step m ran h)
 
 op_calls : (o : Op) (last : Bool) → is_call_op o ≡ is_calls (shift_op o last)
@@ -232,11 +232,11 @@ op_calls op.Next true = refl
 op_calls op.Next false = refl
 op_calls o last = refl
 
-told_calls : (told : Option Made) (last : Bool) → is_call told ≡ is_calls (shift_told told last)
+told_calls : (told : Option Made) (last : Bool) → is_call_event told ≡ is_calls (shift_told told last)
 told_calls None last = refl
 told_calls (Some (made.Own m step (kind.Run code))) last = op_calls (op_of (code % 32)) last
 told_calls (Some (made.Own m step ran)) last = refl
 told_calls (Some (made.Pass writer i reader j word)) last = refl
 
-pub calls_so : (s : State) (node : NodeId) (k : ℕ) → is_calling s node (suc k) ≡ is_calls (shift_at s node.number k)
+pub calls_so : (s : State) (node : NodeId) (k : ℕ) → is_call_step s node (suc k) ≡ is_calls (shift_at s node.number k)
 calls_so s node k = told_calls (slice_get (history_of s node.number) k) (r (node_after s node.number k) == 0)

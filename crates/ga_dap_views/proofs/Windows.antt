@@ -7,7 +7,7 @@ use Rattle.std.proofs.lemmas.List.{map-append}
 use Rattle.std.proofs.lemmas.List.FromFn.{filter_of_map_range_with_len_more}
 use Rattle.ga_grid.specs.declared.node_id.NodeId.{NodeId}
 use Rattle.ga_lab.specs.Machine.{State}
-use Rattle.ga_dap_views.specs.Calls.{pushed_by_step, is_calling, open_call}
+use Rattle.ga_dap_views.specs.Calls.{pushed_by_step, is_call_step, open_call}
 use Rattle.ga_dap_views.specs.declared.calls.OpenCall.{OpenCall}
 use Rattle.ga_dap_views.specs.declared.calls.Window.{Window}
 use Rattle.ga_dap_views.specs.declared.calls.ReturnStackEffect.{ReturnStackEffect}
@@ -100,14 +100,14 @@ last_copy calls f new a n m more last called =
     ∙ rest
 
 open_back : (s : State) (node : NodeId) (k a n : ℕ) (by : ReturnStackEffect) → by ≡ shift_at s node.number k
-    → picked (is_calling s node) (pushed_by_step s node (suc k)) a n ≡ picked (is_calling s node) (came by (pushed_by_step s node k) (suc k)) a n
+    → picked (is_call_step s node) (pushed_by_step s node (suc k)) a n ≡ picked (is_call_step s node) (came by (pushed_by_step s node k) (suc k)) a n
 open_back s node k a n by is =
-    same_picked (is_calling s node) (pushed_by_step s node (suc k)) (came by (pushed_by_step s node k) (suc k)) a a n
+    same_picked (is_call_step s node) (pushed_by_step s node (suc k)) (came by (pushed_by_step s node k) (suc k)) a a n
     (λ i lt. ap (λ (o : Option ℕ). unwrap_or (option_map (pushed_by_step s node k) o) (suc k)) (shifted s node.number k (a + i) ∙ ap (λ (z : ReturnStackEffect). entry_before z (a + i)) (sym is)))
 
 -- the calls that are listed, and those still to be followed
 abbrev pub Follows : State → NodeId → List OpenCall → List OpenCall → ℕ → ℕ → ℕ → Type 0
-Follows s node all told step a n = all ≡ told ++ map (open_call s node) (picked (is_calling s node) (pushed_by_step s node step) a n)
+Follows s node all told step a n = all ≡ told ++ map (open_call s node) (picked (is_call_step s node) (pushed_by_step s node step) a n)
 
 -- over a step
 pub call_on : (s : State) (node : NodeId) (step : ℕ) (by : ReturnStackEffect) (window before : Window) (all told more : List OpenCall) → 0 < step → by ≡ shift_at s node.number (step - 1)
@@ -116,7 +116,7 @@ pub call_on : (s : State) (node : NodeId) (step : ℕ) (by : ReturnStackEffect) 
 call_on s node step by window before all told more some is moves follows grown =
     let k : ℕ = step - 1 in
     let at : step ≡ suc k = omega arith in
-    let calling = is_calling s node in
+    let calling = is_call_step s node in
     let f = open_call s node in
     let rest : List ℕ = picked calling (pushed_by_step s node k) before.place before.left in
     follows
@@ -131,16 +131,16 @@ call_on s node step by window before all told more some is moves follows grown =
 -- nothing is left of a window, and nothing is put by none of the steps
 pub none_left : (s : State) (node : NodeId) (all told : List OpenCall) (step a n : ℕ) → n ≡ 0 → Follows s node all told step a n → told ≡ all
 none_left s node all told step a n none follows =
-    sym (follows ∙ ap (λ (z : ℕ). told ++ map (open_call s node) (picked (is_calling s node) (pushed_by_step s node step) a z)) none ∙ append-nil told)
+    sym (follows ∙ ap (λ (z : ℕ). told ++ map (open_call s node) (picked (is_call_step s node) (pushed_by_step s node step) a z)) none ∙ append-nil told)
 
-none_put : (s : State) (node : NodeId) (a n : ℕ) → picked (is_calling s node) (pushed_by_step s node 0) a n ≡ []
+none_put : (s : State) (node : NodeId) (a n : ℕ) → picked (is_call_step s node) (pushed_by_step s node 0) a n ≡ []
 none_put s node a zero = refl
 none_put s node a (suc n) = none_put s node (a + 1) n
 
 pub none_before : (s : State) (node : NodeId) (all told : List OpenCall) (step a n : ℕ) → step ≡ 0 → Follows s node all told step a n → told ≡ all
 none_before s node all told step a n first follows =
     sym (follows
-    ∙ ap (λ (z : ℕ). told ++ map (open_call s node) (picked (is_calling s node) (pushed_by_step s node z) a n)) first
+    ∙ ap (λ (z : ℕ). told ++ map (open_call s node) (picked (is_call_step s node) (pushed_by_step s node z) a n)) first
     ∙ ap (λ (z : List ℕ). told ++ map (open_call s node) z) (none_put s node a n)
     ∙ append-nil told)
 

@@ -20,32 +20,32 @@ side_name Left = codes "left"
 side_name Up = codes "up"
 
 -- a side, if a set has it, after those already named
-abbrev pub behind_named : ℕ → Side → Text → Text
-behind_named sides side [] = if has_side sides side then side_name side else []
-behind_named sides side (c ∷ text) = if has_side sides side then (c ∷ text) ++ codes " or " ++ side_name side else c ∷ text
+abbrev pub append_side_name : ℕ → Side → Text → Text
+append_side_name sides side [] = if has_side sides side then side_name side else []
+append_side_name sides side (c ∷ text) = if has_side sides side then (c ∷ text) ++ codes " or " ++ side_name side else c ∷ text
 
 -- the sides of a set
-abbrev pub set_names : ℕ → Text
-set_names sides = behind_named sides Up (behind_named sides Left (behind_named sides Down (behind_named sides Right [])))
+abbrev pub side_names : ℕ → Text
+side_names sides = append_side_name sides Up (append_side_name sides Left (append_side_name sides Down (append_side_name sides Right [])))
 
 -- a stop by its number (docs/REFERENCE.md, "Events")
-abbrev pub stop_words : ℕ → Text
-stop_words stop =
+abbrev pub stop_text : ℕ → Text
+stop_text stop =
     if stop == 0 then codes "runs"
     else if stop == 1 then codes "stopped: a write to several ports"
     else if stop == 2 then codes "stopped: an address that names nothing"
     else codes "stopped"
 
 -- what a node does that waits so, or is stopped so
-abbrev pub activity_by : Wait → ℕ → Text
-activity_by (wait.Fetch sides) stop = codes "waits for code from " ++ set_names sides
-activity_by (wait.Read sides) stop = codes "waits to read from " ++ set_names sides
-activity_by (wait.Write side) stop = codes "waits to write to " ++ side_name side
-activity_by wait.Nothing stop = stop_words stop
+abbrev pub wait_activity_text : Wait → ℕ → Text
+wait_activity_text (wait.Fetch sides) stop = codes "waits for code from " ++ side_names sides
+wait_activity_text (wait.Read sides) stop = codes "waits to read from " ++ side_names sides
+wait_activity_text (wait.Write side) stop = codes "waits to write to " ++ side_name side
+wait_activity_text wait.Nothing stop = stop_text stop
 
 -- what a node of a chip does; with its name before it
 abbrev pub activity : List NodeRecord → ℕ → Text
-activity chip n = activity_by (record_at chip n).wait (record_at chip n).stop
+activity chip n = wait_activity_text (record_at chip n).wait (record_at chip n).stop
 
 abbrev pub named_activity : List NodeRecord → ℕ → Text
 named_activity chip n = decimal3_of (yxx_of n) ++ codes " " ++ activity chip n
@@ -54,5 +54,5 @@ named_activity chip n = decimal3_of (yxx_of n) ++ codes " " ++ activity chip n
 abbrev pub negative_text : ℕ → Text
 negative_text word = if nat_lt word 0x20000 then [] else codes " = -" ++ decimal (0x40000 - word)
 
-abbrev pub valued_word : ℕ → Text
-valued_word word = hex6_of word ++ codes " = " ++ decimal word ++ negative_text word
+abbrev pub word_value_text : ℕ → Text
+word_value_text word = hex6_of word ++ codes " = " ++ decimal word ++ negative_text word

@@ -9,11 +9,11 @@ use Rattle.ga_slots.specs.declared.op.Op.{Op}
 use Rattle.ga_slots.specs.declared.op.Op.TheVariants.{Return, Execute, Jump, Call, Next, If, MinusIf}
 use Rattle.ga_slots.specs.Codes.{name_of}
 use Rattle.ga_slots.specs.Slots.{opcode, target}
-use Rattle.ga_ports.specs.Address.{advanced}
+use Rattle.ga_ports.specs.Address.{advanced_address}
 use Rattle.ga_text.specs.Lines.{Text}
 use Rattle.ga_grid.specs.declared.node_id.NodeId.{NodeId}
 use Rattle.ga_grid.specs.Chip.{record_at}
-use Rattle.ga_lab.specs.Machine.{State, chip_of, word_at}
+use Rattle.ga_lab.specs.Machine.{State, chip_of, memory_word_at}
 use Rattle.ga_debug_info.specs.declared.notes.LabelAddress.{LabelAddress}
 use Rattle.ga_debug_info.specs.declared.notes.CellSource.{CellSource}
 use Rattle.ga_debug_info.specs.declared.notes.DebugInfo.{DebugInfo}
@@ -21,7 +21,7 @@ use Rattle.ga_debug_info.specs.Source.{cell_of_address}
 use Rattle.ga_dap_views.specs.declared.frames.SourceFile.{SourceFile}
 use Rattle.ga_dap_views.specs.Frames.{source_object}
 use Rattle.ga_dap_views.specs.Json.{whole_number, array_of, object_of}
-use Rattle.ga_dap_views.specs.Labels.{label_of_cell, source_text_of_cell}
+use Rattle.ga_dap_views.specs.Labels.{label_of_cell, source_of_cell}
 use Rattle.ga_dap_views.specs.Numbers.{chip_address}
 use Rattle.ga_dap_views.specs.Variables.{memory_reference}
 
@@ -32,12 +32,12 @@ abbrev pub hex3_of : ℕ → Text
 hex3_of n = hex_digit n 2 ∷ hex_digit n 1 ∷ hex_digit n 0 ∷ []
 
 -- where a jump leads: the label there, or the address without bit 9
-abbrev pub label_or : ℕ → Option LabelAddress → Text
-label_or address None = hex3_of (address % 512)
-label_or address (Some name) = utf8_lossy name.text.items
+abbrev pub label_or_address : ℕ → Option LabelAddress → Text
+label_or_address address None = hex3_of (address % 512)
+label_or_address address (Some name) = utf8_lossy name.text.items
 
-abbrev pub target_words : DebugInfo → NodeId → ℕ → Text
-target_words notes node address = label_or address (option_and_then (label_of_cell notes.names.items node) (cell_of_address address))
+abbrev pub jump_target_text : DebugInfo → NodeId → ℕ → Text
+jump_target_text notes node address = label_or_address address (option_and_then (label_of_cell notes.names.items node) (cell_of_address address))
 
 -- what follows an opcode: an address, nothing that is carried out, or the next slot
 abbrev pub has_address : Op → Bool
@@ -54,31 +54,31 @@ ends_word Execute = true
 ends_word op = has_address op
 
 -- the address of a slot, where its opcode has one and it has room for it: slot 3 has none
-abbrev pub address_words : DebugInfo → NodeId → ℕ → ℕ → ℕ → Text
-address_words notes node p word slot =
-    if slot == 3 then [] else if has_address (opcode word slot) then codes " " ++ target_words notes node (target p word slot) else []
+abbrev pub slot_target_text : DebugInfo → NodeId → ℕ → ℕ → ℕ → Text
+slot_target_text notes node p word slot =
+    if slot == 3 then [] else if has_address (opcode word slot) then codes " " ++ jump_target_text notes node (target p word slot) else []
 
 -- an opcode after a blank, except for the first
-abbrev pub behind_blank : ℕ → Text → Text
-behind_blank slot text = if slot == 0 then text else codes " " ++ text
+abbrev pub with_leading_blank : ℕ → Text → Text
+with_leading_blank slot text = if slot == 0 then text else codes " " ++ text
 
 -- the opcodes of `left` slots from one on, up to one after which nothing is carried out; P is that after the cell
-unfoldable pub slots_words : DebugInfo → NodeId → ℕ → ℕ → ℕ → ℕ → Text
-slots_words notes node p word slot zero = []
-slots_words notes node p word slot (suc left) =
-    behind_blank slot (name_of (opcode word slot)) ++ address_words notes node p word slot
-    ++ (if ends_word (opcode word slot) then [] else slots_words notes node p word (slot + 1) left)
+unfoldable pub slots_text : DebugInfo → NodeId → ℕ → ℕ → ℕ → ℕ → Text
+slots_text notes node p word slot zero = []
+slots_text notes node p word slot (suc left) =
+    with_leading_blank slot (name_of (opcode word slot)) ++ slot_target_text notes node p word slot
+    ++ (if ends_word (opcode word slot) then [] else slots_text notes node p word (slot + 1) left)
 
 -- ---- an instruction
 
 -- a cell that the source gives and that is no instruction word: a literal, or data
-abbrev pub is_data : Option CellSource → Bool
-is_data None = false
-is_data (Some note) = if note.is_code then false else true
+abbrev pub is_data_in_source : Option CellSource → Bool
+is_data_in_source None = false
+is_data_in_source (Some note) = if note.is_code then false else true
 
-abbrev pub instruction_words : DebugInfo → NodeId → ℕ → ℕ → Text
-instruction_words notes node cell word =
-    if is_data (source_text_of_cell notes node cell) then codes "word " ++ decimal word else slots_words notes node (advanced cell) word 0 4
+abbrev pub instruction_text : DebugInfo → NodeId → ℕ → ℕ → Text
+instruction_text notes node cell word =
+    if is_data_in_source (source_of_cell notes node cell) then codes "word " ++ decimal word else slots_text notes node (advanced_address cell) word 0 4
 
 -- the line and the label of a cell, where the source has them
 abbrev pub with_source_line : SourceFile → Option CellSource → Members → Members
@@ -94,11 +94,11 @@ instruction_members address words bytes =
     put (codes "instructionBytes") (string bytes) (put (codes "instruction") (string words) (put (codes "address") (string address) no_members))
 
 -- the cell at an address of the node, as an instruction
-abbrev pub instruction : SourceFile → DebugInfo → State → NodeId → ℕ → ℕ → Data
-instruction file notes s node address cell =
-    let word = word_at (record_at (chip_of s) node.number) cell in
-    object (with_label (label_of_cell notes.names.items node cell) (with_source_line file (source_text_of_cell notes node cell)
-    (instruction_members (memory_reference (chip_address node.number address)) (instruction_words notes node cell word) (hex6_of word))))
+abbrev pub instruction_object : SourceFile → DebugInfo → State → NodeId → ℕ → ℕ → Data
+instruction_object file notes s node address cell =
+    let word = memory_word_at (record_at (chip_of s) node.number) cell in
+    object (with_label (label_of_cell notes.names.items node cell) (with_source_line file (source_of_cell notes node cell)
+    (instruction_members (memory_reference (chip_address node.number address)) (instruction_text notes node cell word) (hex6_of word))))
 
 -- the instruction of an address at which a node has no cell
 unfoldable pub no_instruction : Text → Data
@@ -110,15 +110,15 @@ no_instruction address =
 abbrev pub cell_in_node : ℕ → Option ℕ
 cell_in_node address = if nat_lt address 256 then cell_of_address address else None
 
-abbrev pub instruction_in : SourceFile → DebugInfo → State → NodeId → ℕ → Option ℕ → Data
-instruction_in file notes s node address None = no_instruction (memory_reference (chip_address node.number address))
-instruction_in file notes s node address (Some cell) = instruction file notes s node address cell
+abbrev pub instruction_or_invalid : SourceFile → DebugInfo → State → NodeId → ℕ → Option ℕ → Data
+instruction_or_invalid file notes s node address None = no_instruction (memory_reference (chip_address node.number address))
+instruction_or_invalid file notes s node address (Some cell) = instruction_object file notes s node address cell
 
 abbrev pub instruction_at : SourceFile → DebugInfo → State → NodeId → ℕ → Data
-instruction_at file notes s node address = instruction_in file notes s node address (cell_in_node address)
+instruction_at file notes s node address = instruction_or_invalid file notes s node address (cell_in_node address)
 
 -- The body of the response: `count` instructions from an address of the node on; after the last of its 4096 addresses comes the
 -- first.
-abbrev pub disassembled : SourceFile → DebugInfo → State → NodeId → ℕ → ℕ → Data
-disassembled file notes s node first count =
+abbrev pub disassemble_body : SourceFile → DebugInfo → State → NodeId → ℕ → ℕ → Data
+disassemble_body file notes s node first count =
     object_of (codes "instructions") (array_of (λ k. instruction_at file notes s node (k % 4096)) (range_with_len first count))

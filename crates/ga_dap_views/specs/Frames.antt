@@ -15,10 +15,10 @@ use Rattle.ga_dap_views.specs.declared.calls.OpenCall.{OpenCall}
 use Rattle.ga_dap_views.specs.declared.frames.SourceFile.{SourceFile}
 use Rattle.ga_dap_views.specs.Calls.{open_calls}
 use Rattle.ga_dap_views.specs.Json.{whole_number, array_of}
-use Rattle.ga_dap_views.specs.Labels.{cell_words, source_word_of_slot}
-use Rattle.ga_dap_views.specs.Numbers.{frame_of, chip_address}
-use Rattle.ga_dap_views.specs.Spots.{present_spot}
-use Rattle.ga_dap_views.specs.Variables.{memory_reference, places_asked}
+use Rattle.ga_dap_views.specs.Labels.{cell_location_text, source_word_of_slot}
+use Rattle.ga_dap_views.specs.Numbers.{frame_id, chip_address}
+use Rattle.ga_dap_views.specs.Spots.{current_slot_address}
+use Rattle.ga_dap_views.specs.Variables.{memory_reference, requested_range}
 
 -- the file of the source ("Source")
 unfoldable pub source_object : SourceFile → Data
@@ -43,32 +43,32 @@ outside_frame id name =
     (member (codes "presentationHint") (string (codes "subtle")) no_members)))))
 
 -- the name of a frame
-abbrev pub place_words : DebugInfo → NodeId → Option SlotAddress → Text
-place_words notes node None = codes "outside its memory"
-place_words notes node (Some spot) = cell_words notes node spot.cell
+abbrev pub location_text : DebugInfo → NodeId → Option SlotAddress → Text
+location_text notes node None = codes "outside its memory"
+location_text notes node (Some spot) = cell_location_text notes node spot.cell
 
 abbrev pub frame_name : DebugInfo → NodeId → Option SlotAddress → Text
-frame_name notes node spot = decimal3_of (yxx_of node.number) ++ codes " " ++ place_words notes node spot
+frame_name notes node spot = decimal3_of (yxx_of node.number) ++ codes " " ++ location_text notes node spot
 
-abbrev pub frame_on : SourceFile → ℕ → Text → Text → Option SlotWord → Data
-frame_on file id name pointer None = bare_frame id name pointer
-frame_on file id name pointer (Some word) = lined_frame (source_object file) id name pointer word.line word.column
+abbrev pub memory_frame : SourceFile → ℕ → Text → Text → Option SlotWord → Data
+memory_frame file id name pointer None = bare_frame id name pointer
+memory_frame file id name pointer (Some word) = lined_frame (source_object file) id name pointer word.line word.column
 
-abbrev pub frame_at : SourceFile → DebugInfo → NodeId → ℕ → Text → Option SlotAddress → Data
-frame_at file notes node id name None = outside_frame id name
-frame_at file notes node id name (Some spot) = frame_on file id name (memory_reference (chip_address node.number spot.cell)) (source_word_of_slot notes node spot)
+abbrev pub located_frame : SourceFile → DebugInfo → NodeId → ℕ → Text → Option SlotAddress → Data
+located_frame file notes node id name None = outside_frame id name
+located_frame file notes node id name (Some spot) = memory_frame file id name (memory_reference (chip_address node.number spot.cell)) (source_word_of_slot notes node spot)
 
 abbrev pub frame : SourceFile → DebugInfo → NodeId → ℕ → Option SlotAddress → Data
-frame file notes node level spot = frame_at file notes node (frame_of node.number level) (frame_name notes node spot) spot
+frame file notes node level spot = located_frame file notes node (frame_id node.number level) (frame_name notes node spot) spot
 
 -- the positions of the frames: that of the node itself, then those of the calls
-abbrev pub call_spot : Option OpenCall → Option SlotAddress
-call_spot None = None
-call_spot (Some call) = call.at
+abbrev pub call_slot_address : Option OpenCall → Option SlotAddress
+call_slot_address None = None
+call_slot_address (Some call) = call.at
 
-abbrev pub level_spot : State → NodeId → ℕ → Option SlotAddress
-level_spot s node zero = present_spot s node
-level_spot s node (suc k) = call_spot (slice_get (open_calls s node) k)
+abbrev pub frame_slot_address : State → NodeId → ℕ → Option SlotAddress
+frame_slot_address s node zero = current_slot_address s node
+frame_slot_address s node (suc k) = call_slot_address (slice_get (open_calls s node) k)
 
 -- The body of the response: `count` frames from one on, or all remaining if the number is 0; and how many there are.
 unfoldable pub stack_object : Data → ℕ → Data
@@ -77,4 +77,4 @@ stack_object frames total = object (member (codes "stackFrames") frames (member 
 abbrev pub stack_trace : SourceFile → DebugInfo → State → NodeId → ℕ → ℕ → Data
 stack_trace file notes s node start count =
     let total = length (open_calls s node) + 1 in
-    stack_object (array_of (λ k. frame file notes node k (level_spot s node k)) (places_asked total start count)) total
+    stack_object (array_of (λ k. frame file notes node k (frame_slot_address s node k)) (requested_range total start count)) total

@@ -10,54 +10,54 @@ use Rattle.ga_debug_info.specs.declared.notes.CellSource.{CellSource}
 use Rattle.ga_debug_info.specs.declared.notes.DebugInfo.{DebugInfo}
 use Rattle.ga_debug_info.specs.declared.wording.SlotWord.{SlotWord}
 use Rattle.ga_debug_info.specs.declared.wording.DisplayedWord.{DisplayedWord}
-use Rattle.ga_debug_info.specs.Notes.{is_note_of, slot_word_of}
-use Rattle.ga_debug_info.specs.Source.{cell_of_address, nearest_found}
+use Rattle.ga_debug_info.specs.Notes.{is_source_of_cell, slot_word_of}
+use Rattle.ga_debug_info.specs.Source.{cell_of_address, nearest_result}
 use Rattle.ga_dap_views.specs.declared.spots.SlotAddress.{SlotAddress}
 
 -- whether a label of the node is at the cell
-abbrev pub is_same_cell : ℕ → Option ℕ → Bool
-is_same_cell cell None = false
-is_same_cell cell (Some found) = found == cell
+abbrev pub is_label_cell : ℕ → Option ℕ → Bool
+is_label_cell cell None = false
+is_label_cell cell (Some found) = found == cell
 
-abbrev pub is_name_at : NodeId → ℕ → LabelAddress → Bool
-is_name_at node cell name = name.node.number == node.number && is_same_cell cell (cell_of_address name.address)
+abbrev pub is_label_at : NodeId → ℕ → LabelAddress → Bool
+is_label_at node cell name = name.node.number == node.number && is_label_cell cell (cell_of_address name.address)
 
-abbrev pub place_of_label : List LabelAddress → NodeId → ℕ → Option ℕ
-place_of_label names node cell = position (is_name_at node cell) names
+abbrev pub label_place_of_cell : List LabelAddress → NodeId → ℕ → Option ℕ
+label_place_of_cell names node cell = position (is_label_at node cell) names
 
 abbrev pub label_of_cell : List LabelAddress → NodeId → ℕ → Option LabelAddress
-label_of_cell names node cell = option_and_then (slice_get names) (place_of_label names node cell)
+label_of_cell names node cell = option_and_then (slice_get names) (label_place_of_cell names node cell)
 
 -- the label at a cell, or the nearest before it in the same memory
-abbrev pub label_near : List LabelAddress → NodeId → ℕ → Option LabelAddress
-label_near names node cell = option_and_then (slice_get names) (nearest_found (place_of_label names node) (cell / 64 * 64) (cell % 64))
+abbrev pub nearest_label : List LabelAddress → NodeId → ℕ → Option LabelAddress
+nearest_label names node cell = option_and_then (slice_get names) (nearest_result (label_place_of_cell names node) (cell / 64 * 64) (cell % 64))
 
 -- A cell by its label and its distance after that, and else by its address. (A source may have bytes that are no text.)
-abbrev pub behind_words : ℕ → Text
-behind_words behind = if behind == 0 then [] else codes "+" ++ decimal behind
+abbrev pub distance_text : ℕ → Text
+distance_text behind = if behind == 0 then [] else codes "+" ++ decimal behind
 
-abbrev pub label_words : ℕ → Option LabelAddress → Text
-label_words cell None = hex2_of cell
-label_words cell (Some name) = utf8_lossy name.text.items ++ behind_words (cell - unwrap_or (cell_of_address name.address) cell)
+abbrev pub label_and_distance_text : ℕ → Option LabelAddress → Text
+label_and_distance_text cell None = hex2_of cell
+label_and_distance_text cell (Some name) = utf8_lossy name.text.items ++ distance_text (cell - unwrap_or (cell_of_address name.address) cell)
 
-abbrev pub cell_words : DebugInfo → NodeId → ℕ → Text
-cell_words notes node cell = label_words cell (label_near notes.names.items node cell)
+abbrev pub cell_location_text : DebugInfo → NodeId → ℕ → Text
+cell_location_text notes node cell = label_and_distance_text cell (nearest_label notes.names.items node cell)
 
 -- the note of the source for a cell
-abbrev pub source_text_of_cell : DebugInfo → NodeId → ℕ → Option CellSource
-source_text_of_cell notes node cell = option_and_then (slice_get notes.notes.items) (position (is_note_of node cell) notes.notes.items)
+abbrev pub source_of_cell : DebugInfo → NodeId → ℕ → Option CellSource
+source_of_cell notes node cell = option_and_then (slice_get notes.notes.items) (position (is_source_of_cell node cell) notes.notes.items)
 
 -- the word of the source from which a slot comes, and its line
 abbrev pub source_word_of_slot : DebugInfo → NodeId → SlotAddress → Option SlotWord
 source_word_of_slot notes node spot = slot_word_of notes.words.items node spot.cell spot.slot
 
-abbrev pub line_at : DebugInfo → NodeId → SlotAddress → Option ℕ
-line_at notes node spot = option_map (λ (word : SlotWord). word.line) (source_word_of_slot notes node spot)
+abbrev pub source_line_of_slot : DebugInfo → NodeId → SlotAddress → Option ℕ
+source_line_of_slot notes node spot = option_map (λ (word : SlotWord). word.line) (source_word_of_slot notes node spot)
 
 -- the first word of a line from which a slot of an instruction word of the node comes
-abbrev pub is_on_line : NodeId → ℕ → DisplayedWord → Bool
-is_on_line node line told = told.word.is_code && told.word.node.number == node.number && told.word.line == line
+abbrev pub is_code_word_on_line : NodeId → ℕ → DisplayedWord → Bool
+is_code_word_on_line node line told = told.word.is_code && told.word.node.number == node.number && told.word.line == line
 
 abbrev pub line_start : DebugInfo → NodeId → ℕ → Option SlotWord
 line_start notes node line =
-    option_map (λ (told : DisplayedWord). told.word) (option_and_then (slice_get notes.words.items) (position (is_on_line node line) notes.words.items))
+    option_map (λ (told : DisplayedWord). told.word) (option_and_then (slice_get notes.words.items) (position (is_code_word_on_line node line) notes.words.items))

@@ -7,12 +7,12 @@ use Rattle.ga_dap_views.specs.declared.scope.Scope.{Scope}
 use Rattle.ga_dap_views.specs.declared.scope.Scope.TheVariants.{Registers, Data, Returns, Links, Ram, Rom}
 
 -- the thread of a node: 1000 more than its name, since some clients take 0 for no thread
-abbrev pub thread_of : ℕ → ℕ
-thread_of node = 1000 + yxx_of node
+abbrev pub thread_id : ℕ → ℕ
+thread_id node = 1000 + yxx_of node
 
 -- a frame of a node: the frame of its position has level 0, and each caller's one more
-abbrev pub frame_of : ℕ → ℕ → ℕ
-frame_of node level = 1 + 16 * node + level
+abbrev pub frame_id : ℕ → ℕ → ℕ
+frame_id node level = 1 + 16 * node + level
 
 -- the number of a scope
 abbrev pub scope_number : Scope → ℕ
@@ -24,13 +24,13 @@ scope_number Ram = 4
 scope_number Rom = 5
 
 -- the variables of a node's scope; 0 is none in the protocol
-abbrev pub reference_of : ℕ → Scope → ℕ
-reference_of node scope = 1 + 8 * node + scope_number scope
+abbrev pub variables_reference : ℕ → Scope → ℕ
+variables_reference node scope = 1 + 8 * node + scope_number scope
 
 -- An address of the chip is the node's name in three digits, and three hexadecimal digits in the node: 701005 hexadecimal is the cell 05 of
 -- 701, and 80 to bf of a node is its ROM.
-abbrev pub named_digits : ℕ → ℕ
-named_digits yxx = yxx / 100 * 256 + yxx / 10 % 10 * 16 + yxx % 10
+abbrev pub node_name_digits : ℕ → ℕ
+node_name_digits yxx = yxx / 100 * 256 + yxx / 10 % 10 * 16 + yxx % 10
 
 abbrev pub chip_address : ℕ → ℕ → ℕ
-chip_address node cell = 4096 * named_digits (yxx_of node) + cell
+chip_address node cell = 4096 * node_name_digits (yxx_of node) + cell

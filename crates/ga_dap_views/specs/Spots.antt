@@ -3,7 +3,7 @@
 use Rattle.std.specs.Prelude.{ℕ, ◌==◌, if◌then◌else◌, Option, option_map}
 use Rattle.ga_node.specs.Record.{NodeRecord}
 use Rattle.ga_grid.specs.declared.node_id.NodeId.{NodeId}
-use Rattle.ga_event.specs.Told.{steps_of}
+use Rattle.ga_event.specs.Told.{count_steps}
 use Rattle.ga_lab.specs.Machine.{State}
 use Rattle.ga_debug_info.specs.Source.{cell_of_address}
 use Rattle.ga_provenance.specs.Origins.{node_after}
@@ -15,12 +15,12 @@ slot_address slot cell = record { cell = cell; slot = slot }
 
 -- In slot 4 a fetch is due; else the node carries out a word that was fetched from this cell, came over a port or was there at
 -- load.
-abbrev pub spot_by : NodeRecord → Option ℕ → Option SlotAddress
-spot_by n fetched = if n.slot == 4 then option_map (slot_address 0) (cell_of_address n.p) else option_map (slot_address n.slot) fetched
+abbrev pub node_slot_address : NodeRecord → Option ℕ → Option SlotAddress
+node_slot_address n fetched = if n.slot == 4 then option_map (slot_address 0) (cell_of_address n.p) else option_map (slot_address n.slot) fetched
 
 -- the position of a node after `step` of its steps
 abbrev pub slot_address_after : State → NodeId → ℕ → Option SlotAddress
-slot_address_after s node step = spot_by (node_after s node.number step) (fetched_cell s node step)
+slot_address_after s node step = node_slot_address (node_after s node.number step) (fetched_cell s node step)
 
-abbrev pub present_spot : State → NodeId → Option SlotAddress
-present_spot s node = slot_address_after s node (steps_of node.number s.kept)
+abbrev pub current_slot_address : State → NodeId → Option SlotAddress
+current_slot_address s node = slot_address_after s node (count_steps node.number s.kept)

@@ -8,11 +8,11 @@ use Rattle.ga_text.specs.Lines.{Text}
 use Rattle.ga_node.specs.Record.{NodeRecord}
 use Rattle.ga_grid.specs.Grid.{neighbour_of}
 use Rattle.ga_grid.specs.Chip.{record_at}
-use Rattle.ga_event.specs.Told.{steps_of}
-use Rattle.ga_lab.specs.Machine.{State, chip_of, word_at}
-use Rattle.ga_dap_views.specs.Activity.{activity, named_activity, valued_word}
+use Rattle.ga_event.specs.Told.{count_steps}
+use Rattle.ga_lab.specs.Machine.{State, chip_of, memory_word_at}
+use Rattle.ga_dap_views.specs.Activity.{activity, named_activity, word_value_text}
 use Rattle.ga_dap_views.specs.Json.{whole_number, array_of, object_of}
-use Rattle.ga_dap_views.specs.Numbers.{chip_address, reference_of}
+use Rattle.ga_dap_views.specs.Numbers.{chip_address, variables_reference}
 use Rattle.ga_dap_views.specs.Shown.{variable_count, variable_at, variable_name}
 use Rattle.ga_dap_views.specs.declared.variable.Variable.{Variable}
 use Rattle.ga_dap_views.specs.declared.variable.Variable.TheVariants as variable
@@ -43,45 +43,45 @@ is_memory_scope scope.Ram = true
 is_memory_scope scope.Rom = true
 is_memory_scope other = false
 
-abbrev pub scope_of : ℕ → Scope → Data
-scope_of n one = scope_object (is_memory_scope one) (variable_count one) (scope_name one) (reference_of n one)
+abbrev pub node_scope_object : ℕ → Scope → Data
+node_scope_object n one = scope_object (is_memory_scope one) (variable_count one) (scope_name one) (variables_reference n one)
 
 abbrev pub all_scopes : List Scope
 all_scopes = scope.Registers ∷ scope.Data ∷ scope.Returns ∷ scope.Links ∷ scope.Ram ∷ scope.Rom ∷ []
 
-abbrev pub scopes_of : ℕ → Data
-scopes_of n = object_of (codes "scopes") (array_of (scope_of n) all_scopes)
+abbrev pub scopes_body : ℕ → Data
+scopes_body n = object_of (codes "scopes") (array_of (node_scope_object n) all_scopes)
 
 -- ---- `variables`
 
-abbrev pub slot_words : ℕ → Text
-slot_words slot = if slot == 4 then codes "4, a fetch is due" else decimal slot
+abbrev pub slot_state_text : ℕ → Text
+slot_state_text slot = if slot == 4 then codes "4, a fetch is due" else decimal slot
 
 -- the neighbour on a side and what it does, where there is one
-abbrev pub neighbour_words : List NodeRecord → Option ℕ → Text
-neighbour_words chip None = codes "none"
-neighbour_words chip (Some m) = named_activity chip m
+abbrev pub neighbour_text : List NodeRecord → Option ℕ → Text
+neighbour_text chip None = codes "none"
+neighbour_text chip (Some m) = named_activity chip m
 
-abbrev pub stuck_words : Bool → Text
-stuck_words true = codes "can never go on"
-stuck_words false = codes "no"
+abbrev pub deadlock_text : Bool → Text
+deadlock_text true = codes "can never go on"
+deadlock_text false = codes "no"
 
 -- The value of a variable of a node. `stuck` is whether the node is in the greatest deadlocked set (Stuck.antt of ga_races).
 abbrev pub variable_value : State → Bool → ℕ → Variable → Text
 variable_value s stuck n variable.State = activity (chip_of s) n
-variable_value s stuck n variable.Step = decimal (steps_of n s.kept)
-variable_value s stuck n variable.P = valued_word (record_at (chip_of s) n).p
-variable_value s stuck n variable.A = valued_word (record_at (chip_of s) n).a
-variable_value s stuck n variable.B = valued_word (record_at (chip_of s) n).b
-variable_value s stuck n variable.I = valued_word (record_at (chip_of s) n).i
-variable_value s stuck n variable.Slot = slot_words (record_at (chip_of s) n).slot
+variable_value s stuck n variable.Step = decimal (count_steps n s.kept)
+variable_value s stuck n variable.P = word_value_text (record_at (chip_of s) n).p
+variable_value s stuck n variable.A = word_value_text (record_at (chip_of s) n).a
+variable_value s stuck n variable.B = word_value_text (record_at (chip_of s) n).b
+variable_value s stuck n variable.I = word_value_text (record_at (chip_of s) n).i
+variable_value s stuck n variable.Slot = slot_state_text (record_at (chip_of s) n).slot
 variable_value s stuck n variable.Carry = decimal (from_bool (record_at (chip_of s) n).carry)
-variable_value s stuck n variable.Io = valued_word (record_at (chip_of s) n).io
-variable_value s stuck n (variable.DataWord k) = valued_word (slice_index (record_at (chip_of s) n).d k)
-variable_value s stuck n (variable.ReturnWord k) = valued_word (slice_index (record_at (chip_of s) n).r k)
-variable_value s stuck n (variable.Cell address) = valued_word (word_at (record_at (chip_of s) n) address)
-variable_value s stuck n (variable.Neighbour side) = neighbour_words (chip_of s) (neighbour_of n side)
-variable_value s stuck n variable.Stuck = stuck_words stuck
+variable_value s stuck n variable.Io = word_value_text (record_at (chip_of s) n).io
+variable_value s stuck n (variable.DataWord k) = word_value_text (slice_index (record_at (chip_of s) n).d k)
+variable_value s stuck n (variable.ReturnWord k) = word_value_text (slice_index (record_at (chip_of s) n).r k)
+variable_value s stuck n (variable.Cell address) = word_value_text (memory_word_at (record_at (chip_of s) n) address)
+variable_value s stuck n (variable.Neighbour side) = neighbour_text (chip_of s) (neighbour_of n side)
+variable_value s stuck n variable.Stuck = deadlock_text stuck
 
 -- an address of the chip in hexadecimal digits, as clients hand it back
 abbrev pub memory_reference : ℕ → Text
@@ -98,17 +98,17 @@ cell_object address name value =
     object (member (codes "memoryReference") (string (memory_reference address)) (member (codes "name") (string name)
     (member (codes "value") (string value) (member (codes "variablesReference") (whole_number 0) no_members))))
 
-abbrev pub data_of_variable : ℕ → Variable → Text → Text → Data
-data_of_variable n (variable.Cell address) name value = cell_object (chip_address n address) name value
-data_of_variable n other name value = variable_object name value
+abbrev pub variable_or_cell_object : ℕ → Variable → Text → Text → Data
+variable_or_cell_object n (variable.Cell address) name value = cell_object (chip_address n address) name value
+variable_or_cell_object n other name value = variable_object name value
 
-abbrev pub data_of : State → Bool → ℕ → Variable → Data
-data_of s stuck n one = data_of_variable n one (variable_name one) (variable_value s stuck n one)
+abbrev pub variable_value_object : State → Bool → ℕ → Variable → Data
+variable_value_object s stuck n one = variable_or_cell_object n one (variable_name one) (variable_value s stuck n one)
 
 -- the requested places: `count` from one on, or all remaining if the number is 0
-abbrev pub places_asked : ℕ → ℕ → ℕ → List ℕ
-places_asked size start count = range_with_len start (if count == 0 then size - start else min count (size - start))
+abbrev pub requested_range : ℕ → ℕ → ℕ → List ℕ
+requested_range size start count = range_with_len start (if count == 0 then size - start else min count (size - start))
 
-abbrev pub variables_in : State → Bool → ℕ → Scope → ℕ → ℕ → Data
-variables_in s stuck n of start count =
-    object_of (codes "variables") (array_of (λ k. data_of s stuck n (variable_at of k)) (places_asked (variable_count of) start count))
+abbrev pub variables_body : State → Bool → ℕ → Scope → ℕ → ℕ → Data
+variables_body s stuck n of start count =
+    object_of (codes "variables") (array_of (λ k. variable_value_object s stuck n (variable_at of k)) (requested_range (variable_count of) start count))

@@ -1,7 +1,7 @@
 -- The effect of a step, as made, on the entries of the return stack (F18A Technology Reference DB001, opcodes), and a window of
 -- entries that are followed back.
 use Rattle.ga_slots.specs.declared.op.Op.TheVariants as op
-use Rattle.ga_node.specs.declared.kind.Kind.TheVariants as kind
+use Rattle.ga_node.specs.declared.kind.OwnEventKind.TheVariants as kind
 use Rattle.ga_event.specs.declared.made.Made.TheVariants as made
 use Rattle.ga_dap_views.specs.declared.calls.ReturnStackEffect.TheVariants as shift
 use Rattle.std.specs.Prelude.{ℕ, ◌+◌, ◌-◌, ◌%◌, ◌==◌, Bool, true, false, ◌&&◌, if◌then◌else◌, List, [], ◌∷◌, ◌++◌, map, filter, Option, Some, None, option_map, unwrap_or, ◌≡◌}
@@ -9,7 +9,7 @@ use Rattle.std.specs.List.{range_with_len, slice_get}
 use Rattle.ga_slots.specs.declared.op.Op.{Op}
 use Rattle.ga_slots.specs.Codes.{op_of}
 use Rattle.ga_node.specs.Table.{r}
-use Rattle.ga_node.specs.declared.kind.Kind.{Kind}
+use Rattle.ga_node.specs.declared.kind.OwnEventKind.{OwnEventKind}
 use Rattle.ga_event.specs.declared.made.Made.{Made}
 use Rattle.ga_lab.specs.Machine.{State, history_of}
 use Rattle.ga_provenance.specs.Origins.{node_after}
@@ -32,7 +32,7 @@ shift_op op.Push last = shift.Pushes  -- 1d push
 shift_op _ last = shift.Stays
 
 -- the effect of an event of a node's own on the entries, and in `shift_told` that of a step as made
-abbrev pub shift_kind : Kind → Bool → ReturnStackEffect
+abbrev pub shift_kind : OwnEventKind → Bool → ReturnStackEffect
 shift_kind (kind.Run code) last = shift_op (op_of (code % 32)) last
 shift_kind _ last = shift.Stays
 

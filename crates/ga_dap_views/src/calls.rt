@@ -11,8 +11,8 @@ ghost use Rattle.ga_dap_views.specs.inner.{counted, shift_op, shift_at, is_calls
 use crate::spots::{SlotAddress, slot_address_at};
 use arrayvec::ArrayVec;
 use ga_grid::NodeId;
-use ga_lab::{Lab, Made, Walk};
-use ga_node::Kind;
+use ga_lab::{Lab, Made, NodeWalk};
+use ga_node::OwnEventKind;
 use ga_slots::Op;
 
 /// How many places the return stack has.
@@ -65,21 +65,21 @@ fn shift_of(op: Op) -> Option<ReturnStackEffect>
 }
 
 /// Whether R was 0 right before the step at a place. The node is walked back there.
-fn counts_out(walk: &mut Walk<'_>, at: u32) -> bool
+fn counts_out(walk: &mut NodeWalk<'_>, at: u32) -> bool
     requires order { at ≤ walk.old.step }
     ensures value { result ≡ (r (node_after walk.old.machine walk.old.node.number at) == 0) }
     ensures walk { walk.new ≡ node_at_step walk.old.machine walk.old.node at }
 {
     // Called for its contract: the node has the walk's number of steps.
     walk.step();
-    walk.back_to(at);
+    walk.walk_back_to(at);
     walk.node().r(0) == 0
 }
 
 /// What the step at a place does to the entries of the return stack. The node is walked back there only where R decides it.
 pub(crate) fn return_stack_effect(
     lab: &Lab,
-    walk: &mut Walk<'_>,
+    walk: &mut NodeWalk<'_>,
     node: NodeId,
     at: u32,
 ) -> ReturnStackEffect
@@ -91,10 +91,10 @@ pub(crate) fn return_stack_effect(
 {
     let Some(
         Made::Own {
-            kind: Kind::Run(code),
+            kind: OwnEventKind::Run(code),
             ..
         },
-    ) = lab.made_by_step(node, at)
+    ) = lab.made_event_of_step(node, at)
     else {
         return ReturnStackEffect::Stays;
     };
@@ -204,7 +204,7 @@ fn puts_call(window: Window, shift: ReturnStackEffect) -> bool
 /// Adds the call that a step is, where its entry is the first of a window. The node is walked back to right before it.
 fn add_call(
     lab: &Lab,
-    walk: &mut Walk<'_>,
+    walk: &mut NodeWalk<'_>,
     node: NodeId,
     window: Window,
     shift: ReturnStackEffect,

@@ -10,11 +10,11 @@ ghost use Rattle.ga_slots.specs.Codes.{name_of};
 ghost use Rattle.ga_dap_views.specs.Labels.{label_of_cell};
 ghost use Rattle.ga_dap_views.specs.Numbers.{chip_address};
 ghost use Rattle.ga_dap_views.specs.Variables.{memory_reference};
-ghost use Rattle.ga_dap_views.specs.Disassembly.{target_words, has_address, ends_word, address_words, behind_blank, slots_words, is_data, instruction_words, with_source_line, with_label, instruction_members, instruction, no_instruction, cell_in_node, instruction_at, disassembled};
+ghost use Rattle.ga_dap_views.specs.Disassembly.{jump_target_text, has_address, ends_word, slot_target_text, with_leading_blank, slots_text, is_data_in_source, instruction_text, with_source_line, with_label, instruction_members, instruction_object, no_instruction, cell_in_node, instruction_at, disassemble_body};
 
 use crate::frames::{SourceFile, source_object};
 use crate::json::object_with;
-use crate::labels::{add_label, label_of_cell, source_text_of_cell};
+use crate::labels::{add_label, label_of_cell, source_of_cell};
 use crate::numbers::chip_address;
 use crate::spots::memory_cell;
 use crate::texts::{add_hex3, add_hex6, address_text, text_with_number};
@@ -63,7 +63,7 @@ fn add_target(
     node: NodeId,
     address: u32,
 ) -> Result<(), AllocError>
-    ensures { OnOk result (string_bytes text.new ≡ string_bytes text.old ++ target_words notes.now node address) }
+    ensures { OnOk result (string_bytes text.new ≡ string_bytes text.old ++ jump_target_text notes.now node address) }
 {
     match target_label(notes, node, address) {
         Some(name) => add_label(alloc, text, name),
@@ -73,7 +73,7 @@ fn add_target(
 
 /// Adds the opcode of a slot, after a blank except for that of slot 0.
 fn add_op(text: &mut String, op: Op, slot: u8) -> Result<(), AllocError>
-    ensures { OnOk result (string_bytes text.new ≡ string_bytes text.old ++ behind_blank slot (name_of op)) }
+    ensures { OnOk result (string_bytes text.new ≡ string_bytes text.old ++ with_leading_blank slot (name_of op)) }
 {
     if slot > 0 {
         text.push_str(" ")?;
@@ -92,7 +92,7 @@ fn add_address(
     slot: u8,
 ) -> Result<(), AllocError>
     requires { slot < 4 }
-    ensures { OnOk result (string_bytes text.new ≡ string_bytes text.old ++ address_words notes.now node p word slot) }
+    ensures { OnOk result (string_bytes text.new ≡ string_bytes text.old ++ slot_target_text notes.now node p word slot) }
 {
     if slot == 3 {
         return Ok(());
@@ -113,7 +113,7 @@ fn add_slots(
     p: u32,
     word: Word18,
 ) -> Result<(), AllocError>
-    ensures { OnOk result (string_bytes text.new ≡ string_bytes text.old ++ slots_words notes.now node p word 0 4) }
+    ensures { OnOk result (string_bytes text.new ≡ string_bytes text.old ++ slots_text notes.now node p word 0 4) }
 {
     'slots: for slot in 0..4u8 {
         let op = opcode(word, slot);
@@ -127,8 +127,8 @@ fn add_slots(
 }
 
 /// Whether a cell is a literal or data, by its source.
-fn is_data(note: Option<&CellSource>) -> bool
-    ensures { result ≡ is_data (option_map (λ one. one.now) note.entry) }
+fn is_data_in_source(note: Option<&CellSource>) -> bool
+    ensures { result ≡ is_data_in_source (option_map (λ one. one.now) note.entry) }
 {
     match note {
         Some(note) => !note.is_code,
@@ -144,9 +144,9 @@ fn instruction_text(
     cell: u8,
     word: Word18,
 ) -> Result<String, AllocError>
-    ensures { IfOk result (λ text. string_bytes text ≡ instruction_words notes.now node cell word) }
+    ensures { IfOk result (λ text. string_bytes text ≡ instruction_text notes.now node cell word) }
 {
-    if is_data(source_text_of_cell(notes, node, cell)) {
+    if is_data_in_source(source_of_cell(notes, node, cell)) {
         return text_with_number(alloc, "word ", word.get());
     }
     let mut text = String::new(alloc);
@@ -225,7 +225,7 @@ fn instruction_members(
 ) -> Result<Map<String, Value>, AllocError>
     requires { address < 2 ^ 24 }
     ensures { IfOk result (λ members. members_view members.entries
-        ≡ instruction_members (memory_reference address) (instruction_words notes.now node cell word) (hex6_of word)) }
+        ≡ instruction_members (memory_reference address) (instruction_text notes.now node cell word) (hex6_of word)) }
 {
     let mut members = Map::new(alloc);
     let pointer = address_text(alloc, address)?;
@@ -238,7 +238,7 @@ fn instruction_members(
 }
 
 /// The cell at an address of the chip, as an instruction.
-fn instruction(
+fn instruction_object(
     alloc: Global,
     file: SourceFile<'_>,
     lab: &Lab,
@@ -248,16 +248,11 @@ fn instruction(
     address: u32,
 ) -> Result<Value, AllocError>
     requires { address < 2 ^ 24 }
-    ensures { IfOk result (λ v. (at : ℕ) → chip_address node.number at ≡ address → view v ≡ instruction file.entry notes.now lab.now node at cell) }
+    ensures { IfOk result (λ v. (at : ℕ) → chip_address node.number at ≡ address → view v ≡ instruction_object file.entry notes.now lab.now node at cell) }
 {
     let word = lab.memory(node, cell);
     let mut members = instruction_members(alloc, notes, node, cell, word, address)?;
-    put_line(
-        alloc,
-        &mut members,
-        file,
-        source_text_of_cell(notes, node, cell),
-    )?;
+    put_line(alloc, &mut members, file, source_of_cell(notes, node, cell))?;
     put_label(alloc, &mut members, label_of_cell(notes, node, cell))?;
     Ok(Value::Object(members))
 }
@@ -312,7 +307,7 @@ fn instruction_at(
 {
     let pointer = address_in_node(node, address);
     match cell_in_node(address) {
-        Some(cell) => instruction(alloc, file, lab, notes, node, cell, pointer),
+        Some(cell) => instruction_object(alloc, file, lab, notes, node, cell, pointer),
         None => no_instruction(alloc, pointer),
     }
 }
@@ -345,7 +340,7 @@ fn instructions(
 ///
 /// # Errors
 /// An allocation failed.
-pub fn disassembled(
+pub fn disassemble_body(
     alloc: Global,
     file: SourceFile<'_>,
     lab: &Lab,
@@ -355,7 +350,7 @@ pub fn disassembled(
     count: u32,
 ) -> Result<Value, AllocError>
     requires { first + count < 2 ^ 32 }
-    ensures { IfOk result (λ v. view v ≡ disassembled file.entry notes.now lab.now node first count) }
+    ensures { IfOk result (λ v. view v ≡ disassemble_body file.entry notes.now lab.now node first count) }
 {
     let list = instructions(alloc, file, lab, notes, node, first, first + count)?;
     object_with(alloc, "instructions", list)

@@ -3,7 +3,7 @@
 ghost use Rattle.std.specs.Prelude.{◌≡◌, ◌++◌, codes, string_bytes, IfOk, OnOk};
 ghost use Rattle.ga_node.specs.Record.{record_of};
 ghost use Rattle.ga_lab.specs.Machine.{chip_of};
-ghost use Rattle.ga_dap_views.specs.Activity.{side_name, behind_named, set_names, stop_words, activity_by, named_activity};
+ghost use Rattle.ga_dap_views.specs.Activity.{side_name, append_side_name, side_names, stop_text, wait_activity_text, named_activity};
 
 use crate::texts::add_node;
 use ga_grid::NodeId;
@@ -26,7 +26,7 @@ pub(crate) fn side_name(side: Side) -> &'static str
 
 /// Names a side, if the set has it, after those already named.
 fn add_side(text: &mut String, sides: PortSet, side: Side) -> Result<(), AllocError>
-    ensures { OnOk result (string_bytes text.new ≡ behind_named sides side (string_bytes text.old)) }
+    ensures { OnOk result (string_bytes text.new ≡ append_side_name sides side (string_bytes text.old)) }
 {
     if !sides.has(side) {
         return Ok(());
@@ -39,7 +39,7 @@ fn add_side(text: &mut String, sides: PortSet, side: Side) -> Result<(), AllocEr
 
 /// The names of a set's sides.
 fn names_of(alloc: Global, sides: PortSet) -> Result<String, AllocError>
-    ensures { IfOk result (λ text. string_bytes text ≡ set_names sides) }
+    ensures { IfOk result (λ text. string_bytes text ≡ side_names sides) }
 {
     let mut text = String::new(alloc);
     add_side(&mut text, sides, Side::Right)?;
@@ -50,7 +50,7 @@ fn names_of(alloc: Global, sides: PortSet) -> Result<String, AllocError>
 }
 
 fn words_of_stop(stop: u8) -> &'static str
-    ensures { result.now ≡ stop_words stop }
+    ensures { result.now ≡ stop_text stop }
 {
     match stop {
         0 => "runs",
@@ -62,7 +62,7 @@ fn words_of_stop(stop: u8) -> &'static str
 
 /// The text before the names of sides, and these.
 fn waiting(alloc: Global, before: &str, sides: PortSet) -> Result<String, AllocError>
-    ensures { IfOk result (λ text. string_bytes text ≡ before.now ++ set_names sides) }
+    ensures { IfOk result (λ text. string_bytes text ≡ before.now ++ side_names sides) }
 {
     let names = names_of(alloc, sides)?;
     format!(in alloc; "{before}{names}")
@@ -70,7 +70,7 @@ fn waiting(alloc: Global, before: &str, sides: PortSet) -> Result<String, AllocE
 
 /// What a node does.
 pub(crate) fn node_activity(alloc: Global, node: &Node) -> Result<String, AllocError>
-    ensures { IfOk result (λ text. string_bytes text ≡ activity_by (record_of node.now).wait (record_of node.now).stop) }
+    ensures { IfOk result (λ text. string_bytes text ≡ wait_activity_text (record_of node.now).wait (record_of node.now).stop) }
 {
     match node.wait() {
         Wait::Nothing => String::from_str(alloc, words_of_stop(node.stop())),

@@ -2,14 +2,14 @@
 
 ghost use Rattle.std.specs.Prelude.{◌≡◌, ◌<◌, ◌≤◌, map, IfSome};
 ghost use Rattle.std.specs.List.{range_with_len};
-ghost use Rattle.ga_event.specs.Told.{steps_of};
-ghost use Rattle.ga_dap_views.specs.Calls.{pushed_by_step, is_calling, return_entry_sources};
+ghost use Rattle.ga_event.specs.Told.{count_steps};
+ghost use Rattle.ga_dap_views.specs.Calls.{pushed_by_step, is_call_step, return_entry_sources};
 ghost use Rattle.ga_dap_views.specs.inner.{entry_before};
 
 use crate::calls::{ReturnStackEffect, return_stack_effect};
 use ga_grid::NodeId;
 use ga_lab::{Lab, Made};
-use ga_node::Kind;
+use ga_node::OwnEventKind;
 use ga_slots::Op;
 
 /// The place of an entry before a step, by its place after it.
@@ -48,7 +48,7 @@ fn entries_before(shift: ReturnStackEffect) -> [Option<u8>; 9]
 /// `step` steps; none if the step put it there.
 #[tactic(auto, using(crate::proofs::Putting::entries_so))]
 pub fn return_entry_sources(lab: &Lab, node: NodeId, step: u32) -> [Option<u8>; 9]
-    requires { step ≤ steps_of node.number lab.now.kept }
+    requires { step ≤ count_steps node.number lab.now.kept }
     ensures { result ≡ return_entry_sources lab.now node step }
 {
     let mut walk = lab.walk(node, step);
@@ -58,7 +58,7 @@ pub fn return_entry_sources(lab: &Lab, node: NodeId, step: u32) -> [Option<u8>; 
 /// The number of the step that put the entry at a place of the return stack after `step` steps of a node; 0 if it was there at
 /// load. Takes time linear in the number of steps that the node made since.
 pub fn pushed_by_step(lab: &Lab, node: NodeId, step: u32, behind: u8) -> u32
-    requires step { step ≤ steps_of node.number lab.now.kept }
+    requires step { step ≤ count_steps node.number lab.now.kept }
     requires place { behind < 9 }
     ensures value { result ≡ pushed_by_step lab.now node step behind }
     ensures within { result ≤ step }
@@ -78,16 +78,16 @@ pub fn pushed_by_step(lab: &Lab, node: NodeId, step: u32, behind: u8) -> u32
 }
 
 /// Whether the step of a node with this number is a call.
-pub fn is_calling(lab: &Lab, node: NodeId, step: u32) -> bool
-    ensures { result ≡ is_calling lab.now node step }
+pub fn is_call_step(lab: &Lab, node: NodeId, step: u32) -> bool
+    ensures { result ≡ is_call_step lab.now node step }
 {
     if step == 0 {
         return false;
     }
-    match lab.made_by_step(node, step - 1) {
+    match lab.made_event_of_step(node, step - 1) {
         Some(
             Made::Own {
-                kind: Kind::Run(code),
+                kind: OwnEventKind::Run(code),
                 ..
             },
         ) => match Op::from_code(code % 32) {

@@ -5,12 +5,12 @@ ghost use Rattle.std.specs.List.{range_with_len, slice_get};
 ghost use Rattle.serde_json.specs.Data.{array};
 ghost use Rattle.serde_json.specs.View.{view, items_view};
 ghost use Rattle.ga_dap_views.specs.Calls.{open_calls};
-ghost use Rattle.ga_dap_views.specs.Frames.{source_object, lined_frame, bare_frame, outside_frame, place_words, frame_name, frame_on, frame, call_spot, level_spot, stack_object, stack_trace};
-ghost use Rattle.ga_dap_views.specs.Variables.{memory_reference, places_asked};
+ghost use Rattle.ga_dap_views.specs.Frames.{source_object, lined_frame, bare_frame, outside_frame, location_text, frame_name, memory_frame, frame, call_slot_address, frame_slot_address, stack_object, stack_trace};
+ghost use Rattle.ga_dap_views.specs.Variables.{memory_reference, requested_range};
 
 use crate::calls::{OpenCall, open_calls};
 use crate::labels::{add_cell, source_word_of_slot};
-use crate::numbers::{chip_address, frame_of};
+use crate::numbers::{chip_address, frame_id};
 use crate::spots::{SlotAddress, slot_address_after};
 use crate::texts::{add_node, address_text};
 use ga_debug_info::{DebugInfo, SlotWord};
@@ -74,7 +74,7 @@ fn add_place(
     node: NodeId,
     spot: Option<SlotAddress>,
 ) -> Result<(), AllocError>
-    ensures { OnOk result (string_bytes text.new ≡ string_bytes text.old ++ place_words notes.now node spot) }
+    ensures { OnOk result (string_bytes text.new ≡ string_bytes text.old ++ location_text notes.now node spot) }
 {
     match spot {
         Some(spot) => add_cell(alloc, text, notes, node, spot.cell),
@@ -98,7 +98,7 @@ fn frame_name(
 }
 
 /// A frame at a cell, with the word of the source where one is.
-fn frame_on(
+fn memory_frame(
     alloc: Global,
     file: SourceFile<'_>,
     id: u64,
@@ -107,7 +107,7 @@ fn frame_on(
     word: Option<SlotWord>,
 ) -> Result<Value, AllocError>
     requires { address < 2 ^ 24 }
-    ensures { IfOk result (λ v. view v ≡ frame_on file.entry id name.now (memory_reference address) word) }
+    ensures { IfOk result (λ v. view v ≡ memory_frame file.entry id name.now (memory_reference address) word) }
 {
     let pointer = address_text(alloc, address)?;
     match word {
@@ -132,12 +132,12 @@ fn frame(
     ensures { IfOk result (λ v. view v ≡ frame file.entry notes.now node level spot) }
 {
     let name = frame_name(alloc, notes, node, spot)?;
-    let id = frame_of(node, level);
+    let id = frame_id(node, level);
     match spot {
         None => outside_frame(alloc, id, name.as_str()),
         Some(spot) => {
             let word = source_word_of_slot(notes, node, spot);
-            frame_on(
+            memory_frame(
                 alloc,
                 file,
                 id,
@@ -150,8 +150,8 @@ fn frame(
 }
 
 /// The position of a call, of those in a list.
-fn call_spot(calls: &[OpenCall], place: u8) -> Option<SlotAddress>
-    ensures { result ≡ call_spot (slice_get calls.now place) }
+fn call_slot_address(calls: &[OpenCall], place: u8) -> Option<SlotAddress>
+    ensures { result ≡ call_slot_address (slice_get calls.now place) }
 {
     match calls.get(usize::from(place)) {
         Some(call) => call.at,
@@ -160,14 +160,14 @@ fn call_spot(calls: &[OpenCall], place: u8) -> Option<SlotAddress>
 }
 
 /// The position of the frame of a level.
-fn level_spot(lab: &Lab, node: NodeId, calls: &[OpenCall], level: u8) -> Option<SlotAddress>
+fn frame_slot_address(lab: &Lab, node: NodeId, calls: &[OpenCall], level: u8) -> Option<SlotAddress>
     requires { calls.now ≡ open_calls lab.now node }
-    ensures { result ≡ level_spot lab.now node level }
+    ensures { result ≡ frame_slot_address lab.now node level }
 {
     if level == 0 {
         return slot_address_after(lab, node, lab.steps(node));
     }
-    call_spot(calls, level - 1)
+    call_slot_address(calls, level - 1)
 }
 
 /// The frames from one level on and before another.
@@ -185,11 +185,11 @@ fn frames(
     requires order { first ≤ end }
     requires few { end ≤ 16 }
     ensures { IfOk result (λ list. map view list.items
-        ≡ map (λ k. frame file.entry notes.now node k (level_spot lab.now node k)) (range_with_len first (end - first))) }
+        ≡ map (λ k. frame file.entry notes.now node k (frame_slot_address lab.now node k)) (range_with_len first (end - first))) }
 {
     let mut list = Vec::new(alloc);
     'levels: for level in first..end {
-        let spot = level_spot(lab, node, calls, level);
+        let spot = frame_slot_address(lab, node, calls, level);
         let value = frame(alloc, file, notes, node, level, spot)?;
         push(&mut list, value)?;
     }
@@ -216,7 +216,7 @@ fn many_asked(left: u64, count: u64) -> u64
 #[tactic(auto, using(crate::proofs::Lists::places_so))]
 fn levels_asked(total: u64, start: u64, count: u64) -> (u8, u8)
     requires { total ≤ 16 }
-    ensures places { range_with_len result.0 (result.1 - result.0) ≡ places_asked total start count }
+    ensures places { range_with_len result.0 (result.1 - result.0) ≡ requested_range total start count }
     ensures order { result.0 ≤ result.1 }
     ensures within { result.1 ≤ total }
 {

@@ -2,9 +2,9 @@
 
 ghost use Rattle.std.specs.Prelude.{◌≡◌, ◌++◌, ◌/◌, ◌*◌, ◌%◌, position, option_map, string_bytes, OnOk};
 ghost use Rattle.std.specs.Str.Lossy.{utf8_lossy};
-ghost use Rattle.ga_debug_info.specs.Notes.{is_note_of};
-ghost use Rattle.ga_debug_info.specs.Source.{nearest_found};
-ghost use Rattle.ga_dap_views.specs.Labels.{is_same_cell, is_name_at, place_of_label, label_of_cell, label_near, behind_words, cell_words, source_text_of_cell, source_word_of_slot, line_at, is_on_line, line_start};
+ghost use Rattle.ga_debug_info.specs.Notes.{is_source_of_cell};
+ghost use Rattle.ga_debug_info.specs.Source.{nearest_result};
+ghost use Rattle.ga_dap_views.specs.Labels.{is_label_cell, is_label_at, label_place_of_cell, label_of_cell, nearest_label, distance_text, cell_location_text, source_of_cell, source_word_of_slot, source_line_of_slot, is_code_word_on_line, line_start};
 
 use crate::spots::{SlotAddress, memory_cell};
 use crate::texts::add_hex2;
@@ -12,8 +12,8 @@ use ga_debug_info::{CellSource, DebugInfo, DisplayedWord, LabelAddress, SlotWord
 use ga_grid::NodeId;
 use std::alloc::{AllocError, Global};
 
-fn is_same_cell(cell: u8, found: Option<u8>) -> bool
-    ensures { result ≡ is_same_cell cell found }
+fn is_label_cell(cell: u8, found: Option<u8>) -> bool
+    ensures { result ≡ is_label_cell cell found }
 {
     match found {
         Some(found) => found == cell,
@@ -22,44 +22,44 @@ fn is_same_cell(cell: u8, found: Option<u8>) -> bool
 }
 
 /// Whether a label of the node is at the cell.
-fn is_name_at(name: &LabelAddress, node: NodeId, cell: u8) -> bool
-    ensures { result ≡ is_name_at node cell name.now }
+fn is_label_at(name: &LabelAddress, node: NodeId, cell: u8) -> bool
+    ensures { result ≡ is_label_at node cell name.now }
 {
-    name.node == node && is_same_cell(cell, memory_cell(name.address))
+    name.node == node && is_label_cell(cell, memory_cell(name.address))
 }
 
-fn place_of_label(names: &[LabelAddress], node: NodeId, cell: u8) -> Option<usize>
-    ensures { result ≡ place_of_label names.now node cell }
+fn label_place_of_cell(names: &[LabelAddress], node: NodeId, cell: u8) -> Option<usize>
+    ensures { result ≡ label_place_of_cell names.now node cell }
 {
-    names.iter().position(|name| is_name_at(name, node, cell))
+    names.iter().position(|name| is_label_at(name, node, cell))
 }
 
 /// The place of the label at a cell, or of the nearest before it in the same memory.
 fn place_near(names: &[LabelAddress], node: NodeId, cell: u8) -> Option<usize>
-    ensures { result ≡ nearest_found (place_of_label names.now node) (cell / 64 * 64) (cell % 64) }
+    ensures { result ≡ nearest_result (label_place_of_cell names.now node) (cell / 64 * 64) (cell % 64) }
 {
     let first = cell / 64 * 64;
     let mut behind = cell % 64;
     'looking: while behind > 0 {
-        match place_of_label(names, node, first + behind) {
+        match label_place_of_cell(names, node, first + behind) {
             Some(place) => return Some(place),
             None => behind -= 1,
         }
     }
-    place_of_label(names, node, first)
+    label_place_of_cell(names, node, first)
 }
 
 /// The label at a cell.
 pub(crate) fn label_of_cell(notes: &DebugInfo, node: NodeId, cell: u8) -> Option<&LabelAddress>
     ensures { option_map (λ name. name.now) result ≡ label_of_cell notes.now.names.items node cell }
 {
-    let place = place_of_label(notes.names.as_slice(), node, cell)?;
+    let place = label_place_of_cell(notes.names.as_slice(), node, cell)?;
     notes.names.get(place)
 }
 
 /// The label at a cell, or the nearest before it in the same memory.
-fn label_near(notes: &DebugInfo, node: NodeId, cell: u8) -> Option<&LabelAddress>
-    ensures { option_map (λ name. name.now) result ≡ label_near notes.now.names.items node cell }
+fn nearest_label(notes: &DebugInfo, node: NodeId, cell: u8) -> Option<&LabelAddress>
+    ensures { option_map (λ name. name.now) result ≡ nearest_label notes.now.names.items node cell }
 {
     let place = place_near(notes.names.as_slice(), node, cell)?;
     notes.names.get(place)
@@ -67,7 +67,7 @@ fn label_near(notes: &DebugInfo, node: NodeId, cell: u8) -> Option<&LabelAddress
 
 /// Adds the distance of a cell after its label.
 fn add_behind(text: &mut String, behind: u8) -> Result<(), AllocError>
-    ensures { OnOk result (string_bytes text.new ≡ string_bytes text.old ++ behind_words behind) }
+    ensures { OnOk result (string_bytes text.new ≡ string_bytes text.old ++ distance_text behind) }
 {
     if behind == 0 {
         return Ok(());
@@ -95,9 +95,9 @@ pub(crate) fn add_cell(
     node: NodeId,
     cell: u8,
 ) -> Result<(), AllocError>
-    ensures { OnOk result (string_bytes text.new ≡ string_bytes text.old ++ cell_words notes.now node cell) }
+    ensures { OnOk result (string_bytes text.new ≡ string_bytes text.old ++ cell_location_text notes.now node cell) }
 {
-    match label_near(notes, node, cell) {
+    match nearest_label(notes, node, cell) {
         None => add_hex2(text, cell),
         Some(name) => {
             add_label(alloc, text, name)?;
@@ -110,15 +110,15 @@ pub(crate) fn add_cell(
 }
 
 /// The note of the source for a cell.
-pub(crate) fn source_text_of_cell(notes: &DebugInfo, node: NodeId, cell: u8) -> Option<&CellSource>
-    ensures { option_map (λ note. note.now) result ≡ source_text_of_cell notes.now node cell }
+pub(crate) fn source_of_cell(notes: &DebugInfo, node: NodeId, cell: u8) -> Option<&CellSource>
+    ensures { option_map (λ note. note.now) result ≡ source_of_cell notes.now node cell }
 {
     let place = place_of_note(notes.notes.as_slice(), node, cell)?;
     notes.notes.get(place)
 }
 
 fn place_of_note(notes: &[CellSource], node: NodeId, cell: u8) -> Option<usize>
-    ensures { result ≡ position (is_note_of node cell) notes.now }
+    ensures { result ≡ position (is_source_of_cell node cell) notes.now }
 {
     notes
         .iter()
@@ -137,8 +137,8 @@ pub(crate) fn source_word_of_slot(
 }
 
 /// The line of a slot in the source.
-pub fn line_at(notes: &DebugInfo, node: NodeId, spot: SlotAddress) -> Option<u32>
-    ensures { result ≡ line_at notes.now node spot }
+pub fn source_line_of_slot(notes: &DebugInfo, node: NodeId, spot: SlotAddress) -> Option<u32>
+    ensures { result ≡ source_line_of_slot notes.now node spot }
 {
     match source_word_of_slot(notes, node, spot) {
         Some(word) => Some(word.line),
@@ -158,14 +158,16 @@ pub fn line_start(notes: &DebugInfo, node: NodeId, line: u32) -> Option<SlotWord
 }
 
 fn place_on_line(words: &[DisplayedWord], node: NodeId, line: u32) -> Option<usize>
-    ensures { result ≡ position (is_on_line node line) words.now }
+    ensures { result ≡ position (is_code_word_on_line node line) words.now }
 {
-    words.iter().position(|told| is_on_line(told, node, line))
+    words
+        .iter()
+        .position(|told| is_code_word_on_line(told, node, line))
 }
 
 /// Whether a slot of an instruction word of the node comes from a word, and that is on the line.
-fn is_on_line(told: &DisplayedWord, node: NodeId, line: u32) -> bool
-    ensures { result ≡ is_on_line node line told.now }
+fn is_code_word_on_line(told: &DisplayedWord, node: NodeId, line: u32) -> bool
+    ensures { result ≡ is_code_word_on_line node line told.now }
 {
     let word = told.word;
     word.is_code && word.node == node && word.line == line

@@ -18,15 +18,15 @@ mod values;
 mod variable;
 
 pub use calls::{OpenCall, open_calls};
-pub use disassembly::disassembled;
+pub use disassembly::disassemble_body;
 pub use doing::thread_title;
-pub use entries::{is_calling, pushed_by_step, return_entry_sources};
+pub use entries::{is_call_step, pushed_by_step, return_entry_sources};
 pub use frames::{SourceFile, stack_trace};
-pub use labels::{line_at, line_start};
+pub use labels::{line_start, source_line_of_slot};
 pub use listing::{scopes, variables};
 pub use numbers::{
-    cell_at_chip_address, chip_address, frame_of, node_of_frame, node_of_thread, reference_of,
-    resolve_reference, thread_of,
+    cell_at_chip_address, chip_address, frame_id, node_of_frame, node_of_thread, resolve_reference,
+    thread_id, variables_reference,
 };
 pub use scope::Scope;
 pub use spots::{SlotAddress, memory_cell, slot_address_after, slot_address_at, slot_and_p};

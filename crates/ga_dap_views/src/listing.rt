@@ -4,10 +4,10 @@ ghost use Rattle.std.specs.Prelude.{◌≡◌, true, false, ◌<◌, ◌+◌, �
 ghost use Rattle.std.specs.List.{range_with_len};
 ghost use Rattle.serde_json.specs.View.{view};
 ghost use Rattle.ga_dap_views.specs.Shown.{IsVariable, variable_at, variable_count};
-ghost use Rattle.ga_dap_views.specs.Variables.{scope_name, scope_object, is_memory_scope, scope_of, all_scopes, scopes_of, variable_object, cell_object, data_of_variable, data_of, variables_in};
+ghost use Rattle.ga_dap_views.specs.Variables.{scope_name, scope_object, is_memory_scope, node_scope_object, all_scopes, scopes_body, variable_object, cell_object, variable_or_cell_object, variable_value_object, variables_body};
 
 use crate::json::object_with;
-use crate::numbers::{chip_address, reference_of};
+use crate::numbers::{chip_address, variables_reference};
 use crate::scope::Scope;
 use crate::texts::address_text;
 use crate::values::value_of;
@@ -58,10 +58,10 @@ fn plain_scope(alloc: Global, name: &str, reference: u64) -> Result<Value, Alloc
 
 /// A scope of a node.
 fn scope(alloc: Global, node: NodeId, scope: Scope) -> Result<Value, AllocError>
-    ensures { IfOk result (λ v. view v ≡ scope_of node.number scope) }
+    ensures { IfOk result (λ v. view v ≡ node_scope_object node.number scope) }
 {
     let name = name_of_scope(scope);
-    let reference = reference_of(node, scope);
+    let reference = variables_reference(node, scope);
     match scope {
         Scope::Ram => memory_object(alloc, 64, name, reference),
         Scope::Rom => memory_object(alloc, 64, name, reference),
@@ -72,7 +72,7 @@ fn scope(alloc: Global, node: NodeId, scope: Scope) -> Result<Value, AllocError>
 /// The scopes of a node, in order.
 #[tactic(auto, using(crate::proofs::Lists::take_step))]
 fn all_of(alloc: Global, node: NodeId) -> Result<Vec<Value>, AllocError>
-    ensures { IfOk result (λ list. map view list.items ≡ map (scope_of node.number) all_scopes) }
+    ensures { IfOk result (λ list. map view list.items ≡ map (node_scope_object node.number) all_scopes) }
 {
     let mut list = Vec::new(alloc);
     'scopes: for place in 0..6u8 {
@@ -88,7 +88,7 @@ fn all_of(alloc: Global, node: NodeId) -> Result<Vec<Value>, AllocError>
 /// # Errors
 /// An allocation failed.
 pub fn scopes(alloc: Global, node: NodeId) -> Result<Value, AllocError>
-    ensures { IfOk result (λ v. view v ≡ scopes_of node.number) }
+    ensures { IfOk result (λ v. view v ≡ scopes_body node.number) }
 {
     let list = all_of(alloc, node)?;
     object_with(alloc, "scopes", list)
@@ -121,7 +121,7 @@ fn variable(
     variable: Variable,
 ) -> Result<Value, AllocError>
     requires { IsVariable variable }
-    ensures { IfOk result (λ v. view v ≡ data_of lab.now stuck node.number variable) }
+    ensures { IfOk result (λ v. view v ≡ variable_value_object lab.now stuck node.number variable) }
 {
     let name = variable_name(alloc, variable)?;
     let value = value_of(alloc, lab, stuck, node, variable)?;
@@ -150,7 +150,7 @@ fn between(
     requires order { first ≤ end }
     requires within { end ≤ variable_count at.1 }
     ensures { IfOk result (λ list. map view list.items
-        ≡ map (λ k. data_of lab.now stuck at.0.number (variable_at at.1 k)) (range_with_len first (end - first))) }
+        ≡ map (λ k. variable_value_object lab.now stuck at.0.number (variable_at at.1 k)) (range_with_len first (end - first))) }
 {
     let mut list = Vec::new(alloc);
     'places: for place in first..end {
@@ -173,7 +173,7 @@ pub fn variables(
     start: u64,
     count: u64,
 ) -> Result<Value, AllocError>
-    ensures { IfOk result (λ v. view v ≡ variables_in lab.now stuck at.0.number at.1 start count) }
+    ensures { IfOk result (λ v. view v ≡ variables_body lab.now stuck at.0.number at.1 start count) }
 {
     let size = u64::from(count_variables(at.1));
     let left = size.saturating_sub(start);

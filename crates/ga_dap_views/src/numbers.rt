@@ -2,43 +2,43 @@
 
 ghost use Rattle.std.specs.Prelude.{◌≡◌, ◌≢◌, ◌<◌, ◌≤◌, ◌^◌, ℕ, IfSome, IfNone};
 ghost use Rattle.ga_dap_views.specs.declared.scope.Scope.{Scope as ScopeKind};
-ghost use Rattle.ga_dap_views.specs.Numbers.{thread_of, frame_of, scope_number, reference_of, chip_address};
+ghost use Rattle.ga_dap_views.specs.Numbers.{thread_id, frame_id, scope_number, variables_reference, chip_address};
 
 use crate::scope::Scope;
-use ga_grid::{NODES, NodeId};
+use ga_grid::{CHIP_NODES, NodeId};
 
 /// The thread of a node.
-pub fn thread_of(node: NodeId) -> u64
-    ensures { result ≡ thread_of node.number }
+pub fn thread_id(node: NodeId) -> u64
+    ensures { result ≡ thread_id node.number }
 {
     1000 + u64::from(node.yxx())
 }
 
 /// The node of a thread, where there is one.
 pub fn node_of_thread(thread: u64) -> Option<NodeId>
-    ensures found { IfSome result (λ node. thread_of node.number ≡ thread) }
-    ensures none { IfNone result ((n : ℕ) → n < 144 → thread_of n ≢ thread) }
+    ensures found { IfSome result (λ node. thread_id node.number ≡ thread) }
+    ensures none { IfNone result ((n : ℕ) → n < 144 → thread_id n ≢ thread) }
 {
     let yxx = u32::try_from(thread.checked_sub(1000)?).ok()?;
     NodeId::from_yxx(yxx)
 }
 
 /// A frame of a node, by its level: the number of frames above it.
-pub fn frame_of(node: NodeId, level: u8) -> u64
+pub fn frame_id(node: NodeId, level: u8) -> u64
     requires { level < 16 }
-    ensures { result ≡ frame_of node.number level }
+    ensures { result ≡ frame_id node.number level }
 {
     1 + 16 * u64::from(node.number) + u64::from(level)
 }
 
 /// The node of a frame and its level, the number of frames above it; none if the number is no frame's.
 pub fn node_of_frame(frame: u64) -> Option<(NodeId, u8)>
-    ensures found { IfSome result (λ at. frame_of at.0.number at.1 ≡ frame) }
+    ensures found { IfSome result (λ at. frame_id at.0.number at.1 ≡ frame) }
     ensures level { IfSome result (λ at. at.1 < 16) }
-    ensures none { IfNone result ((n level : ℕ) → n < 144 → level < 16 → frame_of n level ≢ frame) }
+    ensures none { IfNone result ((n level : ℕ) → n < 144 → level < 16 → frame_id n level ≢ frame) }
 {
     let place = frame.checked_sub(1)?;
-    if place >= 16 * NODES as u64 {
+    if place >= 16 * CHIP_NODES as u64 {
         return None;
     }
     Some((NodeId::new((place / 16) as u8), (place % 16) as u8))
@@ -75,19 +75,19 @@ pub(crate) fn scope_of_number(number: u64) -> Option<Scope>
 }
 
 /// The variables of a node's scope.
-pub fn reference_of(node: NodeId, scope: Scope) -> u64
-    ensures { result ≡ reference_of node.number scope }
+pub fn variables_reference(node: NodeId, scope: Scope) -> u64
+    ensures { result ≡ variables_reference node.number scope }
 {
     1 + 8 * u64::from(node.number) + number_of_scope(scope)
 }
 
 /// The node and the scope whose variables a reference is, where there are.
 pub fn resolve_reference(reference: u64) -> Option<(NodeId, Scope)>
-    ensures found { IfSome result (λ at. reference_of at.0.number at.1 ≡ reference) }
-    ensures none { IfNone result ((n : ℕ) (scope : ScopeKind) → n < 144 → reference_of n scope ≢ reference) }
+    ensures found { IfSome result (λ at. variables_reference at.0.number at.1 ≡ reference) }
+    ensures none { IfNone result ((n : ℕ) (scope : ScopeKind) → n < 144 → variables_reference n scope ≢ reference) }
 {
     let place = reference.checked_sub(1)?;
-    if place >= 8 * NODES as u64 {
+    if place >= 8 * CHIP_NODES as u64 {
         return None;
     }
     let scope = scope_of_number(place % 8)?;

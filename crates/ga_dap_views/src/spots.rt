@@ -2,15 +2,15 @@
 
 ghost use Rattle.std.specs.Prelude.{◌≡◌, ◌≤◌, option_map};
 ghost use Rattle.ga_node.specs.Record.{record_of};
-ghost use Rattle.ga_event.specs.Told.{steps_of};
+ghost use Rattle.ga_event.specs.Told.{count_steps};
 ghost use Rattle.ga_lab.specs.Machine.{node_at_step};
 ghost use Rattle.ga_debug_info.specs.Source.{cell_of_address};
 ghost use Rattle.ga_dap_views.specs.Spots.{slot_address, slot_address_after};
 
 use ga_grid::NodeId;
-use ga_lab::{Lab, Walk};
+use ga_lab::{Lab, NodeWalk};
 use ga_node::{Node, Place};
-use ga_ports::{Target, classify};
+use ga_ports::{Target, classify_address};
 use ga_provenance::fetched_cell_at;
 
 /// A slot of a cell.
@@ -26,7 +26,7 @@ pub struct SlotAddress {
 pub fn memory_cell(address: u32) -> Option<u8>
     ensures { result ≡ cell_of_address address }
 {
-    match classify(address) {
+    match classify_address(address) {
         Target::Ram(cell) => Some(cell),
         Target::Rom(cell) => Some(128 + cell),
         _ => None,
@@ -44,7 +44,7 @@ pub fn slot_and_p(node: &Node) -> (u8, u32)
 
 /// The position of a node at the step of a walk of it. Takes time linear in the number of steps that it made since the fetch of
 /// its instruction word.
-fn spot_at(lab: &Lab, walk: &Walk<'_>, node: NodeId) -> Option<SlotAddress>
+fn spot_at(lab: &Lab, walk: &NodeWalk<'_>, node: NodeId) -> Option<SlotAddress>
     requires { walk.now ≡ node_at_step lab.now node walk.now.step }
     ensures { result ≡ slot_address_after lab.now node walk.now.step }
 {
@@ -72,7 +72,7 @@ fn due_spot(p: u32) -> Option<SlotAddress>
 /// The position of a node after `step` of its steps, to which it is walked back.
 pub fn slot_address_at(
     lab: &Lab,
-    walk: &mut Walk<'_>,
+    walk: &mut NodeWalk<'_>,
     node: NodeId,
     step: u32,
 ) -> Option<SlotAddress>
@@ -81,7 +81,7 @@ pub fn slot_address_at(
     ensures spot { result ≡ slot_address_after lab.now node step }
     ensures walk { walk.new ≡ node_at_step lab.now node step }
 {
-    walk.back_to(step);
+    walk.walk_back_to(step);
     spot_at(lab, walk, node)
 }
 
@@ -89,7 +89,7 @@ pub fn slot_address_at(
 /// next. None if its code was in no memory. Takes time linear in the number of steps that the node made since, or since the
 /// fetch before.
 pub fn slot_address_after(lab: &Lab, node: NodeId, step: u32) -> Option<SlotAddress>
-    requires { step ≤ steps_of node.number lab.now.kept }
+    requires { step ≤ count_steps node.number lab.now.kept }
     ensures { result ≡ slot_address_after lab.now node step }
 {
     spot_at(lab, &lab.walk(node, step), node)

@@ -5,7 +5,7 @@ ghost use Rattle.hex.specs.Hex.{lower_digits};
 ghost use Rattle.ga_word.specs.Word.{hex6_of};
 ghost use Rattle.ga_grid.specs.Grid.{yxx_of};
 ghost use Rattle.ga_text.specs.Digits.{decimal3_of, hex2_of};
-ghost use Rattle.ga_dap_views.specs.Activity.{negative_text, valued_word};
+ghost use Rattle.ga_dap_views.specs.Activity.{negative_text, word_value_text};
 ghost use Rattle.ga_dap_views.specs.Variables.{memory_reference};
 ghost use Rattle.ga_dap_views.specs.Disassembly.{hex3_of};
 
@@ -83,7 +83,7 @@ pub(crate) fn text_with_number(
 /// A word: its six digits, the number, and the negative number where its highest bit is set.
 pub(crate) fn word_text(alloc: Global, word: u32) -> Result<String, AllocError>
     requires { word < 2 ^ 18 }
-    ensures { IfOk result (λ text. string_bytes text ≡ valued_word word) }
+    ensures { IfOk result (λ text. string_bytes text ≡ word_value_text word) }
 {
     let mut text = String::new(alloc);
     add_hex6(&mut text, word)?;

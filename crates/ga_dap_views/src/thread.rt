@@ -2,18 +2,18 @@
 
 ghost use Rattle.std.specs.Prelude.{◌≡◌, ◌++◌, ◌∷◌, [], IfOk, OnOk, map, filter};
 ghost use Rattle.serde_json.specs.View.{view};
-ghost use Rattle.ga_ports.specs.Address.{classified};
+ghost use Rattle.ga_ports.specs.Address.{address_target};
 ghost use Rattle.ga_node.specs.Record.{record_of};
 ghost use Rattle.ga_dap_views.specs.Json.{array_of, object_of};
-ghost use Rattle.ga_dap_views.specs.Threads.{named_thread, thread_in, has_thread, is_in_memory, is_among_nodes, with_threads, threads_in};
+ghost use Rattle.ga_dap_views.specs.Threads.{named_thread, thread_in, has_thread, is_in_memory, is_among_nodes, nodes_with_threads, threads_body};
 
 use crate::doing::thread_title;
 use crate::json::object_with;
-use crate::numbers::thread_of;
+use crate::numbers::thread_id;
 use ga_grid::NodeId;
 use ga_lab::Lab;
 use ga_node::{Node, Place};
-use ga_ports::{Target, classify};
+use ga_ports::{Target, classify_address};
 use serde_json::{Value, json, push};
 use std::alloc::{AllocError, Global};
 
@@ -22,7 +22,7 @@ use std::alloc::{AllocError, Global};
 fn thread_object(alloc: Global, node: NodeId, name: &str) -> Result<Value, AllocError>
     ensures { IfOk result (λ v. view v ≡ named_thread node.number name.now) }
 {
-    json!(in alloc; {"id": thread_of(node), "name": name})
+    json!(in alloc; {"id": thread_id(node), "name": name})
 }
 
 /// The thread of a node.
@@ -36,9 +36,9 @@ fn thread(alloc: Global, lab: &Lab, node: NodeId) -> Result<Value, AllocError>
 /// Whether a node's P names a cell of memory.
 #[tactic(auto, unfolding(ga_node::specs::Record::record_of))]
 fn is_in_memory(node: &Node) -> bool
-    ensures { result ≡ is_in_memory (classified (record_of node.now).p) }
+    ensures { result ≡ is_in_memory (address_target (record_of node.now).p) }
 {
-    match classify(node.get(Place::P)) {
+    match classify_address(node.get(Place::P)) {
         Target::Ram(_) => true,
         Target::Rom(_) => true,
         _ => false,
@@ -79,7 +79,7 @@ fn add_thread(
 
 /// The threads of the nodes that have something to show.
 fn shown(alloc: Global, lab: &Lab, programs: &[NodeId]) -> Result<Vec<Value>, AllocError>
-    ensures { IfOk result (λ list. map view list.items ≡ map (thread_in lab.now) (with_threads lab.now programs.now 144)) }
+    ensures { IfOk result (λ list. map view list.items ≡ map (thread_in lab.now) (nodes_with_threads lab.now programs.now 144)) }
 {
     let mut list = Vec::new(alloc);
     'nodes: for number in 0..144u8 {
@@ -94,7 +94,7 @@ fn shown(alloc: Global, lab: &Lab, programs: &[NodeId]) -> Result<Vec<Value>, Al
 /// # Errors
 /// An allocation failed.
 pub fn threads(alloc: Global, lab: &Lab, programs: &[NodeId]) -> Result<Value, AllocError>
-    ensures { IfOk result (λ v. view v ≡ threads_in lab.now programs.now) }
+    ensures { IfOk result (λ v. view v ≡ threads_body lab.now programs.now) }
 {
     let list = shown(alloc, lab, programs)?;
     object_with(alloc, "threads", list)

@@ -5,7 +5,7 @@ ghost use Rattle.ga_node.specs.Record.{record_of};
 ghost use Rattle.ga_grid.specs.Grid.{neighbour_of};
 ghost use Rattle.ga_lab.specs.Machine.{chip_of};
 ghost use Rattle.ga_dap_views.specs.Shown.{IsVariable};
-ghost use Rattle.ga_dap_views.specs.Variables.{slot_words, neighbour_words, stuck_words, variable_value};
+ghost use Rattle.ga_dap_views.specs.Variables.{slot_state_text, neighbour_text, deadlock_text, variable_value};
 
 use crate::doing::{node_activity, thread_title};
 use crate::texts::{text_with_number, word_text};
@@ -17,7 +17,7 @@ use ga_ports::Side;
 use std::alloc::{AllocError, Global};
 
 fn slot_text(alloc: Global, slot: u32) -> Result<String, AllocError>
-    ensures { IfOk result (λ text. string_bytes text ≡ slot_words slot) }
+    ensures { IfOk result (λ text. string_bytes text ≡ slot_state_text slot) }
 {
     if slot == 4 {
         String::from_str(alloc, "4, a fetch is due")
@@ -28,7 +28,7 @@ fn slot_text(alloc: Global, slot: u32) -> Result<String, AllocError>
 
 /// The neighbour on a side and what it does, where there is one.
 fn neighbour_text(alloc: Global, lab: &Lab, node: NodeId, side: Side) -> Result<String, AllocError>
-    ensures { IfOk result (λ text. string_bytes text ≡ neighbour_words (chip_of lab.now) (neighbour_of node.number side)) }
+    ensures { IfOk result (λ text. string_bytes text ≡ neighbour_text (chip_of lab.now) (neighbour_of node.number side)) }
 {
     match neighbour(node, side) {
         None => String::from_str(alloc, "none"),
@@ -37,7 +37,7 @@ fn neighbour_text(alloc: Global, lab: &Lab, node: NodeId, side: Side) -> Result<
 }
 
 fn words_of_stuck(stuck: bool) -> &'static str
-    ensures { result.now ≡ stuck_words stuck }
+    ensures { result.now ≡ deadlock_text stuck }
 {
     if stuck { "can never go on" } else { "no" }
 }

@@ -5,15 +5,15 @@ use Rattle.std.proofs.lemmas.List.{drop_more, drop_all, at_drop_more, at_drop_al
 use Rattle.ga_grid.specs.declared.node_id.NodeId.{NodeId}
 use Rattle.ga_parser.specs.declared.labels.Label.{Label}
 use Rattle.ga_parser.specs.declared.item.Item.{Item}
-use Rattle.ga_source.specs.Reading.{p_behind}
+use Rattle.ga_source.specs.Reading.{p_after_item}
 use Rattle.ga_parser.specs.declared.scan.Token.{Token}
 use Rattle.ga_debug_info.specs.declared.wording.Begun.{Begun}
-use Rattle.ga_debug_info.specs.Source.{Named, named_at, named_among, literals_told, label_cell, marked_by, last_marked, nearest_found, label_before}
-use Rattle.ga_debug_info.specs.Notes.{Worded, slot_worded, slots_worded}
+use Rattle.ga_debug_info.specs.Source.{LabelAddressContent, named_label, named_labels, literal_entries, label_cell, marked_label, last_marked_label, nearest_result, label_at_or_before}
+use Rattle.ga_debug_info.specs.Notes.{DisplayedWordContent, displayed_slot_word, displayed_slot_words}
 use Rattle.std.specs.Option.{option_or}
 use Rattle.ga_parser.specs.declared.item.LocatedRequest.{LocatedRequest}
 use Rattle.ga_source.specs.declared.program.Program.{Program}
-use Rattle.ga_parser.specs.declared.item.Request.TheVariants.{Mark}
+use Rattle.ga_parser.specs.declared.item.AssemblyRequest.TheVariants.{Mark}
 use Rattle.ga_debug_info.specs.inner.{label_at, IsMarked}
 
 -- ---- joined with what was listed before
@@ -29,76 +29,76 @@ told_all {X = X} told left all none before = sym (append-nil told) ∙ (ap (λ (
 -- ---- names
 
 -- one label more
-pub among_more : (node : NodeId) (labels : List Label) (addresses : List (Option ℕ)) (i : ℕ) (d : Label) (e : Option ℕ) → i < length labels → i < length addresses → named_among node (drop i labels) (drop i addresses) ≡ named_at node (get_or labels i d) (get_or addresses i e) ++ named_among node (drop (i + 1) labels) (drop (i + 1) addresses)
-unfolding named_among
-among_more node labels addresses i d e within inside = ap₂ (named_among node) (drop_more labels i d within) (drop_more addresses i e inside)
+pub among_more : (node : NodeId) (labels : List Label) (addresses : List (Option ℕ)) (i : ℕ) (d : Label) (e : Option ℕ) → i < length labels → i < length addresses → named_labels node (drop i labels) (drop i addresses) ≡ named_label node (get_or labels i d) (get_or addresses i e) ++ named_labels node (drop (i + 1) labels) (drop (i + 1) addresses)
+unfolding named_labels
+among_more node labels addresses i d e within inside = ap₂ (named_labels node) (drop_more labels i d within) (drop_more addresses i e inside)
 
 -- and that was added
-pub among_step : (node : NodeId) (labels : List Label) (addresses : List (Option ℕ)) (told new all : List Named) (n m : ℕ) (label : Label) (address : Option ℕ) → n < length labels → n < length addresses → label ≡ get_or labels n label → address ≡ get_or addresses n address → m ≡ n + 1 → new ≡ told ++ named_at node label address → told ++ named_among node (drop n labels) (drop n addresses) ≡ all → new ++ named_among node (drop m labels) (drop m addresses) ≡ all
+pub among_step : (node : NodeId) (labels : List Label) (addresses : List (Option ℕ)) (told new all : List LabelAddressContent) (n m : ℕ) (label : Label) (address : Option ℕ) → n < length labels → n < length addresses → label ≡ get_or labels n label → address ≡ get_or addresses n address → m ≡ n + 1 → new ≡ told ++ named_label node label address → told ++ named_labels node (drop n labels) (drop n addresses) ≡ all → new ++ named_labels node (drop m labels) (drop m addresses) ≡ all
 among_step node labels addresses told new all n m label address within inside is at next added before =
-    let parts : named_among node (drop n labels) (drop n addresses) ≡ named_at node label address ++ named_among node (drop m labels) (drop m addresses) =
+    let parts : named_labels node (drop n labels) (drop n addresses) ≡ named_label node label address ++ named_labels node (drop m labels) (drop m addresses) =
     rw (is, at, next) (among_more node labels addresses n label address within inside) in
-    told_more told (named_among node (drop n labels) (drop n addresses)) all new (named_at node label address) (named_among node (drop m labels) (drop m addresses)) added parts before
+    told_more told (named_labels node (drop n labels) (drop n addresses)) all new (named_label node label address) (named_labels node (drop m labels) (drop m addresses)) added parts before
 
-no_addresses : (node : NodeId) (labels : List Label) → named_among node labels [] ≡ []
-unfolding named_among
+no_addresses : (node : NodeId) (labels : List Label) → named_labels node labels [] ≡ []
+unfolding named_labels
 no_addresses node [] = refl
 no_addresses node (label ∷ labels) = refl
 
 -- none is left
-pub among_all : (node : NodeId) (labels : List Label) (addresses : List (Option ℕ)) (i : ℕ) → min (length labels) (length addresses) ≤ i → named_among node (drop i labels) (drop i addresses) ≡ []
-unfolding named_among
+pub among_all : (node : NodeId) (labels : List Label) (addresses : List (Option ℕ)) (i : ℕ) → min (length labels) (length addresses) ≤ i → named_labels node (drop i labels) (drop i addresses) ≡ []
+unfolding named_labels
 among_all node labels addresses i past = elim (cases_lt i (length labels)) [
-  | inr few ↦ ap (λ (left : List Label). named_among node left (drop i addresses)) (drop_all i labels few)
-  | inl more ↦ ap (named_among node (drop i labels)) (drop_all i addresses (omega arith)) ∙ no_addresses node (drop i labels)
+  | inr few ↦ ap (λ (left : List Label). named_labels node left (drop i addresses)) (drop_all i labels few)
+  | inl more ↦ ap (named_labels node (drop i labels)) (drop_all i addresses (omega arith)) ∙ no_addresses node (drop i labels)
 ]
 
 -- ---- items with their lines
 
 module _ {X : Type 0} (tell : ℕ → Item → ℕ → List X) where
   -- one item more
-  told_of_item : (p : ℕ) (items : List Item) (lines : List ℕ) (i : ℕ) (d : Item) → i < length items → i < length lines → literals_told tell p (drop i items) (drop i lines) ≡ tell p (get_or items i d) (get_or lines i 0) ++ literals_told tell (p_behind p (get_or items i d)) (drop (i + 1) items) (drop (i + 1) lines)
-  unfolding literals_told
-  told_of_item p items lines i d within inside = ap₂ (literals_told tell p) (drop_more items i d within) (drop_more lines i 0 inside)
+  told_of_item : (p : ℕ) (items : List Item) (lines : List ℕ) (i : ℕ) (d : Item) → i < length items → i < length lines → literal_entries tell p (drop i items) (drop i lines) ≡ tell p (get_or items i d) (get_or lines i 0) ++ literal_entries tell (p_after_item p (get_or items i d)) (drop (i + 1) items) (drop (i + 1) lines)
+  unfolding literal_entries
+  told_of_item p items lines i d within inside = ap₂ (literal_entries tell p) (drop_more items i d within) (drop_more lines i 0 inside)
 
   -- and its entries were added
-  pub literals_step : (items : List Item) (lines : List ℕ) (told new all : List X) (n m p q : ℕ) (item : Item) (line : ℕ) → n < length items → n < length lines → item ≡ get_or items n item → line ≡ get_or lines n 0 → m ≡ n + 1 → q ≡ p_behind p item → new ≡ told ++ tell p item line → told ++ literals_told tell p (drop n items) (drop n lines) ≡ all → new ++ literals_told tell q (drop m items) (drop m lines) ≡ all
+  pub literals_step : (items : List Item) (lines : List ℕ) (told new all : List X) (n m p q : ℕ) (item : Item) (line : ℕ) → n < length items → n < length lines → item ≡ get_or items n item → line ≡ get_or lines n 0 → m ≡ n + 1 → q ≡ p_after_item p item → new ≡ told ++ tell p item line → told ++ literal_entries tell p (drop n items) (drop n lines) ≡ all → new ++ literal_entries tell q (drop m items) (drop m lines) ≡ all
   literals_step items lines told new all n m p q item line within inside is at next behind added before =
-      let parts : literals_told tell p (drop n items) (drop n lines) ≡ tell p item line ++ literals_told tell q (drop m items) (drop m lines) =
+      let parts : literal_entries tell p (drop n items) (drop n lines) ≡ tell p item line ++ literal_entries tell q (drop m items) (drop m lines) =
       rw (behind, is, at, next) (told_of_item p items lines n item within inside) in
-      told_more told (literals_told tell p (drop n items) (drop n lines)) all new (tell p item line) (literals_told tell q (drop m items) (drop m lines)) added parts before
+      told_more told (literal_entries tell p (drop n items) (drop n lines)) all new (tell p item line) (literal_entries tell q (drop m items) (drop m lines)) added parts before
 
-  no_lines : (p : ℕ) (items : List Item) → literals_told tell p items [] ≡ []
-  unfolding literals_told
+  no_lines : (p : ℕ) (items : List Item) → literal_entries tell p items [] ≡ []
+  unfolding literal_entries
   no_lines p [] = refl
   no_lines p (item ∷ items) = refl
 
   -- none is left
-  pub literals_all : (p : ℕ) (items : List Item) (lines : List ℕ) (i : ℕ) → min (length items) (length lines) ≤ i → literals_told tell p (drop i items) (drop i lines) ≡ []
-  unfolding literals_told
+  pub literals_all : (p : ℕ) (items : List Item) (lines : List ℕ) (i : ℕ) → min (length items) (length lines) ≤ i → literal_entries tell p (drop i items) (drop i lines) ≡ []
+  unfolding literal_entries
   literals_all p items lines i past = elim (cases_lt i (length items)) [
-    | inr few ↦ ap (λ (left : List Item). literals_told tell p left (drop i lines)) (drop_all i items few)
-    | inl more ↦ ap (literals_told tell p (drop i items)) (drop_all i lines (omega arith)) ∙ no_lines p (drop i items)
+    | inr few ↦ ap (λ (left : List Item). literal_entries tell p left (drop i lines)) (drop_all i items few)
+    | inl more ↦ ap (literal_entries tell p (drop i items)) (drop_all i lines (omega arith)) ∙ no_lines p (drop i items)
   ]
 
 -- ---- the words of slots
 
 -- one slot more
-slot_more : (source : List ℕ) (words : List Token) (cell : Begun) (size slot : ℕ) (numbers : List ℕ) → slot < length numbers → slots_worded source words cell size slot (drop slot numbers) ≡ slot_worded source words cell size slot (get_or numbers slot 0) ∷ slots_worded source words cell size (slot + 1) (drop (slot + 1) numbers)
-unfolding slots_worded
-slot_more source words cell size slot numbers within = ap (slots_worded source words cell size slot) (drop_more numbers slot 0 within)
+slot_more : (source : List ℕ) (words : List Token) (cell : Begun) (size slot : ℕ) (numbers : List ℕ) → slot < length numbers → displayed_slot_words source words cell size slot (drop slot numbers) ≡ displayed_slot_word source words cell size slot (get_or numbers slot 0) ∷ displayed_slot_words source words cell size (slot + 1) (drop (slot + 1) numbers)
+unfolding displayed_slot_words
+slot_more source words cell size slot numbers within = ap (displayed_slot_words source words cell size slot) (drop_more numbers slot 0 within)
 
 -- and its word was added
-pub slot_step : (source : List ℕ) (words : List Token) (cell : Begun) (size slot number : ℕ) (numbers : List ℕ) (told new all : List Worded) → slot < length numbers → number ≡ get_or numbers slot 0 → new ≡ told ++ slot_worded source words cell size slot number ∷ [] → told ++ slots_worded source words cell size slot (drop slot numbers) ≡ all → new ++ slots_worded source words cell size (slot + 1) (drop (slot + 1) numbers) ≡ all
+pub slot_step : (source : List ℕ) (words : List Token) (cell : Begun) (size slot number : ℕ) (numbers : List ℕ) (told new all : List DisplayedWordContent) → slot < length numbers → number ≡ get_or numbers slot 0 → new ≡ told ++ displayed_slot_word source words cell size slot number ∷ [] → told ++ displayed_slot_words source words cell size slot (drop slot numbers) ≡ all → new ++ displayed_slot_words source words cell size (slot + 1) (drop (slot + 1) numbers) ≡ all
 slot_step source words cell size slot number numbers told new all within at added before =
-    let parts : slots_worded source words cell size slot (drop slot numbers) ≡ (slot_worded source words cell size slot number ∷ []) ++ slots_worded source words cell size (slot + 1) (drop (slot + 1) numbers) =
+    let parts : displayed_slot_words source words cell size slot (drop slot numbers) ≡ (displayed_slot_word source words cell size slot number ∷ []) ++ displayed_slot_words source words cell size (slot + 1) (drop (slot + 1) numbers) =
     rw at (slot_more source words cell size slot numbers within) in
-    told_more told (slots_worded source words cell size slot (drop slot numbers)) all new (slot_worded source words cell size slot number ∷ []) (slots_worded source words cell size (slot + 1) (drop (slot + 1) numbers)) added parts before
+    told_more told (displayed_slot_words source words cell size slot (drop slot numbers)) all new (displayed_slot_word source words cell size slot number ∷ []) (displayed_slot_words source words cell size (slot + 1) (drop (slot + 1) numbers)) added parts before
 
 -- none is left
-pub slots_all : (source : List ℕ) (words : List Token) (cell : Begun) (size slot : ℕ) (numbers : List ℕ) → length numbers ≤ slot → slots_worded source words cell size slot (drop slot numbers) ≡ []
-unfolding slots_worded
-slots_all source words cell size slot numbers past = ap (slots_worded source words cell size slot) (drop_all slot numbers past)
+pub slots_all : (source : List ℕ) (words : List Token) (cell : Begun) (size slot : ℕ) (numbers : List ℕ) → length numbers ≤ slot → displayed_slot_words source words cell size slot (drop slot numbers) ≡ []
+unfolding displayed_slot_words
+slots_all source words cell size slot numbers past = ap (displayed_slot_words source words cell size slot) (drop_all slot numbers past)
 
 -- ---- first choices
 
@@ -122,28 +122,28 @@ none_noted zero cell = refl
 none_noted (suc n) zero = refl
 none_noted (suc n) (suc cell) = none_noted n cell
 
-pub last_none : (program : Program) (cell n : ℕ) (asked all : List LocatedRequest) (labels : List (Option ℕ)) → labels ≡ replicate n None → asked ≡ all → option_or (last_marked program cell asked) (label_at labels cell) ≡ last_marked program cell all
+pub last_none : (program : Program) (cell n : ℕ) (asked all : List LocatedRequest) (labels : List (Option ℕ)) → labels ≡ replicate n None → asked ≡ all → option_or (last_marked_label program cell asked) (label_at labels cell) ≡ last_marked_label program cell all
 last_none program cell n asked all labels none same =
     let here : label_at labels cell ≡ None = ap (λ (noted : List (Option ℕ)). label_at noted cell) none ∙ none_noted n cell in
-    ap (option_or (last_marked program cell asked)) here ∙ (or_none (last_marked program cell asked) ∙ ap (last_marked program cell) same)
+    ap (option_or (last_marked_label program cell asked)) here ∙ (or_none (last_marked_label program cell asked) ∙ ap (last_marked_label program cell) same)
 
 -- a request more was noted
-pub last_more : (program : Program) (cell : ℕ) (asked : List LocatedRequest) (i : ℕ) (d : LocatedRequest) (was now all : Option ℕ) → i < length asked → now ≡ option_or (marked_by program cell (get_or asked i d).request) was → option_or (last_marked program cell (drop i asked)) was ≡ all → option_or (last_marked program cell (drop (i + 1) asked)) now ≡ all
-unfolding last_marked
+pub last_more : (program : Program) (cell : ℕ) (asked : List LocatedRequest) (i : ℕ) (d : LocatedRequest) (was now all : Option ℕ) → i < length asked → now ≡ option_or (marked_label program cell (get_or asked i d).request) was → option_or (last_marked_label program cell (drop i asked)) was ≡ all → option_or (last_marked_label program cell (drop (i + 1) asked)) now ≡ all
+unfolding last_marked_label
 last_more program cell asked i d was now all within marked before =
-    let left = last_marked program cell (drop (i + 1) asked) in
-    let step : last_marked program cell (drop i asked) ≡ option_or left (marked_by program cell (get_or asked i d).request) = at_drop_more (last_marked program cell) asked i d within in
+    let left = last_marked_label program cell (drop (i + 1) asked) in
+    let step : last_marked_label program cell (drop i asked) ≡ option_or left (marked_label program cell (get_or asked i d).request) = at_drop_more (last_marked_label program cell) asked i d within in
     ap (option_or left) marked ∙ (sym (or_assoc left _ was) ∙ (ap (λ (found : Option ℕ). option_or found was) (sym step) ∙ before))
 
 -- all were
-pub last_all : (program : Program) (cell : ℕ) (asked : List LocatedRequest) (i : ℕ) (now all : Option ℕ) → length asked ≤ i → option_or (last_marked program cell (drop i asked)) now ≡ all → now ≡ all
-unfolding last_marked
+pub last_all : (program : Program) (cell : ℕ) (asked : List LocatedRequest) (i : ℕ) (now all : Option ℕ) → length asked ≤ i → option_or (last_marked_label program cell (drop i asked)) now ≡ all → now ≡ all
+unfolding last_marked_label
 last_all program cell asked i now all past before =
-    let none : last_marked program cell (drop i asked) ≡ None = at_drop_all (last_marked program cell) asked i past in
+    let none : last_marked_label program cell (drop i asked) ≡ None = at_drop_all (last_marked_label program cell) asked i past in
     sym (ap (λ (found : Option ℕ). option_or found now) none) ∙ before
 
 -- the request marks a cell
-pub one_marked : (program : Program) (labels : List (Option ℕ)) (label at cell : ℕ) → label_cell program label ≡ Some at → at < length labels → label_at (set labels at (Some label)) cell ≡ option_or (marked_by program cell (Mark label)) (label_at labels cell)
+pub one_marked : (program : Program) (labels : List (Option ℕ)) (label at cell : ℕ) → label_cell program label ≡ Some at → at < length labels → label_at (set labels at (Some label)) cell ≡ option_or (marked_label program cell (Mark label)) (label_at labels cell)
 one_marked program labels label at cell is within = elim (cases_eq cell at) [
   | inl same ↦ rw (same, is, eq-eqb at at refl) (get_or-set_same labels at (Some label) None within)
   | inr other ↦ rw (is, ne_eqb at cell (λ e. other (sym e))) (get_or-set_other labels at cell (Some label) None other)
@@ -152,39 +152,39 @@ one_marked program labels label at cell is within = elim (cases_eq cell at) [
 -- ---- the nearest one
 
 -- none is at a place
-pub nearest_less : (found : ℕ → Option ℕ) (first k : ℕ) → 0 < k → found (first + k) ≡ None → nearest_found found first (k - 1) ≡ nearest_found found first k
-unfolding nearest_found
+pub nearest_less : (found : ℕ → Option ℕ) (first k : ℕ) → 0 < k → found (first + k) ≡ None → nearest_result found first (k - 1) ≡ nearest_result found first k
+unfolding nearest_result
 nearest_less found first zero some none = absurd (omega arith)
 nearest_less found first (suc k) some none =
     let e : suc k - 1 ≡ k = omega arith in
-    ap (nearest_found found first) e ∙ sym (ap (λ (one : Option ℕ). option_or one (nearest_found found first k)) none)
+    ap (nearest_result found first) e ∙ sym (ap (λ (one : Option ℕ). option_or one (nearest_result found first k)) none)
 
 -- one is
 or_here : (one other : Option ℕ) → is_some one ≡ true → one ≡ option_or one other
 or_here None other some = absurd (true≢false (sym some))
 or_here (Some x) other some = refl
 
-pub nearest_here : (found : ℕ → Option ℕ) (first k : ℕ) → is_some (found (first + k)) ≡ true → found (first + k) ≡ nearest_found found first k
-unfolding nearest_found
+pub nearest_here : (found : ℕ → Option ℕ) (first k : ℕ) → is_some (found (first + k)) ≡ true → found (first + k) ≡ nearest_result found first k
+unfolding nearest_result
 nearest_here found first zero some = ap found (add-zero first)
-nearest_here found first (suc k) some = or_here (found (first + suc k)) (nearest_found found first k) some
+nearest_here found first (suc k) some = or_here (found (first + suc k)) (nearest_result found first k) some
 
 -- none is left
-pub nearest_last : (found : ℕ → Option ℕ) (first k : ℕ) → k ≤ 0 → found (first + k) ≡ nearest_found found first k
-unfolding nearest_found
+pub nearest_last : (found : ℕ → Option ℕ) (first k : ℕ) → k ≤ 0 → found (first + k) ≡ nearest_result found first k
+unfolding nearest_result
 nearest_last found first zero last = ap found (add-zero first)
 nearest_last found first (suc k) last = absurd (omega arith)
 
 -- two that are the same
-pub nearest_same : (f g : ℕ → Option ℕ) (first k : ℕ) → ((j : ℕ) → j ≤ first + k → f j ≡ g j) → nearest_found f first k ≡ nearest_found g first k
-unfolding nearest_found
+pub nearest_same : (f g : ℕ → Option ℕ) (first k : ℕ) → ((j : ℕ) → j ≤ first + k → f j ≡ g j) → nearest_result f first k ≡ nearest_result g first k
+unfolding nearest_result
 nearest_same f g first zero same = same first (omega arith)
 nearest_same f g first (suc k) same =
-    ap (λ (one : Option ℕ). option_or one (nearest_found f first k)) (same (first + suc k) (omega arith))
+    ap (λ (one : Option ℕ). option_or one (nearest_result f first k)) (same (first + suc k) (omega arith))
     ∙ ap (option_or (g (first + suc k))) (nearest_same f g first k (λ j below. same j (omega arith)))
 
 -- where labels are noted, the one at or before a cell
-pub found_before : (program : Program) (labels : List (Option ℕ)) (first behind cell : ℕ) → cell < 192 → IsMarked program labels → first ≡ cell / 64 * 64 → label_at labels (first + behind) ≡ nearest_found (label_at labels) first behind → nearest_found (label_at labels) first behind ≡ nearest_found (label_at labels) first (cell % 64) → label_at labels (first + behind) ≡ label_before program cell
+pub found_before : (program : Program) (labels : List (Option ℕ)) (first behind cell : ℕ) → cell < 192 → IsMarked program labels → first ≡ cell / 64 * 64 → label_at labels (first + behind) ≡ nearest_result (label_at labels) first behind → nearest_result (label_at labels) first behind ≡ nearest_result (label_at labels) first (cell % 64) → label_at labels (first + behind) ≡ label_at_or_before program cell
 found_before program labels first behind cell within marked e here same =
-    here ∙ (same ∙ (ap (λ (from : ℕ). nearest_found (label_at labels) from (cell % 64)) e
-    ∙ nearest_same (label_at labels) (λ one. last_marked program one program.asked.items) (cell / 64 * 64) (cell % 64) (λ j below. marked.last j (omega arith))))
+    here ∙ (same ∙ (ap (λ (from : ℕ). nearest_result (label_at labels) from (cell % 64)) e
+    ∙ nearest_same (label_at labels) (λ one. last_marked_label program one program.asked.items) (cell / 64 * 64) (cell % 64) (λ j below. marked.last j (omega arith))))

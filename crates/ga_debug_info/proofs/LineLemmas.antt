@@ -4,10 +4,10 @@ use Rattle.std.proofs.Common.{◌≡◌, ◌∙◌, ℕ, zero, suc, ◌+◌, ◌
 use Rattle.std.specs.Str.{IsTrimAscii}
 use Rattle.std.proofs.lemmas.List.{drop_all, drop_more}
 use Rattle.std.proofs.lemmas.Str.Ascii.{trim_ascii_is}
-use Rattle.ga_parser.specs.Saying.{parted, source_lines, strip_bom}
+use Rattle.ga_parser.specs.Saying.{parts_ended_by, source_lines, strip_bom}
 use Rattle.ga_text.specs.Lines.{lines_of}
 use Rattle.ga_parser.proofs.Scanning.{first_split}
-use Rattle.ga_debug_info.specs.Source.{without_front, trimmed, bare_line}
+use Rattle.ga_debug_info.specs.Source.{without_leading_space, trimmed_text, unmarked_source_line}
 use Rattle.ga_debug_info.specs.declared.wording.SlotWord.{SlotWord}
 use Rattle.ga_debug_info.specs.declared.wording.DisplayedWord.{DisplayedWord}
 use Rattle.ga_debug_info.specs.Notes.{nearer_word, nearest_word}
@@ -24,12 +24,12 @@ rest_found text first rest e = sym (ap (λ (lines : List (List ℕ)). drop 1 lin
 
 -- where there is none
 pub no_first : (text : List ℕ) → length text ≡ 0 → text ≡ slice_index_or (source_lines text) 0 []
-unfolding parted
+unfolding parts_ended_by
 no_first [] none = refl
 no_first (b ∷ text) none = absurd (omega arith)
 
 pub no_rest : (text : List ℕ) → length text ≡ 0 → source_lines text ≡ drop 1 (source_lines text)
-unfolding parted
+unfolding parts_ended_by
 no_rest [] none = refl
 no_rest (b ∷ text) none = absurd (omega arith)
 
@@ -49,19 +49,19 @@ further lines before wanted order =
 
 -- after no lines no line is left
 no_more : (left : ℕ) → source_lines [] ≡ drop left (source_lines [])
-unfolding parted
+unfolding parts_ended_by
 no_more zero = refl
 no_more (suc left) = refl
 
 pub none_left : (text : List ℕ) (left : ℕ) → length text ≡ 0 → source_lines text ≡ drop left (source_lines text)
-unfolding parted
+unfolding parts_ended_by
 none_left [] left none = no_more left
 none_left (b ∷ text) left none = absurd (omega arith)
 
 -- ---- a line by its number
 
 -- the first line after some
-pub line_found : (source rest first bare : List ℕ) (before line : ℕ) → before ≡ line - 1 → source_lines rest ≡ drop before (source_lines source) → first ≡ get_or (source_lines rest) 0 [] → bare ≡ strip_bom line first → bare ≡ bare_line source line
+pub line_found : (source rest first bare : List ℕ) (before line : ℕ) → before ≡ line - 1 → source_lines rest ≡ drop before (source_lines source) → first ≡ get_or (source_lines rest) 0 [] → bare ≡ strip_bom line first → bare ≡ unmarked_source_line source line
 line_found source rest first bare before line e behind is own =
     let at : before + 0 ≡ line - 1 = omega arith in
     let same : first ≡ get_or (source_lines source) (line - 1) [] =
@@ -70,8 +70,8 @@ line_found source rest first bare before line e behind is own =
     own ∙ ap (strip_bom line) same
 
 -- without white space at its ends
-pub trimmed_line : (bare text found : List ℕ) → bare ≡ text → IsTrimAscii bare found → found ≡ trimmed text
-trimmed_line bare text found is trims = trim_ascii_is bare found (without_front bare) refl trims ∙ ap trimmed is
+pub trimmed_line : (bare text found : List ℕ) → bare ≡ text → IsTrimAscii bare found → found ≡ trimmed_text text
+trimmed_line bare text found is trims = trim_ascii_is bare found (without_leading_space bare) refl trims ∙ ap trimmed_text is
 
 -- nothing follows all of a text
 pub all_past : (count : ℕ) (text : List ℕ) → length text ≤ count → [] ≡ drop count text

@@ -4,7 +4,7 @@ use Rattle.std.specs.List.{flat_map}
 use Rattle.ga_text.specs.Lines.{Text}
 use Rattle.ga_text.specs.Digits.{hex2_of}
 use Rattle.ga_parser.specs.Hints.{hint_for}
-use Rattle.ga_parser.specs.declared.fault.Fault.{Fault}
+use Rattle.ga_parser.specs.declared.fault.SourceFault.{SourceFault}
 use Rattle.ga_parser.specs.declared.fault.NumberRange.{NumberRange}
 use Rattle.ga_parser.specs.declared.fault.NumberRange.TheVariants.{Word, P, B, Cell}
 use Rattle.ga_parser.specs.declared.fault.SourceCause.{SourceCause}
@@ -24,9 +24,9 @@ abbrev pub printable : Text → Text
 printable word = flat_map printable_byte word
 
 -- the spelling or the word that is proposed in place of an unknown one
-abbrev pub hint_part : Option Text → Text
-hint_part None = []
-hint_part (Some text) = codes ": " ++ printable text
+abbrev pub hint_suffix_text : Option Text → Text
+hint_suffix_text None = []
+hint_suffix_text (Some text) = codes ": " ++ printable text
 
 -- the numbers of a range
 abbrev pub range_text : NumberRange → Text
@@ -36,8 +36,8 @@ range_text B = codes "0 to 0x1ff"
 range_text Cell = codes "0 to 0x3f, 0x80 to 0xbf"
 
 -- the cell that a line gave before
-abbrev pub given_before_text : ℕ → ℕ → Text
-given_before_text cell line = codes "cell " ++ address_text cell ++ codes " given before on line " ++ decimal line
+abbrev pub repeated_cell_text : ℕ → ℕ → Text
+repeated_cell_text cell line = codes "cell " ++ address_text cell ++ codes " given before on line " ++ decimal line
 
 -- the cell in decimal, for `org`
 abbrev pub org_text : ℕ → Text
@@ -51,7 +51,7 @@ cause_text OpenComment = codes "a comment without its )"
 cause_text NoNode = codes "no node has begun"
 cause_text NoSuchNode = codes "no such node"
 cause_text NodeTwice = codes "the node has a program already"
-cause_text (Unknown word) = codes "what is " ++ printable word.now ++ hint_part (hint_for word.now)
+cause_text (Unknown word) = codes "what is " ++ printable word.now ++ hint_suffix_text (hint_for word.now)
 cause_text Taken = codes "the name is taken"
 cause_text Missing = codes "a name or a value is missing"
 cause_text NoNumber = codes "no number from -131072 to 262143 before constant"
@@ -60,13 +60,13 @@ cause_text RegisterTwice = codes "the register is given twice"
 cause_text Unmatched = codes "nothing is open that this closes"
 cause_text Open = codes "this is never closed"
 cause_text (Number word range) = codes "number out of range: " ++ printable word.now ++ codes " (" ++ range_text range ++ codes ")"
-cause_text (CellTwice cell line) = given_before_text cell line ++ org_text cell
+cause_text (CellTwice cell line) = repeated_cell_text cell line ++ org_text cell
 cause_text (Past address) = address_text address ++ codes " is past the end of RAM or ROM"
 cause_text (Reach cell target) = address_text target ++ codes " is out of reach of a jump in " ++ address_text cell
 cause_text (Loop cell) = codes "the loop of unext in " ++ address_text cell ++ codes " is longer than its cell"
 
 -- a fault with its line
-abbrev pub fault_text : Fault → Text
+abbrev pub fault_text : SourceFault → Text
 fault_text fault = codes "line " ++ decimal fault.line ++ codes ": " ++ cause_text fault.cause
 
 -- ---- faults
@@ -81,31 +81,31 @@ more_faults_text prefix zero = []
 more_faults_text prefix (suc n) = prefixed_line prefix (codes "and " ++ decimal (suc n) ++ codes " more")
 
 -- the maximum number of faults that are printed
-abbrev pub max_reported : ℕ
-max_reported = 20
+abbrev pub max_reported_faults : ℕ
+max_reported_faults = 20
 
 -- the first of some faults, each on a line, and the number of the others
-abbrev pub faults_text : Text → List Fault → Text
-faults_text prefix faults = flat_map (λ fault. prefixed_line prefix (fault_text fault)) (take max_reported faults) ++ more_faults_text prefix (length faults - max_reported)
+abbrev pub faults_text : Text → List SourceFault → Text
+faults_text prefix faults = flat_map (λ fault. prefixed_line prefix (fault_text fault)) (take max_reported_faults faults) ++ more_faults_text prefix (length faults - max_reported_faults)
 
 -- ---- lines of standard error
 
-abbrev pub program_name : Text
-program_name = codes "ga144: "
+abbrev pub error_prefix : Text
+error_prefix = codes "ga144: "
 
 abbrev pub out_of_memory_text : Text
-out_of_memory_text = prefixed_line program_name (codes "no memory")
+out_of_memory_text = prefixed_line error_prefix (codes "no memory")
 
-abbrev pub too_long_text : Text
-too_long_text = prefixed_line program_name (codes "the source has more than 16777216 bytes")
+abbrev pub input_too_long_text : Text
+input_too_long_text = prefixed_line error_prefix (codes "the source has more than 16777216 bytes")
 
 -- a line that writes an address
-abbrev pub write_text : ℕ → ℕ → Text
-write_text line address = codes "line " ++ decimal line ++ codes ": warning: this writes " ++ address_text address
+abbrev pub written_address_text : ℕ → ℕ → Text
+written_address_text line address = codes "line " ++ decimal line ++ codes ": warning: this writes " ++ address_text address
 
 -- the warning of a store over code
-abbrev pub store_text : Store → Text
-store_text store = prefixed_line program_name (write_text store.line store.address ++ codes ", which holds code of line " ++ decimal store.code_line)
+abbrev pub store_warning_text : Store → Text
+store_warning_text store = prefixed_line error_prefix (written_address_text store.line store.address ++ codes ", which holds code of line " ++ decimal store.code_line)
 
 -- the stores over code of programs, in their order
 abbrev pub stores_of_programs : List Program → List Store

@@ -1,7 +1,7 @@
 -- What only private contracts and proofs name.
 use Rattle.std.specs.Prelude.{◌≡◌, ◌<◌, ℕ, List, Option, None, slice_index_or}
 use Rattle.ga_source.specs.declared.program.Program.{Program}
-use Rattle.ga_debug_info.specs.Source.{last_marked}
+use Rattle.ga_debug_info.specs.Source.{last_marked_label}
 
 -- ---- the labels that stand last at the cells of a node, as they are noted
 
@@ -11,4 +11,4 @@ label_at labels cell = slice_index_or labels cell None
 
 -- of each cell the label is noted that the program's requests mark last there
 pub record IsMarked (program : Program) (labels : List (Option ℕ)) : Type 0 where
-  pub last : (cell : ℕ) → cell < 192 → label_at labels cell ≡ last_marked program cell program.asked.items
+  pub last : (cell : ℕ) → cell < 192 → label_at labels cell ≡ last_marked_label program cell program.asked.items

@@ -1,9 +1,9 @@
 //! The notes of a source.
 
 ghost use Rattle.std.specs.Prelude.{◌≡◌, ◌++◌, map, decimal, IfOk, OnOk};
-ghost use Rattle.ga_debug_info.specs.Notes.{AreOfSource};
-ghost use Rattle.ga_debug_info.specs.Source.{named_by, named_at, names_in, label_text, address_text, note_text as note_text_of, whole_line_text, noted_by, noted_at, is_code, group_noted, notes_in, literal_noted};
-ghost use Rattle.ga_source.specs.Reading.{p_behind};
+ghost use Rattle.ga_debug_info.specs.Notes.{IsDebugInfoOfSource};
+ghost use Rattle.ga_debug_info.specs.Source.{label_address_content, named_label, program_label_names, label_text, address_text, cell_comment_text as note_text_of, whole_line_text, cell_source_content, cell_sources_at_address, is_code, group_cell_sources, program_cell_sources, literal_cell_sources};
+ghost use Rattle.ga_source.specs.Reading.{p_after_item};
 ghost use Rattle.ga_debug_info.specs.inner.{IsMarked};
 
 use crate::label::{LastLabels, cell_of, name_of};
@@ -12,7 +12,7 @@ use crate::notes::{CellSource, DebugInfo, LabelAddress};
 use crate::wording::slot_words;
 use ga_grid::NodeId;
 use ga_ports::advance_p;
-use ga_source::{Group, Item, Label, Program};
+use ga_source::{CellGroup, Item, Label, Program};
 use ga_word::Word18;
 use std::alloc::{AllocError, Global};
 
@@ -33,7 +33,7 @@ pub fn debug_info_of(
     source: &[u8],
     programs: &[Program<'_>],
 ) -> Result<DebugInfo, AllocError>
-    ensures { IfOk result (λ notes. AreOfSource source.now programs.now notes) }
+    ensures { IfOk result (λ notes. IsDebugInfoOfSource source.now programs.now notes) }
 {
     let mut lines = Lines::new(source);
     let mut names = Vec::new(alloc);
@@ -56,7 +56,7 @@ fn add_names(
     names: &mut Vec<LabelAddress>,
     program: &Program<'_>,
 ) -> Result<(), AllocError>
-    ensures { OnOk result (map named_by names.new.items ≡ map named_by names.old.items ++ names_in program.now) }
+    ensures { OnOk result (map label_address_content names.new.items ≡ map label_address_content names.old.items ++ program_label_names program.now) }
 {
     for (label, address) in program.names.iter().zip(&program.labels) {
         add_name(alloc, names, program.node, label, *address)?;
@@ -72,7 +72,7 @@ fn add_name(
     label: &Label<'_>,
     address: Option<u32>,
 ) -> Result<(), AllocError>
-    ensures { OnOk result (map named_by names.new.items ≡ map named_by names.old.items ++ named_at node label.now address) }
+    ensures { OnOk result (map label_address_content names.new.items ≡ map label_address_content names.old.items ++ named_label node label.now address) }
 {
     let Some(address) = address else {
         return Ok(());
@@ -97,7 +97,7 @@ fn add_cells(
     program: &Program<'_>,
     lines: &mut Lines<'_>,
 ) -> Result<(), AllocError>
-    ensures notes { OnOk result (map noted_by notes.new.items ≡ map noted_by notes.old.items ++ notes_in lines.old program.now) }
+    ensures notes { OnOk result (map cell_source_content notes.new.items ≡ map cell_source_content notes.old.items ++ program_cell_sources lines.old program.now) }
     ensures same { lines.new ≡ lines.old }
 {
     let marked = LastLabels::of(program);
@@ -113,11 +113,11 @@ fn add_group(
     notes: &mut Vec<CellSource>,
     program: &Program<'_>,
     marked: &LastLabels,
-    group: &Group,
+    group: &CellGroup,
     lines: &mut Lines<'_>,
 ) -> Result<(), AllocError>
     requires { IsMarked program.now marked.now.labels }
-    ensures notes { OnOk result (map noted_by notes.new.items ≡ map noted_by notes.old.items ++ group_noted lines.old program.now group.now) }
+    ensures notes { OnOk result (map cell_source_content notes.new.items ≡ map cell_source_content notes.old.items ++ group_cell_sources lines.old program.now group.now) }
     ensures same { lines.new ≡ lines.old }
 {
     let first = group.line();
@@ -136,7 +136,7 @@ fn add_group(
 }
 
 /// Whether a group is an instruction word, and no cell of data.
-pub(crate) fn is_code(group: &Group) -> bool
+pub(crate) fn is_code(group: &CellGroup) -> bool
     ensures { result ≡ is_code group.now.items.items }
 {
     match group.items.as_slice() {
@@ -157,8 +157,8 @@ fn add_literal(
     lines: &mut Lines<'_>,
 ) -> Result<u32, AllocError>
     requires { IsMarked program.now marked.now.labels }
-    ensures p { IfOk result (λ behind. behind ≡ p_behind p item) }
-    ensures notes { OnOk result (map noted_by notes.new.items ≡ map noted_by notes.old.items ++ literal_noted lines.old program.now p item line) }
+    ensures p { IfOk result (λ behind. behind ≡ p_after_item p item) }
+    ensures notes { OnOk result (map cell_source_content notes.new.items ≡ map cell_source_content notes.old.items ++ literal_cell_sources lines.old program.now p item line) }
     ensures same { lines.new ≡ lines.old }
 {
     let Item::Literal(_) = item else {
@@ -183,14 +183,14 @@ fn add_cell(
     lines: &mut Lines<'_>,
 ) -> Result<(), AllocError>
     requires { IsMarked program.now marked.now.labels }
-    ensures notes { OnOk result (map noted_by notes.new.items ≡ map noted_by notes.old.items ++ noted_at lines.old program.now given.is_code given.address given.line) }
+    ensures notes { OnOk result (map cell_source_content notes.new.items ≡ map cell_source_content notes.old.items ++ cell_sources_at_address lines.old program.now given.is_code given.address given.line) }
     ensures same { lines.new ≡ lines.old }
 {
     let Some(cell) = cell_of(given.address) else {
         return Ok(());
     };
     let label = marked.before(cell);
-    let text = note_text(alloc, program, given.address, label, given.line, lines)?;
+    let text = cell_comment_text(alloc, program, given.address, label, given.line, lines)?;
     let is_long = is_long(lines.line(given.line));
     notes.push(CellSource {
         node: program.node,
@@ -205,7 +205,7 @@ fn add_cell(
 }
 
 /// ` \ `, an address, the label of its cell, and the line, unless that is long.
-fn note_text(
+fn cell_comment_text(
     alloc: Global,
     program: &Program<'_>,
     address: u32,
@@ -258,7 +258,7 @@ fn push_label(
 pub(crate) fn three_digits(address: u32) -> [u8; 3]
     ensures { result ≡ address_text address }
 {
-    let [_, _, _, high, middle, low] = Word18::truncated(address).hex6();
+    let [_, _, _, high, middle, low] = Word18::from_low_bits(address).hex6();
     [high, middle, low]
 }
 

@@ -3,10 +3,10 @@
 ghost use Rattle.std.specs.Prelude.{◌≡◌, ◌++◌, OnOk, codes, decimal};
 ghost use Rattle.std.specs.List.{flat_map};
 ghost use Rattle.ga_parser.specs.Hints.{hint_for, hint_text};
-ghost use Rattle.ga_debug_info.specs.Faults.{printable_byte, printable, hint_part, range_text, given_before_text, org_text, cause_text, fault_text, prefixed_line, more_faults_text, faults_text};
+ghost use Rattle.ga_debug_info.specs.Faults.{printable_byte, printable, hint_suffix_text, range_text, repeated_cell_text, org_text, cause_text, fault_text, prefixed_line, more_faults_text, faults_text};
 
 use crate::building::{push_number, three_digits};
-use ga_source::{Fault, Hint, NumberRange, SourceCause, hint_for};
+use ga_source::{Hint, NumberRange, SourceCause, SourceFault, hint_for};
 use ga_text::hex2;
 use std::alloc::AllocError;
 
@@ -48,7 +48,7 @@ fn push_hint(text: &mut Vec<u8>, hint: Hint<'_>) -> Result<(), AllocError>
 
 /// Adds what is proposed in place of a word, if anything is.
 fn push_proposal(text: &mut Vec<u8>, word: &[u8]) -> Result<(), AllocError>
-    ensures { OnOk result (text.new.items ≡ text.old.items ++ hint_part (hint_for word.now)) }
+    ensures { OnOk result (text.new.items ≡ text.old.items ++ hint_suffix_text (hint_for word.now)) }
 {
     match hint_for(word) {
         Some(hint) => push_hint(text, hint),
@@ -58,7 +58,7 @@ fn push_proposal(text: &mut Vec<u8>, word: &[u8]) -> Result<(), AllocError>
 
 /// Adds an unknown word, and what is proposed in its place.
 fn push_unknown(text: &mut Vec<u8>, word: &[u8]) -> Result<(), AllocError>
-    ensures { OnOk result (text.new.items ≡ text.old.items ++ (codes "what is " ++ printable word.now ++ hint_part (hint_for word.now))) }
+    ensures { OnOk result (text.new.items ≡ text.old.items ++ (codes "what is " ++ printable word.now ++ hint_suffix_text (hint_for word.now))) }
 {
     text.extend_from_slice(b"what is ")?;
     push_printable(text, word)?;
@@ -98,7 +98,7 @@ fn push_twice(text: &mut Vec<u8>, cell: u32, line: u32) -> Result<(), AllocError
 
 /// Adds the cell that a line gave before.
 fn push_given_before(text: &mut Vec<u8>, cell: u32, line: u32) -> Result<(), AllocError>
-    ensures { OnOk result (text.new.items ≡ text.old.items ++ given_before_text cell line) }
+    ensures { OnOk result (text.new.items ≡ text.old.items ++ repeated_cell_text cell line) }
 {
     text.extend_from_slice(b"cell ")?;
     text.extend_from_slice(&three_digits(cell))?;
@@ -173,7 +173,7 @@ fn push_cause(text: &mut Vec<u8>, cause: SourceCause<'_>) -> Result<(), AllocErr
 }
 
 /// Adds a fault with its line, without a line feed.
-pub fn push_fault(text: &mut Vec<u8>, fault: Fault<'_>) -> Result<(), AllocError>
+pub fn push_fault(text: &mut Vec<u8>, fault: SourceFault<'_>) -> Result<(), AllocError>
     ensures { OnOk result (text.new.items ≡ text.old.items ++ fault_text fault.entry) }
 {
     text.extend_from_slice(b"line ")?;
@@ -183,7 +183,11 @@ pub fn push_fault(text: &mut Vec<u8>, fault: Fault<'_>) -> Result<(), AllocError
 }
 
 /// Adds a line with a fault, after a prefix.
-fn push_fault_line(text: &mut Vec<u8>, prefix: &[u8], fault: Fault<'_>) -> Result<(), AllocError>
+fn push_fault_line(
+    text: &mut Vec<u8>,
+    prefix: &[u8],
+    fault: SourceFault<'_>,
+) -> Result<(), AllocError>
     ensures { OnOk result (text.new.items ≡ text.old.items ++ prefixed_line prefix.now (fault_text fault.entry)) }
 {
     text.extend_from_slice(prefix)?;
@@ -193,7 +197,11 @@ fn push_fault_line(text: &mut Vec<u8>, prefix: &[u8], fault: Fault<'_>) -> Resul
 }
 
 /// Adds a line for each fault.
-fn push_all<'s>(text: &mut Vec<u8>, prefix: &[u8], faults: &[Fault<'s>]) -> Result<(), AllocError>
+fn push_all<'s>(
+    text: &mut Vec<u8>,
+    prefix: &[u8],
+    faults: &[SourceFault<'s>],
+) -> Result<(), AllocError>
     ensures { OnOk result (text.new.items ≡ text.old.items ++ flat_map (λ fault. prefixed_line prefix.now (fault_text fault)) faults.now) }
 {
     for fault in faults {
@@ -227,7 +235,7 @@ fn push_count(text: &mut Vec<u8>, count: usize) -> Result<(), AllocError>
 pub fn push_faults<'s>(
     text: &mut Vec<u8>,
     prefix: &[u8],
-    faults: &[Fault<'s>],
+    faults: &[SourceFault<'s>],
 ) -> Result<(), AllocError>
     ensures { OnOk result (text.new.items ≡ text.old.items ++ faults_text prefix.now faults.now) }
 {

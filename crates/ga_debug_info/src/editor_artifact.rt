@@ -3,7 +3,7 @@
 ghost use Rattle.std.specs.Prelude.{◌≡◌, ◌≤◌, ◌++◌, true, false, [], length, codes, decimal};
 ghost use Rattle.ga_text.specs.Lines.{Bytes};
 ghost use Rattle.ga_text.specs.Output.{IsWrittenOrTruncated};
-ghost use Rattle.ga_debug_info.specs.Edited.{first_return, first_hidden, hides_lines as hides_by, edited_in_image, edited_in_source, byte_order_mark_text, edited_text};
+ghost use Rattle.ga_debug_info.specs.Edited.{first_carriage_return, first_hiding_end_line, hides_lines as hides_by, image_artifact, source_artifact, byte_order_mark_text, artifact_text};
 
 use super::faults::tell;
 use ga_text::{TextBuffer, WriteResult, push_number, push_text};
@@ -23,16 +23,16 @@ pub enum EditorArtifact {
 /// The first line that ends with a carriage return.
 #[tactic(auto, using(crate::proofs::EditedLemmas::return_more, crate::proofs::EditedLemmas::return_none, std::proofs::lemmas::List::drop_all))]
 fn return_in(image: &[u8]) -> Option<EditorArtifact>
-    ensures { result ≡ first_return 1 false image.now }
+    ensures { result ≡ first_carriage_return 1 false image.now }
 {
     let mut line = 1u32;
     let mut is_return = false;
     for byte in image {
-        let is_feed = *byte == b'\n';
-        if is_return && is_feed {
+        let is_line_feed = *byte == b'\n';
+        if is_return && is_line_feed {
             return Some(EditorArtifact::Return(line));
         }
-        if is_feed {
+        if is_line_feed {
             line = line.saturating_add(1);
         }
         is_return = *byte == b'\r';
@@ -41,8 +41,8 @@ fn return_in(image: &[u8]) -> Option<EditorArtifact>
 }
 
 /// What an editor wrote into an image: a byte order mark before it, or else the first carriage return at a line's end.
-pub fn edited_image(image: &[u8]) -> Option<EditorArtifact>
-    ensures { result ≡ edited_in_image image.now }
+pub fn find_image_artifact(image: &[u8]) -> Option<EditorArtifact>
+    ensures { result ≡ image_artifact image.now }
 {
     if image.starts_with(b"\xef\xbb\xbf".as_slice()) {
         return Some(EditorArtifact::Mark);
@@ -53,7 +53,7 @@ pub fn edited_image(image: &[u8]) -> Option<EditorArtifact>
 /// The first line `end` with a carriage return that is followed by other lines.
 #[tactic(auto, using(crate::proofs::EditedLemmas::hidden_more, crate::proofs::EditedLemmas::hidden_none, std::proofs::lemmas::List::drop_all))]
 fn hidden_in(source: &[u8]) -> Option<EditorArtifact>
-    ensures { result ≡ first_hidden 1 true source.now }
+    ensures { result ≡ first_hiding_end_line 1 true source.now }
 {
     let mut line = 1u32;
     let mut is_start = true;
@@ -71,8 +71,8 @@ fn hidden_in(source: &[u8]) -> Option<EditorArtifact>
 
 /// What an editor wrote into source so that the commands after it are not read: a byte order mark before an image, which is
 /// then source, or a carriage return after a line `end` that is followed by other lines.
-pub fn edited_source(source: &[u8]) -> Option<EditorArtifact>
-    ensures { result ≡ edited_in_source source.now }
+pub fn find_source_artifact(source: &[u8]) -> Option<EditorArtifact>
+    ensures { result ≡ source_artifact source.now }
 {
     if source.starts_with(b"\xef\xbb\xbfga144".as_slice()) {
         return Some(EditorArtifact::Mark);
@@ -117,7 +117,7 @@ pub fn report_editor_artifact<E: Write>(
     errors: &mut E,
     edited: Option<EditorArtifact>,
 ) -> WriteResult
-    ensures { (before : Bytes) → E.contents errors.old ≡ Some before → IsWrittenOrTruncated result (E.contents errors.new) before (edited_text edited) [] }
+    ensures { (before : Bytes) → E.contents errors.old ≡ Some before → IsWrittenOrTruncated result (E.contents errors.new) before (artifact_text edited) [] }
 {
     match edited {
         Some(EditorArtifact::Mark) => tell_mark(errors),

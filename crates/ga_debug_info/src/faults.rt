@@ -2,16 +2,16 @@
 
 ghost use Rattle.std.specs.Prelude.{◌≡◌, ◌⊎◌, ◌++◌, List, [], IfOk, IfErr, OnErr, OnOk};
 ghost use Rattle.std.specs.List.{flat_map};
-ghost use Rattle.ga_parser.specs.declared.fault.Fault.{Fault as FaultAt};
+ghost use Rattle.ga_parser.specs.declared.fault.SourceFault.{SourceFault as FaultAt};
 ghost use Rattle.ga_parser.specs.declared.fault.SourceCause.TheVariants.{Memory};
 ghost use Rattle.ga_text.specs.Lines.{Bytes};
 ghost use Rattle.ga_text.specs.Output.{IsWrittenOrTruncated};
 ghost use Rattle.ga_source.specs.Recovery.{AreFaultsOfSource};
-ghost use Rattle.ga_debug_info.specs.Faults.{faults_text, program_name, out_of_memory_text, too_long_text, write_text, store_text, stores_of_programs};
+ghost use Rattle.ga_debug_info.specs.Faults.{faults_text, error_prefix, out_of_memory_text, input_too_long_text, written_address_text, store_warning_text, stores_of_programs};
 
 use crate::building::{push_number, three_digits};
 use crate::causes::push_faults;
-use ga_source::{Assembled, Fault, Program, Store, all_faults, stores_over_code};
+use ga_source::{AssembledChip, Program, SourceFault, Store, all_faults, stores_over_code};
 use ga_text::{WriteResult, write_all};
 use std::alloc::{AllocError, Global};
 use std::io::Write;
@@ -22,13 +22,13 @@ pub fn report_faults<'s, E: Write>(
     alloc: Global,
     errors: &mut E,
     source: &'s [u8],
-    first: Fault<'s>,
+    first: SourceFault<'s>,
 ) -> WriteResult
     ensures { (before : Bytes) → E.contents errors.old ≡ Some before →
         IsWrittenOrTruncated result (E.contents errors.new) before out_of_memory_text []
-        ⊎ ((faults : List FaultAt) × AreFaultsOfSource source.now first.entry faults × IsWrittenOrTruncated result (E.contents errors.new) before (faults_text program_name faults) []) }
+        ⊎ ((faults : List FaultAt) × AreFaultsOfSource source.now first.entry faults × IsWrittenOrTruncated result (E.contents errors.new) before (faults_text error_prefix faults) []) }
 {
-    match text_of_faults(alloc, b"ga144: ", source, first) {
+    match format_faults(alloc, b"ga144: ", source, first) {
         Ok(text) => tell(errors, text.as_slice()),
         Err(_) => report_out_of_memory(errors),
     }
@@ -38,12 +38,12 @@ pub fn report_faults<'s, E: Write>(
 ///
 /// # Errors
 /// Out of memory.
-pub fn text_of_faults<'s>(
+pub fn format_faults<'s>(
     alloc: Global,
     prefix: &[u8],
     source: &'s [u8],
-    first: Fault<'s>,
-) -> Result<Vec<u8>, Fault<'s>>
+    first: SourceFault<'s>,
+) -> Result<Vec<u8>, SourceFault<'s>>
     ensures text { IfOk result (λ text. (faults : List FaultAt) × AreFaultsOfSource source.now first.entry faults × (text.items ≡ faults_text prefix.now faults)) }
     ensures refused { IfErr result (λ fault. fault.cause ≡ Memory) }
 {
@@ -62,14 +62,14 @@ pub fn report_out_of_memory<E: Write>(errors: &mut E) -> WriteResult
 
 /// Reports that the source extends past its bound.
 pub fn report_input_too_long<E: Write>(errors: &mut E) -> WriteResult
-    ensures { (before : Bytes) → E.contents errors.old ≡ Some before → IsWrittenOrTruncated result (E.contents errors.new) before too_long_text [] }
+    ensures { (before : Bytes) → E.contents errors.old ≡ Some before → IsWrittenOrTruncated result (E.contents errors.new) before input_too_long_text [] }
 {
     tell(errors, b"ga144: the source has more than 16777216 bytes\n")
 }
 
 /// Adds a line that writes an address.
 fn push_write(text: &mut Vec<u8>, line: u32, address: u32) -> Result<(), AllocError>
-    ensures { OnOk result (text.new.items ≡ text.old.items ++ write_text line address) }
+    ensures { OnOk result (text.new.items ≡ text.old.items ++ written_address_text line address) }
 {
     text.extend_from_slice(b"line ")?;
     push_number(text, line)?;
@@ -79,7 +79,7 @@ fn push_write(text: &mut Vec<u8>, line: u32, address: u32) -> Result<(), AllocEr
 
 /// Adds the warning of a store over code.
 fn push_store(text: &mut Vec<u8>, store: Store) -> Result<(), AllocError>
-    ensures { OnOk result (text.new.items ≡ text.old.items ++ store_text store) }
+    ensures { OnOk result (text.new.items ≡ text.old.items ++ store_warning_text store) }
 {
     text.extend_from_slice(b"ga144: ")?;
     push_write(text, store.line, store.address)?;
@@ -91,7 +91,7 @@ fn push_store(text: &mut Vec<u8>, store: Store) -> Result<(), AllocError>
 
 /// Adds the warnings of stores over code.
 fn push_stores(text: &mut Vec<u8>, stores: &[Store]) -> Result<(), AllocError>
-    ensures { OnOk result (text.new.items ≡ text.old.items ++ flat_map store_text stores.now) }
+    ensures { OnOk result (text.new.items ≡ text.old.items ++ flat_map store_warning_text stores.now) }
 {
     for store in stores {
         push_store(text, *store)?;
@@ -113,7 +113,7 @@ fn stores_of(alloc: Global, programs: &[Program<'_>]) -> Result<Vec<Store>, Allo
 
 /// The warnings of the stores over code of programs.
 fn text_of_stores(alloc: Global, programs: &[Program<'_>]) -> Result<Vec<u8>, AllocError>
-    ensures { IfOk result (λ text. text.items ≡ flat_map store_text (stores_of_programs programs.now)) }
+    ensures { IfOk result (λ text. text.items ≡ flat_map store_warning_text (stores_of_programs programs.now)) }
 {
     let stores = stores_of(alloc, programs)?;
     let mut text = Vec::new(alloc);
@@ -128,10 +128,10 @@ fn text_of_stores(alloc: Global, programs: &[Program<'_>]) -> Result<Vec<u8>, Al
 pub fn report_code_stores<E: Write>(
     alloc: Global,
     errors: &mut E,
-    assembled: &Assembled<'_>,
+    assembled: &AssembledChip<'_>,
 ) -> Result<WriteResult, AllocError>
     ensures warnings { IfOk result (λ written. (before : Bytes) → E.contents errors.old ≡ Some before →
-        IsWrittenOrTruncated written (E.contents errors.new) before (flat_map store_text (stores_of_programs assembled.now.programs.items)) []) }
+        IsWrittenOrTruncated written (E.contents errors.new) before (flat_map store_warning_text (stores_of_programs assembled.now.programs.items)) []) }
     ensures unchanged { OnErr result (errors.new ≡ errors.old) }
 {
     let text = text_of_stores(alloc, assembled.programs.as_slice())?;

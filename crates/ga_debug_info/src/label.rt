@@ -2,12 +2,12 @@
 
 ghost use Rattle.std.specs.Prelude.{◌≡◌, ◌<◌, ℕ, None, length, replicate, IfSome};
 ghost use Rattle.std.specs.Option.{option_or};
-ghost use Rattle.ga_debug_info.specs.Source.{cell_of_address, label_name as name_by, label_cell as label_cell_of, marked_by, label_before};
+ghost use Rattle.ga_debug_info.specs.Source.{cell_of_address, label_name as name_by, label_cell as label_cell_of, marked_label, label_at_or_before};
 ghost use Rattle.ga_source.specs.declared.program.Program.{Program as AProgram};
 ghost use Rattle.ga_debug_info.specs.inner.{label_at, IsMarked};
 
-use ga_ports::{Target, classify};
-use ga_source::{Program, Request};
+use ga_ports::{Target, classify_address};
+use ga_source::{AssemblyRequest, Program};
 
 /// One more than the greatest cell: 0 to 63 are RAM, 128 to 191 ROM.
 const CELLS: usize = 192;
@@ -32,7 +32,7 @@ impl LastLabels {
     /// The last label at or before a cell, in the same memory.
     pub(crate) fn before(&self, cell: u8) -> Option<usize>
         requires { cell < 192 }
-        ensures { (program : AProgram) → IsMarked program self.now.labels → result ≡ label_before program cell }
+        ensures { (program : AProgram) → IsMarked program self.now.labels → result ≡ label_at_or_before program cell }
     {
         let first = usize::from(cell / 64 * 64);
         let mut behind = usize::from(cell % 64);
@@ -52,12 +52,12 @@ fn none_marked() -> [Option<usize>; CELLS]
 }
 
 /// Notes the label that a request marks.
-fn mark(labels: &mut [Option<usize>], program: &Program<'_>, request: Request)
+fn mark(labels: &mut [Option<usize>], program: &Program<'_>, request: AssemblyRequest)
     requires { length labels.old ≡ 192 }
     ensures size { length labels.new ≡ 192 }
-    ensures marked { (cell : ℕ) → cell < 192 → label_at labels.new cell ≡ option_or (marked_by program.now cell request) (label_at labels.old cell) }
+    ensures marked { (cell : ℕ) → cell < 192 → label_at labels.new cell ≡ option_or (marked_label program.now cell request) (label_at labels.old cell) }
 {
-    if let Request::Mark(label) = request {
+    if let AssemblyRequest::Mark(label) = request {
         if let Some(cell) = label_cell(program, label) {
             labels[usize::from(cell)] = Some(label);
         }
@@ -93,7 +93,7 @@ pub(crate) fn cell_of(address: u32) -> Option<u8>
     ensures cell { result ≡ cell_of_address address }
     ensures in_range { IfSome result (λ cell. cell < 192) }
 {
-    match classify(address) {
+    match classify_address(address) {
         Target::Ram(cell) => Some(cell),
         Target::Rom(cell) => Some(128 + cell),
         _ => None,

@@ -14,9 +14,11 @@ mod wording;
 
 pub use building::debug_info_of;
 pub use causes::{push_fault, push_faults};
-pub use editor_artifact::{EditorArtifact, edited_image, edited_source, report_editor_artifact};
+pub use editor_artifact::{
+    EditorArtifact, find_image_artifact, find_source_artifact, report_editor_artifact,
+};
 pub use faults::{
-    report_code_stores, report_faults, report_input_too_long, report_out_of_memory, text_of_faults,
+    format_faults, report_code_stores, report_faults, report_input_too_long, report_out_of_memory,
 };
 pub use line::Lines;
 pub use notes::{CellSource, DebugInfo, LabelAddress, label_address};

@@ -2,8 +2,8 @@
 
 ghost use Rattle.std.specs.Prelude.{◌≡◌, [], drop, slice_index_or};
 ghost use Rattle.ga_parser.specs.Saying.{source_lines};
-ghost use Rattle.ga_debug_info.specs.Source.{bare_line, line_in, is_long_line};
-ghost use Rattle.ga_debug_info.specs.Notes.{quoted_from};
+ghost use Rattle.ga_debug_info.specs.Source.{unmarked_source_line, trimmed_source_line, is_long_line};
+ghost use Rattle.ga_debug_info.specs.Notes.{source_text_from};
 
 use ga_source::strip_bom;
 use std::marker::Model;
@@ -53,7 +53,7 @@ impl<'s> Lines<'s> {
     /// A line by its number from 1 on, without blanks around it, and the first without a byte order mark; empty where there is
     /// none.
     pub fn line(&mut self, number: u32) -> &'s [u8]
-        ensures line { result.now ≡ line_in self.old number }
+        ensures line { result.now ≡ trimmed_source_line self.old number }
         ensures same { self.new ≡ self.old }
     {
         self.bare(number).trim_ascii()
@@ -62,7 +62,7 @@ impl<'s> Lines<'s> {
     /// A line by its number from a column on, without surrounding blanks. Columns are counted in bytes from 1 on, after a byte
     /// order mark.
     pub fn from_column(&mut self, number: u32, column: u32) -> &'s [u8]
-        ensures line { result.now ≡ quoted_from self.old number column }
+        ensures line { result.now ≡ source_text_from self.old number column }
         ensures same { self.new ≡ self.old }
     {
         past(self.bare(number), column.saturating_sub(1)).trim_ascii()
@@ -71,7 +71,7 @@ impl<'s> Lines<'s> {
     /// A line by its number, unchanged; the first without a byte order mark.
     #[tactic(auto, using(crate::proofs::LineLemmas::line_found))]
     fn bare(&mut self, number: u32) -> &'s [u8]
-        ensures line { result.now ≡ bare_line self.old number }
+        ensures line { result.now ≡ unmarked_source_line self.old number }
         ensures same { self.new ≡ self.old }
     {
         let before = number.saturating_sub(1);

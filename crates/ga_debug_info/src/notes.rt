@@ -1,7 +1,7 @@
 //! Notes of cells, and the names of addresses.
 
 ghost use Rattle.std.specs.Prelude.{◌≡◌, position};
-ghost use Rattle.ga_debug_info.specs.Notes.{is_note_of, is_begun, is_node_name, worded_slot as slot_worded_by, is_slot_word, is_nearer as is_nearer_word, nearer_word, address_of};
+ghost use Rattle.ga_debug_info.specs.Notes.{is_source_of_cell, begins_on_line, is_label_of_node, displayed_slot as slot_worded_by, is_slot_word, is_closer_word as is_nearer_word, nearer_word, label_address_of};
 
 use crate::wording::{DisplayedWord, SlotWord};
 use ga_grid::NodeId;
@@ -45,7 +45,7 @@ pub struct DebugInfo {
 
 impl DebugInfo {
     ghost use Rattle.std.specs.Prelude.{◌≡◌, ◌==◌, length, [], None, Some, option_map};
-    ghost use Rattle.ga_debug_info.specs.Notes.{first_note_text, first_note_is_long, slot_text, slot_word_of, nearest_word, line_address, address_of};
+    ghost use Rattle.ga_debug_info.specs.Notes.{first_cell_source_text, is_first_cell_source_long, slot_text, slot_word_of, nearest_word, line_address, label_address_of};
 
     /// The notes of an image: none.
     pub fn none(alloc: Global) -> Self
@@ -69,7 +69,7 @@ impl DebugInfo {
 
     /// The text of a cell of a node: empty if there is no cell, or the source doesn't give it.
     pub fn text_of(&self, node: NodeId, cell: Option<u8>) -> &[u8]
-        ensures { result.now ≡ first_note_text self.now.notes.items node cell }
+        ensures { result.now ≡ first_cell_source_text self.now.notes.items node cell }
     {
         let Some(cell) = cell else {
             return &[];
@@ -85,7 +85,7 @@ impl DebugInfo {
 
     /// Whether the text of a cell ends before a word: the line that gives it is long.
     pub fn is_truncated(&self, node: NodeId, cell: Option<u8>) -> bool
-        ensures { result ≡ first_note_is_long self.now.notes.items node cell }
+        ensures { result ≡ is_first_cell_source_long self.now.notes.items node cell }
     {
         let Some(cell) = cell else {
             return false;
@@ -150,8 +150,8 @@ impl DebugInfo {
     }
 
     /// The address of a label of a node.
-    pub fn address_of(&self, node: NodeId, text: &[u8]) -> Option<u32>
-        ensures { result ≡ address_of self.now.names.items node text.now }
+    pub fn label_address_of(&self, node: NodeId, text: &[u8]) -> Option<u32>
+        ensures { result ≡ label_address_of self.now.names.items node text.now }
     {
         label_address(self.names.as_slice(), node, text)
     }
@@ -159,49 +159,51 @@ impl DebugInfo {
 
 /// Whether a note is of this cell.
 fn is_of(note: &CellSource, node: NodeId, cell: u8) -> bool
-    ensures { result ≡ is_note_of node cell note.now }
+    ensures { result ≡ is_source_of_cell node cell note.now }
 {
     note.node == node && note.cell == cell
 }
 
 /// The place of the first entry of a cell.
 fn note_place(notes: &[CellSource], node: NodeId, cell: u8) -> Option<usize>
-    ensures { result ≡ position (is_note_of node cell) notes.now }
+    ensures { result ≡ position (is_source_of_cell node cell) notes.now }
 {
     notes.iter().position(|note| is_of(note, node, cell))
 }
 
 /// Whether a note is of an instruction word of the node that this line begins.
-fn is_begun(note: &CellSource, node: NodeId, line: u32) -> bool
-    ensures { result ≡ is_begun node line note.now }
+fn begins_on_line(note: &CellSource, node: NodeId, line: u32) -> bool
+    ensures { result ≡ begins_on_line node line note.now }
 {
     note.is_code && note.node == node && note.line == line
 }
 
 /// The place of the first entry of an instruction word of the node that this line begins.
 fn begun_place(notes: &[CellSource], node: NodeId, line: u32) -> Option<usize>
-    ensures { result ≡ position (is_begun node line) notes.now }
+    ensures { result ≡ position (begins_on_line node line) notes.now }
 {
-    notes.iter().position(|note| is_begun(note, node, line))
+    notes
+        .iter()
+        .position(|note| begins_on_line(note, node, line))
 }
 
 /// Whether a name is this one of the node.
 fn is_named(name: &LabelAddress, node: NodeId, text: &[u8]) -> bool
-    ensures { result ≡ is_node_name node text.now name.now }
+    ensures { result ≡ is_label_of_node node text.now name.now }
 {
     name.node == node && name.text.as_slice() == text
 }
 
 /// The place of the first name that is this one of the node.
 fn name_place(names: &[LabelAddress], node: NodeId, text: &[u8]) -> Option<usize>
-    ensures { result ≡ position (is_node_name node text.now) names.now }
+    ensures { result ≡ position (is_label_of_node node text.now) names.now }
 {
     names.iter().position(|name| is_named(name, node, text))
 }
 
 /// The address of a label of a node, of the labels of all nodes.
 pub fn label_address(names: &[LabelAddress], node: NodeId, text: &[u8]) -> Option<u32>
-    ensures { result ≡ address_of names.now node text.now }
+    ensures { result ≡ label_address_of names.now node text.now }
 {
     let place = name_place(names, node, text)?;
     match names.get(place) {
@@ -211,7 +213,7 @@ pub fn label_address(names: &[LabelAddress], node: NodeId, text: &[u8]) -> Optio
 }
 
 /// The slot whose word is shown: for a fetch, which has slot 4, the first.
-fn worded_slot(slot: usize) -> usize
+fn displayed_slot(slot: usize) -> usize
     ensures { result ≡ slot_worded_by slot }
 {
     if slot < 4 { slot } else { 0 }
@@ -221,7 +223,7 @@ fn worded_slot(slot: usize) -> usize
 fn is_word_of(told: &DisplayedWord, node: NodeId, cell: u8, slot: usize) -> bool
     ensures { result ≡ is_slot_word node cell slot told.now }
 {
-    let slot = worded_slot(slot);
+    let slot = displayed_slot(slot);
     let word = told.word;
     word.node == node && word.cell == cell && word.first <= slot && slot <= word.last
 }
@@ -239,7 +241,7 @@ fn word_place(words: &[DisplayedWord], node: NodeId, cell: u8, slot: usize) -> O
 fn nearer(line: u32, best: Option<SlotWord>, word: SlotWord) -> Option<SlotWord>
     ensures { result ≡ nearer_word line best word }
 {
-    if is_nearer(line, best, word) {
+    if is_closer_word(line, best, word) {
         Some(word)
     } else {
         best
@@ -247,7 +249,7 @@ fn nearer(line: u32, best: Option<SlotWord>, word: SlotWord) -> Option<SlotWord>
 }
 
 /// Whether a word is of code, from a line on, and comes before another.
-fn is_nearer(line: u32, best: Option<SlotWord>, word: SlotWord) -> bool
+fn is_closer_word(line: u32, best: Option<SlotWord>, word: SlotWord) -> bool
     ensures { result ≡ is_nearer_word line best word }
 {
     let is_behind = word.is_code && line <= word.line;

@@ -7,10 +7,10 @@ ghost use Rattle.ga_grid.specs.Grid.{yxx_of};
 ghost use Rattle.ga_text.specs.Digits.{decimal3_of};
 ghost use Rattle.ga_text.specs.Lines.{Bytes};
 ghost use Rattle.ga_text.specs.Output.{IsWrittenOrTruncated};
-ghost use Rattle.ga_debug_info.specs.Unrepresented.{named_unless, is_fresh, unrepresented_fields, node_line, fields_line, unrepresented_text};
+ghost use Rattle.ga_debug_info.specs.Unrepresented.{field_name_unless, is_fresh_word, unrepresented_fields, node_line, unrepresented_line, unrepresented_text};
 
 use super::faults::tell;
-use ga_grid::{Chip, NODES, NodeId};
+use ga_grid::{CHIP_NODES, Chip, NodeId};
 use ga_node::{Node, Place};
 use ga_stacks::FRESH_WORD;
 use ga_text::WriteResult;
@@ -20,7 +20,7 @@ use std::io::Write;
 /// Whether the data stack is as at load.
 #[tactic(auto, using(crate::proofs::FieldLemmas::fresh_more, crate::proofs::FieldLemmas::fresh_none, crate::proofs::FieldLemmas::fresh_all))]
 fn has_fresh_data(node: &Node) -> bool
-    ensures { result ≡ list_all is_fresh (record_of node.now).d }
+    ensures { result ≡ list_all is_fresh_word (record_of node.now).d }
 {
     node.has_sizes();
     for place in 0..10u8 {
@@ -34,7 +34,7 @@ fn has_fresh_data(node: &Node) -> bool
 /// Whether the return stack is as at load.
 #[tactic(auto, using(crate::proofs::FieldLemmas::fresh_more, crate::proofs::FieldLemmas::fresh_none, crate::proofs::FieldLemmas::fresh_all))]
 fn has_fresh_returns(node: &Node) -> bool
-    ensures { result ≡ list_all is_fresh (record_of node.now).r }
+    ensures { result ≡ list_all is_fresh_word (record_of node.now).r }
 {
     node.has_sizes();
     for place in 0..9u8 {
@@ -47,7 +47,7 @@ fn has_fresh_returns(node: &Node) -> bool
 
 /// Adds the name of a field, unless it is as at load.
 fn push_unless(text: &mut Vec<u8>, is_at_load: bool, name: &[u8]) -> Result<(), AllocError>
-    ensures { OnOk result (text.new.items ≡ text.old.items ++ named_unless is_at_load name.now) }
+    ensures { OnOk result (text.new.items ≡ text.old.items ++ field_name_unless is_at_load name.now) }
 {
     if is_at_load {
         return Ok(());
@@ -95,7 +95,7 @@ fn push_line(text: &mut Vec<u8>, id: NodeId, fields: &[u8]) -> Result<(), AllocE
 
 /// Adds the line of a node with these fields, if there are any.
 fn push_fields_line(text: &mut Vec<u8>, id: NodeId, fields: &[u8]) -> Result<(), AllocError>
-    ensures { OnOk result (text.new.items ≡ text.old.items ++ fields_line id.number fields.now) }
+    ensures { OnOk result (text.new.items ≡ text.old.items ++ unrepresented_line id.number fields.now) }
 {
     if fields.is_empty() {
         return Ok(());
@@ -105,7 +105,7 @@ fn push_fields_line(text: &mut Vec<u8>, id: NodeId, fields: &[u8]) -> Result<(),
 
 /// Adds the line of a node that has fields which source doesn't give.
 fn push_node(alloc: Global, text: &mut Vec<u8>, id: NodeId, node: &Node) -> Result<(), AllocError>
-    ensures { OnOk result (text.new.items ≡ text.old.items ++ fields_line id.number (unrepresented_fields node.now)) }
+    ensures { OnOk result (text.new.items ≡ text.old.items ++ unrepresented_line id.number (unrepresented_fields node.now)) }
 {
     let mut fields = Vec::new(alloc);
     push_fields(&mut fields, node)?;
@@ -117,7 +117,7 @@ fn lines_of(alloc: Global, chip: &Chip) -> Result<Vec<u8>, AllocError>
     ensures { IfOk result (λ text. text.items ≡ unrepresented_text chip.now) }
 {
     let mut text = Vec::new(alloc);
-    for number in 0..NODES as u8 {
+    for number in 0..CHIP_NODES as u8 {
         let id = NodeId::new(number);
         push_node(alloc, &mut text, id, chip.node(id))?;
     }

@@ -1,17 +1,17 @@
 //! The words of the slots of a source.
 
 ghost use Rattle.std.specs.Prelude.{◌≡◌, ◌<◌, ◌++◌, ◌∷◌, [], map, length, slice_index, drop, decimal, codes, IfOk, OnOk};
-ghost use Rattle.ga_source.specs.Reading.{p_behind};
-ghost use Rattle.ga_parser.specs.Saying.{token_contents, columns_of};
-ghost use Rattle.ga_parser.specs.Words.{all_in, columns_in};
-ghost use Rattle.ga_debug_info.specs.Notes.{word_line as line_by_number, word_column as column_by_number, quoted_word, quoted_if_long, worded_by, last_slot as last_slot_of, word_in_slot as word_by_slot, word_told, slots_worded, address_worded, literal_worded, group_worded, program_worded, all_worded, AreSlotWords};
+ghost use Rattle.ga_source.specs.Reading.{p_after_item};
+ghost use Rattle.ga_parser.specs.Saying.{token_contents, token_columns};
+ghost use Rattle.ga_parser.specs.Words.{source_tokens, source_columns};
+ghost use Rattle.ga_debug_info.specs.Notes.{word_line as line_by_number, word_column as column_by_number, located_word_text, long_line_word_text, displayed_word_content, last_slot as last_slot_of, word_in_slot as word_by_slot, displayed_word, displayed_slot_words, displayed_address_words, displayed_literal_words, displayed_group_words, displayed_program_words, displayed_words, AreSlotWords};
 
 use crate::building::{is_code, push_number};
 use crate::label::cell_of;
 use crate::line::{Lines, is_long};
 use ga_grid::NodeId;
 use ga_ports::advance_p;
-use ga_source::{Group, Item, Program, Token, assemble_by_word_number, source_words};
+use ga_source::{CellGroup, Item, Program, Token, assemble_by_word_number, source_words};
 use std::alloc::{AllocError, Global};
 
 /// The word of the source from which slots of a cell come.
@@ -70,7 +70,7 @@ fn add_programs(
     words: &[Token<'_>],
     lines: &mut Lines<'_>,
 ) -> Result<Vec<DisplayedWord>, AllocError>
-    ensures words { IfOk result (λ told. map worded_by told.items ≡ all_worded lines.old words.now programs.now) }
+    ensures words { IfOk result (λ told. map displayed_word_content told.items ≡ displayed_words lines.old words.now programs.now) }
     ensures same { lines.new ≡ lines.old }
 {
     let mut told = Vec::new(alloc);
@@ -88,7 +88,7 @@ fn add_program(
     words: &[Token<'_>],
     lines: &mut Lines<'_>,
 ) -> Result<(), AllocError>
-    ensures words { OnOk result (map worded_by told.new.items ≡ map worded_by told.old.items ++ program_worded lines.old words.now program.now) }
+    ensures words { OnOk result (map displayed_word_content told.new.items ≡ map displayed_word_content told.old.items ++ displayed_program_words lines.old words.now program.now) }
     ensures same { lines.new ≡ lines.old }
 {
     for group in &program.groups {
@@ -102,11 +102,11 @@ fn add_group(
     alloc: Global,
     told: &mut Vec<DisplayedWord>,
     node: NodeId,
-    group: &Group,
+    group: &CellGroup,
     words: &[Token<'_>],
     lines: &mut Lines<'_>,
 ) -> Result<(), AllocError>
-    ensures words { OnOk result (map worded_by told.new.items ≡ map worded_by told.old.items ++ group_worded lines.old words.now node group.now) }
+    ensures words { OnOk result (map displayed_word_content told.new.items ≡ map displayed_word_content told.old.items ++ displayed_group_words lines.old words.now node group.now) }
     ensures same { lines.new ≡ lines.old }
 {
     let is_code = is_code(group);
@@ -139,8 +139,8 @@ fn add_literal(
     words: &[Token<'_>],
     lines: &mut Lines<'_>,
 ) -> Result<u32, AllocError>
-    ensures p { IfOk result (λ behind. behind ≡ p_behind p item) }
-    ensures words { OnOk result (map worded_by told.new.items ≡ map worded_by told.old.items ++ literal_worded lines.old words.now node p item number) }
+    ensures p { IfOk result (λ behind. behind ≡ p_after_item p item) }
+    ensures words { OnOk result (map displayed_word_content told.new.items ≡ map displayed_word_content told.old.items ++ displayed_literal_words lines.old words.now node p item number) }
     ensures same { lines.new ≡ lines.old }
 {
     let Item::Literal(_) = item else {
@@ -161,7 +161,7 @@ fn add_cell(
     words: &[Token<'_>],
     lines: &mut Lines<'_>,
 ) -> Result<(), AllocError>
-    ensures words { OnOk result (map worded_by told.new.items ≡ map worded_by told.old.items ++ address_worded lines.old words.now node is_code address numbers.now) }
+    ensures words { OnOk result (map displayed_word_content told.new.items ≡ map displayed_word_content told.old.items ++ displayed_address_words lines.old words.now node is_code address numbers.now) }
     ensures same { lines.new ≡ lines.old }
 {
     let Some(cell) = cell_of(address) else {
@@ -196,7 +196,7 @@ fn add_slots(
     words: &[Token<'_>],
     lines: &mut Lines<'_>,
 ) -> Result<(), AllocError>
-    ensures words { OnOk result (map worded_by told.new.items ≡ map worded_by told.old.items ++ slots_worded lines.old words.now cell (length numbers.now) 0 numbers.now) }
+    ensures words { OnOk result (map displayed_word_content told.new.items ≡ map displayed_word_content told.old.items ++ displayed_slot_words lines.old words.now cell (length numbers.now) 0 numbers.now) }
     ensures same { lines.new ≡ lines.old }
 {
     let size = numbers.len();
@@ -233,7 +233,7 @@ fn add_word(
     word: SlotWord,
     lines: &mut Lines<'_>,
 ) -> Result<(), AllocError>
-    ensures words { OnOk result (map worded_by told.new.items ≡ map worded_by told.old.items ++ word_told lines.old begun word ∷ []) }
+    ensures words { OnOk result (map displayed_word_content told.new.items ≡ map displayed_word_content told.old.items ++ displayed_word lines.old begun word ∷ []) }
     ensures same { lines.new ≡ lines.old }
 {
     let text = quoted(alloc, begun, word.line, word.column, lines)?;
@@ -277,7 +277,7 @@ fn quoted(
     column: u32,
     lines: &mut Lines<'_>,
 ) -> Result<Vec<u8>, AllocError>
-    ensures text { IfOk result (λ text. text.items ≡ quoted_if_long lines.old begun line column) }
+    ensures text { IfOk result (λ text. text.items ≡ long_line_word_text lines.old begun line column) }
     ensures same { lines.new ≡ lines.old }
 {
     let mut text = Vec::new(alloc);
@@ -294,7 +294,7 @@ fn push_quoted(
     column: u32,
     lines: &mut Lines<'_>,
 ) -> Result<(), AllocError>
-    ensures text { OnOk result (text.new.items ≡ text.old.items ++ quoted_word lines.old line column) }
+    ensures text { OnOk result (text.new.items ≡ text.old.items ++ located_word_text lines.old line column) }
     ensures same { lines.new ≡ lines.old }
 {
     push_number(text, line)?;

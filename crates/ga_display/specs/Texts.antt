@@ -9,8 +9,8 @@ use Rattle.ga_ports.specs.declared.side.Side.TheVariants.{Right, Down, Left, Up}
 use Rattle.ga_node.specs.Record.{NodeRecord}
 use Rattle.ga_node.specs.declared.wait.Wait.{Wait}
 use Rattle.ga_node.specs.declared.wait.Wait.TheVariants as wait
-use Rattle.ga_node.specs.declared.kind.Kind.{Kind}
-use Rattle.ga_node.specs.declared.kind.Kind.TheVariants as kind
+use Rattle.ga_node.specs.declared.kind.OwnEventKind.{OwnEventKind}
+use Rattle.ga_node.specs.declared.kind.OwnEventKind.TheVariants as kind
 use Rattle.ga_grid.specs.declared.node_id.NodeId.{NodeId}
 use Rattle.ga_image.specs.FirstFault.{cause_number, cause_word}
 use Rattle.ga_text.specs.Digits.{hex2_of, words_text, name_of_node, step_text}
@@ -23,23 +23,23 @@ use Rattle.ga_display.specs.declared.wording.Wording.{Wording}
 use Rattle.ga_display.specs.declared.wording.Wording.TheVariants.{Brief, Advised}
 
 -- words with one space between two of them
-abbrev pub spaced : List Text → Text
-spaced [] = []
-spaced (word ∷ []) = word
-spaced (word ∷ more) = word ++ 32 ∷ spaced more
+abbrev pub space_separated : List Text → Text
+space_separated [] = []
+space_separated (word ∷ []) = word
+space_separated (word ∷ more) = word ++ 32 ∷ space_separated more
 
 -- ---- events
 
-abbrev pub kind_text : Kind → Text
+abbrev pub kind_text : OwnEventKind → Text
 kind_text kind.Fetch = codes " fetch"
 kind_text (kind.Run code) = codes " run " ++ hex2_of code
 kind_text kind.Wait = codes " wait"
 kind_text (kind.Stop number) = codes " stop " ++ decimal number
 
 -- a node's own event, or a word that was transferred from its writer to its reader
-abbrev pub made_text : Made → Text
-made_text (Own node step kind) = step_text node step ++ kind_text kind ++ codes "\n"
-made_text (Pass writer writer_step reader reader_step word) =
+abbrev pub event_text : Made → Text
+event_text (Own node step kind) = step_text node step ++ kind_text kind ++ codes "\n"
+event_text (Pass writer writer_step reader reader_step word) =
     codes "pass " ++ step_text writer writer_step ++ codes " " ++ step_text reader reader_step ++ codes " " ++ hex6_of word ++ codes "\n"
 
 -- ---- the counts of the history
@@ -52,12 +52,12 @@ abbrev pub counts_text : ℕ → ℕ → ℕ → Text
 counts_text kept made limit = codes "kept " ++ decimal kept ++ codes " made " ++ decimal made ++ codes " limit " ++ decimal limit ++ codes "\n"
 
 -- the line before the texts of a node's steps
-abbrev pub trace_text : NodeId → ℕ → Text
-trace_text node count = codes "trace " ++ name_of_node node ++ codes " " ++ decimal count ++ codes "\n"
+abbrev pub trace_header_text : NodeId → ℕ → Text
+trace_header_text node count = codes "trace " ++ name_of_node node ++ codes " " ++ decimal count ++ codes "\n"
 
 -- the line before the texts of a chain's events
-abbrev pub chain_text : ℕ → Text
-chain_text count = codes "chain " ++ decimal count ++ codes "\n"
+abbrev pub chain_header_text : ℕ → Text
+chain_header_text count = codes "chain " ++ decimal count ++ codes "\n"
 
 -- no chain leads from the one step to the other
 abbrev pub independent : Text
@@ -131,31 +131,31 @@ advice_text NoStep = codes "\n"
 advice_text Spent = codes "\n"
 
 -- a refusal in a session of exploring, with what to do
-abbrev pub advised_text : LabFault → Text
-advised_text Waiting = refusal_text Waiting
-advised_text Stopped = refusal_text Stopped
-advised_text Full = codes "no 3 full" ++ advice_text Full
-advised_text Memory = codes "no 4 memory" ++ advice_text Memory
-advised_text Empty = refusal_text Empty
-advised_text NoStep = refusal_text NoStep
-advised_text Spent = refusal_text Spent
+abbrev pub advised_refusal_text : LabFault → Text
+advised_refusal_text Waiting = refusal_text Waiting
+advised_refusal_text Stopped = refusal_text Stopped
+advised_refusal_text Full = codes "no 3 full" ++ advice_text Full
+advised_refusal_text Memory = codes "no 4 memory" ++ advice_text Memory
+advised_refusal_text Empty = refusal_text Empty
+advised_refusal_text NoStep = refusal_text NoStep
+advised_refusal_text Spent = refusal_text Spent
 
 -- a refusal in a session of this kind
-abbrev pub refused_text : Wording → LabFault → Text
-refused_text Brief why = refusal_text why
-refused_text Advised why = advised_text why
+abbrev pub worded_refusal_text : Wording → LabFault → Text
+worded_refusal_text Brief why = refusal_text why
+worded_refusal_text Advised why = advised_refusal_text why
 
 -- the line parses as no command
-abbrev pub no_syntax : Text
-no_syntax = codes "no 31 syntax\n"
+abbrev pub syntax_refusal : Text
+syntax_refusal = codes "no 31 syntax\n"
 
 -- the line has more than 200 bytes
-abbrev pub no_long : Text
-no_long = codes "no 32 long\n"
+abbrev pub long_line_refusal : Text
+long_line_refusal = codes "no 32 long\n"
 
 -- the input exceeds its limit
-abbrev pub no_input : Text
-no_input = codes "no 33 input\n"
+abbrev pub input_limit_refusal : Text
+input_limit_refusal = codes "no 33 input\n"
 
 -- how an image is refused
 abbrev pub image_fault_text : ImageFault → Text

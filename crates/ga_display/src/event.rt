@@ -2,15 +2,15 @@
 ghost use Rattle.std.specs.Prelude.{◌≡◌, ◌+◌, ◌≤◌, ◌<◌, ◌++◌, length, codes};
 ghost use Rattle.arrayvec.specs.ArrayVec.{array_vec_len};
 ghost use Rattle.ga_event.specs.declared.made.Made.TheVariants.{Own, Pass};
-ghost use Rattle.ga_display.specs.Texts.{made_text, kind_text, refusal_text};
+ghost use Rattle.ga_display.specs.Texts.{event_text, kind_text, refusal_text};
 
 use arrayvec::ArrayVec;
 use ga_grid::NodeId;
 use ga_lab::{LabFault, Made};
-use ga_node::Kind;
+use ga_node::OwnEventKind;
 use ga_text::{
-    MAX_LINE_BYTES, MAX_NUMBER_DIGITS, hex2, push_eight, push_node_spaced, push_number,
-    push_spaced, push_step, push_text,
+    MAX_LINE_BYTES, MAX_NUMBER_DIGITS, hex2, push_eight_digits, push_node_spaced, push_number,
+    push_spaced_word, push_step, push_text,
 };
 use ga_word::Word18;
 
@@ -22,9 +22,9 @@ const KIND_ROOM: usize = b" stop \n".len() + MAX_NUMBER_DIGITS;
 
 /// Adds the text of an event.
 #[inline(always)]
-pub fn push_made<const ROOM: usize>(out: &mut ArrayVec<u8, ROOM>, made: Made)
+pub fn push_event_text<const ROOM: usize>(out: &mut ArrayVec<u8, ROOM>, made: Made)
     requires { array_vec_len out.old + MAX_LINE_BYTES ≤ ROOM }
-    ensures { out.new.items ≡ out.old.items ++ made_text made }
+    ensures { out.new.items ≡ out.old.items ++ event_text made }
 {
     match made {
         Made::Own { node, step, kind } => {
@@ -46,21 +46,31 @@ pub fn push_made<const ROOM: usize>(out: &mut ArrayVec<u8, ROOM>, made: Made)
 
 /// Adds the text of an event of a node's own, whose number has at most eight digits: without a call.
 #[inline(always)]
-fn push_near<const ROOM: usize>(out: &mut ArrayVec<u8, ROOM>, node: NodeId, step: u32, kind: Kind)
+fn push_near<const ROOM: usize>(
+    out: &mut ArrayVec<u8, ROOM>,
+    node: NodeId,
+    step: u32,
+    kind: OwnEventKind,
+)
     requires small { step < 100000000 }
     requires room { array_vec_len out.old + MAX_LINE_BYTES ≤ ROOM }
-    ensures { out.new.items ≡ out.old.items ++ made_text (Own node step kind) }
+    ensures { out.new.items ≡ out.old.items ++ event_text (Own node step kind) }
 {
     push_node_spaced(out, node);
-    push_eight(out, u64::from(step));
+    push_eight_digits(out, u64::from(step));
     push_kind(out, kind);
 }
 
 /// Adds the text of an event of a node's own, whose number has any length.
 #[inline(never)]
-fn push_far<const ROOM: usize>(out: &mut ArrayVec<u8, ROOM>, node: NodeId, step: u32, kind: Kind)
+fn push_far<const ROOM: usize>(
+    out: &mut ArrayVec<u8, ROOM>,
+    node: NodeId,
+    step: u32,
+    kind: OwnEventKind,
+)
     requires { array_vec_len out.old + MAX_LINE_BYTES ≤ ROOM }
-    ensures { out.new.items ≡ out.old.items ++ made_text (Own node step kind) }
+    ensures { out.new.items ≡ out.old.items ++ event_text (Own node step kind) }
 {
     push_step(out, node, step);
     push_kind(out, kind);
@@ -74,28 +84,28 @@ fn push_pass<const ROOM: usize>(
     word: Word18,
 )
     requires { array_vec_len out.old + MAX_LINE_BYTES ≤ ROOM }
-    ensures { out.new.items ≡ out.old.items ++ made_text (Pass writer.0 writer.1 reader.0 reader.1 word) }
+    ensures { out.new.items ≡ out.old.items ++ event_text (Pass writer.0 writer.1 reader.0 reader.1 word) }
 {
     push_text(out, b"pass ");
     push_step(out, writer.0, writer.1);
     push_text(out, b" ");
     push_step(out, reader.0, reader.1);
-    push_spaced(out, word);
+    push_spaced_word(out, word);
     push_text(out, b"\n");
 }
 
 /// Adds what an event of a node's own was, and the end of its line.
 #[inline(always)]
-fn push_kind<const ROOM: usize>(out: &mut ArrayVec<u8, ROOM>, kind: Kind)
+fn push_kind<const ROOM: usize>(out: &mut ArrayVec<u8, ROOM>, kind: OwnEventKind)
     requires { array_vec_len out.old + KIND_ROOM ≤ ROOM }
     ensures text { out.new.items ≡ out.old.items ++ (kind_text kind ++ codes "\n") }
 {
     match kind {
-        Kind::Run(code) => {
+        OwnEventKind::Run(code) => {
             let [high, low] = hex2(code);
             push_text(out, &[b' ', b'r', b'u', b'n', b' ', high, low, b'\n']);
         }
-        Kind::Fetch => push_text(out, &fetch()),
+        OwnEventKind::Fetch => push_text(out, &fetch()),
         other => push_end(out, other),
     }
 }
@@ -112,18 +122,18 @@ fn fetch() -> [u8; 7]
 
 /// Adds that an event of a node's own was a wait or a stop, and the end of its line.
 #[inline(never)]
-fn push_end<const ROOM: usize>(out: &mut ArrayVec<u8, ROOM>, kind: Kind)
+fn push_end<const ROOM: usize>(out: &mut ArrayVec<u8, ROOM>, kind: OwnEventKind)
     requires { array_vec_len out.old + KIND_ROOM ≤ ROOM }
     ensures text { out.new.items ≡ out.old.items ++ (kind_text kind ++ codes "\n") }
 {
     match kind {
-        Kind::Fetch => push_text(out, b" fetch\n"),
-        Kind::Run(code) => {
+        OwnEventKind::Fetch => push_text(out, b" fetch\n"),
+        OwnEventKind::Run(code) => {
             let [high, low] = hex2(code);
             push_text(out, &[b' ', b'r', b'u', b'n', b' ', high, low, b'\n']);
         }
-        Kind::Wait => push_text(out, b" wait\n"),
-        Kind::Stop(number) => {
+        OwnEventKind::Wait => push_text(out, b" wait\n"),
+        OwnEventKind::Stop(number) => {
             push_text(out, b" stop ");
             push_number(out, u64::from(number));
             push_text(out, b"\n");

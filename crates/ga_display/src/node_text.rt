@@ -12,7 +12,7 @@ use ga_grid::NodeId;
 use ga_node::{Node, Place, Wait};
 use ga_text::{
     MAX_LINE_BYTES, MAX_NUMBER_DIGITS, WORD_DIGITS, WriteResult, Writer, hex2, push_digit,
-    push_node_spaced, push_number, push_spaced, push_text, push_word,
+    push_node_spaced, push_number, push_spaced_word, push_text, push_word,
 };
 use ga_word::Word18;
 use std::io::Write;
@@ -89,7 +89,7 @@ pub fn write_memory<W: Write>(
     push_text(out, b"mem ");
     push_node_spaced(out, node);
     push_text(out, &hex2(address));
-    push_spaced(out, word);
+    push_spaced_word(out, word);
     push_text(out, b"\n");
     Ok(())
 }
@@ -181,7 +181,7 @@ fn push_flags<const ROOM: usize>(out: &mut ArrayVec<u8, ROOM>, node: &Node)
     push_text(out, b" carry ");
     push_digit(out, node.get(Place::Carry) as u8);
     push_text(out, b" io ");
-    push_word(out, Word18::truncated(node.get(Place::Io)));
+    push_word(out, Word18::from_low_bits(node.get(Place::Io)));
 }
 
 /// Adds both stacks, the top of each first.
@@ -207,5 +207,5 @@ fn push_value<const ROOM: usize>(out: &mut ArrayVec<u8, ROOM>, value: u32)
     ensures text { out.new.items ≡ out.old.items ++ (codes " " ++ hex6_of value) }
     ensures len { array_vec_len out.new ≡ array_vec_len out.old + 1 + WORD_DIGITS }
 {
-    push_spaced(out, Word18::truncated(value));
+    push_spaced_word(out, Word18::from_low_bits(value));
 }

@@ -1,6 +1,6 @@
 //! How refusals are worded.
 ghost use Rattle.std.specs.Prelude.{◌≡◌, ◌≤◌, length};
-ghost use Rattle.ga_display.specs.Texts.{advice_text, advised_text, refused_text};
+ghost use Rattle.ga_display.specs.Texts.{advice_text, advised_refusal_text, worded_refusal_text};
 
 use crate::event::refusal_text;
 use ga_lab::LabFault;
@@ -19,19 +19,19 @@ impl Wording {
     /// The text of a refused call.
     #[inline(always)]
     pub fn refusal(self, fault: LabFault) -> &'static [u8]
-        ensures text { result.now ≡ refused_text self fault }
+        ensures text { result.now ≡ worded_refusal_text self fault }
         ensures len { length result.now ≤ MAX_LINE_BYTES }
     {
         match self {
             Wording::Brief => refusal_text(fault),
-            Wording::Advised => advised_text(fault),
+            Wording::Advised => advised_refusal_text(fault),
         }
     }
 }
 
 /// The text of a refused call in a session of `explore`: if the history is full, it adds what to do.
-pub fn advised_text(fault: LabFault) -> &'static [u8]
-    ensures text { result.now ≡ advised_text fault }
+pub fn advised_refusal_text(fault: LabFault) -> &'static [u8]
+    ensures text { result.now ≡ advised_refusal_text fault }
     ensures len { length result.now ≤ MAX_LINE_BYTES }
 {
     match fault {

@@ -3,12 +3,12 @@ ghost use Rattle.std.specs.Prelude.{◌≡◌, ◌+◌, ◌≤◌, ◌++◌};
 ghost use Rattle.arrayvec.specs.ArrayVec.{array_vec_len};
 ghost use Rattle.ga_text.specs.Lines.{Bytes};
 ghost use Rattle.ga_text.specs.Output.{WritesExactly};
-ghost use Rattle.ga_display.specs.Texts.{made_text, removed_text, counts_text, trace_text, chain_text};
+ghost use Rattle.ga_display.specs.Texts.{event_text, removed_text, counts_text, trace_header_text, chain_header_text};
 
-use super::event::push_made;
+use super::event::push_event_text;
 use arrayvec::ArrayVec;
 use ga_grid::NodeId;
-use ga_lab::{Counts, Made};
+use ga_lab::{EventCounts, Made};
 use ga_text::{MAX_LINE_BYTES, WriteResult, Writer, push_node_spaced, push_number, push_text};
 use std::io::Write;
 
@@ -42,10 +42,10 @@ fn push_removed<const ROOM: usize>(out: &mut ArrayVec<u8, ROOM>, removed: u32, k
 /// A write failed.
 #[inline(always)]
 pub fn write_event<W: Write>(writer: &mut Writer<'_, W>, made: Made) -> WriteResult
-    ensures { WritesExactly result (made_text made) W.contents writer.old writer.new }
+    ensures { WritesExactly result (event_text made) W.contents writer.old writer.new }
 {
     writer.make_room(MAX_LINE_BYTES)?;
-    push_made(&mut writer.pending, made);
+    push_event_text(&mut writer.pending, made);
     Ok(())
 }
 
@@ -53,7 +53,7 @@ pub fn write_event<W: Write>(writer: &mut Writer<'_, W>, made: Made) -> WriteRes
 ///
 /// # Errors
 /// A write failed.
-pub fn write_counts<W: Write>(writer: &mut Writer<'_, W>, counts: Counts) -> WriteResult
+pub fn write_counts<W: Write>(writer: &mut Writer<'_, W>, counts: EventCounts) -> WriteResult
     ensures { WritesExactly result (counts_text counts.kept counts.made counts.limit) W.contents writer.old writer.new }
 {
     writer.make_room(MAX_LINE_BYTES)?;
@@ -77,7 +77,7 @@ pub fn write_trace_head<W: Write>(
     node: NodeId,
     count: usize,
 ) -> WriteResult
-    ensures { WritesExactly result (trace_text node count) W.contents writer.old writer.new }
+    ensures { WritesExactly result (trace_header_text node count) W.contents writer.old writer.new }
 {
     writer.make_room(MAX_LINE_BYTES)?;
     let out = &mut writer.pending;
@@ -93,7 +93,7 @@ pub fn write_trace_head<W: Write>(
 /// # Errors
 /// A write failed.
 pub fn write_chain_head<W: Write>(writer: &mut Writer<'_, W>, count: usize) -> WriteResult
-    ensures { WritesExactly result (chain_text count) W.contents writer.old writer.new }
+    ensures { WritesExactly result (chain_header_text count) W.contents writer.old writer.new }
 {
     writer.make_room(MAX_LINE_BYTES)?;
     let out = &mut writer.pending;

@@ -1,63 +1,63 @@
 -- What flows into each part of a node in an event.
 use Rattle.std.proofs.Common.{◌≡◌, ℕ, ◌+◌, ◌-◌, ◌/◌, ◌%◌, ◌^◌, ◌==◌, Bool, true, false, cond, List, [], ◌∷◌, ◌++◌, nat_le, refl, sym, ap, ◌∙◌, subst, bit_and, bit_xor}
-use Rattle.ga_word.specs.Word.{words, carry_value, doubled, halved, step_sum, step_high, step_low}
+use Rattle.ga_word.specs.Word.{words, carry_value, doubled_word, halved_word, multiply_step_sum, multiply_step_t, multiply_step_a}
 use Rattle.ga_slots.specs.Slots.{target, opcode}
 use Rattle.ga_slots.specs.Codes.{code_of}
 use Rattle.ga_slots.specs.declared.op.Op.{Op}
 use Rattle.ga_slots.specs.declared.op.Op.TheVariants as op
-use Rattle.ga_ports.specs.Address.{classified, advanced, is_single, side_of}
+use Rattle.ga_ports.specs.Address.{address_target, advanced_address, is_single_side, side_of}
 use Rattle.ga_ports.specs.declared.address.Target.{Target}
 use Rattle.ga_ports.specs.declared.address.Target.TheVariants.{Ram, Rom, Io, Ports, Bad}
 use Rattle.ga_node.specs.Record.{NodeRecord, HasSizes}
 use Rattle.ga_node.specs.Io.{io_word}
 use Rattle.ga_node.specs.Changes.{Change, after_changes}
 use Rattle.ga_node.specs.Changes as change
-use Rattle.ga_node.specs.Table.{t, r, posts, stop_effect, found, stored, followed, with_kind, effect, is_extended, next_action_of, done_by, own_event, own, sent, taken, taking}
-use Rattle.ga_event.specs.Flow.{Flow, Same, From, Move, top, second, top_return, part_of, IsPart, moved_all, from, read_moves, write_moves, moves, moves_by, take_moves, own_flow, send_flow, take_flow, choice, target_of, test_holds, DecideAlike, IsFlowOf, chosen_by, AgreeAtParts}
-use Rattle.ga_event.specs.declared.flow.part.Part.{Part}
-use Rattle.ga_event.specs.declared.flow.part.Part.TheVariants.{Ram as OfRam, Rom as OfRom, A as OfA, P as OfP, I as OfI, Carry as OfCarry, Slot as OfSlot, Outside}
+use Rattle.ga_node.specs.Table.{t, r, wait_effect, stop_effect, found, stored, followed, with_kind, effect, is_extended, next_action_of, action_result, own_event, own, sent, taken, take_changes}
+use Rattle.ga_event.specs.Flow.{Flow, Same, From, Move, top, second, top_return, part_value, IsNodePart, flows_after_moves, from, read_moves, write_moves, moves, action_moves, take_moves, own_flow, send_flow, take_flow, choice, choice_target, test_holds, HaveSameNextAction, IsFlowOf, deciding_parts, AgreeAtParts}
+use Rattle.ga_event.specs.declared.flow.part.NodePart.{NodePart}
+use Rattle.ga_event.specs.declared.flow.part.NodePart.TheVariants.{Ram as OfRam, Rom as OfRom, A as OfA, P as OfP, I as OfI, Carry as OfCarry, Slot as OfSlot, Outside}
 use Rattle.ga_event.specs.Flow as move
 use Rattle.ga_node.specs.declared.seen.Seen.{Seen}
-use Rattle.ga_node.specs.declared.kind.Kind.{Kind}
-use Rattle.ga_node.specs.declared.kind.Kind.TheVariants as kind
+use Rattle.ga_node.specs.declared.kind.OwnEventKind.{OwnEventKind}
+use Rattle.ga_node.specs.declared.kind.OwnEventKind.TheVariants as kind
 use Rattle.ga_node.specs.declared.due.NextAction.{NextAction}
 use Rattle.ga_node.specs.declared.due.NextAction.TheVariants as due
 use Rattle.ga_node.specs.declared.wait.Wait.{Wait}
 use Rattle.ga_node.specs.declared.wait.Wait.TheVariants as wait
-use Rattle.ga_node.specs.declared.wait.Reader.{Reader}
-use Rattle.ga_node.specs.declared.wait.Reader.TheVariants.{Instruction, Stack}
+use Rattle.ga_node.specs.declared.wait.ReadKind.{ReadKind}
+use Rattle.ga_node.specs.declared.wait.ReadKind.TheVariants.{Instruction, Stack}
 use Rattle.ga_event.proofs.Tracks.{push_data, pop_data, set_top, pop_to, push_return, pop_return, set_top_return, set_p, set_a, set_b, set_i, set_io, set_carry, set_ram, go_on, skip, start_again, set_wait, set_stop, AreMoves, none, then, comes_after, sizes_after}
 use Rattle.ga_event.specs.declared.flow.choice.Choice.TheVariants.{Test, At}
 
-abbrev posts_to : ℕ → Kind × List Change
-posts_to sides = posts (wait.Write (side_of sides))
+abbrev posts_to : ℕ → OwnEventKind × List Change
+posts_to sides = wait_effect (wait.Write (side_of sides))
 
 module _ (seen other : Seen) (n m : NodeRecord) where
   -- what comes from there at the start of an event of both nodes
   abbrev Source : Flow → ℕ → ℕ → Type 0
   Source flow x y = IsFlowOf (io_word seen) n (io_word other) m flow x y
 
-  abbrev at_n : Part → ℕ
-  at_n = part_of (io_word seen) n
+  abbrev at_n : NodePart → ℕ
+  at_n = part_value (io_word seen) n
 
-  abbrev at_m : Part → ℕ
-  at_m = part_of (io_word other) m
+  abbrev at_m : NodePart → ℕ
+  at_m = part_value (io_word other) m
 
   -- the moves of two changes, the same in both
   abbrev Rows : List Move → List Change → List Change → Type 0
   Rows = AreMoves (io_word seen) n (io_word other) m
 
   -- two events of one kind with these moves
-  abbrev IsRow : List Move → Kind × List Change → Kind × List Change → Type 0
+  abbrev IsRow : List Move → OwnEventKind × List Change → OwnEventKind × List Change → Type 0
   IsRow mvs x y = (x.0 ≡ y.0) × Rows mvs x.1 y.1
 
-  from_one : (g : ℕ → ℕ) (a : Part) → Source (from a) (g (at_n a)) (g (at_m a))
+  from_one : (g : ℕ → ℕ) (a : NodePart) → Source (from a) (g (at_n a)) (g (at_m a))
   from_one g a agree = ap g agree.0
 
-  from_two : (g : ℕ → ℕ → ℕ) (a b : Part) → Source (From (a ∷ b ∷ [])) (g (at_n a) (at_n b)) (g (at_m a) (at_m b))
+  from_two : (g : ℕ → ℕ → ℕ) (a b : NodePart) → Source (From (a ∷ b ∷ [])) (g (at_n a) (at_n b)) (g (at_m a) (at_m b))
   from_two g a b agree = ap (λ v. g v (at_n b)) agree.0 ∙ ap (g (at_m a)) agree.1.0
 
-  from_three : (g : ℕ → ℕ → ℕ → ℕ) (a b c : Part) → Source (From (a ∷ b ∷ c ∷ [])) (g (at_n a) (at_n b) (at_n c)) (g (at_m a) (at_m b) (at_m c))
+  from_three : (g : ℕ → ℕ → ℕ → ℕ) (a b c : NodePart) → Source (From (a ∷ b ∷ c ∷ [])) (g (at_n a) (at_n b) (at_n c)) (g (at_m a) (at_m b) (at_m c))
   from_three g a b c agree = ap (λ v. g v (at_n b) (at_n c)) agree.0 ∙ ap (λ v. g (at_m a) v (at_n c)) agree.1.0 ∙ ap (g (at_m a) (at_m b)) agree.1.1.0
 
   -- the last change of most opcodes
@@ -77,7 +77,7 @@ module _ (seen other : Seen) (n m : NodeRecord) where
       same true = where_so
       same false = else_so
 
-  read_row : (a b : Target) (reader : Reader) (k : Kind) (mvs : Flow → List Move) (xs ys : ℕ → List Change) → a ≡ b
+  read_row : (a b : Target) (reader : ReadKind) (k : OwnEventKind) (mvs : Flow → List Move) (xs ys : ℕ → List Change) → a ≡ b
       → ((flow : Flow) (x y : ℕ) → Source flow x y → Rows (mvs flow) (xs x) (ys y))
       → IsRow (read_moves a mvs) (with_kind k (followed (found a reader seen n) xs)) (with_kind k (followed (found b reader other m) ys))
   unfolding found followed
@@ -90,7 +90,7 @@ module _ (seen other : Seen) (n m : NodeRecord) where
       same (Ports sides) = (refl, then set_wait none)
       same Bad = (refl, then set_stop none)
 
-  write_row : (a b : Target) (k : Kind) (mvs : List Move) (xs ys : List Change) → a ≡ b → Rows mvs xs ys
+  write_row : (a b : Target) (k : OwnEventKind) (mvs : List Move) (xs ys : List Change) → a ≡ b → Rows mvs xs ys
       → IsRow (write_moves a mvs) (with_kind k (followed (stored a n) (λ changes. changes ++ xs))) (with_kind k (followed (stored b m) (λ changes. changes ++ ys)))
   unfolding stored followed
   write_row a b k mvs xs ys e rows = subst (λ b. IsRow (write_moves a mvs) (with_kind k (followed (stored a n) (λ changes. changes ++ xs))) (with_kind k (followed (stored b m) (λ changes. changes ++ ys)))) e (same a)
@@ -103,10 +103,10 @@ module _ (seen other : Seen) (n m : NodeRecord) where
       same (Ram cell) = (refl, then (set_ram (refl, refl)) rows)
       same (Rom cell) = (refl, rows)
       same Io = (refl, then (set_io (refl, refl)) rows)
-      same (Ports sides) = ended (is_single sides) sides
+      same (Ports sides) = ended (is_single_side sides) sides
       same Bad = (refl, then set_stop none)
 
-  effect_row : (op : Op) → choice (due.Run op) n ≡ choice (due.Run op) m → (k : Kind) → IsRow (moves op n) (with_kind k (effect op seen n)) (with_kind k (effect op other m))
+  effect_row : (op : Op) → choice (due.Run op) n ≡ choice (due.Run op) m → (k : OwnEventKind) → IsRow (moves op n) (with_kind k (effect op seen n)) (with_kind k (effect op other m))
   effect_row op.Return e k = (refl, then (set_p (from_one (λ v. v % 2 ^ 10) top_return)) (then pop_return skips))
   effect_row op.Execute e k = (refl, then (set_p (from_one (λ v. v % 2 ^ 10) top_return)) (then (set_top_return (refl, refl)) skips))
   effect_row op.Jump e k = (refl, jump_row)
@@ -115,18 +115,18 @@ module _ (seen other : Seen) (n m : NodeRecord) where
   effect_row op.Next e k = (refl, either (r n == 0) (r m == 0) _ _ _ _ _ _ (ap test_holds e) (then pop_return skips) (then (set_top_return (from_one (λ v. v - 1) top_return)) jump_row))
   effect_row op.If e k = (refl, either (t n == 0) (t m == 0) _ _ _ _ _ _ (ap test_holds e) jump_row skips)
   effect_row op.MinusIf e k = (refl, either (t n / 2 ^ 17 == 0) (t m / 2 ^ 17 == 0) _ _ _ _ _ _ (ap test_holds e) jump_row skips)
-  effect_row op.FetchP e k = read_row (classified n.p) (classified m.p) Stack k _ _ _ (ap target_of e) (λ flow x y comes. then (push_data comes) (then (set_p (from_one advanced OfP)) goes_on))
-  effect_row op.FetchPlus e k = read_row (classified n.a) (classified m.a) Stack k _ _ _ (ap target_of e) (λ flow x y comes. then (push_data comes) (then (set_a (from_one advanced OfA)) goes_on))
-  effect_row op.FetchB e k = read_row (classified n.b) (classified m.b) Stack k _ _ _ (ap target_of e) (λ flow x y comes. then (push_data comes) goes_on)
-  effect_row op.Fetch e k = read_row (classified n.a) (classified m.a) Stack k _ _ _ (ap target_of e) (λ flow x y comes. then (push_data comes) goes_on)
-  effect_row op.StoreP e k = write_row (classified n.p) (classified m.p) k _ _ _ (ap target_of e) (then pop_data (then (set_p (from_one advanced OfP)) goes_on))
-  effect_row op.StorePlus e k = write_row (classified n.a) (classified m.a) k _ _ _ (ap target_of e) (then pop_data (then (set_a (from_one advanced OfA)) goes_on))
-  effect_row op.StoreB e k = write_row (classified n.b) (classified m.b) k _ _ _ (ap target_of e) (then pop_data goes_on)
-  effect_row op.Store e k = write_row (classified n.a) (classified m.a) k _ _ _ (ap target_of e) (then pop_data goes_on)
+  effect_row op.FetchP e k = read_row (address_target n.p) (address_target m.p) Stack k _ _ _ (ap choice_target e) (λ flow x y comes. then (push_data comes) (then (set_p (from_one advanced_address OfP)) goes_on))
+  effect_row op.FetchPlus e k = read_row (address_target n.a) (address_target m.a) Stack k _ _ _ (ap choice_target e) (λ flow x y comes. then (push_data comes) (then (set_a (from_one advanced_address OfA)) goes_on))
+  effect_row op.FetchB e k = read_row (address_target n.b) (address_target m.b) Stack k _ _ _ (ap choice_target e) (λ flow x y comes. then (push_data comes) goes_on)
+  effect_row op.Fetch e k = read_row (address_target n.a) (address_target m.a) Stack k _ _ _ (ap choice_target e) (λ flow x y comes. then (push_data comes) goes_on)
+  effect_row op.StoreP e k = write_row (address_target n.p) (address_target m.p) k _ _ _ (ap choice_target e) (then pop_data (then (set_p (from_one advanced_address OfP)) goes_on))
+  effect_row op.StorePlus e k = write_row (address_target n.a) (address_target m.a) k _ _ _ (ap choice_target e) (then pop_data (then (set_a (from_one advanced_address OfA)) goes_on))
+  effect_row op.StoreB e k = write_row (address_target n.b) (address_target m.b) k _ _ _ (ap choice_target e) (then pop_data goes_on)
+  effect_row op.Store e k = write_row (address_target n.a) (address_target m.a) k _ _ _ (ap choice_target e) (then pop_data goes_on)
   effect_row op.MultiplyStep e k =
-      (refl, then (set_a (from_three (λ t s a. step_low (step_sum t s a) a) top second OfA)) (then (set_top (from_three (λ t s a. step_high (step_sum t s a)) top second OfA)) goes_on))
-  effect_row op.TwoStar e k = (refl, then (set_top (from_one doubled top)) goes_on)
-  effect_row op.TwoSlash e k = (refl, then (set_top (from_one halved top)) goes_on)
+      (refl, then (set_a (from_three (λ t s a. multiply_step_a (multiply_step_sum t s a) a) top second OfA)) (then (set_top (from_three (λ t s a. multiply_step_t (multiply_step_sum t s a)) top second OfA)) goes_on))
+  effect_row op.TwoStar e k = (refl, then (set_top (from_one doubled_word top)) goes_on)
+  effect_row op.TwoSlash e k = (refl, then (set_top (from_one halved_word top)) goes_on)
   effect_row op.Invert e k = (refl, then (set_top (from_one (λ v. 0x3ffff - v) top)) goes_on)
   effect_row op.Plus e k = (
     refl,
@@ -146,32 +146,32 @@ module _ (seen other : Seen) (n m : NodeRecord) where
   effect_row op.BStore e k = (refl, then (set_b (from_one (λ v. v % 2 ^ 9) top)) (then pop_data goes_on))
   effect_row op.AStore e k = (refl, then (set_a (refl, refl)) (then pop_data goes_on))
 
-  due_row : (d : NextAction) → choice d n ≡ choice d m → IsRow (moves_by d n) (done_by d seen n) (done_by d other m)
-  due_row due.Fetch e = read_row (classified n.p) (classified m.p) Instruction kind.Fetch _ _ _ (ap target_of e) (λ flow x y comes. then (set_i comes) (then (set_p (from_one advanced OfP)) (then start_again none)))
+  due_row : (d : NextAction) → choice d n ≡ choice d m → IsRow (action_moves d n) (action_result d seen n) (action_result d other m)
+  due_row due.Fetch e = read_row (address_target n.p) (address_target m.p) Instruction kind.Fetch _ _ _ (ap choice_target e) (λ flow x y comes. then (set_i comes) (then (set_p (from_one advanced_address OfP)) (then start_again none)))
   due_row (due.Run op) e = effect_row op e (kind.Run (code_of op))
 
-  own_row : DecideAlike n m → IsRow (moves_by (next_action_of n) n) (own_event seen n) (own_event other m)
+  own_row : HaveSameNextAction n m → IsRow (action_moves (next_action_of n) n) (own_event seen n) (own_event other m)
   unfolding own_event
   own_row alike =
-      subst (λ d. IsRow (moves_by (next_action_of n) n) (done_by (next_action_of n) seen n) (done_by d other m)) alike.due
+      subst (λ d. IsRow (action_moves (next_action_of n) n) (action_result (next_action_of n) seen n) (action_result d other m)) alike.due
       (due_row (next_action_of n) (alike.choice ∙ ap (λ d. choice d m) (sym alike.due)))
 
-  pub own_flows : DecideAlike n m → HasSizes n → HasSizes m → (part : Part) → IsPart part → Source (own_flow n part) (part_of (io_word seen) (own seen n).1 part) (part_of (io_word other) (own other m).1 part)
+  pub own_flows : HaveSameNextAction n m → HasSizes n → HasSizes m → (part : NodePart) → IsNodePart part → Source (own_flow n part) (part_value (io_word seen) (own seen n).1 part) (part_value (io_word other) (own other m).1 part)
   unfolding own own_flow
   own_flows alike = comes_after (io_word seen) n (io_word other) m (own_row alike).1
 
-  pub own_sizes : DecideAlike n m → HasSizes n → HasSizes m → HasSizes (own seen n).1 × HasSizes (own other m).1
+  pub own_sizes : HaveSameNextAction n m → HasSizes n → HasSizes m → HasSizes (own seen n).1 × HasSizes (own other m).1
   unfolding own
   own_sizes alike = sizes_after (io_word seen) n (io_word other) m (own_row alike).1
 
-  pub own_kinds : DecideAlike n m → (own seen n).0 ≡ (own other m).0
+  pub own_kinds : HaveSameNextAction n m → (own seen n).0 ≡ (own other m).0
   unfolding own
   own_kinds alike = (own_row alike).0
 
 -- ---- the halves of a transfer
 
 module _ (word : ℕ) (n : NodeRecord) (other : ℕ) (m : NodeRecord) where
-  pub sent_flows : HasSizes n → HasSizes m → (part : Part) → IsPart part → IsFlowOf word n other m (send_flow part) (part_of word (sent n) part) (part_of other (sent m) part)
+  pub sent_flows : HasSizes n → HasSizes m → (part : NodePart) → IsNodePart part → IsFlowOf word n other m (send_flow part) (part_value word (sent n) part) (part_value other (sent m) part)
   unfolding sent send_flow
   sent_flows = comes_after word n other m (then (set_wait {w = wait.Nothing}) (then pop_data (then go_on none)))
 
@@ -179,22 +179,22 @@ module _ (word : ℕ) (n : NodeRecord) (other : ℕ) (m : NodeRecord) where
   unfolding sent
   sent_sizes = sizes_after word n other m (then (set_wait {w = wait.Nothing}) (then pop_data (then go_on none)))
 
-  take_row : (w : Wait) → AreMoves word n other m (take_moves w) (taking w word) (taking w other)
+  take_row : (w : Wait) → AreMoves word n other m (take_moves w) (take_changes w word) (take_changes w other)
   take_row (wait.Fetch sides) = then set_wait (then (set_i (refl, refl)) (then start_again none))
   take_row (wait.Read sides) = then set_wait (then (push_data (refl, refl)) (then go_on none))
   take_row wait.Nothing = none
   take_row (wait.Write side) = none
 
-  pub taken_flows : HasSizes n → HasSizes m → n.wait ≡ m.wait → (part : Part) → IsPart part → IsFlowOf word n other m (take_flow n.wait part) (part_of word (taken word n) part) (part_of other (taken other m) part)
+  pub taken_flows : HasSizes n → HasSizes m → n.wait ≡ m.wait → (part : NodePart) → IsNodePart part → IsFlowOf word n other m (take_flow n.wait part) (part_value word (taken word n) part) (part_value other (taken other m) part)
   unfolding taken take_flow
   taken_flows left right same part is =
-      subst (λ w. IsFlowOf word n other m (moved_all (take_moves n.wait) Same part) (part_of word (after_changes (taking n.wait word) n) part) (part_of other (after_changes (taking w other) m) part)) same
+      subst (λ w. IsFlowOf word n other m (flows_after_moves (take_moves n.wait) Same part) (part_value word (after_changes (take_changes n.wait word) n) part) (part_value other (after_changes (take_changes w other) m) part)) same
       (comes_after word n other m (take_row n.wait) left right part is)
 
   pub taken_sizes : HasSizes n → HasSizes m → n.wait ≡ m.wait → HasSizes (taken word n) × HasSizes (taken other m)
   unfolding taken
   taken_sizes left right same =
-      subst (λ w. HasSizes (after_changes (taking n.wait word) n) × HasSizes (after_changes (taking w other) m)) same (sizes_after word n other m (take_row n.wait) left right)
+      subst (λ w. HasSizes (after_changes (take_changes n.wait word) n) × HasSizes (after_changes (take_changes w other) m)) same (sizes_after word n other m (take_row n.wait) left right)
 
 -- ---- the same is decided in two nodes that hold the same in the parts by which an event is decided
 
@@ -205,21 +205,21 @@ module _ (n m : NodeRecord) where
       by_slot : ℕ → ℕ → NextAction
       by_slot i slot = cond (slot == 4) due.Fetch (due.Run (opcode i slot))
 
-  chosen : (d : NextAction) → AgreeAtParts 0 n 0 m (chosen_by d) → choice d n ≡ choice d m
-  chosen due.Fetch agree = ap (λ p. At (classified p)) agree.0
+  chosen : (d : NextAction) → AgreeAtParts 0 n 0 m (deciding_parts d) → choice d n ≡ choice d m
+  chosen due.Fetch agree = ap (λ p. At (address_target p)) agree.0
   chosen (due.Run op.Unext) agree = ap (λ v. Test (v == 0)) agree.0
   chosen (due.Run op.Next) agree = ap (λ v. Test (v == 0)) agree.0
   chosen (due.Run op.If) agree = ap (λ v. Test (v == 0)) agree.0
   chosen (due.Run op.MinusIf) agree = ap (λ v. Test (v / 2 ^ 17 == 0)) agree.0
   chosen (due.Run op.Plus) agree = ap (λ p. Test (p / 2 ^ 9 % 2 == 1)) agree.0
-  chosen (due.Run op.FetchP) agree = ap (λ v. At (classified v)) agree.0
-  chosen (due.Run op.FetchPlus) agree = ap (λ v. At (classified v)) agree.0
-  chosen (due.Run op.FetchB) agree = ap (λ v. At (classified v)) agree.0
-  chosen (due.Run op.Fetch) agree = ap (λ v. At (classified v)) agree.0
-  chosen (due.Run op.StoreP) agree = ap (λ v. At (classified v)) agree.0
-  chosen (due.Run op.StorePlus) agree = ap (λ v. At (classified v)) agree.0
-  chosen (due.Run op.StoreB) agree = ap (λ v. At (classified v)) agree.0
-  chosen (due.Run op.Store) agree = ap (λ v. At (classified v)) agree.0
+  chosen (due.Run op.FetchP) agree = ap (λ v. At (address_target v)) agree.0
+  chosen (due.Run op.FetchPlus) agree = ap (λ v. At (address_target v)) agree.0
+  chosen (due.Run op.FetchB) agree = ap (λ v. At (address_target v)) agree.0
+  chosen (due.Run op.Fetch) agree = ap (λ v. At (address_target v)) agree.0
+  chosen (due.Run op.StoreP) agree = ap (λ v. At (address_target v)) agree.0
+  chosen (due.Run op.StorePlus) agree = ap (λ v. At (address_target v)) agree.0
+  chosen (due.Run op.StoreB) agree = ap (λ v. At (address_target v)) agree.0
+  chosen (due.Run op.Store) agree = ap (λ v. At (address_target v)) agree.0
   chosen (due.Run op.Return) agree = refl
   chosen (due.Run op.Execute) agree = refl
   chosen (due.Run op.Jump) agree = refl
@@ -240,8 +240,8 @@ module _ (n m : NodeRecord) where
   chosen (due.Run op.BStore) agree = refl
   chosen (due.Run op.AStore) agree = refl
 
-  pub alike : AgreeAtParts 0 n 0 m (OfI ∷ OfSlot ∷ []) → AgreeAtParts 0 n 0 m (chosen_by (next_action_of n)) → DecideAlike n m
-  alike word by = record {
+  pub alike : AgreeAtParts 0 n 0 m (OfI ∷ OfSlot ∷ []) → AgreeAtParts 0 n 0 m (deciding_parts (next_action_of n)) → HaveSameNextAction n m
+  alike word computed_from = record {
     due = due_same word.0 word.1.0;
-    choice = chosen (next_action_of n) by ∙ ap (λ d. choice d m) (due_same word.0 word.1.0);
+    choice = chosen (next_action_of n) computed_from ∙ ap (λ d. choice d m) (due_same word.0 word.1.0);
   }

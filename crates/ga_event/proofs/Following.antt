@@ -2,7 +2,7 @@
 use Rattle.std.proofs.Common.{◌≡◌, ◌==◌, ◌+◌, ◌-◌, Bool, true, false, cond, List, [], ◌∷◌, refl, sym, ap, ◌∙◌, ℕ, zero, suc, ◌&&◌}
 use Rattle.ga_slots.specs.declared.op.Op.{Op}
 use Rattle.ga_slots.specs.declared.op.Op.TheVariants as op
-use Rattle.ga_ports.specs.Address.{is_single}
+use Rattle.ga_ports.specs.Address.{is_single_side}
 use Rattle.ga_ports.specs.declared.address.Target.{Target}
 use Rattle.ga_ports.specs.declared.address.Target.TheVariants as target
 use Rattle.ga_node.specs.Record.{NodeRecord}
@@ -12,27 +12,27 @@ use Rattle.ga_node.specs.declared.due.NextAction.TheVariants as due
 use Rattle.ga_node.specs.declared.wait.Wait.{Wait}
 use Rattle.ga_node.specs.declared.wait.Wait.TheVariants as wait
 use Rattle.ga_event.specs.declared.flow.choice.Choice.{Choice}
-use Rattle.ga_event.specs.declared.flow.part.Part.{Part}
-use Rattle.ga_event.specs.declared.flow.part.Part.TheVariants.{Data, Return, Ram, Rom, A, B, P, I, Io, Carry, Slot, Wait as WaitPart, Stop, Outside}
-use Rattle.ga_event.specs.Flow.{Flow, Same, From, Flows, Move, PushData, PopData, SetTop, PopTo, PushReturn, PopReturn, SetTopReturn, SetP, SetA, SetB, SetI, SetIo, SetCarry, SetRam, GoOn, Skip, StartAgain, SetWait, SetStop, is_same, with_flow, pushed_data, data_flows_popped, pushed_return, return_flows_popped, by, moved, moved_all, top, top_return, choice, target_of, test_holds, read_moves, write_moves, moves_where, moves_by, send_moves, take_moves, flow_where, own_flow, send_flow, take_flow, kind_of, index_of}
+use Rattle.ga_event.specs.declared.flow.part.NodePart.{NodePart}
+use Rattle.ga_event.specs.declared.flow.part.NodePart.TheVariants.{Data, Return, Ram, Rom, A, B, P, I, Io, Carry, Slot, Wait as WaitPart, Stop, Outside}
+use Rattle.ga_event.specs.Flow.{Flow, Same, From, PartFlows, Move, PushData, PopData, SetTop, PopTo, PushReturn, PopReturn, SetTopReturn, SetP, SetA, SetB, SetI, SetIo, SetCarry, SetRam, GoOn, Skip, StartAgain, SetWait, SetStop, is_equal_to, with_flow, data_flows_pushed, data_flows_popped, return_flows_pushed, return_flows_popped, computed_from, flows_after_move, flows_after_moves, top, top_return, choice, choice_target, test_holds, read_moves, write_moves, moves_by_choice, action_moves, send_moves, take_moves, flow_by_choice, own_flow, send_flow, take_flow, part_kind, part_index}
 use Rattle.ga_event.specs.inner.{Trace, At, Found, set_at, push_data, pop_data, push_return, pop_return, before, before_all, settled, read_before, write_before, count_before}
 use Rattle.std.specs.Prelude.{◌↔◌, IsTrue}
 use Rattle.std.proofs.lemmas.Bool.{eq-eqb, eqb-true}
 
 -- the flow of a trace: that of its part, or the one already found
-abbrev resolved : Flows → Trace → Flow
+abbrev resolved : PartFlows → Trace → Flow
 resolved f (At part) = f part
 resolved f (Found flow) = flow
 
-by_test : (f : Flows) (b : Bool) (x y : Trace) → resolved f (cond b x y) ≡ cond b (resolved f x) (resolved f y)
+by_test : (f : PartFlows) (b : Bool) (x y : Trace) → resolved f (cond b x y) ≡ cond b (resolved f x) (resolved f y)
 by_test f true x y = refl
 by_test f false x y = refl
 
-set_back : (at : Part) (flow : Flow) (f : Flows) (trace : Trace) → resolved f (set_at at flow trace) ≡ resolved (with_flow at flow f) trace
-set_back at flow f (At part) = by_test f (is_same part at) (Found flow) (At part)
+set_back : (at : NodePart) (flow : Flow) (f : PartFlows) (trace : Trace) → resolved f (set_at at flow trace) ≡ resolved (with_flow at flow f) trace
+set_back at flow f (At part) = by_test f (is_equal_to part at) (Found flow) (At part)
 set_back at flow f (Found found) = refl
 
-push_data_back : (flow : Flow) (f : Flows) (trace : Trace) → resolved f (push_data flow trace) ≡ resolved (pushed_data flow f) trace
+push_data_back : (flow : Flow) (f : PartFlows) (trace : Trace) → resolved f (push_data flow trace) ≡ resolved (data_flows_pushed flow f) trace
 push_data_back flow f (At (Data k)) = by_test f (k == 0) (Found flow) (At (Data (k - 1)))
 push_data_back flow f (At (Return k)) = refl
 push_data_back flow f (At (Ram k)) = refl
@@ -49,7 +49,7 @@ push_data_back flow f (At Stop) = refl
 push_data_back flow f (At Outside) = refl
 push_data_back flow f (Found found) = refl
 
-pop_data_back : (f : Flows) (trace : Trace) → resolved f (pop_data trace) ≡ resolved (data_flows_popped f) trace
+pop_data_back : (f : PartFlows) (trace : Trace) → resolved f (pop_data trace) ≡ resolved (data_flows_popped f) trace
 pop_data_back f (At (Data k)) = by_test f (k == 9) (At (Data 2)) (At (Data (k + 1)))
 pop_data_back f (At (Return k)) = refl
 pop_data_back f (At (Ram k)) = refl
@@ -66,7 +66,7 @@ pop_data_back f (At Stop) = refl
 pop_data_back f (At Outside) = refl
 pop_data_back f (Found found) = refl
 
-push_return_back : (flow : Flow) (f : Flows) (trace : Trace) → resolved f (push_return flow trace) ≡ resolved (pushed_return flow f) trace
+push_return_back : (flow : Flow) (f : PartFlows) (trace : Trace) → resolved f (push_return flow trace) ≡ resolved (return_flows_pushed flow f) trace
 push_return_back flow f (At (Data k)) = refl
 push_return_back flow f (At (Return k)) = by_test f (k == 0) (Found flow) (At (Return (k - 1)))
 push_return_back flow f (At (Ram k)) = refl
@@ -83,7 +83,7 @@ push_return_back flow f (At Stop) = refl
 push_return_back flow f (At Outside) = refl
 push_return_back flow f (Found found) = refl
 
-pop_return_back : (f : Flows) (trace : Trace) → resolved f (pop_return trace) ≡ resolved (return_flows_popped f) trace
+pop_return_back : (f : PartFlows) (trace : Trace) → resolved f (pop_return trace) ≡ resolved (return_flows_popped f) trace
 pop_return_back f (At (Data k)) = refl
 pop_return_back f (At (Return k)) = by_test f (k == 8) (At (Return 1)) (At (Return (k + 1)))
 pop_return_back f (At (Ram k)) = refl
@@ -101,7 +101,7 @@ pop_return_back f (At Outside) = refl
 pop_return_back f (Found found) = refl
 
 -- a move, where the slot is still the one before the event
-move_back : (move : Move) (f : Flows) (trace : Trace) → f Slot ≡ Same Slot → resolved f (before move trace) ≡ resolved (moved move f) trace
+move_back : (move : Move) (f : PartFlows) (trace : Trace) → f Slot ≡ Same Slot → resolved f (before move trace) ≡ resolved (flows_after_move move f) trace
 move_back (PushData flow) f trace slot = push_data_back flow f trace
 move_back PopData f trace slot = pop_data_back f trace
 move_back (SetTop flow) f trace slot = set_back top flow f trace
@@ -116,7 +116,7 @@ move_back (SetI flow) f trace slot = set_back I flow f trace
 move_back (SetIo flow) f trace slot = set_back Io flow f trace
 move_back (SetCarry flow) f trace slot = set_back Carry flow f trace
 move_back (SetRam cell flow) f trace slot = set_back (Ram cell) flow f trace
-move_back GoOn f trace slot = set_back Slot (From (Slot ∷ [])) f trace ∙ ap (λ flow. resolved (with_flow Slot (by flow) f) trace) (sym slot)
+move_back GoOn f trace slot = set_back Slot (From (Slot ∷ [])) f trace ∙ ap (λ flow. resolved (with_flow Slot (computed_from flow) f) trace) (sym slot)
 move_back Skip f trace slot = set_back Slot (From []) f trace
 move_back StartAgain f trace slot = set_back Slot (From []) f trace
 move_back SetWait f trace slot = set_back WaitPart (From []) f trace
@@ -134,7 +134,7 @@ SlotLast [] = Unit {0}
 SlotLast (move ∷ []) = Unit {0}
 SlotLast (move ∷ (next ∷ rest)) = LeavesSlot move × SlotLast (next ∷ rest)
 
-slot_left : (move : Move) (f : Flows) → LeavesSlot move → moved move f Slot ≡ f Slot
+slot_left : (move : Move) (f : PartFlows) → LeavesSlot move → flows_after_move move f Slot ≡ f Slot
 slot_left (PushData flow) f leaves = refl
 slot_left PopData f leaves = refl
 slot_left (SetTop flow) f leaves = refl
@@ -155,18 +155,18 @@ slot_left StartAgain f leaves = absurd leaves
 slot_left SetWait f leaves = refl
 slot_left SetStop f leaves = refl
 
-all_back : (moves : List Move) (f : Flows) (trace : Trace) → f Slot ≡ Same Slot → SlotLast moves → resolved f (before_all moves trace) ≡ resolved (moved_all moves f) trace
+all_back : (moves : List Move) (f : PartFlows) (trace : Trace) → f Slot ≡ Same Slot → SlotLast moves → resolved f (before_all moves trace) ≡ resolved (flows_after_moves moves f) trace
 all_back [] f trace slot last = refl
 all_back (move ∷ []) f trace slot last = move_back move f trace slot
 all_back (move ∷ (next ∷ rest)) f trace slot last =
     move_back move f (before_all (next ∷ rest) trace) slot
-    ∙ all_back (next ∷ rest) (moved move f) trace (slot_left move f last.0 ∙ slot) last.1
+    ∙ all_back (next ∷ rest) (flows_after_move move f) trace (slot_left move f last.0 ∙ slot) last.1
 
 settled_back : (trace : Trace) → settled trace ≡ resolved Same trace
 settled_back (At part) = refl
 settled_back (Found flow) = refl
 
-pub found_flow : (moves : List Move) (part : Part) → SlotLast moves → settled (before_all moves (At part)) ≡ moved_all moves Same part
+pub found_flow : (moves : List Move) (part : NodePart) → SlotLast moves → settled (before_all moves (At part)) ≡ flows_after_moves moves Same part
 found_flow moves part last = settled_back (before_all moves (At part)) ∙ all_back moves Same (At part) refl last
 
 -- ---- the rows
@@ -186,10 +186,10 @@ write_last : (target : Target) (next : Move) (rest : List Move) → SlotLast (ne
 write_last (target.Ram k) next rest last = (tt, last)
 write_last (target.Rom k) next rest last = last
 write_last target.Io next rest last = (tt, last)
-write_last (target.Ports sides) next rest last = either_last (is_single sides) _ _ tt tt
+write_last (target.Ports sides) next rest last = either_last (is_single_side sides) _ _ tt tt
 write_last target.Bad next rest last = tt
 
-op_last : (op : Op) (c : Choice) → SlotLast (moves_where (due.Run op) c)
+op_last : (op : Op) (c : Choice) → SlotLast (moves_by_choice (due.Run op) c)
 op_last op.Return c = (tt, (tt, tt))
 op_last op.Execute c = (tt, (tt, tt))
 op_last op.Jump c = (tt, tt)
@@ -198,14 +198,14 @@ op_last op.Unext c = either_last (test_holds c) _ _ (tt, tt) (tt, tt)
 op_last op.Next c = either_last (test_holds c) _ _ (tt, tt) (tt, (tt, tt))
 op_last op.If c = either_last (test_holds c) _ _ (tt, tt) tt
 op_last op.MinusIf c = either_last (test_holds c) _ _ (tt, tt) tt
-op_last op.FetchP c = read_last (target_of c) _ (λ flow. (tt, (tt, tt)))
-op_last op.FetchPlus c = read_last (target_of c) _ (λ flow. (tt, (tt, tt)))
-op_last op.FetchB c = read_last (target_of c) _ (λ flow. (tt, tt))
-op_last op.Fetch c = read_last (target_of c) _ (λ flow. (tt, tt))
-op_last op.StoreP c = write_last (target_of c) _ _ (tt, (tt, tt))
-op_last op.StorePlus c = write_last (target_of c) _ _ (tt, (tt, tt))
-op_last op.StoreB c = write_last (target_of c) _ _ (tt, tt)
-op_last op.Store c = write_last (target_of c) _ _ (tt, tt)
+op_last op.FetchP c = read_last (choice_target c) _ (λ flow. (tt, (tt, tt)))
+op_last op.FetchPlus c = read_last (choice_target c) _ (λ flow. (tt, (tt, tt)))
+op_last op.FetchB c = read_last (choice_target c) _ (λ flow. (tt, tt))
+op_last op.Fetch c = read_last (choice_target c) _ (λ flow. (tt, tt))
+op_last op.StoreP c = write_last (choice_target c) _ _ (tt, (tt, tt))
+op_last op.StorePlus c = write_last (choice_target c) _ _ (tt, (tt, tt))
+op_last op.StoreB c = write_last (choice_target c) _ _ (tt, tt)
+op_last op.Store c = write_last (choice_target c) _ _ (tt, tt)
 op_last op.MultiplyStep c = (tt, (tt, tt))
 op_last op.TwoStar c = (tt, tt)
 op_last op.TwoSlash c = (tt, tt)
@@ -224,28 +224,28 @@ op_last op.BStore c = (tt, (tt, tt))
 op_last op.AStore c = (tt, (tt, tt))
 
 -- what is found before what comes next in a node, and before the halves of a transfer
-due_last : (d : NextAction) (c : Choice) → SlotLast (moves_where d c)
-due_last due.Fetch c = read_last (target_of c) _ (λ flow. (tt, (tt, tt)))
+due_last : (d : NextAction) (c : Choice) → SlotLast (moves_by_choice d c)
+due_last due.Fetch c = read_last (choice_target c) _ (λ flow. (tt, (tt, tt)))
 due_last (due.Run op) c = op_last op c
 
-pub where_found : (d : NextAction) (c : Choice) (part : Part) → settled (before_all (moves_where d c) (At part)) ≡ flow_where d c part
-unfolding flow_where
-where_found d c part = found_flow (moves_where d c) part (due_last d c)
+pub where_found : (d : NextAction) (c : Choice) (part : NodePart) → settled (before_all (moves_by_choice d c) (At part)) ≡ flow_by_choice d c part
+unfolding flow_by_choice
+where_found d c part = found_flow (moves_by_choice d c) part (due_last d c)
 
-in_node : (d : NextAction) (n : NodeRecord) → moves_where d (choice d n) ≡ moves_by d n
+in_node : (d : NextAction) (n : NodeRecord) → moves_by_choice d (choice d n) ≡ action_moves d n
 in_node due.Fetch n = refl
 in_node (due.Run op) n = refl
 
-pub own_found : (d : NextAction) (c : Choice) (n : NodeRecord) (part : Part) → d ≡ next_action_of n → c ≡ choice d n → flow_where d c part ≡ own_flow n part
-unfolding flow_where own_flow
+pub own_found : (d : NextAction) (c : Choice) (n : NodeRecord) (part : NodePart) → d ≡ next_action_of n → c ≡ choice d n → flow_by_choice d c part ≡ own_flow n part
+unfolding flow_by_choice own_flow
 own_found d c n part is so =
-    ap (λ (moves : List Move). moved_all moves Same part) (ap (moves_where d) so ∙ in_node d n) ∙ ap (λ d. moved_all (moves_by d n) Same part) is
+    ap (λ (moves : List Move). flows_after_moves moves Same part) (ap (moves_by_choice d) so ∙ in_node d n) ∙ ap (λ d. flows_after_moves (action_moves d n) Same part) is
 
-pub send_found : (part : Part) → settled (before_all send_moves (At part)) ≡ send_flow part
+pub send_found : (part : NodePart) → settled (before_all send_moves (At part)) ≡ send_flow part
 unfolding send_flow
 send_found part = found_flow send_moves part (tt, (tt, tt))
 
-pub take_found : (w : Wait) (part : Part) → settled (before_all (take_moves w) (At part)) ≡ take_flow w part
+pub take_found : (w : Wait) (part : NodePart) → settled (before_all (take_moves w) (At part)) ≡ take_flow w part
 unfolding take_flow
 take_found (wait.Fetch sides) part = found_flow (take_moves (wait.Fetch sides)) part (tt, (tt, tt))
 take_found (wait.Read sides) part = found_flow (take_moves (wait.Read sides)) part (tt, (tt, tt))
@@ -254,32 +254,32 @@ take_found (wait.Write side) part = refl
 
 -- ---- reads and writes
 
-pub read_found : (target : Target) (part : Part) (more : List Move) → read_before target part (before_all more (At part)) ≡ before_all (read_moves target (λ word. PushData word ∷ more)) (At part)
+pub read_found : (target : Target) (part : NodePart) (more : List Move) → read_before target part (before_all more (At part)) ≡ before_all (read_moves target (λ word. PushData word ∷ more)) (At part)
 read_found (target.Ram k) part more = refl
 read_found (target.Rom k) part more = refl
 read_found target.Io part more = refl
 read_found (target.Ports sides) part more = refl
 read_found target.Bad part more = refl
 
-pub write_found : (target : Target) (part : Part) (more : List Move) → write_before target part (before_all more (At part)) ≡ before_all (write_moves target more) (At part)
+pub write_found : (target : Target) (part : NodePart) (more : List Move) → write_before target part (before_all more (At part)) ≡ before_all (write_moves target more) (At part)
 write_found (target.Ram k) part more = refl
 write_found (target.Rom k) part more = refl
 write_found target.Io part more = refl
-write_found (target.Ports sides) part more = by_single (is_single sides)
+write_found (target.Ports sides) part more = by_single (is_single_side sides)
   where
     by_single : (b : Bool) → cond b (before SetWait (At part)) (before SetStop (At part)) ≡ before_all (cond b (SetWait ∷ []) (SetStop ∷ [])) (At part)
     by_single true = refl
     by_single false = refl
 write_found target.Bad part more = refl
 
-pub count_found : (ends : Bool) (part : Part) (last again : List Move) → count_before ends (before_all last (At part)) (before_all again (At part)) ≡ before_all (cond ends (PopReturn ∷ last) (SetTopReturn (From (top_return ∷ [])) ∷ again)) (At part)
+pub count_found : (ends : Bool) (part : NodePart) (last again : List Move) → count_before ends (before_all last (At part)) (before_all again (At part)) ≡ before_all (cond ends (PopReturn ∷ last) (SetTopReturn (From (top_return ∷ [])) ∷ again)) (At part)
 count_found true part last again = refl
 count_found false part last again = refl
 
 -- ---- parts of one kind and index are one part
 
 -- the part of a kind at an index
-part_at : ℕ → ℕ → Part
+part_at : ℕ → ℕ → NodePart
 part_at zero k = Data k
 part_at (suc zero) k = Return k
 part_at (suc (suc zero)) k = Ram k
@@ -295,7 +295,7 @@ part_at (suc (suc (suc (suc (suc (suc (suc (suc (suc (suc (suc zero))))))))))) k
 part_at (suc (suc (suc (suc (suc (suc (suc (suc (suc (suc (suc (suc zero)))))))))))) k = Stop
 part_at (suc (suc (suc (suc (suc (suc (suc (suc (suc (suc (suc (suc (suc n))))))))))))) k = Outside
 
-decoded : (p : Part) → part_at (kind_of p) (index_of p) ≡ p
+decoded : (p : NodePart) → part_at (part_kind p) (part_index p) ≡ p
 unfolding part_at
 decoded (Data k) = refl
 decoded (Return k) = refl
@@ -316,12 +316,12 @@ both : (a b : Bool) → (a && b) ≡ true → (a ≡ true) × (b ≡ true)
 both true b h = (refl, h)
 both false b h = absurd (cc)
 
-pub same_part : (p q : Part) → is_same p q ≡ true → p ≡ q
+pub same_part : (p q : NodePart) → is_equal_to p q ≡ true → p ≡ q
 same_part p q h =
-    let tests = both (kind_of p == kind_of q) (index_of p == index_of q) h in
+    let tests = both (part_kind p == part_kind q) (part_index p == part_index q) h in
     sym (decoded p)
-    ∙ ap (λ (k : ℕ). part_at k (index_of p)) (eqb-true (kind_of p) (kind_of q) tests.0)
-    ∙ ap (part_at (kind_of q)) (eqb-true (index_of p) (index_of q) tests.1)
+    ∙ ap (λ (k : ℕ). part_at k (part_index p)) (eqb-true (part_kind p) (part_kind q) tests.0)
+    ∙ ap (part_at (part_kind q)) (eqb-true (part_index p) (part_index q) tests.1)
     ∙ decoded q
 
 and_true : (a b : Bool) → a ≡ true → b ≡ true → (a && b) ≡ true
@@ -329,14 +329,14 @@ and_true true b p q = q
 and_true false b p q = p
 
 -- the test of the indices, where the kinds are the same, and that of the kinds, where they aren't
-pub then_same : (p q : Part) (i j : ℕ) → kind_of p ≡ kind_of q → i ≡ index_of p → j ≡ index_of q → IsTrue (i == j) ↔ (p ≡ q)
+pub then_same : (p q : NodePart) (i j : ℕ) → part_kind p ≡ part_kind q → i ≡ part_index p → j ≡ part_index q → IsTrue (i == j) ↔ (p ≡ q)
 then_same p q i j kinds left right = (
-  λ h. same_part p q (and_true (kind_of p == kind_of q) (index_of p == index_of q) (eq-eqb (kind_of p) (kind_of q) kinds) (eq-eqb (index_of p) (index_of q) (sym left ∙ eqb-true i j h ∙ right))),
-  λ e. eq-eqb i j (left ∙ ap index_of e ∙ sym right),
+  λ h. same_part p q (and_true (part_kind p == part_kind q) (part_index p == part_index q) (eq-eqb (part_kind p) (part_kind q) kinds) (eq-eqb (part_index p) (part_index q) (sym left ∙ eqb-true i j h ∙ right))),
+  λ e. eq-eqb i j (left ∙ ap part_index e ∙ sym right),
 )
 
-pub else_same : (p q : Part) (a b : ℕ) → (a ≡ b → ⊥) → a ≡ kind_of p → b ≡ kind_of q → IsTrue (a == b) ↔ (p ≡ q)
+pub else_same : (p q : NodePart) (a b : ℕ) → (a ≡ b → ⊥) → a ≡ part_kind p → b ≡ part_kind q → IsTrue (a == b) ↔ (p ≡ q)
 else_same p q a b differ left right = (
   λ h. absurd (differ (eqb-true a b h)),
-  λ e. absurd (differ (left ∙ ap kind_of e ∙ sym right)),
+  λ e. absurd (differ (left ∙ ap part_kind e ∙ sym right)),
 )

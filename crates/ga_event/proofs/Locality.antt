@@ -15,8 +15,8 @@ use Rattle.ga_grid.specs.declared.node_id.NodeId.{NodeId}
 use Rattle.ga_event.specs.declared.event.Event.{Event}
 use Rattle.ga_event.specs.declared.event.Cause.{Cause}
 use Rattle.ga_event.specs.declared.event.Event.TheVariants.{Own, Pass}
-use Rattle.ga_event.specs.Touches.{nodes_of, touches, with_some, neighbours, looked_at, seen_by, meets}
-use Rattle.ga_event.specs.Apply.{EventOutcome, shows, beside_in, neighbour_states, is_open, unmatched, refusal_of, after_own, after_pass, when_allowed, after, apply, is_look, cause_of, Agree, BehaveAlike}
+use Rattle.ga_event.specs.Touches.{event_nodes, touches, prepend_some, neighbours, looked_at_nodes, observed_by, has_common_node}
+use Rattle.ga_event.specs.Apply.{EventOutcome, shown_state, shown_neighbour_state, neighbour_states, is_transfer_ready, unmatched_unless, refusal_of, chip_after_own, chip_after_pass, some_if_allowed, after, apply, is_look, cause_of, AgreeOutsideMarks, BehaveAlike}
 
 pub any-append : (marks : ℕ → Bool) (a b : List ℕ) → list_any marks a ≡ true → list_any marks (a ++ b) ≡ true
 any-append marks [] b t = absurd (both_ways false refl t)
@@ -30,31 +30,31 @@ any-free marks (n ∷ a) b f =
     (or_from (marks n) (list_any marks a) p.0 q.0, q.1)
 
 -- an event sees the nodes that it touches
-pub meets-touched : (marks : ℕ → Bool) (cause : Cause) → list_any marks (nodes_of cause.event) ≡ true → meets marks cause ≡ true
-unfolding seen_by
-meets-touched marks cause t = any-append marks (nodes_of cause.event) (looked_at cause.event cause.look) t
+pub has_common_node-touched : (marks : ℕ → Bool) (cause : Cause) → list_any marks (event_nodes cause.event) ≡ true → has_common_node marks cause ≡ true
+unfolding observed_by
+has_common_node-touched marks cause t = any-append marks (event_nodes cause.event) (looked_at_nodes cause.event cause.look) t
 
-pub touched_free : (marks : ℕ → Bool) (cause : Cause) → meets marks cause ≡ false → list_any marks (nodes_of cause.event) ≡ false
-touched_free marks cause free = false_from_ne_true (list_any marks (nodes_of cause.event)) (λ t. both_ways (meets marks cause) free (meets-touched marks cause t))
+pub touched_free : (marks : ℕ → Bool) (cause : Cause) → has_common_node marks cause ≡ false → list_any marks (event_nodes cause.event) ≡ false
+touched_free marks cause free = false_from_ne_true (list_any marks (event_nodes cause.event)) (λ t. both_ways (has_common_node marks cause) free (has_common_node-touched marks cause t))
 
 -- and those at which it looks
-looked_free : (marks : ℕ → Bool) (cause : Cause) → meets marks cause ≡ false → list_any marks (looked_at cause.event cause.look) ≡ false
-unfolding seen_by
-looked_free marks cause free = (any-free marks (nodes_of cause.event) (looked_at cause.event cause.look) free).1
+looked_free : (marks : ℕ → Bool) (cause : Cause) → has_common_node marks cause ≡ false → list_any marks (looked_at_nodes cause.event cause.look) ≡ false
+unfolding observed_by
+looked_free marks cause free = (any-free marks (event_nodes cause.event) (looked_at_nodes cause.event cause.look) free).1
 
-looked_none : (event : Event) → looked_at event false ≡ []
+looked_none : (event : Event) → looked_at_nodes event false ≡ []
 looked_none (Own node) = refl
 looked_none (Pass writer reader side) = refl
 
 -- one that does not look sees no other node
-pub touched-meets : (marks : ℕ → Bool) (cause : Cause) → cause.look ≡ false → meets marks cause ≡ true → list_any marks (nodes_of cause.event) ≡ true
-unfolding seen_by
-touched-meets marks cause blind t =
-    subst (λ z. list_any marks z ≡ true) (ap (λ z. nodes_of cause.event ++ z) (looked_none cause.event) ∙ append-nil (nodes_of cause.event))
-    (subst (λ b. list_any marks (nodes_of cause.event ++ looked_at cause.event b) ≡ true) blind t)
+pub touched-has_common_node : (marks : ℕ → Bool) (cause : Cause) → cause.look ≡ false → has_common_node marks cause ≡ true → list_any marks (event_nodes cause.event) ≡ true
+unfolding observed_by
+touched-has_common_node marks cause blind t =
+    subst (λ z. list_any marks z ≡ true) (ap (λ z. event_nodes cause.event ++ z) (looked_none cause.event) ∙ append-nil (event_nodes cause.event))
+    (subst (λ b. list_any marks (event_nodes cause.event ++ looked_at_nodes cause.event b) ≡ true) blind t)
 
-pub Agree-set : (marks : ℕ → Bool) (c d : List NodeRecord) (n : ℕ) (x : NodeRecord) → Agree marks c d → Agree marks (set c n x) (set d n x)
-Agree-set marks c d n x a = record {
+pub AgreeOutsideMarks-set : (marks : ℕ → Bool) (c d : List NodeRecord) (n : ℕ) (x : NodeRecord) → AgreeOutsideMarks marks c d → AgreeOutsideMarks marks (set c n x) (set d n x)
+AgreeOutsideMarks-set marks c d n x a = record {
   size = length-set c n x ∙ a.size ∙ sym (length-set d n x);
   same = λ m free. elim (cases_eq m n) [ inl e ↦ here m e free | inr ne ↦ get_or-set_other c n m x (record_of nowhere) ne ∙ a.same m free ∙ sym (get_or-set_other d n m x (record_of nowhere) ne) ];
 }
@@ -73,26 +73,26 @@ Agree-set marks c d n x a = record {
     here m e free = elim (cases_lt n (length c)) [ inl h ↦ within m e free h | inr h ↦ past m e free h ]
 
 -- an event that sees no marked node finds the nodes that it touches alike
-seen_same : (marks : ℕ → Bool) (c d : List NodeRecord) (node : NodeId) → Agree marks c d → list_any marks (nodes_of (Own node)) ≡ false → record_at c node.number ≡ record_at d node.number
+seen_same : (marks : ℕ → Bool) (c d : List NodeRecord) (node : NodeId) → AgreeOutsideMarks marks c d → list_any marks (event_nodes (Own node)) ≡ false → record_at c node.number ≡ record_at d node.number
 seen_same marks c d node a free = a.same node.number ((or_parts (marks node.number) false free).0)
 
-seen_both : (marks : ℕ → Bool) (c d : List NodeRecord) (w r : NodeId) (side : Side) → Agree marks c d → list_any marks (nodes_of (Pass w r side)) ≡ false → (record_at c w.number ≡ record_at d w.number) × (record_at c r.number ≡ record_at d r.number)
+seen_both : (marks : ℕ → Bool) (c d : List NodeRecord) (w r : NodeId) (side : Side) → AgreeOutsideMarks marks c d → list_any marks (event_nodes (Pass w r side)) ≡ false → (record_at c w.number ≡ record_at d w.number) × (record_at c r.number ≡ record_at d r.number)
 seen_both marks c d w r side a free =
     let p : (marks w.number ≡ false) × ((marks r.number || false) ≡ false) = or_parts (marks w.number) (marks r.number || false) free in
     (a.same w.number p.0, a.same r.number ((or_parts (marks r.number) false p.1).0))
 
 -- and the neighbours at which it looks
 record SideAlike (marks : ℕ → Bool) (c d : List NodeRecord) (side : Side) (at : Option ℕ) (ns : List ℕ) : Type 0 where
-  here : beside_in c side at ≡ beside_in d side at
+  here : shown_neighbour_state c side at ≡ shown_neighbour_state d side at
   others : list_any marks ns ≡ false
 
-side_alike : (marks : ℕ → Bool) (c d : List NodeRecord) (side : Side) (at : Option ℕ) (ns : List ℕ) → Agree marks c d → list_any marks (with_some at ns) ≡ false → SideAlike marks c d side at ns
+side_alike : (marks : ℕ → Bool) (c d : List NodeRecord) (side : Side) (at : Option ℕ) (ns : List ℕ) → AgreeOutsideMarks marks c d → list_any marks (prepend_some at ns) ≡ false → SideAlike marks c d side at ns
 side_alike marks c d side None ns a free = record { here = refl; others = free }
 side_alike marks c d side (Some n) ns a free =
     let p : (marks n ≡ false) × (list_any marks ns ≡ false) = or_parts (marks n) (list_any marks ns) free in
-    record { here = ap (λ (z : NodeRecord). shows z.wait side) (a.same n p.0); others = p.1 }
+    record { here = ap (λ (z : NodeRecord). shown_state z.wait side) (a.same n p.0); others = p.1 }
 
-sides_alike : (marks : ℕ → Bool) (c d : List NodeRecord) (n : ℕ) → Agree marks c d → list_any marks (neighbours n) ≡ false → neighbour_states c n ≡ neighbour_states d n
+sides_alike : (marks : ℕ → Bool) (c d : List NodeRecord) (n : ℕ) → AgreeOutsideMarks marks c d → list_any marks (neighbours n) ≡ false → neighbour_states c n ≡ neighbour_states d n
 unfolding neighbours neighbour_states
 sides_alike marks c d n a free =
     let right = side_alike marks c d Right (neighbour_of n Right) _ a free in
@@ -102,86 +102,86 @@ sides_alike marks c d n a free =
     rw (right.here, down.here, left.here, up.here) refl
 
 -- what a node does is the same where it sees no marked node
-own_alike : (marks : ℕ → Bool) (c d : List NodeRecord) (node : NodeId) (at : NodeRecord) (look : Bool) → Agree marks c d → looks at ≡ look → list_any marks (looked_at (Own node) look) ≡ false → own (neighbour_states c node.number) at ≡ own (neighbour_states d node.number) at
+own_alike : (marks : ℕ → Bool) (c d : List NodeRecord) (node : NodeId) (at : NodeRecord) (look : Bool) → AgreeOutsideMarks marks c d → looks at ≡ look → list_any marks (looked_at_nodes (Own node) look) ≡ false → own (neighbour_states c node.number) at ≡ own (neighbour_states d node.number) at
 own_alike marks c d node at true a is free = ap (λ z. own z at) (sides_alike marks c d node.number a free)
 own_alike marks c d node at false a is free = own_blind (neighbour_states c node.number) (neighbour_states d node.number) at is
 
-touch_alike : (marks : ℕ → Bool) (c d : List NodeRecord) (event : Event) → Agree marks c d → list_any marks (nodes_of event) ≡ false → refusal_of c event ≡ refusal_of d event
+touch_alike : (marks : ℕ → Bool) (c d : List NodeRecord) (event : Event) → AgreeOutsideMarks marks c d → list_any marks (event_nodes event) ≡ false → refusal_of c event ≡ refusal_of d event
 touch_alike marks c d (Own node) a free = ap (λ z. refusal z) (seen_same marks c d node a free)
 touch_alike marks c d (Pass w r side) a free =
     let e : (record_at c w.number ≡ record_at d w.number) × (record_at c r.number ≡ record_at d r.number) = seen_both marks c d w r side a free in
-    ap (λ z. unmatched (is_open w.number r.number side z.wait (record_at c r.number).wait)) e.0
-    ∙ ap (λ z. unmatched (is_open w.number r.number side (record_at d w.number).wait z.wait)) e.1
+    ap (λ z. unmatched_unless (is_transfer_ready w.number r.number side z.wait (record_at c r.number).wait)) e.0
+    ∙ ap (λ z. unmatched_unless (is_transfer_ready w.number r.number side (record_at d w.number).wait z.wait)) e.1
 
-pub refusal_alike : (marks : ℕ → Bool) (c d : List NodeRecord) (event : Event) → Agree marks c d → meets marks (cause_of c event) ≡ false → refusal_of c event ≡ refusal_of d event
+pub refusal_alike : (marks : ℕ → Bool) (c d : List NodeRecord) (event : Event) → AgreeOutsideMarks marks c d → has_common_node marks (cause_of c event) ≡ false → refusal_of c event ≡ refusal_of d event
 refusal_alike marks c d event a free = touch_alike marks c d event a (touched_free marks (cause_of c event) free)
 
 -- its effect if it is enabled
 abbrev DoneAlike : (ℕ → Bool) → List NodeRecord × EventOutcome → List NodeRecord × EventOutcome → Type 0
-DoneAlike marks here there = Agree marks here.0 there.0 × (here.1 ≡ there.1)
+DoneAlike marks here there = AgreeOutsideMarks marks here.0 there.0 × (here.1 ≡ there.1)
 
-after_alike : (marks : ℕ → Bool) (c d : List NodeRecord) (event : Event) → Agree marks c d → meets marks (cause_of c event) ≡ false → DoneAlike marks (after c event) (after d event)
+after_alike : (marks : ℕ → Bool) (c d : List NodeRecord) (event : Event) → AgreeOutsideMarks marks c d → has_common_node marks (cause_of c event) ≡ false → DoneAlike marks (after c event) (after d event)
 after_alike marks c d (Own node) a free =
     let n = node.number in
     let cause = cause_of c (Own node) in
     let e : record_at c n ≡ record_at d n = seen_same marks c d node a (touched_free marks cause free) in
     let s : own (neighbour_states c n) (record_at c n) ≡ own (neighbour_states d n) (record_at c n) = own_alike marks c d node (record_at c n) (looks (record_at c n)) a refl (looked_free marks cause free) in
-    subst (λ z. DoneAlike marks (after_own c n (own (neighbour_states c n) (record_at c n))) (after_own d n (own (neighbour_states d n) z))) e
-    (subst (λ z. DoneAlike marks (after_own c n (own (neighbour_states c n) (record_at c n))) (after_own d n z)) s
-    (Agree-set marks c d n (own (neighbour_states c n) (record_at c n)).1 a, refl))
+    subst (λ z. DoneAlike marks (chip_after_own c n (own (neighbour_states c n) (record_at c n))) (chip_after_own d n (own (neighbour_states d n) z))) e
+    (subst (λ z. DoneAlike marks (chip_after_own c n (own (neighbour_states c n) (record_at c n))) (chip_after_own d n z)) s
+    (AgreeOutsideMarks-set marks c d n (own (neighbour_states c n) (record_at c n)).1 a, refl))
 after_alike marks c d (Pass writer reader side) a free =
     let w = writer.number in
     let r = reader.number in
     let e : (record_at c w ≡ record_at d w) × (record_at c r ≡ record_at d r) = seen_both marks c d writer reader side a (touched_free marks (cause_of c (Pass writer reader side)) free) in
     let x = record_at c w in
     let y = record_at c r in
-    subst (λ z. DoneAlike marks (after_pass c w r x y) (after_pass d w r z (record_at d r))) e.0
-    (subst (λ z. DoneAlike marks (after_pass c w r x y) (after_pass d w r x z)) e.1
-    (Agree-set marks (set c w _) (set d w _) r _ (Agree-set marks c d w _ a), refl))
+    subst (λ z. DoneAlike marks (chip_after_pass c w r x y) (chip_after_pass d w r z (record_at d r))) e.0
+    (subst (λ z. DoneAlike marks (chip_after_pass c w r x y) (chip_after_pass d w r x z)) e.1
+    (AgreeOutsideMarks-set marks (set c w _) (set d w _) r _ (AgreeOutsideMarks-set marks c d w _ a), refl))
 
 -- an event that sees no marked node does the same to two chips that agree elsewhere
-pub apply_alike : (marks : ℕ → Bool) (c d : List NodeRecord) (event : Event) → Agree marks c d → meets marks (cause_of c event) ≡ false → BehaveAlike marks (apply c event) (apply d event)
+pub apply_alike : (marks : ℕ → Bool) (c d : List NodeRecord) (event : Event) → AgreeOutsideMarks marks c d → has_common_node marks (cause_of c event) ≡ false → BehaveAlike marks (apply c event) (apply d event)
 apply_alike marks c d event a free =
-    subst (λ z. BehaveAlike marks (when_allowed (refusal_of c event) (after c event)) (when_allowed z (after d event))) (refusal_alike marks c d event a free) (go (refusal_of c event))
+    subst (λ z. BehaveAlike marks (some_if_allowed (refusal_of c event) (after c event)) (some_if_allowed z (after d event))) (refusal_alike marks c d event a free) (go (refusal_of c event))
   where
-    go : (o : Option NotReady) → BehaveAlike marks (when_allowed o (after c event)) (when_allowed o (after d event))
+    go : (o : Option NotReady) → BehaveAlike marks (some_if_allowed o (after c event)) (some_if_allowed o (after d event))
     go None = after_alike marks c d event a free
     go (Some why) = tt
 
 -- and it looks at both or at neither
-look_alike : (marks : ℕ → Bool) (c d : List NodeRecord) (event : Event) → Agree marks c d → list_any marks (nodes_of event) ≡ false → is_look c event ≡ is_look d event
+look_alike : (marks : ℕ → Bool) (c d : List NodeRecord) (event : Event) → AgreeOutsideMarks marks c d → list_any marks (event_nodes event) ≡ false → is_look c event ≡ is_look d event
 look_alike marks c d (Own node) a free = ap (λ z. looks z) (seen_same marks c d node a free)
 look_alike marks c d (Pass w r side) a free = refl
 
-pub cause_alike : (marks : ℕ → Bool) (c d : List NodeRecord) (event : Event) → Agree marks c d → meets marks (cause_of c event) ≡ false → cause_of c event ≡ cause_of d event
+pub cause_alike : (marks : ℕ → Bool) (c d : List NodeRecord) (event : Event) → AgreeOutsideMarks marks c d → has_common_node marks (cause_of c event) ≡ false → cause_of c event ≡ cause_of d event
 cause_alike marks c d event a free = ap (λ (b : Bool). named event b) (look_alike marks c d event a (touched_free marks (cause_of c event) free))
   where
     named : Event → Bool → Cause
     named e b = record { event = e; look = b }
 
-Agree-refl : (marks : ℕ → Bool) (c : List NodeRecord) → Agree marks c c
-Agree-refl marks c = record { size = refl; same = λ n free. refl }
+AgreeOutsideMarks-refl : (marks : ℕ → Bool) (c : List NodeRecord) → AgreeOutsideMarks marks c c
+AgreeOutsideMarks-refl marks c = record { size = refl; same = λ n free. refl }
 
-pub Agree-sym : (marks : ℕ → Bool) (c d : List NodeRecord) → Agree marks c d → Agree marks d c
-Agree-sym marks c d a = record { size = sym a.size; same = λ n free. sym (a.same n free) }
+pub AgreeOutsideMarks-sym : (marks : ℕ → Bool) (c d : List NodeRecord) → AgreeOutsideMarks marks c d → AgreeOutsideMarks marks d c
+AgreeOutsideMarks-sym marks c d a = record { size = sym a.size; same = λ n free. sym (a.same n free) }
 
 -- a write to a marked node
-Agree-write : (marks : ℕ → Bool) (c d : List NodeRecord) (n : ℕ) (x : NodeRecord) → marks n ≡ true → Agree marks c d → Agree marks c (set d n x)
-Agree-write marks c d n x m a = record {
+AgreeOutsideMarks-write : (marks : ℕ → Bool) (c d : List NodeRecord) (n : ℕ) (x : NodeRecord) → marks n ≡ true → AgreeOutsideMarks marks c d → AgreeOutsideMarks marks c (set d n x)
+AgreeOutsideMarks-write marks c d n x m a = record {
   size = a.size ∙ sym (length-set d n x);
   same = λ k free. a.same k free ∙ sym (get_or-set_other d n k x (record_of nowhere) (λ e. both_ways (marks k) free (subst (λ z. marks z ≡ true) (sym e) m)));
 }
 
-after_keeps : (c : List NodeRecord) (event : Event) → Agree (touches event) c (after c event).0
-after_keeps c (Own node) = Agree-write (touches (Own node)) c c node.number _ (grind (arith, eq-eqb)) (Agree-refl (touches (Own node)) c)
+after_keeps : (c : List NodeRecord) (event : Event) → AgreeOutsideMarks (touches event) c (after c event).0
+after_keeps c (Own node) = AgreeOutsideMarks-write (touches (Own node)) c c node.number _ (grind (arith, eq-eqb)) (AgreeOutsideMarks-refl (touches (Own node)) c)
 after_keeps c (Pass w r side) =
     let m = touches (Pass w r side) in
-    Agree-write m c (set c w.number _) r.number _ (grind (arith, eq-eqb)) (Agree-write m c c w.number _ (grind (arith, eq-eqb)) (Agree-refl m c))
+    AgreeOutsideMarks-write m c (set c w.number _) r.number _ (grind (arith, eq-eqb)) (AgreeOutsideMarks-write m c c w.number _ (grind (arith, eq-eqb)) (AgreeOutsideMarks-refl m c))
 
 -- an event changes only what it touches
-pub apply_keeps : (c : List NodeRecord) (event : Event) → IfSome (apply c event) (λ done. Agree (touches event) c done.0)
+pub apply_keeps : (c : List NodeRecord) (event : Event) → IfSome (apply c event) (λ done. AgreeOutsideMarks (touches event) c done.0)
 apply_keeps c event = go (refusal_of c event)
   where
-    go : (o : Option NotReady) → IfSome (when_allowed o (after c event)) (λ done. Agree (touches event) c done.0)
+    go : (o : Option NotReady) → IfSome (some_if_allowed o (after c event)) (λ done. AgreeOutsideMarks (touches event) c done.0)
     go None = after_keeps c event
     go (Some why) = tt

@@ -8,20 +8,20 @@ use Rattle.std.proofs.lemmas.List.{get_or_past, get_or-set_same, get_or-set_othe
 use Rattle.ga_node.specs.Record.{NodeRecord, HasSizes, record_of}
 use Rattle.ga_node.specs.Io.{io_word}
 use Rattle.ga_node.specs.Table.{t, own, sent, taken}
-use Rattle.ga_event.specs.declared.flow.part.Part.{Part}
-use Rattle.ga_event.specs.declared.flow.part.Part.TheVariants.{Data as OfD, Return as OfR, Ram as OfRam, Rom as OfRom, A as OfA, B as OfB, P as OfP, I as OfI, Io as OfIo, Carry as OfCarry, Slot as OfSlot, Wait as OfWait, Stop as OfStop, Outside}
-use Rattle.ga_event.specs.Flow.{Flow, Same, From, top, part_of, IsPart, own_flow, send_flow, take_flow, AgreeAtParts, IsFlowOf}
+use Rattle.ga_event.specs.declared.flow.part.NodePart.{NodePart}
+use Rattle.ga_event.specs.declared.flow.part.NodePart.TheVariants.{Data as OfD, Return as OfR, Ram as OfRam, Rom as OfRom, A as OfA, B as OfB, P as OfP, I as OfI, Io as OfIo, Carry as OfCarry, Slot as OfSlot, Wait as OfWait, Stop as OfStop, Outside}
+use Rattle.ga_event.specs.Flow.{Flow, Same, From, top, part_value, IsNodePart, own_flow, send_flow, take_flow, AgreeAtParts, IsFlowOf}
 use Rattle.ga_event.proofs.Flowing.{own_flows, own_sizes, sent_flows, sent_sizes, taken_flows, taken_sizes}
 use Rattle.ga_grid.specs.Chip.{record_at, nowhere}
 use Rattle.ga_event.specs.declared.event.Event.{Event}
 use Rattle.ga_event.specs.declared.event.Event.TheVariants.{Own, Pass}
 use Rattle.ga_event.specs.declared.event.Cause.{Cause}
 use Rattle.ga_node.specs.declared.kind.NotReady.{NotReady}
-use Rattle.ga_event.specs.Apply.{neighbour_states, after, EventOutcome, run, replay, cause_of, when_allowed, refusal_of}
-use Rattle.ga_event.specs.Sources.{Sources, themselves, sources_in, sources_of_all, sources_by, sources_after, sources_after_all, chip_after, AlikeIn, AlikeInAll, SameAt, AllHaveSizes}
+use Rattle.ga_event.specs.Apply.{neighbour_states, after, EventOutcome, run, replay, cause_of, some_if_allowed, refusal_of}
+use Rattle.ga_event.specs.Sources.{Sources, initial_sources, sources_of_part, sources_of_parts, sources_of_flow, sources_after, sources_after_events, chip_after_events, IsDecidedAlike, AreDecidedAlike, AgreeAtNodeParts, AllHaveSizes}
 
 -- the parts of the node alone don't change with the word from outside
-word_free : (word : ℕ) (n : NodeRecord) (part : Part) → IsPart part → part_of word n part ≡ part_of 0 n part
+word_free : (word : ℕ) (n : NodeRecord) (part : NodePart) → IsNodePart part → part_value word n part ≡ part_value 0 n part
 word_free word n (OfD k) is = refl
 word_free word n (OfR k) is = refl
 word_free word n (OfRam k) is = refl
@@ -41,7 +41,7 @@ past_both : (xs ys : List ℕ) (size k : ℕ) → length xs ≡ size → length 
 past_both xs ys size k long long' l = get_or_past xs k 0 (omega arith) ∙ sym (get_or_past ys k 0 (omega arith))
 
 -- either each node has the part, or its value is the same in both nodes
-part_or_none : (n m : NodeRecord) (part : Part) → HasSizes n → HasSizes m → IsPart part ⊎ (part_of 0 n part ≡ part_of 0 m part)
+part_or_none : (n m : NodeRecord) (part : NodePart) → HasSizes n → HasSizes m → IsNodePart part ⊎ (part_value 0 n part ≡ part_value 0 m part)
 part_or_none n m (OfD k) left right = ⊎_elim (λ l. inl l) (λ l. inr (past_both n.d m.d 10 k left.d right.d l)) (cases_lt k 10)
 part_or_none n m (OfR k) left right = ⊎_elim (λ l. inl l) (λ l. inr (past_both n.r m.r 9 k left.r right.r l)) (cases_lt k 9)
 part_or_none n m (OfRam k) left right = ⊎_elim (λ l. inl l) (λ l. inr (past_both n.ram m.ram 64 k left.ram right.ram l)) (cases_lt k 64)
@@ -58,20 +58,20 @@ part_or_none n m OfStop left right = inl tt
 part_or_none n m Outside left right = inr refl
 
 module _ (first second : List NodeRecord) where
-  first_of : (xs ys : List (ℕ × Part)) → SameAt first second (xs ++ ys) → SameAt first second xs
+  first_of : (xs ys : List (ℕ × NodePart)) → AgreeAtNodeParts first second (xs ++ ys) → AgreeAtNodeParts first second xs
   first_of [] ys same = tt
   first_of (x ∷ xs) ys same = (same.0, first_of xs ys same.1)
 
-  rest_of : (xs ys : List (ℕ × Part)) → SameAt first second (xs ++ ys) → SameAt first second ys
+  rest_of : (xs ys : List (ℕ × NodePart)) → AgreeAtNodeParts first second (xs ++ ys) → AgreeAtNodeParts first second ys
   rest_of [] ys same = same
   rest_of (x ∷ xs) ys same = rest_of xs ys same.1
 
   -- one node before an event, in both runs: where its sources agree, so do its parts
-  abbrev pub Stands : (Part → List (ℕ × Part)) → NodeRecord → NodeRecord → Type 0
-  Stands node a b = (part : Part) → SameAt first second (node part) → part_of 0 a part ≡ part_of 0 b part
+  abbrev pub Stands : (NodePart → List (ℕ × NodePart)) → NodeRecord → NodeRecord → Type 0
+  Stands node a b = (part : NodePart) → AgreeAtNodeParts first second (node part) → part_value 0 a part ≡ part_value 0 b part
 
-  module _ (node : Part → List (ℕ × Part)) (outside : List (ℕ × Part)) (word other : ℕ) (a b : NodeRecord) where
-    part_same : Stands node a b → (SameAt first second outside → word ≡ other) → (part : Part) → SameAt first second (sources_in node outside part) → part_of word a part ≡ part_of other b part
+  module _ (node : NodePart → List (ℕ × NodePart)) (outside : List (ℕ × NodePart)) (word other : ℕ) (a b : NodeRecord) where
+    part_same : Stands node a b → (AgreeAtNodeParts first second outside → word ≡ other) → (part : NodePart) → AgreeAtNodeParts first second (sources_of_part node outside part) → part_value word a part ≡ part_value other b part
     part_same stands came Outside same = came same
     part_same stands came (OfD k) same = stands (OfD k) same
     part_same stands came (OfR k) same = stands (OfR k) same
@@ -87,22 +87,22 @@ module _ (first second : List NodeRecord) where
     part_same stands came OfWait same = stands OfWait same
     part_same stands came OfStop same = stands OfStop same
 
-    all_same : Stands node a b → (SameAt first second outside → word ≡ other) → (parts : List Part) → SameAt first second (sources_of_all node outside parts) → AgreeAtParts word a other b parts
+    all_same : Stands node a b → (AgreeAtNodeParts first second outside → word ≡ other) → (parts : List NodePart) → AgreeAtNodeParts first second (sources_of_parts node outside parts) → AgreeAtParts word a other b parts
     all_same stands came [] same = tt
     all_same stands came (part ∷ rest) same = (
-      part_same stands came part (first_of (sources_in node outside part) (sources_of_all node outside rest) same),
-      all_same stands came rest (rest_of (sources_in node outside part) (sources_of_all node outside rest) same),
+      part_same stands came part (first_of (sources_of_part node outside part) (sources_of_parts node outside rest) same),
+      all_same stands came rest (rest_of (sources_of_part node outside part) (sources_of_parts node outside rest) same),
     )
 
-    value_same : Stands node a b → (SameAt first second outside → word ≡ other) → (flow : Flow) (x y : ℕ) → IsFlowOf word a other b flow x y → SameAt first second (sources_by node outside flow) → x ≡ y
+    value_same : Stands node a b → (AgreeAtNodeParts first second outside → word ≡ other) → (flow : Flow) (x y : ℕ) → IsFlowOf word a other b flow x y → AgreeAtNodeParts first second (sources_of_flow node outside flow) → x ≡ y
     value_same stands came (Same part) x y comes same = comes.0 ∙ part_same stands came part same ∙ sym comes.1
     value_same stands came (From parts) x y comes same = comes (all_same stands came parts same)
 
     -- a node after an event, by the flow of each part
-    node_after : (flows : Part → Flow) (x y : NodeRecord) → HasSizes x → HasSizes y → ((part : Part) → IsPart part → IsFlowOf word a other b (flows part) (part_of word x part) (part_of other y part))
-        → Stands node a b → (SameAt first second outside → word ≡ other) → Stands (λ part. sources_by node outside (flows part)) x y
+    node_after : (flows : NodePart → Flow) (x y : NodeRecord) → HasSizes x → HasSizes y → ((part : NodePart) → IsNodePart part → IsFlowOf word a other b (flows part) (part_value word x part) (part_value other y part))
+        → Stands node a b → (AgreeAtNodeParts first second outside → word ≡ other) → Stands (λ part. sources_of_flow node outside (flows part)) x y
     node_after flows x y left right law stands came part same = ⊎_elim
-        (λ is. sym (word_free word x part is) ∙ value_same stands came (flows part) (part_of word x part) (part_of other y part) (law part is) same ∙ word_free other y part is)
+        (λ is. sym (word_free word x part is) ∙ value_same stands came (flows part) (part_value word x part) (part_value other y part) (law part is) same ∙ word_free other y part is)
         (λ none. none)
         (part_or_none x y part left right)
 
@@ -145,7 +145,7 @@ module _ (first second : List NodeRecord) where
           (cases_eq n k)
 
   -- an event of both chips
-  event_holds : (sources : Sources) (c d : List NodeRecord) (e : Event) → AlikeIn c d e → Holds sources c d → Holds (sources_after c e sources) (after c e).0 (after d e).0
+  event_holds : (sources : Sources) (c d : List NodeRecord) (e : Event) → IsDecidedAlike c d e → Holds sources c d → Holds (sources_after c e sources) (after c e).0 (after d e).0
   event_holds sources c d (Own node) alike holds =
       let k = node.number in
       let a : NodeRecord = record_at c k in
@@ -153,12 +153,12 @@ module _ (first second : List NodeRecord) where
       let seen = neighbour_states c k in
       let other = neighbour_states d k in
       let sizes = own_sizes seen other a b alike.0 (holds.left k) (holds.right k) in
-      let stands : Stands (λ part. sources_by (sources k) [] (own_flow a part)) (own seen a).1 (own other b).1 =
+      let stands : Stands (λ part. sources_of_flow (sources k) [] (own_flow a part)) (own seen a).1 (own other b).1 =
       node_after (sources k) [] (io_word seen) (io_word other) a b (own_flow a) (own seen a).1 (own other b).1 sizes.0 sizes.1 (own_flows seen other a b alike.0 (holds.left k) (holds.right k)) (holds.nodes k) (λ none. alike.1) in
       set_node sources (sources_after c (Own node) sources) c d k (own seen a).1 (own other b).1 node.in_range holds
-      (subst (λ is. Stands (λ part. cond is (sources_by (sources k) [] (own_flow a part)) (sources k part)) (own seen a).1 (own other b).1) (sym (eq-eqb k k refl)) stands)
+      (subst (λ is. Stands (λ part. cond is (sources_of_flow (sources k) [] (own_flow a part)) (sources k part)) (own seen a).1 (own other b).1) (sym (eq-eqb k k refl)) stands)
       sizes.0 sizes.1
-      (λ n ne. ap (λ is. λ part. cond is (sources_by (sources n) [] (own_flow (record_at c n) part)) (sources n part)) (ne_eqb n k ne))
+      (λ n ne. ap (λ is. λ part. cond is (sources_of_flow (sources n) [] (own_flow (record_at c n) part)) (sources n part)) (ne_eqb n k ne))
   event_holds sources c d (Pass writer reader side) alike holds =
       let w = writer.number in
       let r = reader.number in
@@ -170,53 +170,53 @@ module _ (first second : List NodeRecord) where
       let other = t bw in
       let sent_size = sent_sizes 0 aw 0 bw (holds.left w) (holds.right w) in
       let taken_size = taken_sizes word ar other br (holds.left r) (holds.right r) alike.1 in
-      let middle : Sources = λ n part. cond (n == w) (sources_by (sources n) [] (send_flow part)) (sources n part) in
-      let gave : Stands (λ part. sources_by (sources w) [] (send_flow part)) (sent aw) (sent bw) =
+      let middle : Sources = λ n part. cond (n == w) (sources_of_flow (sources n) [] (send_flow part)) (sources n part) in
+      let gave : Stands (λ part. sources_of_flow (sources w) [] (send_flow part)) (sent aw) (sent bw) =
       node_after (sources w) [] 0 0 aw bw send_flow (sent aw) (sent bw) sent_size.0 sent_size.1 (sent_flows 0 aw 0 bw (holds.left w) (holds.right w)) (holds.nodes w) (λ none. refl) in
-      let took : Stands (λ part. sources_by (sources r) (sources w top) (take_flow ar.wait part)) (taken word ar) (taken other br) =
+      let took : Stands (λ part. sources_of_flow (sources r) (sources w top) (take_flow ar.wait part)) (taken word ar) (taken other br) =
       node_after (sources r) (sources w top) word other ar br (take_flow ar.wait) (taken word ar) (taken other br) taken_size.0 taken_size.1 (taken_flows word ar other br (holds.left r) (holds.right r) alike.1) (holds.nodes r) (came w holds) in
       let first_set : Holds middle (slice_set c w (sent aw)) (slice_set d w (sent bw)) =
       set_node sources middle c d w (sent aw) (sent bw) writer.in_range holds
-      (subst (λ is. Stands (λ part. cond is (sources_by (sources w) [] (send_flow part)) (sources w part)) (sent aw) (sent bw)) (sym (eq-eqb w w refl)) gave)
+      (subst (λ is. Stands (λ part. cond is (sources_of_flow (sources w) [] (send_flow part)) (sources w part)) (sent aw) (sent bw)) (sym (eq-eqb w w refl)) gave)
       sent_size.0 sent_size.1
-      (λ n ne. ap (λ is. λ part. cond is (sources_by (sources n) [] (send_flow part)) (sources n part)) (ne_eqb n w ne)) in
+      (λ n ne. ap (λ is. λ part. cond is (sources_of_flow (sources n) [] (send_flow part)) (sources n part)) (ne_eqb n w ne)) in
       set_node middle (sources_after c (Pass writer reader side) sources) (slice_set c w (sent aw)) (slice_set d w (sent bw)) r (taken word ar) (taken other br) reader.in_range first_set
-      (subst (λ is. Stands (λ part. cond is (sources_by (sources r) (sources w top) (take_flow ar.wait part)) (middle r part)) (taken word ar) (taken other br)) (sym (eq-eqb r r refl)) took)
+      (subst (λ is. Stands (λ part. cond is (sources_of_flow (sources r) (sources w top) (take_flow ar.wait part)) (middle r part)) (taken word ar) (taken other br)) (sym (eq-eqb r r refl)) took)
       taken_size.0 taken_size.1
-      (λ n ne. ap (λ is. λ part. cond is (sources_by (sources n) (sources w top) (take_flow (record_at c n).wait part)) (middle n part)) (ne_eqb n r ne))
+      (λ n ne. ap (λ is. λ part. cond is (sources_of_flow (sources n) (sources w top) (take_flow (record_at c n).wait part)) (middle n part)) (ne_eqb n r ne))
     where
-      came : (w : ℕ) → Holds sources c d → SameAt first second (sources w top) → t (record_at c w) ≡ t (record_at d w)
+      came : (w : ℕ) → Holds sources c d → AgreeAtNodeParts first second (sources w top) → t (record_at c w) ≡ t (record_at d w)
       came w holds same = holds.nodes w top same
 
-  events_hold : (sources : Sources) (c d : List NodeRecord) (events : List Event) → AlikeInAll c d events → Holds sources c d → Holds (sources_after_all c events sources) (chip_after c events) (chip_after d events)
+  events_hold : (sources : Sources) (c d : List NodeRecord) (events : List Event) → AreDecidedAlike c d events → Holds sources c d → Holds (sources_after_events c events sources) (chip_after_events c events) (chip_after_events d events)
   events_hold sources c d [] alike holds = holds
   events_hold sources c d (e ∷ es) alike holds = events_hold (sources_after c e sources) (after c e).0 (after d e).0 es alike.1 (event_holds sources c d e alike.0 holds)
 
-pub sources_all : (c d : List NodeRecord) (events : List Event) (n : ℕ) (part : Part) → length c ≡ 144 → length d ≡ 144 → AllHaveSizes c → AllHaveSizes d → AlikeInAll c d events
-    → SameAt c d (sources_after_all c events themselves n part) → part_of 0 (record_at (chip_after c events) n) part ≡ part_of 0 (record_at (chip_after d events) n) part
+pub sources_all : (c d : List NodeRecord) (events : List Event) (n : ℕ) (part : NodePart) → length c ≡ 144 → length d ≡ 144 → AllHaveSizes c → AllHaveSizes d → AreDecidedAlike c d events
+    → AgreeAtNodeParts c d (sources_after_events c events initial_sources n part) → part_value 0 (record_at (chip_after_events c events) n) part ≡ part_value 0 (record_at (chip_after_events d events) n) part
 sources_all c d events n part long long' left right alike same =
-    let start : Holds c d themselves c d = record { nodes = λ n part same. same.0; left = left; right = right; long = long; long_too = long' } in
-    (events_hold c d themselves c d events alike start).nodes n part same
+    let start : Holds c d initial_sources c d = record { nodes = λ n part same. same.0; left = left; right = right; long = long; long_too = long' } in
+    (events_hold c d initial_sources c d events alike start).nodes n part same
 
 -- if the events can be made, the chip after them is that of replaying them
-pub chip_after_replay : (c d : List NodeRecord) (events : List Event) → replay c events ≡ Some d → chip_after c events ≡ d
+pub chip_after_replay : (c d : List NodeRecord) (events : List Event) → replay c events ≡ Some d → chip_after_events c events ≡ d
 chip_after_replay c d events e = mapped (run c events) (λ done is. ran c events done is) e
   where
-    mapped : (o : Option (List NodeRecord × List (Cause × EventOutcome))) → ((done : List NodeRecord × List (Cause × EventOutcome)) → o ≡ Some done → chip_after c events ≡ done.0) → option_map (λ (x : List NodeRecord × List (Cause × EventOutcome)). x.0) o ≡ Some d → chip_after c events ≡ d
+    mapped : (o : Option (List NodeRecord × List (Cause × EventOutcome))) → ((done : List NodeRecord × List (Cause × EventOutcome)) → o ≡ Some done → chip_after_events c events ≡ done.0) → option_map (λ (x : List NodeRecord × List (Cause × EventOutcome)). x.0) o ≡ Some d → chip_after_events c events ≡ d
     mapped None f h = absurd (cc)
     mapped (Some done) f h = f done refl ∙ same_Some _ _ h
 
-    ran : (c : List NodeRecord) (events : List Event) (done : List NodeRecord × List (Cause × EventOutcome)) → run c events ≡ Some done → chip_after c events ≡ done.0
+    ran : (c : List NodeRecord) (events : List Event) (done : List NodeRecord × List (Cause × EventOutcome)) → run c events ≡ Some done → chip_after_events c events ≡ done.0
     ran c [] done e = ap (λ (z : List NodeRecord × List (Cause × EventOutcome)). z.0) (same_Some _ _ e)
     ran c (x ∷ xs) done e = at_first (refusal_of c x) (λ rest is. ran (after c x).0 xs rest is) e
       where
-        at_rest : (r : Option (List NodeRecord × List (Cause × EventOutcome))) → ((rest : List NodeRecord × List (Cause × EventOutcome)) → r ≡ Some rest → chip_after (after c x).0 xs ≡ rest.0)
-            → option_map {U = List NodeRecord × List (Cause × EventOutcome)} (λ rest. (rest.0, (cause_of c x, (after c x).1) ∷ rest.1)) r ≡ Some done → chip_after (after c x).0 xs ≡ done.0
+        at_rest : (r : Option (List NodeRecord × List (Cause × EventOutcome))) → ((rest : List NodeRecord × List (Cause × EventOutcome)) → r ≡ Some rest → chip_after_events (after c x).0 xs ≡ rest.0)
+            → option_map {U = List NodeRecord × List (Cause × EventOutcome)} (λ rest. (rest.0, (cause_of c x, (after c x).1) ∷ rest.1)) r ≡ Some done → chip_after_events (after c x).0 xs ≡ done.0
         at_rest None f h = absurd (cc)
         at_rest (Some rest) f h = f rest refl ∙ ap (λ (z : List NodeRecord × List (Cause × EventOutcome)). z.0) (same_Some _ _ h)
 
-        at_first : (why : Option NotReady) → ((rest : List NodeRecord × List (Cause × EventOutcome)) → run (after c x).0 xs ≡ Some rest → chip_after (after c x).0 xs ≡ rest.0)
-            → option_and_then {U = List NodeRecord × List (Cause × EventOutcome)} (λ first. option_map {U = List NodeRecord × List (Cause × EventOutcome)} (λ rest. (rest.0, (cause_of c x, first.1) ∷ rest.1)) (run first.0 xs)) (when_allowed why (after c x)) ≡ Some done
-            → chip_after (after c x).0 xs ≡ done.0
+        at_first : (why : Option NotReady) → ((rest : List NodeRecord × List (Cause × EventOutcome)) → run (after c x).0 xs ≡ Some rest → chip_after_events (after c x).0 xs ≡ rest.0)
+            → option_and_then {U = List NodeRecord × List (Cause × EventOutcome)} (λ first. option_map {U = List NodeRecord × List (Cause × EventOutcome)} (λ rest. (rest.0, (cause_of c x, first.1) ∷ rest.1)) (run first.0 xs)) (some_if_allowed why (after c x)) ≡ Some done
+            → chip_after_events (after c x).0 xs ≡ done.0
         at_first None f h = at_rest (run (after c x).0 xs) f h
         at_first (Some why) f h = absurd (cc)

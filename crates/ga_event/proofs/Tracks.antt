@@ -3,15 +3,15 @@ use Rattle.ga_node.specs.Changes as change
 use Rattle.ga_event.specs.Flow as move
 use Rattle.std.proofs.Common.{◌≡◌, ◌≢◌, ℕ, zero, suc, ◌+◌, ◌-◌, ◌<◌, List, [], ◌∷◌, length, drop, slice_index, refl, ap, ◌∙◌, arith, get_or-take, get_or-drop, length-drop, length-take, slice_set, ◌==◌, Bool, cond, min, sym, subst}
 use Rattle.std.proofs.lemmas.List.{get_or_append_left, get_or_at, get_or-set_same, length-append, get_or-set_other, length-set}
-use Rattle.ga_stacks.specs.Ring.{popped, pushed as pushed_list, topped as topped_list}
+use Rattle.ga_stacks.specs.Ring.{words_after_pop, words_after_push as pushed_list, with_top as topped_list}
 use Rattle.std.proofs.lemmas.Bool.{eqb-true, eqb-false, cond_both}
 use Rattle.ga_word.specs.Word.{carry_value}
 use Rattle.ga_node.specs.Record.{NodeRecord, HasSizes}
 use Rattle.ga_node.specs.State.{wait_code}
-use Rattle.ga_node.specs.Changes.{Change, changed, after_changes}
-use Rattle.ga_event.specs.Flow.{Flow, Same, From, Move, Flows, part_of, IsPart, by, moved, moved_all, IsFlowOf}
-use Rattle.ga_event.specs.declared.flow.part.Part.{Part}
-use Rattle.ga_event.specs.declared.flow.part.Part.TheVariants.{Data as OfD, Return as OfR, Ram as OfRam, Rom as OfRom, A as OfA, B as OfB, P as OfP, I as OfI, Io as OfIo, Carry as OfCarry, Slot as OfSlot, Wait as OfWait, Stop as OfStop, Outside}
+use Rattle.ga_node.specs.Changes.{Change, node_after_change, after_changes}
+use Rattle.ga_event.specs.Flow.{Flow, Same, From, Move, PartFlows, part_value, IsNodePart, computed_from, flows_after_move, flows_after_moves, IsFlowOf}
+use Rattle.ga_event.specs.declared.flow.part.NodePart.{NodePart}
+use Rattle.ga_event.specs.declared.flow.part.NodePart.TheVariants.{Data as OfD, Return as OfR, Ram as OfRam, Rom as OfRom, A as OfA, B as OfB, P as OfP, I as OfI, Io as OfIo, Carry as OfCarry, Slot as OfSlot, Wait as OfWait, Stop as OfStop, Outside}
 use Rattle.ga_node.specs.declared.wait.Wait.{Wait}
 
 -- ---- A word of a list after a push, after a pop, and under another top
@@ -23,10 +23,10 @@ pub pushed_below : (w : ℕ) (xs : List ℕ) (k : ℕ) → k ≢ 0 → k < lengt
 pushed_below w xs zero ne h = absurd (ne refl)
 pushed_below w xs (suc j) ne h = get_or-take (length xs) (w ∷ xs) (suc j) 0 h ∙ ap (slice_index xs) (omega arith)
 
-pub popped_last : (copied : ℕ) (xs : List ℕ) (last k : ℕ) → k ≡ last → length xs ≡ last + 1 → slice_index (popped copied xs) k ≡ slice_index xs copied
+pub popped_last : (copied : ℕ) (xs : List ℕ) (last k : ℕ) → k ≡ last → length xs ≡ last + 1 → slice_index (words_after_pop copied xs) k ≡ slice_index xs copied
 popped_last copied xs last k e size = get_or_at (drop 1 xs) (slice_index xs copied) [] 0 k (length-drop 1 xs ∙ omega arith)
 
-pub popped_above : (copied : ℕ) (xs : List ℕ) (last k : ℕ) → k ≢ last → k < last + 1 → length xs ≡ last + 1 → slice_index (popped copied xs) k ≡ slice_index xs (k + 1)
+pub popped_above : (copied : ℕ) (xs : List ℕ) (last k : ℕ) → k ≢ last → k < last + 1 → length xs ≡ last + 1 → slice_index (words_after_pop copied xs) k ≡ slice_index xs (k + 1)
 popped_above copied xs last k ne h size =
     let short : length (drop 1 xs) ≡ last = length-drop 1 xs ∙ omega arith in
     get_or_append_left (drop 1 xs) (slice_index xs copied ∷ []) 0 k (omega arith) ∙ get_or-drop 1 xs k 0 ∙ ap (slice_index xs) (omega arith)
@@ -41,7 +41,7 @@ topped_below w xs (suc j) ne = get_or-drop 1 xs j 0 ∙ ap (slice_index xs) (ome
 pub pushed_size : (w : ℕ) (xs : List ℕ) → length (pushed_list w xs) ≡ length xs
 pushed_size w xs = length-take (length xs) (w ∷ xs) ∙ omega arith
 
-pub popped_size : (copied : ℕ) (xs : List ℕ) (last : ℕ) → length xs ≡ last + 1 → length (popped copied xs) ≡ last + 1
+pub popped_size : (copied : ℕ) (xs : List ℕ) (last : ℕ) → length xs ≡ last + 1 → length (words_after_pop copied xs) ≡ last + 1
 popped_size copied xs last size = length-append (drop 1 xs) (slice_index xs copied ∷ []) ∙ ap (λ n. n + 1) (length-drop 1 xs) ∙ omega arith
 
 pub topped_size : (w : ℕ) (xs : List ℕ) (last : ℕ) → length xs ≡ last + 1 → length (topped_list w xs) ≡ last + 1
@@ -51,14 +51,14 @@ pub stored_here : (w : ℕ) (xs : List ℕ) (k cell : ℕ) → cell ≡ k → k 
 stored_here w xs k cell at h = ap (λ i. slice_index (slice_set xs i w) k) at ∙ get_or-set_same xs k w 0 h
 
 -- the flows of a list after a push, a pop, another first word and another cell
-abbrev pushed : Flow → (ℕ → Flow) → ℕ → Flow
-pushed flow words k = cond (k == 0) flow (words (k - 1))
+abbrev words_after_push : Flow → (ℕ → Flow) → ℕ → Flow
+words_after_push flow words k = cond (k == 0) flow (words (k - 1))
 
 abbrev popped_flows : ℕ → ℕ → (ℕ → Flow) → ℕ → Flow
 popped_flows last copied words k = cond (k == last) (words copied) (words (k + 1))
 
-abbrev topped : Flow → (ℕ → Flow) → ℕ → Flow
-topped flow words k = cond (k == 0) flow (words k)
+abbrev with_top : Flow → (ℕ → Flow) → ℕ → Flow
+with_top flow words k = cond (k == 0) flow (words k)
 
 abbrev stored_at : ℕ → Flow → (ℕ → Flow) → ℕ → Flow
 stored_at cell flow words k = cond (k == cell) flow (words k)
@@ -67,7 +67,7 @@ module _ (word : ℕ) (n : NodeRecord) (other : ℕ) (m : NodeRecord) where
   comes_as : (flow : Flow) (x y x' y' : ℕ) → x' ≡ x → y' ≡ y → IsFlowOf word n other m flow x y → IsFlowOf word n other m flow x' y'
   comes_as flow x y x' y' e e' comes = subst (λ v. IsFlowOf word n other m flow v y') (sym e) (subst (λ v. IsFlowOf word n other m flow x v) (sym e') comes)
 
-  by_comes : (g : ℕ → ℕ) (flow : Flow) (x y : ℕ) → IsFlowOf word n other m flow x y → IsFlowOf word n other m (by flow) (g x) (g y)
+  by_comes : (g : ℕ → ℕ) (flow : Flow) (x y : ℕ) → IsFlowOf word n other m flow x y → IsFlowOf word n other m (computed_from flow) (g x) (g y)
   by_comes g (Same part) x y comes = λ agree. ap g (comes.0 ∙ agree.0 ∙ sym comes.1)
   by_comes g (From parts) x y comes = λ agree. ap g (comes agree)
 
@@ -77,7 +77,7 @@ module _ (word : ℕ) (n : NodeRecord) (other : ℕ) (m : NodeRecord) where
     left : length xs ≡ size
     right : length ys ≡ size
 
-  pushed_words : (flow : Flow) (flows : ℕ → Flow) (size x y : ℕ) (xs ys : List ℕ) → IsFlowOf word n other m flow x y → Words flows size xs ys → Words (pushed flow flows) size (pushed_list x xs) (pushed_list y ys)
+  pushed_words : (flow : Flow) (flows : ℕ → Flow) (size x y : ℕ) (xs ys : List ℕ) → IsFlowOf word n other m flow x y → Words flows size xs ys → Words (words_after_push flow flows) size (pushed_list x xs) (pushed_list y ys)
   pushed_words flow flows size x y xs ys comes all = record {
     each = λ k h. cond_both (k == 0) flow (flows (k - 1)) (λ f. IsFlowOf word n other m f (slice_index (pushed_list x xs) k) (slice_index (pushed_list y ys) k))
         (λ e. comes_as flow x y _ _ (pushed_top x xs k (eqb-true k 0 e) (omega (arith, all.left))) (pushed_top y ys k (eqb-true k 0 e) (omega (arith, all.right))) comes)
@@ -86,9 +86,9 @@ module _ (word : ℕ) (n : NodeRecord) (other : ℕ) (m : NodeRecord) where
     right = pushed_size y ys ∙ all.right;
   }
 
-  popped_words : (flows : ℕ → Flow) (last copied : ℕ) (xs ys : List ℕ) → copied < last + 1 → Words flows (last + 1) xs ys → Words (popped_flows last copied flows) (last + 1) (popped copied xs) (popped copied ys)
+  popped_words : (flows : ℕ → Flow) (last copied : ℕ) (xs ys : List ℕ) → copied < last + 1 → Words flows (last + 1) xs ys → Words (popped_flows last copied flows) (last + 1) (words_after_pop copied xs) (words_after_pop copied ys)
   popped_words flows last copied xs ys within all = record {
-    each = λ k h. cond_both (k == last) (flows copied) (flows (k + 1)) (λ f. IsFlowOf word n other m f (slice_index (popped copied xs) k) (slice_index (popped copied ys) k))
+    each = λ k h. cond_both (k == last) (flows copied) (flows (k + 1)) (λ f. IsFlowOf word n other m f (slice_index (words_after_pop copied xs) k) (slice_index (words_after_pop copied ys) k))
         (λ e. comes_as (flows copied) _ _ _ _ (popped_last copied xs last k (eqb-true k last e) all.left) (popped_last copied ys last k (eqb-true k last e) all.right) (all.each copied within))
         (λ e. let ne : k ≢ last = eqb-false k last e in
         comes_as (flows (k + 1)) _ _ _ _ (popped_above copied xs last k ne h all.left) (popped_above copied ys last k ne h all.right) (all.each (k + 1) (omega arith)));
@@ -96,7 +96,7 @@ module _ (word : ℕ) (n : NodeRecord) (other : ℕ) (m : NodeRecord) where
     right = popped_size copied ys last all.right;
   }
 
-  topped_words : (flow : Flow) (flows : ℕ → Flow) (last x y : ℕ) (xs ys : List ℕ) → IsFlowOf word n other m flow x y → Words flows (last + 1) xs ys → Words (topped flow flows) (last + 1) (topped_list x xs) (topped_list y ys)
+  topped_words : (flow : Flow) (flows : ℕ → Flow) (last x y : ℕ) (xs ys : List ℕ) → IsFlowOf word n other m flow x y → Words flows (last + 1) xs ys → Words (with_top flow flows) (last + 1) (topped_list x xs) (topped_list y ys)
   topped_words flow flows last x y xs ys comes all = record {
     each = λ k h. cond_both (k == 0) flow (flows k) (λ f. IsFlowOf word n other m f (slice_index (topped_list x xs) k) (slice_index (topped_list y ys) k))
         (λ e. comes_as flow x y _ _ (topped_top x xs k (eqb-true k 0 e)) (topped_top y ys k (eqb-true k 0 e)) comes)
@@ -116,17 +116,17 @@ module _ (word : ℕ) (n : NodeRecord) (other : ℕ) (m : NodeRecord) where
   }
 
   -- what each part comes from, in the node as it is in both runs: the stacks, the memories, the registers and the rest
-  abbrev Lists : Flows → NodeRecord → NodeRecord → Type 0
+  abbrev Lists : PartFlows → NodeRecord → NodeRecord → Type 0
   Lists f x y = Words (λ k. f (OfD k)) 10 x.d y.d × Words (λ k. f (OfR k)) 9 x.r y.r × Words (λ k. f (OfRam k)) 64 x.ram y.ram × Words (λ k. f (OfRom k)) 64 x.rom y.rom
 
-  abbrev Registers : Flows → NodeRecord → NodeRecord → Type 0
+  abbrev Registers : PartFlows → NodeRecord → NodeRecord → Type 0
   Registers f x y = IsFlowOf word n other m (f OfA) x.a y.a × IsFlowOf word n other m (f OfB) x.b y.b × IsFlowOf word n other m (f OfP) x.p y.p × IsFlowOf word n other m (f OfI) x.i y.i
       × IsFlowOf word n other m (f OfIo) x.io y.io × IsFlowOf word n other m (f OfCarry) (carry_value x.carry) (carry_value y.carry)
 
-  abbrev States : Flows → NodeRecord → NodeRecord → Type 0
+  abbrev States : PartFlows → NodeRecord → NodeRecord → Type 0
   States f x y = IsFlowOf word n other m (f OfSlot) x.slot y.slot × IsFlowOf word n other m (f OfWait) (wait_code x.wait) (wait_code y.wait) × IsFlowOf word n other m (f OfStop) x.stop y.stop
 
-  abbrev Tracks : Flows → NodeRecord → NodeRecord → Type 0
+  abbrev Tracks : PartFlows → NodeRecord → NodeRecord → Type 0
   Tracks f x y = Lists f x y × Registers f x y × States f x y
 
   -- a change is this move in both runs
@@ -156,12 +156,12 @@ module _ (word : ℕ) (n : NodeRecord) (other : ℕ) (m : NodeRecord) where
     then : {mv : Move} {c e : Change} {mvs : List Move} {cs es : List Change} → IsMove mv c e → AreMoves mvs cs es → AreMoves (mv ∷ mvs) (c ∷ cs) (e ∷ es)
 
   -- a move
-  step : {mv : Move} {c e : Change} → IsMove mv c e → (f : Flows) (x y : NodeRecord) → Tracks f x y → Tracks (moved mv f) (changed c x) (changed e y)
+  step : {mv : Move} {c e : Change} → IsMove mv c e → (f : PartFlows) (x y : NodeRecord) → Tracks f x y → Tracks (flows_after_move mv f) (node_after_change c x) (node_after_change e y)
   step (push_data {flow = flow} {x = v} {y = w} comes) f x y (l, g, s) = ((pushed_words flow (λ k. f (OfD k)) 10 v w x.d y.d comes l.0, l.1, l.2, l.3), g, s)
   step pop_data f x y (l, g, s) = ((popped_words (λ k. f (OfD k)) 9 2 x.d y.d (omega arith) l.0, l.1, l.2, l.3), g, s)
   step (set_top {flow = flow} {x = v} {y = w} comes) f x y (l, g, s) = ((topped_words flow (λ k. f (OfD k)) 9 v w x.d y.d comes l.0, l.1, l.2, l.3), g, s)
   step (pop_to {flow = flow} {x = v} {y = w} comes) f x y (l, g, s) =
-      ((topped_words flow (popped_flows 9 2 (λ k. f (OfD k))) 9 v w (popped 2 x.d) (popped 2 y.d) comes (popped_words (λ k. f (OfD k)) 9 2 x.d y.d (omega arith) l.0), l.1, l.2, l.3), g, s)
+      ((topped_words flow (popped_flows 9 2 (λ k. f (OfD k))) 9 v w (words_after_pop 2 x.d) (words_after_pop 2 y.d) comes (popped_words (λ k. f (OfD k)) 9 2 x.d y.d (omega arith) l.0), l.1, l.2, l.3), g, s)
   step (push_return {flow = flow} {x = v} {y = w} comes) f x y (l, g, s) = ((l.0, pushed_words flow (λ k. f (OfR k)) 9 v w x.r y.r comes l.1, l.2, l.3), g, s)
   step pop_return f x y (l, g, s) = ((l.0, popped_words (λ k. f (OfR k)) 8 1 x.r y.r (omega arith) l.1, l.2, l.3), g, s)
   step (set_top_return {flow = flow} {x = v} {y = w} comes) f x y (l, g, s) = ((l.0, topped_words flow (λ k. f (OfR k)) 8 v w x.r y.r comes l.1, l.2, l.3), g, s)
@@ -178,9 +178,9 @@ module _ (word : ℕ) (n : NodeRecord) (other : ℕ) (m : NodeRecord) where
   step set_wait f x y (l, g, s) = (l, g, (s.0, λ agree. refl, s.2))
   step set_stop f x y (l, g, s) = (l, g, (s.0, s.1, λ agree. refl))
 
-  steps : {mvs : List Move} {cs es : List Change} → AreMoves mvs cs es → (f : Flows) (x y : NodeRecord) → Tracks f x y → Tracks (moved_all mvs f) (after_changes cs x) (after_changes es y)
+  steps : {mvs : List Move} {cs es : List Change} → AreMoves mvs cs es → (f : PartFlows) (x y : NodeRecord) → Tracks f x y → Tracks (flows_after_moves mvs f) (after_changes cs x) (after_changes es y)
   steps none f x y tracks = tracks
-  steps (then {mv = mv} {c = c} {e = e} one rest) f x y tracks = steps rest (moved mv f) (changed c x) (changed e y) (step one f x y tracks)
+  steps (then {mv = mv} {c = c} {e = e} one rest) f x y tracks = steps rest (flows_after_move mv f) (node_after_change c x) (node_after_change e y) (step one f x y tracks)
 
   start : HasSizes n → HasSizes m → Tracks Same n m
   start left right = (
@@ -194,7 +194,7 @@ module _ (word : ℕ) (n : NodeRecord) (other : ℕ) (m : NodeRecord) where
     ((refl, refl), (refl, refl), (refl, refl)),
   )
 
-  told : (f : Flows) (x y : NodeRecord) → Tracks f x y → (part : Part) → IsPart part → IsFlowOf word n other m (f part) (part_of word x part) (part_of other y part)
+  told : (f : PartFlows) (x y : NodeRecord) → Tracks f x y → (part : NodePart) → IsNodePart part → IsFlowOf word n other m (f part) (part_value word x part) (part_value other y part)
   told f x y (l, g, s) (OfD k) h = l.0.each k h
   told f x y (l, g, s) (OfR k) h = l.1.each k h
   told f x y (l, g, s) (OfRam k) h = l.2.each k h
@@ -210,13 +210,13 @@ module _ (word : ℕ) (n : NodeRecord) (other : ℕ) (m : NodeRecord) where
   told f x y (l, g, s) OfStop h = s.2
   told f x y (l, g, s) Outside h = absurd h
 
-  pub comes_after : {mvs : List Move} {cs es : List Change} → AreMoves mvs cs es → HasSizes n → HasSizes m → (part : Part) → IsPart part
-      → IsFlowOf word n other m (moved_all mvs Same part) (part_of word (after_changes cs n) part) (part_of other (after_changes es m) part)
-  comes_after {mvs = mvs} {cs = cs} {es = es} rows left right = told (moved_all mvs Same) (after_changes cs n) (after_changes es m) (steps rows Same n m (start left right))
+  pub comes_after : {mvs : List Move} {cs es : List Change} → AreMoves mvs cs es → HasSizes n → HasSizes m → (part : NodePart) → IsNodePart part
+      → IsFlowOf word n other m (flows_after_moves mvs Same part) (part_value word (after_changes cs n) part) (part_value other (after_changes es m) part)
+  comes_after {mvs = mvs} {cs = cs} {es = es} rows left right = told (flows_after_moves mvs Same) (after_changes cs n) (after_changes es m) (steps rows Same n m (start left right))
 
   pub sizes_after : {mvs : List Move} {cs es : List Change} → AreMoves mvs cs es → HasSizes n → HasSizes m → HasSizes (after_changes cs n) × HasSizes (after_changes es m)
   sizes_after {mvs = mvs} {cs = cs} {es = es} rows left right =
-      let all : Lists (moved_all mvs Same) (after_changes cs n) (after_changes es m) = (steps rows Same n m (start left right)).0 in (
+      let all : Lists (flows_after_moves mvs Same) (after_changes cs n) (after_changes es m) = (steps rows Same n m (start left right)).0 in (
         record { d = all.0.left; r = all.1.left; ram = all.2.left; rom = all.3.left },
         record { d = all.0.right; r = all.1.right; ram = all.2.right; rom = all.3.right },
       )

@@ -3,13 +3,13 @@
 use Rattle.std.specs.Prelude.{ℕ, ◌==◌, Bool, true, false, ◌&&◌, if◌then◌else◌, List, [], ◌∷◌, Option, Some, None, option_map, option_and_then, slice_set, Result, MatchResult, ◌≡◌, length}
 use Rattle.ga_ports.specs.declared.side.Side.{Side}
 use Rattle.ga_ports.specs.declared.side.Side.TheVariants.{Right, Down, Left, Up}
-use Rattle.ga_ports.specs.Address.{has_side, is_side}
+use Rattle.ga_ports.specs.Address.{has_side, are_same_side}
 use Rattle.ga_node.specs.Record.{NodeRecord}
 use Rattle.ga_node.specs.Table.{t, own, looks, refusal, sent, taken}
 use Rattle.ga_node.specs.declared.seen.NeighbourState.{NeighbourState}
 use Rattle.ga_node.specs.declared.seen.NeighbourState.TheVariants.{Nobody, Idle, Reading, Writing}
 use Rattle.ga_node.specs.declared.seen.Seen.{Seen}
-use Rattle.ga_node.specs.declared.kind.Kind.{Kind}
+use Rattle.ga_node.specs.declared.kind.OwnEventKind.{OwnEventKind}
 use Rattle.ga_node.specs.declared.kind.NotReady.{NotReady}
 use Rattle.ga_node.specs.declared.kind.NotReady.TheVariants.{Unmatched}
 use Rattle.ga_node.specs.declared.wait.Wait.{Wait}
@@ -22,67 +22,67 @@ use Rattle.ga_event.specs.declared.event.Cause.{Cause}
 
 -- the outcome of an event: its kind, or the transferred word
 pub data EventOutcome : Type 0 where
-  Did : (kind : Kind) → EventOutcome
-  Carried : (word : ℕ) → EventOutcome
+  ExecutedOwn : (kind : OwnEventKind) → EventOutcome
+  PassedWord : (word : ℕ) → EventOutcome
 
 -- the node waits to write the side
-abbrev pub writes_to : Wait → Side → Bool
-writes_to Nothing side = false
-writes_to (Fetch sides) side = false
-writes_to (Read sides) side = false
-writes_to (Write posted) side = is_side posted side
+abbrev pub waits_to_write_side : Wait → Side → Bool
+waits_to_write_side Nothing side = false
+waits_to_write_side (Fetch sides) side = false
+waits_to_write_side (Read sides) side = false
+waits_to_write_side (Write posted) side = are_same_side posted side
 
 -- the node waits to read a set that has the side
-abbrev pub reads_from : Wait → Side → Bool
-reads_from Nothing side = false
-reads_from (Fetch sides) side = has_side sides side
-reads_from (Read sides) side = has_side sides side
-reads_from (Write posted) side = false
+abbrev pub waits_to_read_side : Wait → Side → Bool
+waits_to_read_side Nothing side = false
+waits_to_read_side (Fetch sides) side = has_side sides side
+waits_to_read_side (Read sides) side = has_side sides side
+waits_to_read_side (Write posted) side = false
 
 -- what a neighbour that waits so shows on a side
-abbrev pub shows : Wait → Side → NeighbourState
-shows wait side = if reads_from wait side then Reading else if writes_to wait side then Writing else Idle
+abbrev pub shown_state : Wait → Side → NeighbourState
+shown_state wait side = if waits_to_read_side wait side then Reading else if waits_to_write_side wait side then Writing else Idle
 
 -- the state that the neighbour of this number, if there is one, shows on a side
-abbrev pub beside_in : List NodeRecord → Side → Option ℕ → NeighbourState
-beside_in chip side None = Nobody
-beside_in chip side (Some n) = shows (record_at chip n).wait side
+abbrev pub shown_neighbour_state : List NodeRecord → Side → Option ℕ → NeighbourState
+shown_neighbour_state chip side None = Nobody
+shown_neighbour_state chip side (Some n) = shown_state (record_at chip n).wait side
 
 -- the states of a node's neighbours on its four sides
 unfoldable pub neighbour_states : List NodeRecord → ℕ → Seen
 neighbour_states chip n = record {
-  right = beside_in chip Right (neighbour_of n Right);
-  down = beside_in chip Down (neighbour_of n Down);
-  left = beside_in chip Left (neighbour_of n Left);
-  up = beside_in chip Up (neighbour_of n Up);
+  right = shown_neighbour_state chip Right (neighbour_of n Right);
+  down = shown_neighbour_state chip Down (neighbour_of n Down);
+  left = shown_neighbour_state chip Left (neighbour_of n Left);
+  up = shown_neighbour_state chip Up (neighbour_of n Up);
 }
 
 -- the number is that of the node, where there is one
-abbrev pub is_number : Option ℕ → ℕ → Bool
-is_number None n = false
-is_number (Some m) n = m == n
+abbrev pub equals_some : Option ℕ → ℕ → Bool
+equals_some None n = false
+equals_some (Some m) n = m == n
 
 -- a word can go from the writer, which waits so, to the reader
-abbrev pub is_open : ℕ → ℕ → Side → Wait → Wait → Bool
-is_open writer reader side posted awaited = is_number (neighbour_of writer side) reader && writes_to posted side && reads_from awaited side
+abbrev pub is_transfer_ready : ℕ → ℕ → Side → Wait → Wait → Bool
+is_transfer_ready writer reader side posted awaited = equals_some (neighbour_of writer side) reader && waits_to_write_side posted side && waits_to_read_side awaited side
 
-abbrev pub unmatched : Bool → Option NotReady
-unmatched true = None
-unmatched false = Some Unmatched
+abbrev pub unmatched_unless : Bool → Option NotReady
+unmatched_unless true = None
+unmatched_unless false = Some Unmatched
 
 -- Why the event cannot be: the node waits or is stopped, or the two ends of the pass don't match.
 abbrev pub refusal_of : List NodeRecord → Event → Option NotReady
 refusal_of chip (Own node) = refusal (record_at chip node.number)
 refusal_of chip (Pass writer reader side) =
-    unmatched (is_open writer.number reader.number side (record_at chip writer.number).wait (record_at chip reader.number).wait)
+    unmatched_unless (is_transfer_ready writer.number reader.number side (record_at chip writer.number).wait (record_at chip reader.number).wait)
 
 -- the chip after an own event of a node, with the event's outcome
-abbrev pub after_own : List NodeRecord → ℕ → Kind × NodeRecord → List NodeRecord × EventOutcome
-after_own chip n done = (slice_set chip n done.1, Did done.0)
+abbrev pub chip_after_own : List NodeRecord → ℕ → OwnEventKind × NodeRecord → List NodeRecord × EventOutcome
+chip_after_own chip n done = (slice_set chip n done.1, ExecutedOwn done.0)
 
 -- the chip after a pass between nodes that held this
-abbrev pub after_pass : List NodeRecord → ℕ → ℕ → NodeRecord → NodeRecord → List NodeRecord × EventOutcome
-after_pass chip writer reader from to = (slice_set (slice_set chip writer (sent from)) reader (taken (t from) to), Carried (t from))
+abbrev pub chip_after_pass : List NodeRecord → ℕ → ℕ → NodeRecord → NodeRecord → List NodeRecord × EventOutcome
+chip_after_pass chip writer reader from to = (slice_set (slice_set chip writer (sent from)) reader (taken (t from) to), PassedWord (t from))
 
 -- a call is refused with this reason, or there is none
 abbrev pub IsRefusedBy : {T : Type 0} → Result T NotReady → Option NotReady → Type 0
@@ -90,18 +90,18 @@ IsRefusedBy answer why = MatchResult answer (λ done. why ≡ None) (λ reason. 
 
 -- the result of the event if it is enabled
 abbrev pub after : List NodeRecord → Event → List NodeRecord × EventOutcome
-after chip (Own node) = after_own chip node.number (own (neighbour_states chip node.number) (record_at chip node.number))
+after chip (Own node) = chip_after_own chip node.number (own (neighbour_states chip node.number) (record_at chip node.number))
 after chip (Pass writer reader side) =
-    after_pass chip writer.number reader.number (record_at chip writer.number) (record_at chip reader.number)
+    chip_after_pass chip writer.number reader.number (record_at chip writer.number) (record_at chip reader.number)
 
 -- what is done where nothing refuses it
-abbrev pub when_allowed : {A : Type 0} → Option NotReady → A → Option A
-when_allowed None done = Some done
-when_allowed (Some why) done = None
+abbrev pub some_if_allowed : {A : Type 0} → Option NotReady → A → Option A
+some_if_allowed None done = Some done
+some_if_allowed (Some why) done = None
 
 -- the chip after an event, with the event's outcome; none if the event is not enabled
 abbrev pub apply : List NodeRecord → Event → Option (List NodeRecord × EventOutcome)
-apply chip event = when_allowed (refusal_of chip event) (after chip event)
+apply chip event = some_if_allowed (refusal_of chip event) (after chip event)
 
 -- whether the event would look at the neighbours of its node: it reads `io` or fetches from it
 abbrev pub is_look : List NodeRecord → Event → Bool
@@ -126,7 +126,7 @@ replay chip events = option_map (λ done. done.0) (run chip events)
 -- ---- chips that agree at some of their nodes
 
 -- two chips agree at each node that is not marked
-pub record Agree (marks : ℕ → Bool) (chip other : List NodeRecord) : Type 0 where
+pub record AgreeOutsideMarks (marks : ℕ → Bool) (chip other : List NodeRecord) : Type 0 where
   pub size : length chip ≡ length other
   pub same : (n : ℕ) → marks n ≡ false → record_at chip n ≡ record_at other n
 
@@ -135,4 +135,4 @@ abbrev pub BehaveAlike : (ℕ → Bool) → Option (List NodeRecord × EventOutc
 BehaveAlike marks None None = Unit {0}
 BehaveAlike marks None (Some there) = ⊥
 BehaveAlike marks (Some here) None = ⊥
-BehaveAlike marks (Some here) (Some there) = Agree marks here.0 there.0 × (here.1 ≡ there.1)
+BehaveAlike marks (Some here) (Some there) = AgreeOutsideMarks marks here.0 there.0 × (here.1 ≡ there.1)

@@ -2,9 +2,9 @@
 use Rattle.std.specs.Prelude.{◌≡◌, ◌≢◌, ℕ, ◌==◌, if◌then◌else◌, List, [], ◌∷◌, ◌++◌}
 use Rattle.ga_node.specs.Record.{NodeRecord, HasSizes}
 use Rattle.ga_node.specs.Io.{io_word}
-use Rattle.ga_event.specs.declared.flow.part.Part.{Part}
-use Rattle.ga_event.specs.declared.flow.part.Part.TheVariants.{Outside}
-use Rattle.ga_event.specs.Flow.{Flow, Same, From, top, part_of, own_flow, send_flow, take_flow, DecideAlike}
+use Rattle.ga_event.specs.declared.flow.part.NodePart.{NodePart}
+use Rattle.ga_event.specs.declared.flow.part.NodePart.TheVariants.{Outside}
+use Rattle.ga_event.specs.Flow.{Flow, Same, From, top, part_value, own_flow, send_flow, take_flow, HaveSameNextAction}
 use Rattle.ga_grid.specs.Chip.{record_at}
 use Rattle.ga_event.specs.declared.event.Event.{Event}
 use Rattle.ga_event.specs.declared.event.Event.TheVariants.{Own, Pass}
@@ -12,62 +12,62 @@ use Rattle.ga_event.specs.Apply.{neighbour_states, after}
 
 -- the parts of the load, each with its node, from which the value of each part of each node comes
 abbrev pub Sources : Type 0
-Sources = ℕ → Part → List (ℕ × Part)
+Sources = ℕ → NodePart → List (ℕ × NodePart)
 
 -- the sources at load: each part of each node is its own
-abbrev pub themselves : Sources
-themselves n part = (n, part) ∷ []
+abbrev pub initial_sources : Sources
+initial_sources n part = (n, part) ∷ []
 
 -- the sources of a part of a node before an event, in which a word with these comes from outside
-abbrev pub sources_in : (Part → List (ℕ × Part)) → List (ℕ × Part) → Part → List (ℕ × Part)
-sources_in node outside Outside = outside
-sources_in node outside part = node part
+abbrev pub sources_of_part : (NodePart → List (ℕ × NodePart)) → List (ℕ × NodePart) → NodePart → List (ℕ × NodePart)
+sources_of_part node outside Outside = outside
+sources_of_part node outside part = node part
 
-abbrev pub sources_of_all : (Part → List (ℕ × Part)) → List (ℕ × Part) → List Part → List (ℕ × Part)
-sources_of_all node outside [] = []
-sources_of_all node outside (part ∷ rest) = sources_in node outside part ++ sources_of_all node outside rest
+abbrev pub sources_of_parts : (NodePart → List (ℕ × NodePart)) → List (ℕ × NodePart) → List NodePart → List (ℕ × NodePart)
+sources_of_parts node outside [] = []
+sources_of_parts node outside (part ∷ rest) = sources_of_part node outside part ++ sources_of_parts node outside rest
 
 -- the sources of a value of this flow, in an event in which a word with these comes from outside
-abbrev pub sources_by : (Part → List (ℕ × Part)) → List (ℕ × Part) → Flow → List (ℕ × Part)
-sources_by node outside (Same part) = sources_in node outside part
-sources_by node outside (From parts) = sources_of_all node outside parts
+abbrev pub sources_of_flow : (NodePart → List (ℕ × NodePart)) → List (ℕ × NodePart) → Flow → List (ℕ × NodePart)
+sources_of_flow node outside (Same part) = sources_of_part node outside part
+sources_of_flow node outside (From parts) = sources_of_parts node outside parts
 
 -- the sources after an event; what a read of `io` shows has none, and a word that is taken has those of the writer's T
 abbrev pub sources_after : List NodeRecord → Event → Sources → Sources
 sources_after chip (Own node) sources n part =
-    if n == node.number then sources_by (sources n) [] (own_flow (record_at chip n) part) else sources n part
+    if n == node.number then sources_of_flow (sources n) [] (own_flow (record_at chip n) part) else sources n part
 sources_after chip (Pass writer reader side) sources n part =
-    if n == reader.number then sources_by (sources n) (sources writer.number top) (take_flow (record_at chip n).wait part)
-    else if n == writer.number then sources_by (sources n) [] (send_flow part)
+    if n == reader.number then sources_of_flow (sources n) (sources writer.number top) (take_flow (record_at chip n).wait part)
+    else if n == writer.number then sources_of_flow (sources n) [] (send_flow part)
     else sources n part
 
 -- the chip after the events of a list, and the sources after them
-abbrev pub chip_after : List NodeRecord → List Event → List NodeRecord
-chip_after chip [] = chip
-chip_after chip (e ∷ es) = chip_after (after chip e).0 es
+abbrev pub chip_after_events : List NodeRecord → List Event → List NodeRecord
+chip_after_events chip [] = chip
+chip_after_events chip (e ∷ es) = chip_after_events (after chip e).0 es
 
-abbrev pub sources_after_all : List NodeRecord → List Event → Sources → Sources
-sources_after_all chip [] sources = sources
-sources_after_all chip (e ∷ es) sources = sources_after_all (after chip e).0 es (sources_after chip e sources)
+abbrev pub sources_after_events : List NodeRecord → List Event → Sources → Sources
+sources_after_events chip [] sources = sources
+sources_after_events chip (e ∷ es) sources = sources_after_events (after chip e).0 es (sources_after chip e sources)
 
 -- ---- two runs
 
 -- an event is decided alike on two chips: an own event with the same word at `io`, a pass of two nodes with the same wait of its reader
-abbrev pub AlikeIn : List NodeRecord → List NodeRecord → Event → Type 0
-AlikeIn c d (Own node) =
-    DecideAlike (record_at c node.number) (record_at d node.number) × (io_word (neighbour_states c node.number) ≡ io_word (neighbour_states d node.number))
-AlikeIn c d (Pass writer reader side) =
+abbrev pub IsDecidedAlike : List NodeRecord → List NodeRecord → Event → Type 0
+IsDecidedAlike c d (Own node) =
+    HaveSameNextAction (record_at c node.number) (record_at d node.number) × (io_word (neighbour_states c node.number) ≡ io_word (neighbour_states d node.number))
+IsDecidedAlike c d (Pass writer reader side) =
     (writer.number ≢ reader.number) × ((record_at c reader.number).wait ≡ (record_at d reader.number).wait)
 
 -- each of some events in turn is decided alike on two chips
-abbrev pub AlikeInAll : List NodeRecord → List NodeRecord → List Event → Type 0
-AlikeInAll c d [] = Unit {0}
-AlikeInAll c d (e ∷ es) = AlikeIn c d e × AlikeInAll (after c e).0 (after d e).0 es
+abbrev pub AreDecidedAlike : List NodeRecord → List NodeRecord → List Event → Type 0
+AreDecidedAlike c d [] = Unit {0}
+AreDecidedAlike c d (e ∷ es) = IsDecidedAlike c d e × AreDecidedAlike (after c e).0 (after d e).0 es
 
 -- two chips hold the same in these parts of their nodes
-abbrev pub SameAt : List NodeRecord → List NodeRecord → List (ℕ × Part) → Type 0
-SameAt c d [] = Unit {0}
-SameAt c d (at ∷ rest) = (part_of 0 (record_at c at.0) at.1 ≡ part_of 0 (record_at d at.0) at.1) × SameAt c d rest
+abbrev pub AgreeAtNodeParts : List NodeRecord → List NodeRecord → List (ℕ × NodePart) → Type 0
+AgreeAtNodeParts c d [] = Unit {0}
+AgreeAtNodeParts c d (at ∷ rest) = (part_value 0 (record_at c at.0) at.1 ≡ part_value 0 (record_at d at.0) at.1) × AgreeAtNodeParts c d rest
 
 abbrev pub AllHaveSizes : List NodeRecord → Type 0
 AllHaveSizes chip = (n : ℕ) → HasSizes (record_at chip n)

@@ -2,7 +2,7 @@
 -- Communicating Systems", 2004).
 use Rattle.std.specs.Prelude.{◌≡◌, ◌≢◌, ℕ, Bool, true, false, if◌then◌else◌, List, length, Some}
 use Rattle.ga_node.specs.Record.{NodeState}
-use Rattle.ga_node.specs.State.{restored, AreFit, IsApart}
+use Rattle.ga_node.specs.State.{with_restored_values, AreValuesInRange, HasAtMostOneStatus}
 use Rattle.ga_node.specs.declared.place.Place.{Place}
 use Rattle.ga_grid.specs.Chip.{node_at, with_node, records_of}
 use Rattle.ga_event.specs.declared.event.Event.{Event}
@@ -12,13 +12,13 @@ use Rattle.ga_event.specs.declared.event.OwnOutcome.{OwnOutcome}
 use Rattle.ga_event.specs.declared.event.Effect.{Effect}
 use Rattle.ga_event.specs.declared.event.Effect.TheVariants as effect
 use Rattle.ga_event.specs.Touches.{touches}
-use Rattle.ga_event.specs.Apply.{EventOutcome, Did, Carried, apply, is_look}
+use Rattle.ga_event.specs.Apply.{EventOutcome, ExecutedOwn, PassedWord, apply, is_look}
 
 -- the outcome of an event with this effect
-abbrev pub told_of : Effect → EventOutcome
-told_of (effect.Own kind saved) = Did kind
-told_of (effect.Look kind saved) = Did kind
-told_of (effect.Pass word writer reader) = Carried word
+abbrev pub outcome_of_effect : Effect → EventOutcome
+outcome_of_effect (effect.Own kind saved) = ExecutedOwn kind
+outcome_of_effect (effect.Look kind saved) = ExecutedOwn kind
+outcome_of_effect (effect.Pass word writer reader) = PassedWord word
 
 -- the event looked at the neighbours of its node
 abbrev pub has_looked : Effect → Bool
@@ -27,62 +27,62 @@ has_looked (effect.Look kind saved) = true
 has_looked (effect.Pass word writer reader) = false
 
 -- an event with this effect, with whether it looked
-abbrev pub cause_with : Event → Effect → Cause
-cause_with event effect = record { event = event; look = has_looked effect }
+abbrev pub cause_from_effect : Event → Effect → Cause
+cause_from_effect event effect = record { event = event; look = has_looked effect }
 
 -- the effect of a node's own event, which looked or didn't
 abbrev pub own_effect : OwnOutcome → List (Place × ℕ) → Effect
 own_effect deed saved = if deed.look then effect.Look deed.kind saved else effect.Own deed.kind saved
 
 -- the chip with a node's old values written back
-abbrev pub restored_at : List NodeState → ℕ → List (Place × ℕ) → List NodeState
-restored_at chip n saved = with_node chip n (restored (node_at chip n) saved)
+abbrev pub with_restored_node : List NodeState → ℕ → List (Place × ℕ) → List NodeState
+with_restored_node chip n saved = with_node chip n (with_restored_values (node_at chip n) saved)
 
 -- the chip with the old values of the touched nodes written back
-abbrev pub unapplied : List NodeState → Event → Effect → List NodeState
-unapplied chip (event.Own node) (effect.Own kind saved) = restored_at chip node.number saved
-unapplied chip (event.Own node) (effect.Look kind saved) = restored_at chip node.number saved
-unapplied chip (event.Pass writer reader side) (effect.Pass word sent took) =
-    restored_at (restored_at chip reader.number took) writer.number sent
-unapplied chip (event.Own node) (effect.Pass word sent took) = chip
-unapplied chip (event.Pass writer reader side) (effect.Own kind saved) = chip
-unapplied chip (event.Pass writer reader side) (effect.Look kind saved) = chip
+abbrev pub chip_after_undo : List NodeState → Event → Effect → List NodeState
+chip_after_undo chip (event.Own node) (effect.Own kind saved) = with_restored_node chip node.number saved
+chip_after_undo chip (event.Own node) (effect.Look kind saved) = with_restored_node chip node.number saved
+chip_after_undo chip (event.Pass writer reader side) (effect.Pass word sent took) =
+    with_restored_node (with_restored_node chip reader.number took) writer.number sent
+chip_after_undo chip (event.Own node) (effect.Pass word sent took) = chip
+chip_after_undo chip (event.Pass writer reader side) (effect.Own kind saved) = chip
+chip_after_undo chip (event.Pass writer reader side) (effect.Look kind saved) = chip
 
 -- the effect is of the event's kind, and the nodes of a pass are two
-abbrev pub IsOfKind : Event → Effect → Type 0
-IsOfKind (event.Own node) (effect.Own kind saved) = Unit {0}
-IsOfKind (event.Own node) (effect.Look kind saved) = Unit {0}
-IsOfKind (event.Pass writer reader side) (effect.Pass word sent took) = writer.number ≢ reader.number
-IsOfKind (event.Own node) (effect.Pass word sent took) = ⊥
-IsOfKind (event.Pass writer reader side) (effect.Own kind saved) = ⊥
-IsOfKind (event.Pass writer reader side) (effect.Look kind saved) = ⊥
+abbrev pub IsEffectOfEvent : Event → Effect → Type 0
+IsEffectOfEvent (event.Own node) (effect.Own kind saved) = Unit {0}
+IsEffectOfEvent (event.Own node) (effect.Look kind saved) = Unit {0}
+IsEffectOfEvent (event.Pass writer reader side) (effect.Pass word sent took) = writer.number ≢ reader.number
+IsEffectOfEvent (event.Own node) (effect.Pass word sent took) = ⊥
+IsEffectOfEvent (event.Pass writer reader side) (effect.Own kind saved) = ⊥
+IsEffectOfEvent (event.Pass writer reader side) (effect.Look kind saved) = ⊥
 
 -- the old values of a node can be written back
 pub record CanRestore (node : NodeState) (saved : List (Place × ℕ)) : Type 0 where
-  pub fit : AreFit saved
-  pub apart : IsApart (restored node saved)
+  pub fit : AreValuesInRange saved
+  pub apart : HasAtMostOneStatus (with_restored_values node saved)
 
 -- Whether the event can be undone: the effect is of its kind, the nodes of a pass are two, and the restored values make nodes.
 -- It holds of each chip whose touched nodes are as the event left them.
-abbrev pub CanUnapply : List NodeState → Event → Effect → Type 0
-CanUnapply chip (event.Own node) (effect.Own kind saved) = CanRestore (node_at chip node.number) saved
-CanUnapply chip (event.Own node) (effect.Look kind saved) = CanRestore (node_at chip node.number) saved
-CanUnapply chip (event.Pass writer reader side) (effect.Pass word sent took) =
+abbrev pub CanUndoEvent : List NodeState → Event → Effect → Type 0
+CanUndoEvent chip (event.Own node) (effect.Own kind saved) = CanRestore (node_at chip node.number) saved
+CanUndoEvent chip (event.Own node) (effect.Look kind saved) = CanRestore (node_at chip node.number) saved
+CanUndoEvent chip (event.Pass writer reader side) (effect.Pass word sent took) =
     (writer.number ≢ reader.number) × CanRestore (node_at chip writer.number) sent × CanRestore (node_at chip reader.number) took
-CanUnapply chip (event.Own node) (effect.Pass word sent took) = ⊥
-CanUnapply chip (event.Pass writer reader side) (effect.Own kind saved) = ⊥
-CanUnapply chip (event.Pass writer reader side) (effect.Look kind saved) = ⊥
+CanUndoEvent chip (event.Own node) (effect.Pass word sent took) = ⊥
+CanUndoEvent chip (event.Pass writer reader side) (effect.Own kind saved) = ⊥
+CanUndoEvent chip (event.Pass writer reader side) (effect.Look kind saved) = ⊥
 
 -- The event led from one chip to the other with this effect, which is of its kind: the records and the outcome are those of the
 -- definition, the event looked exactly if the effect is a look's, and its undo leads to the whole old chip.
 pub record IsApplied (old : List NodeState) (event : Event) (effect : Effect) (new : List NodeState) : Type 0 where
-  pub of_kind : IsOfKind event effect
-  pub done : apply (records_of old) event ≡ Some (records_of new, told_of effect)
+  pub of_kind : IsEffectOfEvent event effect
+  pub done : apply (records_of old) event ≡ Some (records_of new, outcome_of_effect effect)
   pub look : is_look (records_of old) event ≡ has_looked effect
-  pub undone : unapplied new event effect ≡ old
-  pub ready : CanUnapply new event effect
+  pub state_after_undo : chip_after_undo new event effect ≡ old
+  pub ready : CanUndoEvent new event effect
 
 -- the nodes that the event touches are as it left them, whatever became of the others
-pub record IsLeft (event : Event) (new chip : List NodeState) : Type 0 where
+pub record KeepsTouchedNodes (event : Event) (new chip : List NodeState) : Type 0 where
   pub size : length chip ≡ length new
   pub same : (n : ℕ) → touches event n ≡ true → node_at chip n ≡ node_at new n

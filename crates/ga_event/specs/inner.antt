@@ -2,27 +2,27 @@
 use Rattle.ga_event.specs.declared.flow.sought.TracedPart.TheVariants as sought
 use Rattle.ga_ports.specs.declared.address.Target.TheVariants as target
 use Rattle.std.specs.Prelude.{◌≡◌, ◌+◌, ◌-◌, ◌==◌, Bool, None, if◌then◌else◌, List, [], ◌∷◌}
-use Rattle.ga_event.specs.declared.flow.part.Part.{Part}
-use Rattle.ga_event.specs.declared.flow.part.Part.TheVariants.{Data, Return, Ram, Rom, A, B, P, I, Io, Carry, Slot, Wait, Stop, Outside}
+use Rattle.ga_event.specs.declared.flow.part.NodePart.{NodePart}
+use Rattle.ga_event.specs.declared.flow.part.NodePart.TheVariants.{Data, Return, Ram, Rom, A, B, P, I, Io, Carry, Slot, Wait, Stop, Outside}
 use Rattle.ga_event.specs.declared.flow.sought.TracedPart.{TracedPart}
-use Rattle.ga_ports.specs.Address.{is_single}
+use Rattle.ga_ports.specs.Address.{is_single_side}
 use Rattle.ga_node.specs.Record.{NodeRecord}
-use Rattle.ga_node.specs.Table.{refusal, next_action_of, looks_by}
-use Rattle.ga_node.specs.Ready.{CanDo}
+use Rattle.ga_node.specs.Table.{refusal, next_action_of, is_look_action}
+use Rattle.ga_node.specs.Ready.{CanExecute}
 use Rattle.ga_node.specs.declared.due.NextAction.{NextAction}
 use Rattle.ga_ports.specs.declared.address.Target.{Target}
-use Rattle.ga_event.specs.Flow.{Flow, Same, From, Move, PushData, PopData, SetTop, PopTo, PushReturn, PopReturn, SetTopReturn, SetP, SetA, SetB, SetI, SetIo, SetCarry, SetRam, GoOn, Skip, StartAgain, SetWait, SetStop, top, top_return, is_same, IsPart, flow_of, AreSources}
+use Rattle.ga_event.specs.Flow.{Flow, Same, From, Move, PushData, PopData, SetTop, PopTo, PushReturn, PopReturn, SetTopReturn, SetP, SetA, SetB, SetI, SetIo, SetCarry, SetRam, GoOn, Skip, StartAgain, SetWait, SetStop, top, top_return, is_equal_to, IsNodePart, flow_of, HasValidSources}
 
 -- the node makes this next, looking at its neighbours or not
 pub record IsNextOwn (due : NextAction) (looks : Bool) (n : NodeRecord) : Type 0 where
   pub ready : refusal n ≡ None
   pub due_is : due ≡ next_action_of n
-  pub can : CanDo due n
-  pub looks_is : looks_by due n ≡ looks
+  pub can : CanExecute due n
+  pub looks_is : is_look_action due n ≡ looks
 
 -- a part before some changes, or where the value was found to come from
 pub data Trace : Type 0 where
-  At : Part → Trace
+  At : NodePart → Trace
   Found : Flow → Trace
 
 abbrev pub sought_of : TracedPart → Trace
@@ -30,12 +30,12 @@ sought_of (sought.At part) = At part
 sought_of (sought.Found flow) = Found (flow_of flow)
 
 abbrev pub IsSought : Trace → Type 0
-IsSought (At part) = IsPart part
-IsSought (Found flow) = AreSources flow
+IsSought (At part) = IsNodePart part
+IsSought (Found flow) = HasValidSources flow
 
 -- a part followed back over another word in a part, and over a push and a pop of either stack
-abbrev pub set_at : Part → Flow → Trace → Trace
-set_at at flow (At part) = if is_same part at then Found flow else At part
+abbrev pub set_at : NodePart → Flow → Trace → Trace
+set_at at flow (At part) = if is_equal_to part at then Found flow else At part
 set_at at flow (Found found) = Found found
 
 abbrev pub push_data : Flow → Trace → Trace
@@ -82,18 +82,18 @@ before_all [] trace = trace
 before_all (move ∷ rest) trace = before move (before_all rest trace)
 
 -- a part followed back over a read whose word is pushed, and over a write; what came after is followed back already
-abbrev pub read_before : Target → Part → Trace → Trace
+abbrev pub read_before : Target → NodePart → Trace → Trace
 read_before (target.Ram k) part later = push_data (Same (Ram k)) later
 read_before (target.Rom k) part later = push_data (Same (Rom k)) later
 read_before target.Io part later = push_data (Same Outside) later
 read_before (target.Ports sides) part later = before SetWait (At part)
 read_before target.Bad part later = before SetStop (At part)
 
-abbrev pub write_before : Target → Part → Trace → Trace
+abbrev pub write_before : Target → NodePart → Trace → Trace
 write_before (target.Ram k) part later = set_at (Ram k) (Same top) later
 write_before (target.Rom k) part later = later
 write_before target.Io part later = set_at Io (Same top) later
-write_before (target.Ports sides) part later = if is_single sides then before SetWait (At part) else before SetStop (At part)
+write_before (target.Ports sides) part later = if is_single_side sides then before SetWait (At part) else before SetStop (At part)
 write_before target.Bad part later = before SetStop (At part)
 
 -- a part followed back over R popped or counted down; what came after each is followed back already

@@ -2,7 +2,7 @@
 
 ghost use Rattle.std.specs.Prelude.{◌≡◌};
 ghost use Rattle.ga_grid.specs.Chip.{node_at};
-ghost use Rattle.ga_event.specs.Undo.{restored_at, unapplied, CanRestore, CanUnapply};
+ghost use Rattle.ga_event.specs.Undo.{with_restored_node, chip_after_undo, CanRestore, CanUndoEvent};
 
 use crate::event::{Effect, Event};
 use ga_grid::{Chip, NodeId};
@@ -12,16 +12,16 @@ use ga_node::Saved;
 #[inline]
 pub fn undo_node(chip: &mut Chip, node: NodeId, saved: &Saved)
     requires { CanRestore (node_at chip.old node.number) saved.now }
-    ensures { chip.new ≡ restored_at chip.old node.number saved.now }
+    ensures { chip.new ≡ with_restored_node chip.old node.number saved.now }
 {
     chip.node_mut(node).restore(saved);
 }
 
 /// Takes an event back: the touched nodes become what they were before it, and all others stay as they are.
 #[inline]
-pub fn unapply(chip: &mut Chip, event: Event, effect: &Effect)
-    requires { CanUnapply chip.old event effect.now }
-    ensures { chip.new ≡ unapplied chip.old event effect.now }
+pub fn undo_on_chip(chip: &mut Chip, event: Event, effect: &Effect)
+    requires { CanUndoEvent chip.old event effect.now }
+    ensures { chip.new ≡ chip_after_undo chip.old event effect.now }
 {
     match effect {
         Effect::Own(_, saved) => match event {

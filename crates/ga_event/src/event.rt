@@ -2,10 +2,10 @@
 
 ghost use Rattle.std.specs.Prelude.{◌≡◌};
 ghost use Rattle.ga_event.specs.Touches.{touches};
-ghost use Rattle.ga_event.specs.Undo.{cause_with};
+ghost use Rattle.ga_event.specs.Undo.{cause_from_effect};
 
 use ga_grid::NodeId;
-use ga_node::{Kind, Saved};
+use ga_node::{OwnEventKind, Saved};
 use ga_ports::Side;
 use ga_word::Word18;
 
@@ -39,7 +39,7 @@ pub struct Cause {
 #[derive(Clone, Copy, PartialEq, Eq, Debug)]
 pub struct OwnOutcome {
     /// What the event was.
-    pub kind: Kind,
+    pub kind: OwnEventKind,
     /// Whether it looked.
     pub look: bool,
 }
@@ -48,9 +48,9 @@ pub struct OwnOutcome {
 #[derive(Debug, Drop)]
 pub enum Effect {
     /// The kind of a node's own event that didn't look at the neighbours.
-    Own(Kind, Saved),
+    Own(OwnEventKind, Saved),
     /// The kind of a node's own event that looked at all neighbours: it read `io` or fetched from it.
-    Look(Kind, Saved),
+    Look(OwnEventKind, Saved),
     /// The transferred word, and the old values of its two nodes.
     Pass {
         /// The word.
@@ -64,8 +64,8 @@ pub enum Effect {
 
 /// An event with this effect, with whether it looked.
 #[inline]
-pub fn cause_with(event: Event, effect: &Effect) -> Cause
-    ensures { result ≡ cause_with event effect.now }
+pub fn cause_from_effect(event: Event, effect: &Effect) -> Cause
+    ensures { result ≡ cause_from_effect event effect.now }
 {
     let look = match effect {
         Effect::Own(..) => false,

@@ -10,17 +10,17 @@ ghost use Rattle.ga_event.specs.Flow.{From, flow_of};
 
 use arrayvec::ArrayVec;
 pub use choice::Choice;
-pub use flows::{due_in, flow_where, own_flow, send_flow, take_flow};
-pub use part::Part;
+pub use flows::{flow_by_choice, next_action_in, own_flow, send_flow, take_flow};
+pub use part::NodePart;
 
 /// Where the value of a part comes from that an event leaves.
 #[derive(Drop)]
 pub enum Flow {
     /// The value is the one of this part before the event.
-    Same(Part),
+    Same(NodePart),
     /// The value is computed from the values of these parts before and from nothing else, given what decides the event. The word from
     /// outside is never among them.
-    From(ArrayVec<Part, 3>),
+    From(ArrayVec<NodePart, 3>),
 }
 
 /// Computed from nothing but what decides the event.
@@ -31,7 +31,7 @@ pub(crate) fn from_none() -> Flow
 }
 
 /// Computed from one part.
-pub(crate) fn from_one(part: Part) -> Flow
+pub(crate) fn from_one(part: NodePart) -> Flow
     ensures { flow_of result ≡ From (part ∷ []) }
 {
     let mut parts = ArrayVec::new();
@@ -40,7 +40,7 @@ pub(crate) fn from_one(part: Part) -> Flow
 }
 
 /// Computed from two parts.
-pub(crate) fn from_two(first: Part, second: Part) -> Flow
+pub(crate) fn from_two(first: NodePart, second: NodePart) -> Flow
     ensures { flow_of result ≡ From (first ∷ second ∷ []) }
 {
     let mut parts = ArrayVec::new();
@@ -50,7 +50,7 @@ pub(crate) fn from_two(first: Part, second: Part) -> Flow
 }
 
 /// Computed from three parts.
-pub(crate) fn from_three(first: Part, second: Part, third: Part) -> Flow
+pub(crate) fn from_three(first: NodePart, second: NodePart, third: NodePart) -> Flow
     ensures { flow_of result ≡ From (first ∷ second ∷ third ∷ []) }
 {
     let mut parts = ArrayVec::new();

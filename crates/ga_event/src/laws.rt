@@ -6,23 +6,23 @@ ghost use Rattle.ga_node.specs.Record.{NodeState, NodeRecord, HasSizes};
 ghost use Rattle.ga_node.specs.Table.{own, sent, taken, next_action_of};
 ghost use Rattle.ga_node.specs.Io.{io_word};
 ghost use Rattle.ga_grid.specs.declared.node_id.NodeId.{NodeId};
-ghost use Rattle.ga_grid.specs.Chip.{node_at, record_at, records_of, AreSteady};
+ghost use Rattle.ga_grid.specs.Chip.{node_at, record_at, records_of, HaveConsistentWaits};
 ghost use Rattle.ga_event.specs.declared.event.Event.{Event};
 ghost use Rattle.ga_event.specs.declared.event.Effect.{Effect};
-ghost use Rattle.ga_event.specs.Touches.{touches, meets};
-ghost use Rattle.ga_event.specs.Apply.{refusal_of, apply, cause_of, replay, Agree, BehaveAlike};
+ghost use Rattle.ga_event.specs.Touches.{touches, has_common_node};
+ghost use Rattle.ga_event.specs.Apply.{refusal_of, apply, cause_of, replay, AgreeOutsideMarks, BehaveAlike};
 ghost use Rattle.ga_event.specs.Next.{next};
-ghost use Rattle.ga_event.specs.Undo.{unapplied, cause_with, CanUnapply, IsApplied, IsLeft};
-ghost use Rattle.ga_event.specs.declared.flow.part.Part.{Part};
-ghost use Rattle.ga_event.specs.declared.flow.part.Part.TheVariants.{I, Slot};
-ghost use Rattle.ga_event.specs.Flow.{IsPart, part_of, own_flow, send_flow, take_flow, chosen_by, DecideAlike, AgreeAtParts, IsFlowOf};
-ghost use Rattle.ga_event.specs.Sources.{themselves, sources_after_all, chip_after, AlikeInAll, SameAt, AllHaveSizes};
+ghost use Rattle.ga_event.specs.Undo.{chip_after_undo, cause_from_effect, CanUndoEvent, IsApplied, KeepsTouchedNodes};
+ghost use Rattle.ga_event.specs.declared.flow.part.NodePart.{NodePart};
+ghost use Rattle.ga_event.specs.declared.flow.part.NodePart.TheVariants.{I, Slot};
+ghost use Rattle.ga_event.specs.Flow.{IsNodePart, part_value, own_flow, send_flow, take_flow, deciding_parts, HaveSameNextAction, AgreeAtParts, IsFlowOf};
+ghost use Rattle.ga_event.specs.Sources.{initial_sources, sources_after_events, chip_after_events, AreDecidedAlike, AgreeAtNodeParts, AllHaveSizes};
 
 /// An event changes the nodes that it touches alone.
 #[tactic(auto, using(crate::proofs::Locality::apply_keeps))]
-pub fn changes_touched_alone()
+pub fn event_changes_touched_only()
     ensures { (chip : List NodeRecord) (event : Event) →
-        IfSome (apply chip event) (λ done. Agree (touches event) chip done.0) }
+        IfSome (apply chip event) (λ done. AgreeOutsideMarks (touches event) chip done.0) }
 {}
 
 /// The event that a step of a node makes is enabled.
@@ -36,62 +36,62 @@ pub fn next_event_is_enabled()
 #[tactic(auto, using(crate::proofs::Locality::refusal_alike, crate::proofs::Locality::apply_alike, crate::proofs::Locality::cause_alike))]
 pub fn event_depends_on_observed_only()
     ensures refused { (marks : ℕ → Bool) (chip other : List NodeRecord) (event : Event) →
-        Agree marks chip other → meets marks (cause_of chip event) ≡ false →
+        AgreeOutsideMarks marks chip other → has_common_node marks (cause_of chip event) ≡ false →
         refusal_of chip event ≡ refusal_of other event }
     ensures cause { (marks : ℕ → Bool) (chip other : List NodeRecord) (event : Event) →
-        Agree marks chip other → meets marks (cause_of chip event) ≡ false →
+        AgreeOutsideMarks marks chip other → has_common_node marks (cause_of chip event) ≡ false →
         cause_of chip event ≡ cause_of other event }
     ensures alike { (marks : ℕ → Bool) (chip other : List NodeRecord) (event : Event) →
-        Agree marks chip other → meets marks (cause_of chip event) ≡ false →
+        AgreeOutsideMarks marks chip other → has_common_node marks (cause_of chip event) ≡ false →
         BehaveAlike marks (apply chip event) (apply other event) }
 {}
 
 /// The effect of an event has whether it looked.
 #[tactic(auto, using(crate::proofs::Applied::applied_cause))]
-pub fn effect_gives_cause()
+pub fn effect_determines_look()
     ensures { (old new : List NodeState) (event : Event) (effect : Effect) →
-        IsApplied old event effect new → cause_of (records_of old) event ≡ cause_with event effect }
+        IsApplied old event effect new → cause_of (records_of old) event ≡ cause_from_effect event effect }
 {}
 
 /// An event can be undone also if nodes that it doesn't touch have changed since: the touched nodes get their values from
 /// before it, and the others are unchanged.
-pub fn unapply_after_other_events()
+pub fn undo_after_other_events()
     ensures ready { (old new chip : List NodeState) (event : Event) (effect : Effect) →
-        IsApplied old event effect new → IsLeft event new chip →
-        CanUnapply chip event effect }
+        IsApplied old event effect new → KeepsTouchedNodes event new chip →
+        CanUndoEvent chip event effect }
     ensures nodes { (old new chip : List NodeState) (event : Event) (effect : Effect) →
-        IsApplied old event effect new → IsLeft event new chip →
-        (n : ℕ) → node_at (unapplied chip event effect) n ≡ (if touches event n then node_at old n else node_at chip n) }
+        IsApplied old event effect new → KeepsTouchedNodes event new chip →
+        (n : ℕ) → node_at (chip_after_undo chip event effect) n ≡ (if touches event n then node_at old n else node_at chip n) }
 {}
 
 /// On a chip of which each node's wait fits its slot and its stop, every event leaves such a chip, and so does every list of
 /// events.
 #[tactic(auto, using(crate::proofs::Steadiness::apply_steady, crate::proofs::Steadiness::replay_steady))]
-pub fn stays_steady()
-    ensures event { (chip : List NodeRecord) (event : Event) → AreSteady chip →
-        IfSome (apply chip event) (λ done. AreSteady done.0) }
-    ensures events { (chip : List NodeRecord) (events : List Event) → AreSteady chip →
-        IfSome (replay chip events) (λ last. AreSteady last) }
+pub fn events_keep_waits_consistent()
+    ensures event { (chip : List NodeRecord) (event : Event) → HaveConsistentWaits chip →
+        IfSome (apply chip event) (λ done. HaveConsistentWaits done.0) }
+    ensures events { (chip : List NodeRecord) (events : List Event) → HaveConsistentWaits chip →
+        IfSome (replay chip events) (λ last. HaveConsistentWaits last) }
 {}
 
 /// Where each value comes from that an event leaves, in two nodes in which the same is decided: it is that of one part before,
 /// or it is the same in both if both have the same values in the parts that the table of `Flow.antt` names.
 pub fn flows()
-    ensures own { (seen other : Seen) (n m : NodeRecord) (part : Part) → HasSizes n → HasSizes m → DecideAlike n m → IsPart part
-        → IsFlowOf (io_word seen) n (io_word other) m (own_flow n part) (part_of (io_word seen) (own seen n).1 part) (part_of (io_word other) (own other m).1 part) }
-    ensures sent { (word other : ℕ) (n m : NodeRecord) (part : Part) → HasSizes n → HasSizes m → IsPart part
-        → IsFlowOf word n other m (send_flow part) (part_of word (sent n) part) (part_of other (sent m) part) }
-    ensures taken { (word other : ℕ) (n m : NodeRecord) (part : Part) → HasSizes n → HasSizes m → n.wait ≡ m.wait → IsPart part
-        → IsFlowOf word n other m (take_flow n.wait part) (part_of word (taken word n) part) (part_of other (taken other m) part) }
-    ensures kind { (seen other : Seen) (n m : NodeRecord) → DecideAlike n m → (own seen n).0 ≡ (own other m).0 }
-    ensures alike { (n m : NodeRecord) → AgreeAtParts 0 n 0 m (I ∷ Slot ∷ []) → AgreeAtParts 0 n 0 m (chosen_by (next_action_of n)) → DecideAlike n m }
+    ensures own { (seen other : Seen) (n m : NodeRecord) (part : NodePart) → HasSizes n → HasSizes m → HaveSameNextAction n m → IsNodePart part
+        → IsFlowOf (io_word seen) n (io_word other) m (own_flow n part) (part_value (io_word seen) (own seen n).1 part) (part_value (io_word other) (own other m).1 part) }
+    ensures sent { (word other : ℕ) (n m : NodeRecord) (part : NodePart) → HasSizes n → HasSizes m → IsNodePart part
+        → IsFlowOf word n other m (send_flow part) (part_value word (sent n) part) (part_value other (sent m) part) }
+    ensures taken { (word other : ℕ) (n m : NodeRecord) (part : NodePart) → HasSizes n → HasSizes m → n.wait ≡ m.wait → IsNodePart part
+        → IsFlowOf word n other m (take_flow n.wait part) (part_value word (taken word n) part) (part_value other (taken other m) part) }
+    ensures kind { (seen other : Seen) (n m : NodeRecord) → HaveSameNextAction n m → (own seen n).0 ≡ (own other m).0 }
+    ensures alike { (n m : NodeRecord) → AgreeAtParts 0 n 0 m (I ∷ Slot ∷ []) → AgreeAtParts 0 n 0 m (deciding_parts (next_action_of n)) → HaveSameNextAction n m }
 {}
 
 /// What isn't among the sources of a value gave nothing to it.
-pub fn sources_give_all()
-    ensures value { (c d : List NodeRecord) (events : List Event) (n : ℕ) (part : Part) →
-        length c ≡ 144 → length d ≡ 144 → AllHaveSizes c → AllHaveSizes d → AlikeInAll c d events
-        → SameAt c d (sources_after_all c events themselves n part)
-        → part_of 0 (record_at (chip_after c events) n) part ≡ part_of 0 (record_at (chip_after d events) n) part }
-    ensures chip { (c d : List NodeRecord) (events : List Event) → replay c events ≡ Some d → chip_after c events ≡ d }
+pub fn sources_determine_value()
+    ensures value { (c d : List NodeRecord) (events : List Event) (n : ℕ) (part : NodePart) →
+        length c ≡ 144 → length d ≡ 144 → AllHaveSizes c → AllHaveSizes d → AreDecidedAlike c d events
+        → AgreeAtNodeParts c d (sources_after_events c events initial_sources n part)
+        → part_value 0 (record_at (chip_after_events c events) n) part ≡ part_value 0 (record_at (chip_after_events d events) n) part }
+    ensures chip { (c d : List NodeRecord) (events : List Event) → replay c events ≡ Some d → chip_after_events c events ≡ d }
 {}

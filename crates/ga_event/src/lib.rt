@@ -10,9 +10,11 @@ pub mod laws;
 mod made;
 mod next;
 
-pub use back::{unapply, undo_node};
-pub use event::{Cause, Effect, Event, OwnOutcome, cause_with, touches};
-pub use flow::{Choice, Flow, Part, due_in, flow_where, own_flow, send_flow, take_flow};
+pub use back::{undo_node, undo_on_chip};
+pub use event::{Cause, Effect, Event, OwnOutcome, cause_from_effect, touches};
+pub use flow::{
+    Choice, Flow, NodePart, flow_by_choice, next_action_in, own_flow, send_flow, take_flow,
+};
 pub use forward::{
     apply, apply_own, apply_pass, cause_of, is_reading, is_writing, neighbour_states,
 };

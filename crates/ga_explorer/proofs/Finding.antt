@@ -3,9 +3,9 @@ use Rattle.std.proofs.Common.{◌≡◌, ℕ, ◌+◌, ◌<◌, ◌≤◌, ◌++
 use Rattle.std.specs.Prelude.{map}
 use Rattle.std.specs.Cmp.Lexicographic.{pointwise}
 use Rattle.std.proofs.lemmas.List.{drop_more, drop_all}
-use Rattle.ga_explorer.specs.Forms.{place_from, form_row_text, form_rows_text}
+use Rattle.ga_explorer.specs.Forms.{command_place_from, form_row_text, form_rows_text}
 use Rattle.ga_explorer.specs.NoCommand.{form_of_command, near_form_in, is_upper}
-use Rattle.ga_parser.specs.Nearness.{is_near}
+use Rattle.ga_parser.specs.Nearness.{is_within_one_edit}
 use Rattle.ga_explorer.specs.inner.{entry_of}
 use Rattle.ga_explorer.specs.declared.forms.Row.{Row}
 
@@ -26,19 +26,19 @@ pub named_behind : (word : List ℕ) (rows : List Row) (i : ℕ) (d : Row) → i
 named_behind word rows i d within b is e =
     sym (named word rows i d within b e ∙ ap (λ (z : Bool). if z then Some (get_or rows i d).form.now else form_of_command word (map entry_of (drop (i + 1) rows))) is)
 
-near : (word : List ℕ) (rows : List Row) (i : ℕ) (d : Row) → i < length rows → (b : Bool) → b ≡ is_near word (get_or rows i d).name.now
+near : (word : List ℕ) (rows : List Row) (i : ℕ) (d : Row) → i < length rows → (b : Bool) → b ≡ is_within_one_edit word (get_or rows i d).name.now
     → near_form_in word (map entry_of (drop i rows)) ≡ (if b then Some (get_or rows i d).form.now else near_form_in word (map entry_of (drop (i + 1) rows)))
 unfolding near_form_in
 near word rows i d within b e =
     ap (λ z. near_form_in word (map entry_of z)) (drop_more rows i d within)
     ∙ ap (λ (z : Bool). if z then Some (get_or rows i d).form.now else near_form_in word (map entry_of (drop (i + 1) rows))) (sym e)
 
-pub near_here : (word : List ℕ) (rows : List Row) (i : ℕ) (d : Row) → i < length rows → (b : Bool) → b ≡ true → b ≡ is_near word (get_or rows i d).name.now
+pub near_here : (word : List ℕ) (rows : List Row) (i : ℕ) (d : Row) → i < length rows → (b : Bool) → b ≡ true → b ≡ is_within_one_edit word (get_or rows i d).name.now
     → Some (get_or rows i d).form.now ≡ near_form_in word (map entry_of (drop i rows))
 near_here word rows i d within b is e =
     sym (near word rows i d within b e ∙ ap (λ (z : Bool). if z then Some (get_or rows i d).form.now else near_form_in word (map entry_of (drop (i + 1) rows))) is)
 
-pub near_behind : (word : List ℕ) (rows : List Row) (i : ℕ) (d : Row) → i < length rows → (b : Bool) → b ≡ false → b ≡ is_near word (get_or rows i d).name.now
+pub near_behind : (word : List ℕ) (rows : List Row) (i : ℕ) (d : Row) → i < length rows → (b : Bool) → b ≡ false → b ≡ is_within_one_edit word (get_or rows i d).name.now
     → near_form_in word (map entry_of (drop (i + 1) rows)) ≡ near_form_in word (map entry_of (drop i rows))
 near_behind word rows i d within b is e =
     sym (near word rows i d within b e ∙ ap (λ (z : Bool). if z then Some (get_or rows i d).form.now else near_form_in word (map entry_of (drop (i + 1) rows))) is)
@@ -55,18 +55,18 @@ pub no_row : (rows : List Row) (i : ℕ) → length rows ≤ i → form_rows_tex
 no_row rows i past = ap (λ z. form_rows_text (map entry_of z)) (drop_all i rows past)
 
 placed : (word : List ℕ) (rows : List Row) (i : ℕ) (d : Row) → i < length rows → (b : Bool) → b ≡ pointwise nat_eq (get_or rows i d).name.now word
-    → place_from word i (map entry_of (drop i rows)) ≡ (if b then Some i else place_from word (i + 1) (map entry_of (drop (i + 1) rows)))
-unfolding place_from
+    → command_place_from word i (map entry_of (drop i rows)) ≡ (if b then Some i else command_place_from word (i + 1) (map entry_of (drop (i + 1) rows)))
+unfolding command_place_from
 placed word rows i d within b e =
-    ap (λ z. place_from word i (map entry_of z)) (drop_more rows i d within)
-    ∙ ap (λ (z : Bool). if z then Some i else place_from word (i + 1) (map entry_of (drop (i + 1) rows))) (sym e)
+    ap (λ z. command_place_from word i (map entry_of z)) (drop_more rows i d within)
+    ∙ ap (λ (z : Bool). if z then Some i else command_place_from word (i + 1) (map entry_of (drop (i + 1) rows))) (sym e)
 
 pub place_here : (word : List ℕ) (rows : List Row) (i : ℕ) (d : Row) → i < length rows → (b : Bool) → b ≡ true → b ≡ pointwise nat_eq (get_or rows i d).name.now word
-    → Some i ≡ place_from word i (map entry_of (drop i rows))
+    → Some i ≡ command_place_from word i (map entry_of (drop i rows))
 place_here word rows i d within b is e =
-    sym (placed word rows i d within b e ∙ ap (λ (z : Bool). if z then Some i else place_from word (i + 1) (map entry_of (drop (i + 1) rows))) is)
+    sym (placed word rows i d within b e ∙ ap (λ (z : Bool). if z then Some i else command_place_from word (i + 1) (map entry_of (drop (i + 1) rows))) is)
 
 pub place_behind : (word : List ℕ) (rows : List Row) (i : ℕ) (d : Row) → i < length rows → (b : Bool) → b ≡ false → b ≡ pointwise nat_eq (get_or rows i d).name.now word
-    → place_from word (i + 1) (map entry_of (drop (i + 1) rows)) ≡ place_from word i (map entry_of (drop i rows))
+    → command_place_from word (i + 1) (map entry_of (drop (i + 1) rows)) ≡ command_place_from word i (map entry_of (drop i rows))
 place_behind word rows i d within b is e =
-    sym (placed word rows i d within b e ∙ ap (λ (z : Bool). if z then Some i else place_from word (i + 1) (map entry_of (drop (i + 1) rows))) is)
+    sym (placed word rows i d within b e ∙ ap (λ (z : Bool). if z then Some i else command_place_from word (i + 1) (map entry_of (drop (i + 1) rows))) is)

@@ -2,28 +2,28 @@
 use Rattle.std.proofs.Common.{ℕ, List, [], ◌∷◌, ap, inl, inr}
 use Rattle.std.specs.Prelude.{Result, Ok, Err}
 use Rattle.ga_text.specs.declared.output.WriteError.{WriteError}
-use Rattle.ga_console.specs.Session.{Answering, Answers, Script, Serves}
+use Rattle.ga_console.specs.Session.{AnswerRelation, Answers, WritesAnswers, ServesCommands}
 use Rattle.ga_console.specs.declared.commands.CommandsEnd.{CommandsEnd}
 use Rattle.ga_console.specs.declared.commands.CommandsEnd.TheVariants.{Ended, Quit, Past, ReadFailed}
 
 -- An answer of the machine is one of its part, as long as something holds of the machine.
-pub record IsSeenIn {M N : Type 0} (part : M → N) (Holds : M → Type 0) (A : Answering M) (B : Answering N) : Type 0 where
+pub record IsSeenIn {M N : Type 0} (part : M → N) (Holds : M → Type 0) (A : AnswerRelation M) (B : AnswerRelation N) : Type 0 where
   pub answer : (m : M) (line answer : List ℕ) (new : M) → Holds m → A m line answer new → B (part m) line answer (part new)
   pub holds : (m : M) (line answer : List ℕ) (new : M) → Holds m → A m line answer new → Holds new
 
-module _ {M N : Type 0} (part : M → N) (Holds : M → Type 0) (A : Answering M) (B : Answering N) (seen : IsSeenIn part Holds A B) where
+module _ {M N : Type 0} (part : M → N) (Holds : M → Type 0) (A : AnswerRelation M) (B : AnswerRelation N) (seen : IsSeenIn part Holds A B) where
   answers_seen : (m : M) (lines : List (List ℕ)) (text : List ℕ) (last : M) → Holds m → Answers A m lines text last → Answers B (part m) lines text (part last)
   answers_seen m [] text last k h = (h.0, ap part h.1)
   answers_seen m (line ∷ lines) text last k h =
       (h.0, part h.1, h.2, seen.answer m line h.0 h.1 k h.3, answers_seen h.1 lines h.2 last (seen.holds m line h.0 h.1 k h.3) h.4, h.5)
 
-  script_seen : (room : ℕ) (m : M) (read : List ℕ) (lines : List (List ℕ)) (text : List ℕ) (last : M) → Holds m → Script A room m read lines text last
-      → Script B room (part m) read lines text (part last)
+  script_seen : (room : ℕ) (m : M) (read : List ℕ) (lines : List (List ℕ)) (text : List ℕ) (last : M) → Holds m → WritesAnswers A room m read lines text last
+      → WritesAnswers B room (part m) read lines text (part last)
   script_seen room m read lines text last k (inl h) = inl (answers_seen m lines text last k h)
   script_seen room m read lines text last k (inr h) = inr (h.0, h.1, h.2, answers_seen m lines h.2 last k h.3, h.4)
 
-  pub serves_seen : (room : ℕ) (m : M) (read rest text : List ℕ) (last : M) (ending : Result CommandsEnd WriteError) → Holds m → Serves A room m read rest text last ending
-      → Serves B room (part m) read rest text (part last) ending
+  pub serves_seen : (room : ℕ) (m : M) (read rest text : List ℕ) (last : M) (ending : Result CommandsEnd WriteError) → Holds m → ServesCommands A room m read rest text last ending
+      → ServesCommands B room (part m) read rest text (part last) ending
   serves_seen room m read rest text last (Ok Ended) k h = record {
     within = h.within;
     at_end = h.at_end;

@@ -7,24 +7,24 @@ use Rattle.ga_text.specs.Parsing.{split_at_space, parse_node}
 use Rattle.ga_ports.specs.Steps.{◌>>=◌}
 use Rattle.ga_lab.specs.Machine.{State}
 use Rattle.ga_scheduler.specs.Conditions.{active_conditions}
-use Rattle.ga_scheduler.specs.Backward.{find_newest_holding, left_from, gone_from}
-use Rattle.ga_scheduler.specs.Running.{running, after_events, AreMade, HasEnded}
+use Rattle.ga_scheduler.specs.Backward.{find_newest_holding, machine_back_at_place, removed_event_count}
+use Rattle.ga_scheduler.specs.Running.{running, run_after_events, HasNextEvents, HasRunEnded}
 use Rattle.ga_scheduler.specs.Schedules.{round_robin}
 use Rattle.ga_scheduler.specs.declared.schedule.Schedule.{Schedule}
 use Rattle.ga_scheduler.specs.declared.condition.Condition.{Condition}
 use Rattle.ga_scheduler.specs.declared.running.RunEnd.{RunEnd}
 use Rattle.ga_debug_info.specs.declared.notes.DebugInfo.{DebugInfo}
 use Rattle.ga_explorer_text.specs.Texts.{run_text, back_text, link_words_text, chip_text}
-use Rattle.ga_explorer_text.specs.Telling.{TellsEffects, TellsWho}
+use Rattle.ga_explorer_text.specs.Telling.{IsEffectsAnswer, IsWhoAnswer}
 use Rattle.ga_explorer_text.specs.Saved.{saved_text}
 use Rattle.ga_explorer_text.specs.Writing.{writes_text}
-use Rattle.ga_explorer_text.specs.Around.{around_text}
-use Rattle.ga_explorer_text.specs.Trees.{TellsWhence}
+use Rattle.ga_explorer_text.specs.Around.{steps_around_text}
+use Rattle.ga_explorer_text.specs.Trees.{IsWhenceAnswer}
 use Rattle.ga_explorer_text.specs.Because.{because_text}
-use Rattle.ga_explorer_text.specs.Races.{TellsRaces}
-use Rattle.ga_explorer.specs.Reading.{step_meant, part_named, run_in, back_in, most_events, node_and_step, two_nodes, node_and_cell, node_and_value, node_and_steps}
-use Rattle.ga_conditions.specs.Conditions.{no_condition}
-use Rattle.ga_explorer.specs.Forms.{CommandForm, entry, place_from, form_rows_text, about_found}
+use Rattle.ga_explorer_text.specs.Races.{IsRacesAnswer}
+use Rattle.ga_explorer.specs.Reading.{selected_step, part_of_node_value, parse_run_arguments, parse_back_arguments, max_run_events, node_and_step, two_nodes, node_and_cell, node_and_value, node_and_steps}
+use Rattle.ga_conditions.specs.Conditions.{no_conditions}
+use Rattle.ga_explorer.specs.Forms.{CommandForm, entry, command_place_from, form_rows_text, found_command_details}
 use Rattle.ga_explorer.specs.Opening.{ExplorerState}
 use Rattle.ga_explorer.specs.declared.commands.ExplorerCommand.{ExplorerCommand}
 use Rattle.ga_explorer.specs.declared.commands.ExplorerCommand.TheVariants as asked
@@ -61,12 +61,12 @@ command_table =
     ∷ []
 
 -- the place of the command of this name
-abbrev pub place_of_form : Line → Option ℕ
-place_of_form word = place_from word 0 command_table
+abbrev pub command_place : Line → Option ℕ
+command_place word = command_place_from word 0 command_table
 
 -- the text of the command at a place
-abbrev pub command_text : ℕ → Text
-command_text place = about_found (slice_get command_table place)
+abbrev pub command_help_text : ℕ → Text
+command_help_text place = found_command_details (slice_get command_table place)
 
 -- ---- how a line spells one of exploring
 
@@ -102,62 +102,62 @@ query_with_arguments name text =
       it ← node_and_steps text
       Some (told.Because it.0 it.1 it.2))
     else if pointwise nat_eq name (codes "races") then option_map (λ node. told.Races (Some node)) (parse_node text)
-    else if pointwise nat_eq name (codes "help") then option_map told.HelpOf (place_of_form text)
+    else if pointwise nat_eq name (codes "help") then option_map told.HelpOf (command_place text)
     else None
 
 -- a command of one word
-unfoldable pub lone_request : Line → Option ExplorerCommand
-lone_request name =
-    if pointwise nat_eq name (codes "run") then Some (asked.Run round_robin most_events no_condition)
-    else option_map asked.Tell (bare_query name)
+unfoldable pub single_word_command : Line → Option ExplorerCommand
+single_word_command name =
+    if pointwise nat_eq name (codes "run") then Some (asked.Run round_robin max_run_events no_conditions)
+    else option_map asked.AnswerQuery (bare_query name)
 
 -- a command of a word and what follows it
-unfoldable pub named_request : Option DebugInfo → Line → Line → Option ExplorerCommand
-named_request notes name text =
-    if pointwise nat_eq name (codes "run") then run_in notes text
-    else if pointwise nat_eq name (codes "back") then back_in notes text
-    else option_map asked.Tell (query_with_arguments name text)
+unfoldable pub command_with_arguments : Option DebugInfo → Line → Line → Option ExplorerCommand
+command_with_arguments notes name text =
+    if pointwise nat_eq name (codes "run") then parse_run_arguments notes text
+    else if pointwise nat_eq name (codes "back") then parse_back_arguments notes text
+    else option_map asked.AnswerQuery (query_with_arguments name text)
 
-abbrev pub request_by : Option DebugInfo → Option (Line × Line) → Line → Option ExplorerCommand
-request_by notes None line = lone_request line
-request_by notes (Some parts) line = named_request notes parts.0 parts.1
+abbrev pub command_of_parts : Option DebugInfo → Option (Line × Line) → Line → Option ExplorerCommand
+command_of_parts notes None line = single_word_command line
+command_of_parts notes (Some parts) line = command_with_arguments notes parts.0 parts.1
 
 -- the command of exploring that a line spells, where it spells one
-abbrev pub request_in : Option DebugInfo → Line → Option ExplorerCommand
-request_in notes line = request_by notes (split_at_space line) line
+abbrev pub command_of_line : Option DebugInfo → Line → Option ExplorerCommand
+command_of_line notes line = command_of_parts notes (split_at_space line) line
 
 -- ---- what one of exploring answers
 
 -- Events were made in the order of the schedule, at most `most`, up to the first after which one of the conditions holds: the
 -- text has how many and why the run ended, and the machine is the one after them.
-pub record IsRun (s : State) (schedule : Schedule) (most : ℕ) (until : List Condition) (answer : Text) (new : State) : Type 0 where
+pub record IsRunResult (s : State) (schedule : Schedule) (most : ℕ) (until : List Condition) (answer : Text) (new : State) : Type 0 where
   pub events : ℕ
   pub end : RunEnd
-  pub made : AreMade (running s schedule) events
+  pub made : HasNextEvents (running s schedule) events
   pub within : events ≤ most
-  pub ended : HasEnded (running s schedule) most until events end
-  pub state : new ≡ (after_events (running s schedule) events).state
+  pub ended : HasRunEnded (running s schedule) most until events end
+  pub state : new ≡ (run_after_events (running s schedule) events).state
   pub text : answer ≡ run_text (length until) events end
 
 -- the text of a query's answer
 abbrev pub AnswersQuery : ExplorerState → Query → Text → Type 0
-AnswersQuery e (told.Effects node which) answer = TellsEffects e.lab node (step_meant e.lab node which) answer
+AnswersQuery e (told.Effects node which) answer = IsEffectsAnswer e.lab node (selected_step e.lab node which) answer
 AnswersQuery e (told.Words from to) answer = answer ≡ link_words_text e.lab from to
 AnswersQuery e (told.Writes node address) answer = answer ≡ writes_text e.lab node address
-AnswersQuery e (told.At node which around) answer = answer ≡ around_text e.notes e.lab node (step_meant e.lab node which) around
-AnswersQuery e (told.Whence node which value) answer = TellsWhence e.notes e.lab node (step_meant e.lab node which) (option_and_then part_named value) answer
-AnswersQuery e (told.Because node which most) answer = answer ≡ because_text e.notes e.lab node (step_meant e.lab node which) most
-AnswersQuery e (told.Races only) answer = TellsRaces e.lab only answer
-AnswersQuery e told.Who answer = TellsWho e.lab answer
+AnswersQuery e (told.At node which around) answer = answer ≡ steps_around_text e.notes e.lab node (selected_step e.lab node which) around
+AnswersQuery e (told.Whence node which value) answer = IsWhenceAnswer e.notes e.lab node (selected_step e.lab node which) (option_and_then part_of_node_value value) answer
+AnswersQuery e (told.Because node which most) answer = answer ≡ because_text e.notes e.lab node (selected_step e.lab node which) most
+AnswersQuery e (told.Races only) answer = IsRacesAnswer e.lab only answer
+AnswersQuery e told.Who answer = IsWhoAnswer e.lab answer
 AnswersQuery e told.Chip answer = answer ≡ chip_text e.lab
 AnswersQuery e told.Save answer = answer ≡ saved_text e.lab
 AnswersQuery e told.Help answer = answer ≡ form_rows_text command_table
-AnswersQuery e (told.HelpOf place) answer = answer ≡ command_text place
+AnswersQuery e (told.HelpOf place) answer = answer ≡ command_help_text place
 
 -- what is answered to a command of exploring, and what is explored then
-abbrev pub Explored : ExplorerState → ExplorerCommand → Text → ExplorerState → Type 0
-Explored e (asked.Run schedule most until) answer new = IsRun e.lab schedule most (active_conditions until) answer new.lab × (new.notes ≡ e.notes)
-Explored e (asked.BackUntil only until) answer new =
-    (answer ≡ back_text (gone_from only e.lab (find_newest_holding (active_conditions until) only e.lab)) (length new.lab.kept))
-    × (new.lab ≡ left_from only e.lab (find_newest_holding (active_conditions until) only e.lab)) × (new.notes ≡ e.notes)
-Explored e (asked.Tell question) answer new = AnswersQuery e question answer × (new ≡ e)
+abbrev pub AnswersExplorerCommand : ExplorerState → ExplorerCommand → Text → ExplorerState → Type 0
+AnswersExplorerCommand e (asked.Run schedule most until) answer new = IsRunResult e.lab schedule most (active_conditions until) answer new.lab × (new.notes ≡ e.notes)
+AnswersExplorerCommand e (asked.BackUntil only until) answer new =
+    (answer ≡ back_text (removed_event_count only e.lab (find_newest_holding (active_conditions until) only e.lab)) (length new.lab.kept))
+    × (new.lab ≡ machine_back_at_place only e.lab (find_newest_holding (active_conditions until) only e.lab)) × (new.notes ≡ e.notes)
+AnswersExplorerCommand e (asked.AnswerQuery question) answer new = AnswersQuery e question answer × (new ≡ e)

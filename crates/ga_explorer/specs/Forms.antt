@@ -21,14 +21,14 @@ abbrev pub form_rows_text : List CommandForm → Text
 form_rows_text all = flat_map form_row_text all
 
 -- the place of the command of this name among these, which follow `place` others
-unfoldable pub place_from : Line → ℕ → List CommandForm → Option ℕ
-place_from word before [] = None
-place_from word before (row ∷ more) = if pointwise nat_eq row.name word then Some before else place_from word (before + 1) more
+unfoldable pub command_place_from : Line → ℕ → List CommandForm → Option ℕ
+command_place_from word before [] = None
+command_place_from word before (row ∷ more) = if pointwise nat_eq row.name word then Some before else command_place_from word (before + 1) more
 
 -- the text of `help` about one command
-abbrev pub about_text : CommandForm → Text
-about_text row = form_row_text row ++ row.more
+abbrev pub command_details_text : CommandForm → Text
+command_details_text row = form_row_text row ++ row.more
 
-abbrev pub about_found : Option CommandForm → Text
-about_found None = []
-about_found (Some row) = about_text row
+abbrev pub found_command_details : Option CommandForm → Text
+found_command_details None = []
+found_command_details (Some row) = command_details_text row

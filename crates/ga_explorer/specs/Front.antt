@@ -11,25 +11,25 @@ has_end_line [] = false
 has_end_line (b ∷ text) = if starts_with nat_eq (b ∷ text) (codes "\nend\n") then true else has_end_line text
 
 -- the text has a line `end` with its line feed
-abbrev pub has_end : Text → Bool
-has_end text = starts_with nat_eq text (codes "end\n") || has_end_line text
+abbrev pub contains_end_line : Text → Bool
+contains_end_line text = starts_with nat_eq text (codes "end\n") || has_end_line text
 
 -- the text ends in a line `end` without its line feed
-abbrev pub ends_in_end : Text → Bool
-ends_in_end text = pointwise nat_eq text (codes "end") || ends_with nat_eq text (codes "\nend")
+abbrev pub ends_with_bare_end_line : Text → Bool
+ends_with_bare_end_line text = pointwise nat_eq text (codes "end") || ends_with nat_eq text (codes "\nend")
 
 -- the text is an image that has no line `end`
 abbrev pub lacks_end_line : Text → Bool
-lacks_end_line text = begins_as_image text && (not (has_end text) && not (ends_in_end text))
+lacks_end_line text = begins_as_image text && (not (contains_end_line text) && not (ends_with_bare_end_line text))
 
 -- what a text needs so that commands can follow it: nothing, the line feed of its last line, or the line `end`
-abbrev pub closing : Text → Text
-closing text =
-    if has_end text then []
-    else if ends_in_end text then codes "\n"
+abbrev pub missing_end_text : Text → Text
+missing_end_text text =
+    if contains_end_line text then []
+    else if ends_with_bare_end_line text then codes "\n"
     else if (length text == 0) || ends_with nat_eq text (codes "\n") then codes "end\n"
     else codes "\nend\n"
 
 -- the text with what it needs so that commands can follow it
-abbrev pub closed : Text → Text
-closed text = text ++ closing text
+abbrev pub text_with_end_line : Text → Text
+text_with_end_line text = text ++ missing_end_text text

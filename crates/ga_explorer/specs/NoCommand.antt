@@ -4,7 +4,7 @@ use Rattle.std.specs.Cmp.Lexicographic.{pointwise}
 use Rattle.std.specs.List.{starts_with, ends_with}
 use Rattle.ga_text.specs.Lines.{Text, Line}
 use Rattle.ga_text.specs.Parsing.{split_at_space}
-use Rattle.ga_parser.specs.Nearness.{is_near}
+use Rattle.ga_parser.specs.Nearness.{is_within_one_edit}
 use Rattle.ga_explorer.specs.Forms.{CommandForm}
 use Rattle.ga_explorer.specs.Commands.{command_table}
 
@@ -16,26 +16,26 @@ form_of_command word (row ∷ more) = if pointwise nat_eq row.name word then Som
 -- the form of the first command that has nearly this name
 unfoldable pub near_form_in : Line → List CommandForm → Option Text
 near_form_in word [] = None
-near_form_in word (row ∷ more) = if is_near word row.name then Some row.form else near_form_in word more
+near_form_in word (row ∷ more) = if is_within_one_edit word row.name then Some row.form else near_form_in word more
 
-abbrev pub form_or : Option Text → Text → Text
-form_or None other = other
-form_or (Some form) other = form
+abbrev pub form_or_default : Option Text → Text → Text
+form_or_default None other = other
+form_or_default (Some form) other = form
 
-abbrev pub form_for : Line → Text
-form_for word = form_or (form_of_command word command_table) (form_or (near_form_in word command_table) (codes "help"))
+abbrev pub suggested_form : Line → Text
+suggested_form word = form_or_default (form_of_command word command_table) (form_or_default (near_form_in word command_table) (codes "help"))
 
 -- the word with which a line begins
-abbrev pub first_word : Option (Line × Line) → Line → Line
-first_word None line = line
-first_word (Some parts) line = parts.0
+abbrev pub command_word : Option (Line × Line) → Line → Line
+command_word None line = line
+command_word (Some parts) line = parts.0
 
 -- the line begins with the byte order mark of UTF-8
-abbrev pub is_mark : Line → Bool
-is_mark line = starts_with nat_eq line (239 ∷ 187 ∷ 191 ∷ [])
+abbrev pub begins_with_byte_order_mark : Line → Bool
+begins_with_byte_order_mark line = starts_with nat_eq line (239 ∷ 187 ∷ 191 ∷ [])
 
-abbrev pub is_return : Line → Bool
-is_return line = ends_with nat_eq line (13 ∷ [])
+abbrev pub ends_with_carriage_return : Line → Bool
+ends_with_carriage_return line = ends_with nat_eq line (13 ∷ [])
 
 -- the line begins or ends with a blank or a tab
 abbrev pub has_blank_end : Line → Bool
@@ -49,11 +49,11 @@ is_upper (letter ∷ more) = (nat_le 65 letter && nat_le letter 90) || is_upper 
 -- what to write in place of the line
 abbrev pub suggestion : Line → Text
 suggestion line =
-    if is_mark line then codes "a byte order mark stands before the command; leave it out"
-    else if is_return line then codes "a carriage return ends the line; end it with a line feed alone"
+    if begins_with_byte_order_mark line then codes "a byte order mark stands before the command; leave it out"
+    else if ends_with_carriage_return line then codes "a carriage return ends the line; end it with a line feed alone"
     else if has_blank_end line then codes "a blank stands at an end of the line; leave it out"
-    else if is_upper (first_word (split_at_space line) line) then codes "the command is in upper case; write it in lower case"
-    else form_for (first_word (split_at_space line) line)
+    else if is_upper (command_word (split_at_space line) line) then codes "the command is in upper case; write it in lower case"
+    else suggested_form (command_word (split_at_space line) line)
 
-abbrev pub no_command : Line → Text
-no_command line = codes "no 31 syntax: " ++ suggestion line ++ codes "\n"
+abbrev pub unknown_command_text : Line → Text
+unknown_command_text line = codes "no 31 syntax: " ++ suggestion line ++ codes "\n"

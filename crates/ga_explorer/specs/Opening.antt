@@ -7,16 +7,16 @@ use Rattle.std.specs.List.{All}
 use Rattle.ga_node.specs.Record.{NodeState}
 use Rattle.ga_grid.specs.Chip.{records_of}
 use Rattle.ga_text.specs.Lines.{Bytes, Text}
-use Rattle.ga_image.specs.FirstFault.{no_memory}
+use Rattle.ga_image.specs.FirstFault.{memory_fault}
 use Rattle.ga_image.specs.declared.fault.ImageFault.{ImageFault}
 use Rattle.ga_source.specs.declared.program.Program.{Program}
-use Rattle.ga_source.specs.Programs.{IsAssembled, AreRead, AreAsked}
-use Rattle.ga_source.specs.Cells.{HasGroups}
+use Rattle.ga_source.specs.Programs.{IsAssembledChip, ArePlainProgramsOfSource, AreProgramsOfSource}
+use Rattle.ga_source.specs.Cells.{HasRequestedGroups}
 use Rattle.ga_source.specs.Made.{IsChipOfSource}
-use Rattle.ga_debug_info.specs.Notes.{AreOfSource}
-use Rattle.ga_text.specs.Input.{Unread}
-use Rattle.ga_text.specs.Image.{EndsAtEnd, HasNoEnd}
-use Rattle.ga_console.specs.Run.{Opens as OpensImage, IsReadAlone, Faulty, Refuses, IsFault}
+use Rattle.ga_debug_info.specs.Notes.{IsDebugInfoOfSource}
+use Rattle.ga_text.specs.Input.{UnreadInput}
+use Rattle.ga_text.specs.Image.{EndsWithEndLine, HasNoEndLine}
+use Rattle.ga_console.specs.Run.{IsOpenedOnImage as OpensImage, ReadsOnlyImage, IsFaultyImageInput, WritesImageRefusal, IsFaultOfImage}
 use Rattle.ga_console.specs.declared.run.Status.{Status}
 use Rattle.ga_console.specs.declared.run.Status.TheVariants.{ImageRefused, StreamFault}
 
@@ -37,46 +37,46 @@ pub record OpensSource (source : Text) (limit : ℕ) (begun : ExplorerState) : T
   pub chip : List NodeState
   pub programs : List Program
   pub notes : DebugInfo
-  pub assembled : IsAssembled chip programs
-  pub read : AreRead source programs
-  pub asked : AreAsked source programs
-  pub groups : All HasGroups programs
+  pub assembled : IsAssembledChip chip programs
+  pub read : ArePlainProgramsOfSource source programs
+  pub asked : AreProgramsOfSource source programs
+  pub groups : All HasRequestedGroups programs
   pub made : IsChipOfSource source chip
   pub load : begun.lab ≡ initial_state (records_of chip) limit
   pub noted : begun.notes ≡ Some notes
-  pub says : AreOfSource source programs notes
+  pub says : IsDebugInfoOfSource source programs notes
 
 -- the machine has the text's chip as its load; of an image there are no notes
-abbrev pub OpensExploring : Text → ℕ → ExplorerState → Type 0
-OpensExploring text limit begun = ((begins_as_image text ≡ true) × OpensImage text limit begun.lab × (begun.notes ≡ None))
+abbrev pub OpensExplorer : Text → ℕ → ExplorerState → Type 0
+OpensExplorer text limit begun = ((begins_as_image text ≡ true) × OpensImage text limit begun.lab × (begun.notes ≡ None))
     ⊎ ((begins_as_image text ≡ false) × OpensSource text limit begun)
 
 -- The notes are those of a source and of the programs that it has.
-pub record AreNotesOf (source : Text) (notes : DebugInfo) : Type 0 where
+pub record IsDebugInfoOf (source : Text) (notes : DebugInfo) : Type 0 where
   pub chip : List NodeState
   pub programs : List Program
-  pub assembled : IsAssembled chip programs
-  pub read : AreRead source programs
-  pub asked : AreAsked source programs
-  pub groups : All HasGroups programs
+  pub assembled : IsAssembledChip chip programs
+  pub read : ArePlainProgramsOfSource source programs
+  pub asked : AreProgramsOfSource source programs
+  pub groups : All HasRequestedGroups programs
   pub made : IsChipOfSource source chip
-  pub says : AreOfSource source programs notes
+  pub says : IsDebugInfoOfSource source programs notes
 
 -- The machine has as its load the chip of an image, and the notes are those of the source, whatever that chip holds.
 pub record OpensOnImage (source image : Text) (limit : ℕ) (begun : ExplorerState) : Type 0 where
   pub notes : DebugInfo
   pub opens : OpensImage image limit begun.lab
   pub noted : begun.notes ≡ Some notes
-  pub notes_of : AreNotesOf source notes
+  pub notes_of : IsDebugInfoOf source notes
 
 -- the text of the image that is given for the chip, where one is
-abbrev pub image_of : Option (Vec ℕ Global) → Option Text
-image_of chip = option_map (λ (image : Vec ℕ Global). image.items) chip
+abbrev pub image_text_of : Option (Vec ℕ Global) → Option Text
+image_text_of chip = option_map (λ (image : Vec ℕ Global). image.items) chip
 
 -- what is opened on a text: where an image is given for the chip, the text is its source
-abbrev pub OpensFront : Option Text → Text → ℕ → ExplorerState → Type 0
-OpensFront None text limit begun = OpensExploring text limit begun
-OpensFront (Some image) text limit begun = OpensOnImage text image limit begun
+abbrev pub OpensLeadingText : Option Text → Text → ℕ → ExplorerState → Type 0
+OpensLeadingText None text limit begun = OpensExplorer text limit begun
+OpensLeadingText (Some image) text limit begun = OpensOnImage text image limit begun
 
 -- the text is read as an image: never where another image is given for the chip
 abbrev pub is_read_as_image : Option Text → Text → Bool
@@ -84,36 +84,36 @@ is_read_as_image None text = begins_as_image text
 is_read_as_image (Some image) text = false
 
 -- The text extends to its first line `end`; or no such line was read, and nothing is left after it.
-abbrev pub IsFront : Text → Bytes → Type 0
-IsFront text behind = EndsAtEnd text ⊎ ((behind ≡ []) × HasNoEnd text)
+abbrev pub IsLeadingText : Text → Bytes → Type 0
+IsLeadingText text behind = EndsWithEndLine text ⊎ ((behind ≡ []) × HasNoEndLine text)
 
 -- Source was read, and nothing after it.
 pub record IsSourceAlone (chip : Option Text) (read rest : Bytes) : Type 0 where
   pub source : Text
   pub ahead : Bytes
   pub splits : read ≡ source ++ ahead
-  pub part : IsReadAlone source ahead rest
+  pub part : ReadsOnlyImage source ahead rest
   pub is_source : is_read_as_image chip source ≡ false
 
 -- The image that was read has this first fault, and nothing was read after it; or the one that gives the chip has.
 abbrev pub IsFaultyImage : Option Text → Bytes → Bytes → ImageFault → Type 0
-IsFaultyImage None read rest fault = (faulty : Faulty read rest fault) × (begins_as_image faulty.image ≡ true)
-IsFaultyImage (Some image) read rest fault = IsSourceAlone (Some image) read rest × IsFault image fault
+IsFaultyImage None read rest fault = (faulty : IsFaultyImageInput read rest fault) × (begins_as_image faulty.image ≡ true)
+IsFaultyImage (Some image) read rest fault = IsSourceAlone (Some image) read rest × IsFaultOfImage image fault
 
 -- an image was refused with its first fault; or memory was wanting before
 abbrev pub IsRefusedImage : Option Text → Bytes → Bytes → ImageFault → Type 0
-IsRefusedImage chip read rest fault = (fault ≡ no_memory) ⊎ IsFaultyImage chip read rest fault
+IsRefusedImage chip read rest fault = (fault ≡ memory_fault) ⊎ IsFaultyImage chip read rest fault
 
 -- Why no session begins, what is written then, and the status: read was read of the input, and rest is left of it.
-pub data Unbegun (chip : Option Text) (read rest : Bytes) (written : Text) (status : Status) : Type 0 where
-  image_refused : (fault : ImageFault) → IsRefusedImage chip read rest fault → Refuses fault written status → Unbegun chip read rest written status
+pub data IsUnopenedSession (chip : Option Text) (read rest : Bytes) (written : Text) (status : Status) : Type 0 where
+  image_refused : (fault : ImageFault) → IsRefusedImage chip read rest fault → WritesImageRefusal fault written status → IsUnopenedSession chip read rest written status
   -- standard error has the reason
-  source_refused : IsSourceAlone chip read rest → written ≡ [] → status ≡ ImageRefused → Unbegun chip read rest written status
+  source_refused : IsSourceAlone chip read rest → written ≡ [] → status ≡ ImageRefused → IsUnopenedSession chip read rest written status
   -- a read failed in the image or source
-  unread : HasNoEnd read → written ≡ [] → status ≡ StreamFault → Unbegun chip read rest written status
+  unread : HasNoEndLine read → written ≡ [] → status ≡ StreamFault → IsUnopenedSession chip read rest written status
 
 -- A text was taken of what was left to read, and a machine opened on it; or no session begins.
-abbrev pub IsBegun : Option Text → ℕ → Bytes → Unread → Bytes → Text → Result ExplorerState Status → Type 0
-IsBegun chip limit left input rest written (Ok begun) = (written ≡ []) × (text : Text) × (left ≡ text ++ (input.bytes ++ rest))
-    × (input.taken ≡ length text) × IsFront text (input.bytes ++ rest) × OpensFront chip text limit begun
-IsBegun chip limit left input rest written (Err status) = (read : Bytes) × (left ≡ read ++ rest) × Unbegun chip read rest written status
+abbrev pub IsSessionOpened : Option Text → ℕ → Bytes → UnreadInput → Bytes → Text → Result ExplorerState Status → Type 0
+IsSessionOpened chip limit left input rest written (Ok begun) = (written ≡ []) × (text : Text) × (left ≡ text ++ (input.bytes ++ rest))
+    × (input.taken ≡ length text) × IsLeadingText text (input.bytes ++ rest) × OpensLeadingText chip text limit begun
+IsSessionOpened chip limit left input rest written (Err status) = (read : Bytes) × (left ≡ read ++ rest) × IsUnopenedSession chip read rest written status

@@ -2,12 +2,12 @@
 use Rattle.std.specs.Prelude.{Bool, Option, Some, None, ◌≡◌, ℕ, true, false, [], Result, Ok, Err}
 use Rattle.ga_lab.specs.Machine.{State}
 use Rattle.ga_debug_info.specs.declared.notes.DebugInfo.{DebugInfo}
-use Rattle.ga_explorer.specs.Opening.{ExplorerState, begins_as_image, is_read_as_image, OpensFront}
+use Rattle.ga_explorer.specs.Opening.{ExplorerState, begins_as_image, is_read_as_image, OpensLeadingText}
 use Rattle.ga_explorer.specs.Forms.{CommandForm}
 use Rattle.ga_explorer.specs.declared.forms.Row.{Row}
 use Rattle.ga_text.specs.Lines.{Text, Line, Bytes}
 use Rattle.ga_image.specs.declared.fault.ImageFault.{ImageFault}
-use Rattle.ga_console.specs.Run.{IsFault, Refuses}
+use Rattle.ga_console.specs.Run.{IsFaultOfImage, WritesImageRefusal}
 use Rattle.ga_console.specs.declared.run.Status.{Status}
 use Rattle.ga_console.specs.declared.run.Status.TheVariants.{ImageRefused}
 use Rattle.ga_explorer.specs.declared.opening.OpenError.{OpenError}
@@ -16,7 +16,7 @@ use Rattle.ga_text.specs.Output.{WritesSome}
 use Rattle.ga_text.specs.declared.output.Writer.{Writer}
 use Rattle.ga_text.specs.declared.output.WriteError.{WriteError}
 use Rattle.ga_explorer.specs.Commands.{AnswersQuery}
-use Rattle.ga_explorer.specs.Session.{Prompts}
+use Rattle.ga_explorer.specs.Session.{AnswersWithPrompt}
 use Rattle.ga_explorer.specs.declared.commands.Query.{Query}
 
 -- ---- what is explored, of its two parts
@@ -33,8 +33,8 @@ entry_of row = record { name = row.name.now; form = row.form.now; does = row.doe
 
 -- the image that has the chip has this fault: the text, or the one that is given
 abbrev pub IsFaultOf : Option Text → Text → ImageFault → Type 0
-IsFaultOf None text fault = (begins_as_image text ≡ true) × IsFault text fault
-IsFaultOf (Some image) text fault = IsFault image fault
+IsFaultOf None text fault = (begins_as_image text ≡ true) × IsFaultOfImage text fault
+IsFaultOf (Some image) text fault = IsFaultOfImage image fault
 
 -- why there is no machine that has the chip as its load
 abbrev pub IsUnopened : Option Text → Text → OpenError → Type 0
@@ -43,12 +43,12 @@ IsUnopened chip text Source = is_read_as_image chip text ≡ false
 
 -- a refusal is written, or standard error has the reason
 abbrev pub Declines : OpenError → Text → Status → Type 0
-Declines (Image fault) written status = Refuses fault written status
+Declines (Image fault) written status = WritesImageRefusal fault written status
 Declines Source written status = (written ≡ []) × (status ≡ ImageRefused)
 
 -- a machine was opened on the text, or that was declined
 abbrev pub IsOpened : Option Text → ℕ → Text → Text → Result ExplorerState Status → Type 0
-IsOpened chip limit text written (Ok begun) = (written ≡ []) × OpensFront chip text limit begun
+IsOpened chip limit text written (Ok begun) = (written ≡ []) × OpensLeadingText chip text limit begun
 IsOpened chip limit text written (Err status) = (why : OpenError) × IsUnopened chip text why × Declines why written status
 
 -- ---- the answer of a query, and what is written
@@ -62,4 +62,4 @@ pub record IsTold {W : Type 0} (result : Result (Unit {0}) WriteError) (e : Expl
 -- ---- A session that may prompt for commands, by what its machine has
 
 abbrev pub PromptsFor : Bool → ExplorerState → Line → Text → Bool → ExplorerState → Type 0
-PromptsFor prompts e line written prompts_on new = Prompts prompts e line written new × (prompts_on ≡ prompts)
+PromptsFor prompts e line written prompts_on new = AnswersWithPrompt prompts e line written new × (prompts_on ≡ prompts)

@@ -1,7 +1,7 @@
 //! The arguments of commands, as lines have them.
 
 ghost use Rattle.std.specs.Prelude.{◌≡◌};
-ghost use Rattle.ga_explorer.specs.Reading.{node_and_step, two_nodes, node_and_cell, node_and_steps, node_and_value, step_and_value, step_and_more};
+ghost use Rattle.ga_explorer.specs.Reading.{node_and_step, two_nodes, node_and_cell, node_and_steps, node_and_value, step_and_value, parse_step_and_count};
 
 use crate::named_value::parse_part_value;
 use crate::which::StepSelector;
@@ -48,7 +48,7 @@ pub(crate) fn node_and_steps(text: &[u8]) -> Option<(NodeId, StepSelector, u32)>
 {
     let (node, rest) = split_at_space(text)?;
     let node = parse_node(node)?;
-    let (which, many) = step_and_more(rest)?;
+    let (which, many) = parse_step_and_count(rest)?;
     Some((node, which, many))
 }
 
@@ -78,8 +78,8 @@ fn step_and_value(text: &[u8]) -> Option<(StepSelector, Option<NodeValue>)>
 }
 
 /// `K` or `K N`: a step, and how many further steps are written.
-fn step_and_more(text: &[u8]) -> Option<(StepSelector, u32)>
-    ensures { result ≡ step_and_more text.now }
+fn parse_step_and_count(text: &[u8]) -> Option<(StepSelector, u32)>
+    ensures { result ≡ parse_step_and_count text.now }
 {
     match split_at_space(text) {
         Some((step, many)) => {

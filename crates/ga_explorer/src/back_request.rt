@@ -1,7 +1,7 @@
 //! The arguments of `back`: `until` and conditions, for every event or for the steps of a node.
 
 ghost use Rattle.std.specs.Prelude.{◌≡◌};
-ghost use Rattle.ga_explorer.specs.Reading.{back_in, back_by, until_back};
+ghost use Rattle.ga_explorer.specs.Reading.{parse_back_arguments, back_command_of_words, back_until_command};
 
 use crate::commands::ExplorerCommand;
 use ga_conditions::{parse_conditions, parse_until};
@@ -9,21 +9,25 @@ use ga_debug_info::DebugInfo;
 use ga_text::{parse_node, split_at_space};
 
 /// What follows `back` and a space.
-#[tactic(auto, unfolding(crate::specs::Reading::back_in))]
+#[tactic(auto, unfolding(crate::specs::Reading::parse_back_arguments))]
 pub(crate) fn parse_back(notes: &Option<DebugInfo>, text: &[u8]) -> Option<ExplorerCommand>
-    ensures { result ≡ back_in notes.now text.now }
+    ensures { result ≡ parse_back_arguments notes.now text.now }
 {
     let (name, rest) = split_at_space(text)?;
-    back_by(notes, name, rest)
+    back_command_of_words(notes, name, rest)
 }
 
 /// `until` and conditions, or a node before these.
-#[tactic(auto, unfolding(crate::specs::Reading::back_by))]
-fn back_by(notes: &Option<DebugInfo>, name: &[u8], rest: &[u8]) -> Option<ExplorerCommand>
-    ensures { result ≡ back_by notes.now name.now rest.now }
+#[tactic(auto, unfolding(crate::specs::Reading::back_command_of_words))]
+fn back_command_of_words(
+    notes: &Option<DebugInfo>,
+    name: &[u8],
+    rest: &[u8],
+) -> Option<ExplorerCommand>
+    ensures { result ≡ back_command_of_words notes.now name.now rest.now }
 {
     match name {
-        b"until" => until_back(notes, rest),
+        b"until" => back_until_command(notes, rest),
         _ => {
             let node = parse_node(name)?;
             let until = parse_until(notes, rest)?;
@@ -35,8 +39,8 @@ fn back_by(notes: &Option<DebugInfo>, name: &[u8], rest: &[u8]) -> Option<Explor
     }
 }
 
-fn until_back(notes: &Option<DebugInfo>, text: &[u8]) -> Option<ExplorerCommand>
-    ensures { result ≡ until_back notes.now text.now }
+fn back_until_command(notes: &Option<DebugInfo>, text: &[u8]) -> Option<ExplorerCommand>
+    ensures { result ≡ back_until_command notes.now text.now }
 {
     Some(ExplorerCommand::BackUntil {
         only: None,

@@ -1,8 +1,8 @@
 //! The front of a session: an image or source is read, and opened.
 ghost use Rattle.std.specs.Prelude.{◌≡◌, ◌++◌, [], Some};
 ghost use Rattle.ga_text.specs.Lines.{Bytes};
-ghost use Rattle.ga_text.specs.Input.{IsWithin};
-ghost use Rattle.ga_explorer.specs.Opening.{IsBegun, image_of};
+ghost use Rattle.ga_text.specs.Input.{IsWithinInputLimit};
+ghost use Rattle.ga_explorer.specs.Opening.{IsSessionOpened, image_text_of};
 ghost use Rattle.ga_explorer.specs.inner.{IsOpened};
 
 use crate::explorer::Explorer;
@@ -39,8 +39,8 @@ pub fn open_lab<R: Read, W: Write, E: Write>(
     ensures begun { (left before : Bytes) →
         R.remaining reader.old ≡ Some left → W.contents writer.old ≡ Some before →
         (rest text : Bytes) × (R.remaining reader.new ≡ Some rest) × (W.contents writer.new ≡ Some (before ++ text))
-        × IsBegun (image_of chip) limit left input.new rest text result }
-    ensures within { IsWithin input.new }
+        × IsSessionOpened (image_text_of chip) limit left input.new rest text result }
+    ensures within { IsWithinInputLimit input.new }
 {
     let mut text = Vec::new(alloc);
     match read_image(input, reader, &mut text) {
@@ -69,7 +69,7 @@ fn open_or_refuse<W: Write, E: Write>(
     limit: u32,
 ) -> Result<Explorer, Status>
     ensures { (before : Bytes) → W.contents writer.old ≡ Some before →
-        (written : Bytes) × (W.contents writer.new ≡ Some (before ++ written)) × IsOpened (image_of chip) limit text.items written result }
+        (written : Bytes) × (W.contents writer.new ≡ Some (before ++ written)) × IsOpened (image_text_of chip) limit text.items written result }
 {
     match open_text(alloc, errors, text, chip, limit) {
         Ok(begun) => Ok(begun),

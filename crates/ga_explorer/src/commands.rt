@@ -1,23 +1,23 @@
 //! The commands of exploring: of each how a line spells it, what `help` says of it, and what answers it.
 
 ghost use Rattle.std.specs.Prelude.{◌≡◌, map, option_and_then, IfSome};
-ghost use Rattle.ga_event.specs.Flow.{IsPart};
-ghost use Rattle.ga_explorer.specs.Reading.{part_named};
-ghost use Rattle.ga_explorer.specs.Commands.{command_table, request_in, lone_request, bare_query, named_request, query_with_arguments};
+ghost use Rattle.ga_event.specs.Flow.{IsNodePart};
+ghost use Rattle.ga_explorer.specs.Reading.{part_of_node_value};
+ghost use Rattle.ga_explorer.specs.Commands.{command_table, command_of_line, single_word_command, bare_query, command_with_arguments, query_with_arguments};
 ghost use Rattle.ga_explorer.specs.inner.{explorer_state, IsTold, entry_of};
 
 use crate::arguments::{node_and_cell, node_and_step, node_and_steps, node_and_value, two_nodes};
 use crate::back_request::parse_back;
 use crate::forms::{Row, place_of, say_command, say_help};
-use crate::named_value::part_named;
+use crate::named_value::part_of_node_value;
 use crate::run_request::{MOST_EVENTS, parse_run};
 use crate::which::StepSelector;
-use ga_conditions::{Conditions, no_condition};
+use ga_conditions::{Conditions, no_conditions};
 use ga_debug_info::DebugInfo;
-use ga_event::Part;
+use ga_event::NodePart;
 use ga_explorer_text::{
-    chip_overview, write_at, write_because, write_effects, write_races, write_save, write_whence,
-    write_who, write_words, write_writes,
+    chip_overview, write_because, write_effects, write_races, write_save, write_steps_around,
+    write_whence, write_who, write_words, write_writes,
 };
 use ga_grid::NodeId;
 use ga_lab::Lab;
@@ -42,7 +42,7 @@ pub enum ExplorerCommand {
         until: Conditions,
     },
     /// A command that changes nothing.
-    Tell(Query),
+    AnswerQuery(Query),
 }
 
 /// A query: a command that changes nothing.
@@ -100,26 +100,26 @@ pub enum Query {
 
 /// The command of exploring that a line spells, or none.
 pub fn parse_command(notes: &Option<DebugInfo>, line: &[u8]) -> Option<ExplorerCommand>
-    ensures { result ≡ request_in notes.now line.now }
+    ensures { result ≡ command_of_line notes.now line.now }
 {
     match split_at_space(line) {
-        Some((name, arguments)) => named_request(notes, name, arguments),
-        None => lone_request(line),
+        Some((name, arguments)) => command_with_arguments(notes, name, arguments),
+        None => single_word_command(line),
     }
 }
 
 /// The command that is spelled by one word.
-#[tactic(auto, unfolding(crate::specs::Commands::lone_request))]
-fn lone_request(name: &[u8]) -> Option<ExplorerCommand>
-    ensures { result ≡ lone_request name.now }
+#[tactic(auto, unfolding(crate::specs::Commands::single_word_command))]
+fn single_word_command(name: &[u8]) -> Option<ExplorerCommand>
+    ensures { result ≡ single_word_command name.now }
 {
     match name {
         b"run" => Some(ExplorerCommand::Run {
             schedule: Schedule::round_robin(),
             most: MOST_EVENTS,
-            until: no_condition(),
+            until: no_conditions(),
         }),
-        _ => Some(ExplorerCommand::Tell(bare_query(name)?)),
+        _ => Some(ExplorerCommand::AnswerQuery(bare_query(name)?)),
     }
 }
 
@@ -139,20 +139,20 @@ fn bare_query(name: &[u8]) -> Option<Query>
 }
 
 /// The command of a word and what follows the space after it.
-#[tactic(auto, unfolding(crate::specs::Commands::named_request))]
-fn named_request(
+#[tactic(auto, unfolding(crate::specs::Commands::command_with_arguments))]
+fn command_with_arguments(
     notes: &Option<DebugInfo>,
     name: &[u8],
     arguments: &[u8],
 ) -> Option<ExplorerCommand>
-    ensures { result ≡ named_request notes.now name.now arguments.now }
+    ensures { result ≡ command_with_arguments notes.now name.now arguments.now }
 {
     if name == b"run".as_slice() {
         parse_run(notes, arguments)
     } else if name == b"back".as_slice() {
         parse_back(notes, arguments)
     } else {
-        Some(ExplorerCommand::Tell(query_with_arguments(name, arguments)?))
+        Some(ExplorerCommand::AnswerQuery(query_with_arguments(name, arguments)?))
     }
 }
 
@@ -212,7 +212,7 @@ pub(crate) fn answer_query<W: Write>(
         Query::Writes { node, address } => write_writes(lab, node, address, writer),
         Query::At { node, which, most } => {
             let step = which.resolve(lab, node);
-            write_at(lab, notes, node, step, most, writer)
+            write_steps_around(lab, notes, node, step, most, writer)
         }
         Query::Whence { node, which, value } => {
             let step = which.resolve(lab, node);
@@ -232,12 +232,12 @@ pub(crate) fn answer_query<W: Write>(
 }
 
 /// The part of a node that is named, if one is.
-fn part_of(value: Option<NodeValue>) -> Option<Part>
-    ensures value { result ≡ option_and_then part_named value }
-    ensures part { IfSome result IsPart }
+fn part_of(value: Option<NodeValue>) -> Option<NodePart>
+    ensures value { result ≡ option_and_then part_of_node_value value }
+    ensures part { IfSome result IsNodePart }
 {
     match value {
-        Some(value) => part_named(value),
+        Some(value) => part_of_node_value(value),
         None => None,
     }
 }

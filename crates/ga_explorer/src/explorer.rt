@@ -2,14 +2,16 @@
 
 ghost use Rattle.std.specs.Prelude.{◌≡◌, ◌≤◌, length, Some, None, IfSome, IfNone, IsTrue, false};
 ghost use Rattle.ga_text.specs.Output.{WritesSome};
-ghost use Rattle.ga_explorer.specs.Commands.{request_in, Explored};
+ghost use Rattle.ga_explorer.specs.Commands.{command_of_line, AnswersExplorerCommand};
 ghost use Rattle.ga_explorer.specs.inner.{explorer_state};
-ghost use Rattle.ga_explorer.specs.Answers.{ExploresOrQuits, AnswersOther, IsOfDebugger, IsNoCommand};
-ghost use Rattle.ga_console.specs.Session.{Turns};
+ghost use Rattle.ga_explorer.specs.Answers.{AnswersLineOrQuits, AnswersOutsideExplorer, IsDebuggerLine, IsNoCommand};
+ghost use Rattle.ga_console.specs.Session.{AnswersOrQuits};
 
 use crate::commands::{ExplorerCommand, answer_query, parse_command};
 use crate::forms::write_syntax_error;
-use ga_console::{Command, LineAction, Responder, answer_worded, command_of, obey_worded};
+use ga_console::{
+    Command, LineAction, Responder, answer_in_wording, execute_in_wording, parse_debugger_command,
+};
 use ga_debug_info::DebugInfo;
 use ga_display::Wording;
 use ga_image::LINE_LIMIT;
@@ -63,9 +65,9 @@ impl Explorer {
 impl Responder for Explorer {
     ghost use Rattle.std.specs.Prelude.{None};
     ghost use Rattle.ga_explorer.specs.inner.{explorer_state};
-    ghost use Rattle.ga_explorer.specs.Answers.{Explores};
+    ghost use Rattle.ga_explorer.specs.Answers.{AnswersExplorerLine};
 
-    ghost answers = { Explores };
+    ghost answers = { AnswersExplorerLine };
 
     ghost begin = { λ s. explorer_state s None };
 
@@ -89,7 +91,7 @@ impl Responder for Explorer {
         command: Command,
         writer: &mut Writer<'_, W>,
     ) -> WriteResult {
-        obey_worded(alloc, &mut self.lab, command, Wording::Advised, writer)
+        execute_in_wording(alloc, &mut self.lab, command, Wording::Advised, writer)
     }
 }
 
@@ -104,7 +106,7 @@ pub fn answer_line<W: Write>(
     line: &[u8],
     writer: &mut Writer<'_, W>,
 ) -> Result<LineAction, WriteError>
-    ensures { WritesSome result (ExploresOrQuits (record { lab = lab.old; notes = notes.now }) line.now (record { lab = lab.new; notes = notes.now }) result)
+    ensures { WritesSome result (AnswersLineOrQuits (record { lab = lab.old; notes = notes.now }) line.now (record { lab = lab.new; notes = notes.now }) result)
         W.contents writer.old writer.new }
 {
     match asked_by(notes, line) {
@@ -127,7 +129,7 @@ fn explored<W: Write>(
     asked: ExplorerCommand,
     writer: &mut Writer<'_, W>,
 ) -> WriteResult
-    ensures { WritesSome result (λ text. Explored (explorer_state lab.old notes.now) asked text (explorer_state lab.new notes.now))
+    ensures { WritesSome result (λ text. AnswersExplorerCommand (explorer_state lab.old notes.now) asked text (explorer_state lab.new notes.now))
         W.contents writer.old writer.new }
 {
     match asked {
@@ -143,14 +145,14 @@ fn explored<W: Write>(
         ExplorerCommand::BackUntil { only, until } => {
             ga_explorer_text::write_back_until(lab, active_conditions(&until), only, writer)
         }
-        ExplorerCommand::Tell(question) => answer_query(alloc, lab, notes, question, writer),
+        ExplorerCommand::AnswerQuery(question) => answer_query(alloc, lab, notes, question, writer),
     }
 }
 
 /// The command of exploring that a line spells, where it is not too long.
 fn asked_by(notes: &Option<DebugInfo>, line: &[u8]) -> Option<ExplorerCommand>
-    ensures some { IfSome result (λ asked. (length line.now ≤ LINE_LIMIT) × (request_in notes.now line.now ≡ Some asked)) }
-    ensures none { IfNone result (length line.now ≤ LINE_LIMIT → request_in notes.now line.now ≡ None) }
+    ensures some { IfSome result (λ asked. (length line.now ≤ LINE_LIMIT) × (command_of_line notes.now line.now ≡ Some asked)) }
+    ensures none { IfNone result (length line.now ≤ LINE_LIMIT → command_of_line notes.now line.now ≡ None) }
 {
     if line.len() <= LINE_LIMIT {
         parse_command(notes, line)
@@ -169,20 +171,20 @@ fn answer_other<W: Write>(
     line: &[u8],
     writer: &mut Writer<'_, W>,
 ) -> Result<LineAction, WriteError>
-    ensures { WritesSome result (Turns AnswersOther lab.old line.now lab.new result)
+    ensures { WritesSome result (AnswersOrQuits AnswersOutsideExplorer lab.old line.now lab.new result)
         W.contents writer.old writer.new }
 {
     if is_no_command(line) {
         write_syntax_error(line, writer)?;
         return Ok(LineAction::Answered);
     }
-    answer_worded(alloc, lab, line, Wording::Advised, writer)
+    answer_in_wording(alloc, lab, line, Wording::Advised, writer)
 }
 
 /// Whether a line is not too long and spells no command of the debugger.
 fn is_no_command(line: &[u8]) -> bool
     ensures none { IsTrue result → IsNoCommand line.now }
-    ensures some { result ≡ false → IsOfDebugger line.now }
+    ensures some { result ≡ false → IsDebuggerLine line.now }
 {
-    line.len() <= LINE_LIMIT && command_of(line).is_none()
+    line.len() <= LINE_LIMIT && parse_debugger_command(line).is_none()
 }

@@ -2,13 +2,13 @@
 
 ghost use Rattle.std.specs.Prelude.{◌≡◌, ◌++◌, codes, map, option_map, option_copied, slice_get};
 ghost use Rattle.ga_text.specs.Output.{WritesSome, WritesExactly};
-ghost use Rattle.ga_explorer.specs.Forms.{form_row_text, form_rows_text, about_text, place_from};
-ghost use Rattle.ga_explorer.specs.Commands.{command_table, command_text, place_of_form};
-ghost use Rattle.ga_explorer.specs.NoCommand.{form_of_command, near_form_in, form_for, is_mark, is_return, has_blank_end, is_upper, suggestion, no_command};
+ghost use Rattle.ga_explorer.specs.Forms.{form_row_text, form_rows_text, command_details_text, command_place_from};
+ghost use Rattle.ga_explorer.specs.Commands.{command_table, command_help_text, command_place};
+ghost use Rattle.ga_explorer.specs.NoCommand.{form_of_command, near_form_in, suggested_form, begins_with_byte_order_mark, ends_with_carriage_return, has_blank_end, is_upper, suggestion, unknown_command_text};
 ghost use Rattle.ga_explorer.specs.inner.{entry_of};
 
 use crate::commands::command_table;
-use ga_parser::is_near;
+use ga_parser::is_within_one_edit;
 use ga_text::{WriteResult, Writer, split_at_space};
 use std::fmt;
 use std::io::Write;
@@ -43,12 +43,12 @@ fn say_rows<W: Write>(rows: &[Row], writer: &mut Writer<'_, W>) -> WriteResult
         W.contents writer.old writer.new }
 {
     'rows: for row in rows {
-        say_row(row, writer)?;
+        write_help_row(row, writer)?;
     }
     Ok(())
 }
 
-fn say_row<W: Write>(row: &Row, writer: &mut Writer<'_, W>) -> WriteResult
+fn write_help_row<W: Write>(row: &Row, writer: &mut Writer<'_, W>) -> WriteResult
     ensures { WritesExactly result (form_row_text (entry_of row.now)) W.contents writer.old writer.new }
 {
     writer.write_blocks(row.form)?;
@@ -56,9 +56,9 @@ fn say_row<W: Write>(row: &Row, writer: &mut Writer<'_, W>) -> WriteResult
 }
 
 /// What `ga144 explore --help` says of the commands that only tell, a line each.
-pub struct Usage;
+pub struct QueryUsage;
 
-impl fmt::Display for Usage {
+impl fmt::Display for QueryUsage {
     fn fmt<W: fmt::Write>(&self, f: &mut fmt::Formatter<W>) -> fmt::Result {
         for row in command_table() {
             f.write_str(row.usage)?;
@@ -72,7 +72,7 @@ impl fmt::Display for Usage {
 /// # Errors
 /// A write failed.
 pub(crate) fn say_command<W: Write>(place: usize, writer: &mut Writer<'_, W>) -> WriteResult
-    ensures { WritesSome result (λ text. text ≡ command_text place)
+    ensures { WritesSome result (λ text. text ≡ command_help_text place)
         W.contents writer.old writer.new }
 {
     match row_in(command_table(), place) {
@@ -82,15 +82,15 @@ pub(crate) fn say_command<W: Write>(place: usize, writer: &mut Writer<'_, W>) ->
 }
 
 fn say_about<W: Write>(row: &Row, writer: &mut Writer<'_, W>) -> WriteResult
-    ensures { WritesExactly result (about_text (entry_of row.now)) W.contents writer.old writer.new }
+    ensures { WritesExactly result (command_details_text (entry_of row.now)) W.contents writer.old writer.new }
 {
-    say_row(row, writer)?;
+    write_help_row(row, writer)?;
     writer.write_blocks(row.more)
 }
 
 /// The place among some commands of the one with this name.
 fn place_among(rows: &'static [Row], word: &[u8]) -> Option<usize>
-    ensures { result ≡ place_from word.now 0 (map entry_of rows.now) }
+    ensures { result ≡ command_place_from word.now 0 (map entry_of rows.now) }
 {
     let mut place = 0;
     'rows: for row in rows {
@@ -104,7 +104,7 @@ fn place_among(rows: &'static [Row], word: &[u8]) -> Option<usize>
 
 /// The place of the command of this name.
 pub(crate) fn place_of(word: &[u8]) -> Option<usize>
-    ensures { result ≡ place_of_form word.now }
+    ensures { result ≡ command_place word.now }
 {
     place_among(command_table(), word)
 }
@@ -121,7 +121,7 @@ pub(crate) fn row_in(rows: &'static [Row], place: usize) -> Option<&'static Row>
 /// # Errors
 /// A write failed.
 pub(crate) fn write_syntax_error<W: Write>(line: &[u8], writer: &mut Writer<'_, W>) -> WriteResult
-    ensures { WritesSome result (λ text. text ≡ no_command line.now)
+    ensures { WritesSome result (λ text. text ≡ unknown_command_text line.now)
         W.contents writer.old writer.new }
 {
     writer.write_text(b"no 31 syntax: ")?;
@@ -144,29 +144,29 @@ fn suggestion(line: &[u8]) -> &'static [u8]
         Some((word, _)) => word,
         None => line,
     };
-    if is_mark(line) {
+    if begins_with_byte_order_mark(line) {
         b"a byte order mark stands before the command; leave it out"
-    } else if is_return(line) {
+    } else if ends_with_carriage_return(line) {
         b"a carriage return ends the line; end it with a line feed alone"
     } else if is_blank(line) {
         b"a blank stands at an end of the line; leave it out"
     } else if is_upper(word) {
         b"the command is in upper case; write it in lower case"
     } else {
-        form_for(word)
+        suggested_form(word)
     }
 }
 
 /// Whether a line begins with the byte order mark of UTF-8.
-fn is_mark(line: &[u8]) -> bool
-    ensures { result ≡ is_mark line.now }
+fn begins_with_byte_order_mark(line: &[u8]) -> bool
+    ensures { result ≡ begins_with_byte_order_mark line.now }
 {
     line.starts_with(b"\xef\xbb\xbf".as_slice())
 }
 
 /// Whether a line ends with a carriage return.
-fn is_return(line: &[u8]) -> bool
-    ensures { result ≡ is_return line.now }
+fn ends_with_carriage_return(line: &[u8]) -> bool
+    ensures { result ≡ ends_with_carriage_return line.now }
 {
     line.ends_with(b"\r".as_slice())
 }
@@ -195,8 +195,8 @@ fn is_upper(word: &[u8]) -> bool
 }
 
 /// The form of the command of this name; else of the first whose name is the word but for one letter; else of `help`.
-fn form_for(word: &[u8]) -> &'static [u8]
-    ensures { result.now ≡ form_for word.now }
+fn suggested_form(word: &[u8]) -> &'static [u8]
+    ensures { result.now ≡ suggested_form word.now }
 {
     match form_in(command_table(), word) {
         Some(form) => form,
@@ -226,7 +226,7 @@ fn near_form_in(rows: &'static [Row], word: &[u8]) -> Option<&'static [u8]>
     ensures { option_map (λ form. form.now) result ≡ near_form_in word.now (map entry_of rows.now) }
 {
     'rows: for row in rows {
-        if is_near(word, row.name) {
+        if is_within_one_edit(word, row.name) {
             return Some(row.form);
         }
     }

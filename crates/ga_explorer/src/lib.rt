@@ -19,7 +19,7 @@ mod which;
 pub use beginning::open_lab;
 pub use commands::{ExplorerCommand, Query};
 pub use explorer::{Explorer, answer_line};
-pub use forms::Usage;
+pub use forms::QueryUsage;
 pub use preload::{append_end_line, lacks_end_line};
 pub use session::explore;
 pub use which::StepSelector;

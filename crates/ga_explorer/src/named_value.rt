@@ -1,16 +1,16 @@
 //! The part of a node that a command names.
 
 ghost use Rattle.std.specs.Prelude.{◌≡◌, IfSome};
-ghost use Rattle.ga_event.specs.Flow.{IsPart};
-ghost use Rattle.ga_explorer.specs.Reading.{part_named, part_value_in};
+ghost use Rattle.ga_event.specs.Flow.{IsNodePart};
+ghost use Rattle.ga_explorer.specs.Reading.{part_of_node_value, parse_part_value};
 
 use ga_conditions::parse_value;
-use ga_event::Part;
+use ga_event::NodePart;
 use ga_scheduler::NodeValue;
 
 /// The value with this name, if it is a part of a node: all but the number of steps are.
 pub(crate) fn parse_part_value(word: &[u8]) -> Option<NodeValue>
-    ensures { result ≡ part_value_in word.now }
+    ensures { result ≡ parse_part_value word.now }
 {
     match parse_value(word) {
         Some(NodeValue::Step) => None,
@@ -19,26 +19,26 @@ pub(crate) fn parse_part_value(word: &[u8]) -> Option<NodeValue>
 }
 
 /// The part of a node that has this value; none for the number of its steps.
-pub(crate) fn part_named(value: NodeValue) -> Option<Part>
-    ensures value { result ≡ part_named value }
-    ensures part { IfSome result IsPart }
+pub(crate) fn part_of_node_value(value: NodeValue) -> Option<NodePart>
+    ensures value { result ≡ part_of_node_value value }
+    ensures part { IfSome result IsNodePart }
 {
     let part = match value {
         NodeValue::Step => return None,
-        NodeValue::P => Part::P,
-        NodeValue::A => Part::A,
-        NodeValue::B => Part::B,
-        NodeValue::I => Part::I,
-        NodeValue::Slot => Part::Slot,
-        NodeValue::Carry => Part::Carry,
-        NodeValue::Io => Part::Io,
-        NodeValue::DataWord(place) => Part::Data(place % 10),
-        NodeValue::ReturnWord(place) => Part::Return(place % 9),
+        NodeValue::P => NodePart::P,
+        NodeValue::A => NodePart::A,
+        NodeValue::B => NodePart::B,
+        NodeValue::I => NodePart::I,
+        NodeValue::Slot => NodePart::Slot,
+        NodeValue::Carry => NodePart::Carry,
+        NodeValue::Io => NodePart::Io,
+        NodeValue::DataWord(place) => NodePart::Data(place % 10),
+        NodeValue::ReturnWord(place) => NodePart::Return(place % 9),
         NodeValue::Cell(address) => {
             if address < 128 {
-                Part::Ram(address % 64)
+                NodePart::Ram(address % 64)
             } else {
-                Part::Rom(address % 64)
+                NodePart::Rom(address % 64)
             }
         }
     };

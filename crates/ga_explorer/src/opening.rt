@@ -1,12 +1,12 @@
 //! What a session of exploring begins on: an image, or source, which may have a chip of its own.
 ghost use Rattle.std.specs.Prelude.{◌≡◌, IfOk, IfErr, IfSome, Some, None};
-ghost use Rattle.ga_explorer.specs.Opening.{begins_as_image, image_of, is_read_as_image, OpensFront, OpensExploring, OpensOnImage, OpensSource, AreNotesOf};
+ghost use Rattle.ga_explorer.specs.Opening.{begins_as_image, image_text_of, is_read_as_image, OpensLeadingText, OpensExplorer, OpensOnImage, OpensSource, IsDebugInfoOf};
 ghost use Rattle.ga_explorer.specs.inner.{IsUnopened};
 
 use crate::explorer::Explorer;
 use ga_console::open_image;
 use ga_debug_info::{
-    DebugInfo, debug_info_of, edited_image, edited_source, report_code_stores,
+    DebugInfo, debug_info_of, find_image_artifact, find_source_artifact, report_code_stores,
     report_editor_artifact, report_faults, report_out_of_memory,
 };
 use ga_image::ImageFault;
@@ -34,7 +34,7 @@ pub(crate) fn is_image(text: &[u8]) -> bool
 
 /// Whether a text is read as an image: never where another image is given for the chip.
 pub(crate) fn is_read_as_image(chip: &Option<Vec<u8>>, text: &[u8]) -> bool
-    ensures { result ≡ is_read_as_image (image_of chip.now) text.now }
+    ensures { result ≡ is_read_as_image (image_text_of chip.now) text.now }
 {
     match chip {
         Some(_) => false,
@@ -54,8 +54,8 @@ pub(crate) fn open_text<E: Write>(
     chip: Option<Vec<u8>>,
     limit: u32,
 ) -> Result<Explorer, OpenError>
-    ensures ok { IfOk result (λ begun. OpensFront (image_of chip) text.items limit begun) }
-    ensures err { IfErr result (λ why. IsUnopened (image_of chip) text.items why) }
+    ensures ok { IfOk result (λ begun. OpensLeadingText (image_text_of chip) text.items limit begun) }
+    ensures err { IfErr result (λ why. IsUnopened (image_text_of chip) text.items why) }
 {
     match chip {
         Some(image) => open_on_image(alloc, errors, text.as_slice(), image, limit),
@@ -78,11 +78,11 @@ fn open_on_image<E: Write>(
     ensures err { IfErr result (λ why. IsUnopened (Some image.items) source.now why) }
 {
     let notes = note_source(alloc, errors, source);
-    let _written = report_editor_artifact(errors, edited_source(source));
+    let _written = report_editor_artifact(errors, find_source_artifact(source));
     let Some(notes) = notes else {
         return Err(OpenError::Source);
     };
-    let edited = edited_image(image.as_slice());
+    let edited = find_image_artifact(image.as_slice());
     match open_image(alloc, image, limit) {
         Ok(lab) => Ok(Explorer::of(lab, Some(notes))),
         Err(fault) => {
@@ -102,7 +102,7 @@ fn tell_chip<E: Write>(errors: &mut E) {
 
 /// Debug info of the cells of a source; or none, and the reason is reported.
 fn note_source<E: Write>(alloc: Global, errors: &mut E, source: &[u8]) -> Option<DebugInfo>
-    ensures { IfSome result (λ notes. AreNotesOf source.now notes) }
+    ensures { IfSome result (λ notes. IsDebugInfoOf source.now notes) }
 {
     match assemble(alloc, source) {
         Ok(assembled) => {
@@ -131,11 +131,11 @@ fn open_alone<E: Write>(
     text: Vec<u8>,
     limit: u32,
 ) -> Result<Explorer, OpenError>
-    ensures ok { IfOk result (λ begun. OpensExploring text.items limit begun) }
+    ensures ok { IfOk result (λ begun. OpensExplorer text.items limit begun) }
     ensures err { IfErr result (λ why. IsUnopened None text.items why) }
 {
     if is_image(text.as_slice()) {
-        let edited = edited_image(text.as_slice());
+        let edited = find_image_artifact(text.as_slice());
         return match open_image(alloc, text, limit) {
             Ok(lab) => Ok(Explorer::of(lab, None)),
             Err(fault) => {
@@ -145,7 +145,7 @@ fn open_alone<E: Write>(
         };
     }
     let opened = open_source(alloc, errors, text.as_slice(), limit);
-    let _written = report_editor_artifact(errors, edited_source(text.as_slice()));
+    let _written = report_editor_artifact(errors, find_source_artifact(text.as_slice()));
     match opened {
         Some(begun) => Ok(begun),
         None => Err(OpenError::Source),

@@ -1,7 +1,7 @@
 //! An image or source in a file that is read before standard input.
 
 ghost use Rattle.std.specs.Prelude.{◌≡◌, OnOk};
-ghost use Rattle.ga_explorer.specs.Front.{has_end, has_end_line, ends_in_end, lacks_end_line, closing, closed};
+ghost use Rattle.ga_explorer.specs.Front.{contains_end_line, has_end_line, ends_with_bare_end_line, lacks_end_line, missing_end_text, text_with_end_line};
 
 use crate::opening::is_image;
 use std::alloc::AllocError;
@@ -10,7 +10,7 @@ use std::alloc::AllocError;
 pub fn lacks_end_line(text: &[u8]) -> bool
     ensures { result ≡ lacks_end_line text.now }
 {
-    is_image(text) && !has_end(text) && !ends_in_end(text)
+    is_image(text) && !contains_end_line(text) && !ends_with_bare_end_line(text)
 }
 
 /// Ends an image or source so that commands can follow it: adds the line feed of its line `end`, or that line to source that
@@ -19,18 +19,18 @@ pub fn lacks_end_line(text: &[u8]) -> bool
 /// # Errors
 /// Allocation failed. The text is unchanged.
 pub fn append_end_line(text: &mut Vec<u8>) -> Result<(), AllocError>
-    ensures ok { OnOk result (text.new.items ≡ closed text.old.items) }
+    ensures ok { OnOk result (text.new.items ≡ text_with_end_line text.old.items) }
 {
-    text.extend_from_slice(closing(text.as_slice()))
+    text.extend_from_slice(missing_end_text(text.as_slice()))
 }
 
 /// What a text needs so that commands can follow it.
-fn closing(text: &[u8]) -> &'static [u8]
-    ensures { result.now ≡ closing text.now }
+fn missing_end_text(text: &[u8]) -> &'static [u8]
+    ensures { result.now ≡ missing_end_text text.now }
 {
-    if has_end(text) {
+    if contains_end_line(text) {
         b""
-    } else if ends_in_end(text) {
+    } else if ends_with_bare_end_line(text) {
         b"\n"
     } else if text.is_empty() || text.ends_with(b"\n".as_slice()) {
         b"end\n"
@@ -40,15 +40,15 @@ fn closing(text: &[u8]) -> &'static [u8]
 }
 
 /// Whether a text ends in a line `end` that has no line feed.
-fn ends_in_end(text: &[u8]) -> bool
-    ensures { result ≡ ends_in_end text.now }
+fn ends_with_bare_end_line(text: &[u8]) -> bool
+    ensures { result ≡ ends_with_bare_end_line text.now }
 {
     text == b"end".as_slice() || text.ends_with(b"\nend".as_slice())
 }
 
 /// Whether a text has a line `end` with its line feed.
-fn has_end(text: &[u8]) -> bool
-    ensures { result ≡ has_end text.now }
+fn contains_end_line(text: &[u8]) -> bool
+    ensures { result ≡ contains_end_line text.now }
 {
     text.starts_with(b"end\n".as_slice()) || has_end_line(text)
 }

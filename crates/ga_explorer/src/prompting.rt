@@ -2,14 +2,14 @@
 
 ghost use Rattle.std.specs.Prelude.{◌≡◌, ◌-◌, ◌++◌, Some};
 ghost use Rattle.ga_text.specs.Lines.{Bytes};
-ghost use Rattle.ga_text.specs.Input.{IsWithin, input_limit};
+ghost use Rattle.ga_text.specs.Input.{IsWithinInputLimit, input_limit};
 ghost use Rattle.ga_text.specs.Output.{IsSameStream, IsWritten, WritesExactly};
-ghost use Rattle.ga_console.specs.Session.{Serves, Written};
+ghost use Rattle.ga_console.specs.Session.{ServesCommands, IsWrittenOrPrefix};
 ghost use Rattle.ga_explorer.specs.Opening.{ExplorerState};
-ghost use Rattle.ga_explorer.specs.Session.{prompt, Prompts};
+ghost use Rattle.ga_explorer.specs.Session.{prompt, AnswersWithPrompt};
 
 use crate::explorer::Explorer;
-use ga_console::{Command, CommandsEnd, LineAction, Responder, serve};
+use ga_console::{Command, CommandsEnd, LineAction, Responder, serve_commands};
 use ga_lab::Lab;
 use ga_text::{Input, WriteError, WriteResult, Writer};
 use std::alloc::Global;
@@ -94,20 +94,20 @@ pub(crate) fn serve_explorer<R: Read, W: Write>(
     explorer: Explorer,
     is_prompted: bool,
 ) -> Result<CommandsEnd, WriteError>
-    requires { IsWithin input.old }
+    requires { IsWithinInputLimit input.old }
     ensures same { IsSameStream writer.old writer.new }
     ensures serves { (left before said : Bytes) → R.remaining reader.old ≡ Some left →
         IsWritten (W.contents writer.old.stream.now) before said writer.old.pending.items →
         (read rest text sent : Bytes) × (last : ExplorerState)
         × (input.old.bytes ++ left ≡ read ++ rest) × (R.remaining reader.new ≡ Some rest)
         × (W.contents writer.new.stream.now ≡ Some (before ++ sent))
-        × Serves (Prompts is_prompted) (input_limit - input.old.taken) explorer read rest text last result
-        × Written result (said ++ (prompt is_prompted ++ text)) sent }
+        × ServesCommands (AnswersWithPrompt is_prompted) (input_limit - input.old.taken) explorer read rest text last result
+        × IsWrittenOrPrefix result (said ++ (prompt is_prompted ++ text)) sent }
 {
     let mut session = PromptedExplorer {
         explorer,
         is_prompted,
     };
     session.write_prompt(writer)?;
-    serve(alloc, input, reader, writer, &mut session)
+    serve_commands(alloc, input, reader, writer, &mut session)
 }

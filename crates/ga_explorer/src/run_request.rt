@@ -1,10 +1,10 @@
 //! The arguments of `run`: an order, how many events, and conditions.
 
 ghost use Rattle.std.specs.Prelude.{◌≡◌};
-ghost use Rattle.ga_explorer.specs.Reading.{run_in, lone_order, named_order, seeded_in, bounded_in, bounded_by, run_until};
+ghost use Rattle.ga_explorer.specs.Reading.{parse_run_arguments, parse_single_order, parse_named_order, parse_seeded_run, parse_run_bounds, run_bounds_of_words, run_until};
 
 use crate::commands::ExplorerCommand;
-use ga_conditions::{no_condition, parse_conditions, parse_until};
+use ga_conditions::{no_conditions, parse_conditions, parse_until};
 use ga_debug_info::DebugInfo;
 use ga_scheduler::Schedule;
 use ga_text::{parse_number, split_at_space};
@@ -14,24 +14,24 @@ pub(crate) const MOST_EVENTS: u32 = u32::MAX;
 
 /// What follows `run` and a space.
 pub(crate) fn parse_run(notes: &Option<DebugInfo>, text: &[u8]) -> Option<ExplorerCommand>
-    ensures { result ≡ run_in notes.now text.now }
+    ensures { result ≡ parse_run_arguments notes.now text.now }
 {
     match split_at_space(text) {
-        Some((name, rest)) => named_order(notes, name, rest, text),
-        None => lone_order(notes, text),
+        Some((name, rest)) => parse_named_order(notes, name, rest, text),
+        None => parse_single_order(notes, text),
     }
 }
 
 /// An order of one word, or what bounds a run in rounds.
-#[tactic(auto, unfolding(crate::specs::Reading::lone_order))]
-fn lone_order(notes: &Option<DebugInfo>, text: &[u8]) -> Option<ExplorerCommand>
-    ensures { result ≡ lone_order notes.now text.now }
+#[tactic(auto, unfolding(crate::specs::Reading::parse_single_order))]
+fn parse_single_order(notes: &Option<DebugInfo>, text: &[u8]) -> Option<ExplorerCommand>
+    ensures { result ≡ parse_single_order notes.now text.now }
 {
     if text == b"greedy".as_slice() {
         Some(ExplorerCommand::Run {
             schedule: Schedule::greedy(),
             most: MOST_EVENTS,
-            until: no_condition(),
+            until: no_conditions(),
         })
     } else {
         bounded_of(notes, Schedule::round_robin(), text)
@@ -39,14 +39,14 @@ fn lone_order(notes: &Option<DebugInfo>, text: &[u8]) -> Option<ExplorerCommand>
 }
 
 /// An order with what follows it, or what bounds a run in rounds.
-#[tactic(auto, unfolding(crate::specs::Reading::named_order))]
-fn named_order(
+#[tactic(auto, unfolding(crate::specs::Reading::parse_named_order))]
+fn parse_named_order(
     notes: &Option<DebugInfo>,
     name: &[u8],
     rest: &[u8],
     text: &[u8],
 ) -> Option<ExplorerCommand>
-    ensures { result ≡ named_order notes.now name.now rest.now text.now }
+    ensures { result ≡ parse_named_order notes.now name.now rest.now text.now }
 {
     if name == b"greedy".as_slice() {
         bounded_of(notes, Schedule::greedy(), rest)
@@ -59,7 +59,7 @@ fn named_order(
 
 /// A seed, and what bounds the run.
 fn seeded_of(notes: &Option<DebugInfo>, text: &[u8]) -> Option<ExplorerCommand>
-    ensures { result ≡ seeded_in notes.now text.now }
+    ensures { result ≡ parse_seeded_run notes.now text.now }
 {
     match split_at_space(text) {
         Some((seed, rest)) => {
@@ -71,7 +71,7 @@ fn seeded_of(notes: &Option<DebugInfo>, text: &[u8]) -> Option<ExplorerCommand>
             Some(ExplorerCommand::Run {
                 schedule: Schedule::random(u64::from(seed)),
                 most: MOST_EVENTS,
-                until: no_condition(),
+                until: no_conditions(),
             })
         }
     }
@@ -79,27 +79,27 @@ fn seeded_of(notes: &Option<DebugInfo>, text: &[u8]) -> Option<ExplorerCommand>
 
 /// A number, `until` and conditions, or both.
 fn bounded_of(notes: &Option<DebugInfo>, schedule: Schedule, text: &[u8]) -> Option<ExplorerCommand>
-    ensures { result ≡ bounded_in notes.now schedule text.now }
+    ensures { result ≡ parse_run_bounds notes.now schedule text.now }
 {
     match split_at_space(text) {
-        Some((name, rest)) => bounded_by(notes, schedule, name, rest),
+        Some((name, rest)) => run_bounds_of_words(notes, schedule, name, rest),
         None => Some(ExplorerCommand::Run {
             schedule,
             most: parse_number(text)?,
-            until: no_condition(),
+            until: no_conditions(),
         }),
     }
 }
 
 /// A number, `until` and conditions, or both, by the first word and what follows it.
-#[tactic(auto, unfolding(crate::specs::Reading::bounded_by))]
-fn bounded_by(
+#[tactic(auto, unfolding(crate::specs::Reading::run_bounds_of_words))]
+fn run_bounds_of_words(
     notes: &Option<DebugInfo>,
     schedule: Schedule,
     name: &[u8],
     rest: &[u8],
 ) -> Option<ExplorerCommand>
-    ensures { result ≡ bounded_by notes.now schedule name.now rest.now }
+    ensures { result ≡ run_bounds_of_words notes.now schedule name.now rest.now }
 {
     match name {
         b"until" => run_until(notes, schedule, MOST_EVENTS, rest),

@@ -1,6 +1,6 @@
 //! A whole session of exploring.
 ghost use Rattle.ga_text.specs.Output.{ReadsAndWrites};
-ghost use Rattle.ga_explorer.specs.Opening.{image_of};
+ghost use Rattle.ga_explorer.specs.Opening.{image_text_of};
 ghost use Rattle.ga_explorer.specs.Session.{RunsExplorer};
 
 use crate::beginning::open_lab;
@@ -24,7 +24,7 @@ pub fn explore<R: Read, W: Write, E: Write>(
     is_prompted: bool,
 ) -> Status
     // Where the streams tell their bytes: what was read, and what was written for it by the status.
-    ensures { ReadsAndWrites (λ read rest text. RunsExplorer is_prompted (image_of chip) limit read rest text result)
+    ensures { ReadsAndWrites (λ read rest text. RunsExplorer is_prompted (image_text_of chip) limit read rest text result)
         (R.remaining reader.old) (R.remaining reader.new) (W.contents writer.old) (W.contents writer.new) }
 {
     let mut input = Input::new();

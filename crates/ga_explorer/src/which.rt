@@ -1,7 +1,7 @@
 //! Which step of a node a command means.
 
 ghost use Rattle.std.specs.Prelude.{◌≡◌};
-ghost use Rattle.ga_explorer.specs.Reading.{which_in, step_meant};
+ghost use Rattle.ga_explorer.specs.Reading.{parse_step_selector, selected_step};
 
 use ga_grid::NodeId;
 use ga_lab::Lab;
@@ -19,7 +19,7 @@ pub enum StepSelector {
 impl StepSelector {
     /// What a word spells: a number, or `last`.
     pub(crate) fn parse(word: &[u8]) -> Option<Self>
-        ensures { result ≡ which_in word.now }
+        ensures { result ≡ parse_step_selector word.now }
     {
         if word == b"last".as_slice() {
             Some(StepSelector::Last)
@@ -30,7 +30,7 @@ impl StepSelector {
 
     /// The number of the step: of the last of a node that made none, 0, which no step has.
     pub(crate) fn resolve(self, lab: &Lab, node: NodeId) -> u32
-        ensures { result ≡ step_meant lab.now node self }
+        ensures { result ≡ selected_step lab.now node self }
     {
         match self {
             StepSelector::Number(step) => step,

@@ -14,7 +14,7 @@ use Rattle.ga_grid.specs.Chip.{record_at}
 use Rattle.ga_causal.specs.Dependence.{is_marked}
 use Rattle.ga_races.specs.Acts.{awaits, IsSubset}
 use Rattle.ga_event.proofs.Nexts.{neighbour_of-within}
-use Rattle.ga_explorer_text.specs.Ended.{is_ended, ended_on, awaits_any, awaits_ended, ends_by, has_ended, MarksEnded}
+use Rattle.ga_explorer_text.specs.Ended.{is_ended_neighbour, is_side_ended, awaits_any, awaits_only_ended, is_ended_wait, has_ended, MarksEnded}
 use Rattle.ga_explorer_text.specs.inner.{ended_but}
 
 -- where more nodes are marked, more have ended
@@ -26,12 +26,12 @@ and_more : (a b c : Bool) → (b ≡ true → c ≡ true) → (a && b) ≡ true 
 and_more true b c more h = more h
 and_more false b c more h = h
 
-more_ended : (marks others : ℕ → Bool) (n : ℕ) (side : Side) (o : Option ℕ) → n < 144 → neighbour_of n side ≡ o → IsSubset marks others → is_ended marks o ≡ true → is_ended others o ≡ true
+more_ended : (marks others : ℕ → Bool) (n : ℕ) (side : Side) (o : Option ℕ) → n < 144 → neighbour_of n side ≡ o → IsSubset marks others → is_ended_neighbour marks o ≡ true → is_ended_neighbour others o ≡ true
 more_ended marks others n side None within near subset h = refl
 more_ended marks others n side (Some m) within near subset h = subset m (neighbour_of-within n m side within near) h
 
 more_on : (chip : List NodeRecord) (marks others : ℕ → Bool) (n : ℕ) (side : Side) → n < 144 → IsSubset marks others
-    → ended_on chip marks n side ≡ true → ended_on chip others n side ≡ true
+    → is_side_ended chip marks n side ≡ true → is_side_ended chip others n side ≡ true
 more_on chip marks others n side within subset h =
     or_more (not (awaits (record_at chip n).wait side)) _ _ (more_ended marks others n side (neighbour_of n side) within refl subset) h
 
@@ -43,13 +43,13 @@ all_more true false x y p q v w f g h i t = absurd (true≢false (sym t))
 all_more true true false y p q v w f g h i t = absurd (true≢false (sym t))
 all_more true true true false p q v w f g h i t = absurd (true≢false (sym t))
 
-more_awaited : (chip : List NodeRecord) (marks others : ℕ → Bool) (n : ℕ) → n < 144 → IsSubset marks others → awaits_ended chip marks n ≡ true → awaits_ended chip others n ≡ true
+more_awaited : (chip : List NodeRecord) (marks others : ℕ → Bool) (n : ℕ) → n < 144 → IsSubset marks others → awaits_only_ended chip marks n ≡ true → awaits_only_ended chip others n ≡ true
 more_awaited chip marks others n within subset h =
     and_more (awaits_any chip n) _ _
     (all_more _ _ _ _ _ _ _ _ (more_on chip marks others n Right within subset) (more_on chip marks others n Down within subset)
     (more_on chip marks others n Left within subset) (more_on chip marks others n Up within subset)) h
 
-more_by : (waits : Wait) (a b : Bool) → (a ≡ true → b ≡ true) → ends_by waits a ≡ true → ends_by waits b ≡ true
+more_by : (waits : Wait) (a b : Bool) → (a ≡ true → b ≡ true) → is_ended_wait waits a ≡ true → is_ended_wait waits b ≡ true
 more_by (wait.Fetch sides) a b more h = refl
 more_by (wait.Read sides) a b more h = more h
 more_by (wait.Write side) a b more h = absurd (true≢false (sym h))

@@ -2,14 +2,14 @@
 use Rattle.std.proofs.Common.{◌≡◌, ℕ, zero, suc, ◌+◌, List, [], ◌++◌, refl, sym, ap, ◌∙◌, append_assoc}
 use Rattle.std.proofs.lemmas.List.{append-nil}
 use Rattle.ga_lab.specs.Machine.{State}
-use Rattle.ga_explorer_text.specs.Texts.{cell_text, cells_text, row_text, rows_text}
+use Rattle.ga_explorer_text.specs.Texts.{node_symbol_text, node_symbols_text, row_text, rows_text}
 
-no_cells : (s : State) (n : ℕ) → cells_text s n zero ≡ []
-unfolding cells_text
+no_cells : (s : State) (n : ℕ) → node_symbols_text s n zero ≡ []
+unfolding node_symbols_text
 no_cells s n = refl
 
-one_cell : (s : State) (n more : ℕ) → cells_text s n (suc more) ≡ cell_text s n ++ cells_text s (n + 1) more
-unfolding cells_text
+one_cell : (s : State) (n more : ℕ) → node_symbols_text s n (suc more) ≡ node_symbol_text s n ++ node_symbols_text s (n + 1) more
+unfolding node_symbols_text
 one_cell s n more = refl
 
 no_rows : (s : State) → rows_text s zero ≡ []
@@ -20,19 +20,19 @@ one_row : (s : State) (row : ℕ) → rows_text s (suc row) ≡ row_text s row +
 unfolding rows_text
 one_row s row = refl
 
-pub same_cells : (s : State) (n k left more : ℕ) (out : List ℕ) → k ≡ n → left ≡ more → out ++ cells_text s k left ≡ out ++ cells_text s n more
-same_cells s n k left more out e f = ap (λ (z : ℕ). out ++ cells_text s z left) e ∙ ap (λ (z : ℕ). out ++ cells_text s n z) f
+pub same_cells : (s : State) (n k left more : ℕ) (out : List ℕ) → k ≡ n → left ≡ more → out ++ node_symbols_text s k left ≡ out ++ node_symbols_text s n more
+same_cells s n k left more out e f = ap (λ (z : ℕ). out ++ node_symbols_text s z left) e ∙ ap (λ (z : ℕ). out ++ node_symbols_text s n z) f
 
-pub next_cell : (s : State) (k m left more : ℕ) (out new rest : List ℕ) → m ≡ k + 1 → left ≡ suc more → new ≡ out ++ cell_text s k
-    → out ++ cells_text s k left ≡ rest → new ++ cells_text s m more ≡ rest
+pub next_cell : (s : State) (k m left more : ℕ) (out new rest : List ℕ) → m ≡ k + 1 → left ≡ suc more → new ≡ out ++ node_symbol_text s k
+    → out ++ node_symbols_text s k left ≡ rest → new ++ node_symbols_text s m more ≡ rest
 next_cell s k m left more out new rest e f g h =
-    ap (λ (z : List ℕ). z ++ cells_text s m more) g ∙ append_assoc out (cell_text s k) (cells_text s m more)
-    ∙ ap (λ (z : ℕ). out ++ (cell_text s k ++ cells_text s z more)) e ∙ ap (λ (z : List ℕ). out ++ z) (sym (one_cell s k more))
-    ∙ ap (λ (z : ℕ). out ++ cells_text s k z) (sym f) ∙ h
+    ap (λ (z : List ℕ). z ++ node_symbols_text s m more) g ∙ append_assoc out (node_symbol_text s k) (node_symbols_text s m more)
+    ∙ ap (λ (z : ℕ). out ++ (node_symbol_text s k ++ node_symbols_text s z more)) e ∙ ap (λ (z : List ℕ). out ++ z) (sym (one_cell s k more))
+    ∙ ap (λ (z : ℕ). out ++ node_symbols_text s k z) (sym f) ∙ h
 
-pub all_cells : (s : State) (k left : ℕ) (out rest : List ℕ) → left ≡ zero → out ++ cells_text s k left ≡ rest → out ≡ rest
+pub all_cells : (s : State) (k left : ℕ) (out rest : List ℕ) → left ≡ zero → out ++ node_symbols_text s k left ≡ rest → out ≡ rest
 all_cells s k left out rest e h =
-    sym (append-nil out) ∙ ap (λ (z : List ℕ). out ++ z) (sym (no_cells s k)) ∙ ap (λ (z : ℕ). out ++ cells_text s k z) (sym e) ∙ h
+    sym (append-nil out) ∙ ap (λ (z : List ℕ). out ++ z) (sym (no_cells s k)) ∙ ap (λ (z : ℕ). out ++ node_symbols_text s k z) (sym e) ∙ h
 
 pub next_row : (s : State) (row below : ℕ) (out new rest : List ℕ) → row ≡ suc below → new ≡ out ++ row_text s below
     → out ++ rows_text s row ≡ rest → new ++ rows_text s below ≡ rest

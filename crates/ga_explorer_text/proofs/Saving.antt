@@ -7,11 +7,11 @@ use Rattle.ga_event.specs.declared.event.Event.{Event}
 use Rattle.ga_event.specs.declared.event.Event.TheVariants as event
 use Rattle.ga_event.specs.declared.event.Cause.{Cause}
 use Rattle.ga_event.specs.declared.made.Made.{Made}
-use Rattle.ga_event.specs.Apply.{EventOutcome, Did, Carried, replay}
-use Rattle.ga_event.specs.Told.{made_after, made_in, events_told}
-use Rattle.ga_lab.specs.Machine.{State, outcomes_of_kept, causes_of, actor_of}
+use Rattle.ga_event.specs.Apply.{EventOutcome, ExecutedOwn, PassedWord, replay}
+use Rattle.ga_event.specs.Told.{made_event_after, made_event_in, events_without_outcomes}
+use Rattle.ga_lab.specs.Machine.{State, outcomes_of_kept, causes_of, acting_node}
 use Rattle.ga_scheduler.proofs.WordCounts.{kept_told}
-use Rattle.ga_explorer_text.specs.Saved.{step_line, saved_line, saved_lines, with_feed, saved_text}
+use Rattle.ga_explorer_text.specs.Saved.{step_command_line, saved_line, saved_lines, with_feed, saved_text}
 use Rattle.ga_explorer_text.specs.inner.{actor_in, line_at, cause_line}
 use Rattle.ga_explorer_text.proofs.Saying.{no_lines}
 
@@ -38,32 +38,32 @@ all_saved s i past = no_lines with_feed (saved_lines s) i (let q : length (map s
 pub record ToldOf (events : List Event) (i : ℕ) (m : Made) : Type 0 where
   pub here : Event
   pub is : slice_get events i ≡ Some here
-  pub actor : actor_of here ≡ actor_in m
+  pub actor : acting_node here ≡ actor_in m
 
-actor_is : (before : List Event) (e : Event) (what : EventOutcome) (m : Made) → Some m ≡ made_after before e what → actor_of e ≡ actor_in m
-actor_is before (event.Own n) (Did kind) m h = ap actor_in (same_Some _ m (sym h))
-actor_is before (event.Pass w r side) (Carried word) m h = ap actor_in (same_Some _ m (sym h))
-actor_is before (event.Own n) (Carried word) m h = absurd (cc)
-actor_is before (event.Pass w r side) (Did kind) m h = absurd (cc)
+actor_is : (before : List Event) (e : Event) (what : EventOutcome) (m : Made) → Some m ≡ made_event_after before e what → acting_node e ≡ actor_in m
+actor_is before (event.Own n) (ExecutedOwn kind) m h = ap actor_in (same_Some _ m (sym h))
+actor_is before (event.Pass w r side) (PassedWord word) m h = ap actor_in (same_Some _ m (sym h))
+actor_is before (event.Own n) (PassedWord word) m h = absurd (cc)
+actor_is before (event.Pass w r side) (ExecutedOwn kind) m h = absurd (cc)
 
-event_at : (told : List (Cause × EventOutcome)) (i : ℕ) (x : Cause × EventOutcome) → slice_get told i ≡ Some x → slice_get (events_told told) i ≡ Some x.0.event
+event_at : (told : List (Cause × EventOutcome)) (i : ℕ) (x : Cause × EventOutcome) → slice_get told i ≡ Some x → slice_get (events_without_outcomes told) i ≡ Some x.0.event
 event_at [] i x h = absurd (cc)
 event_at (y ∷ ys) zero x h = ap (λ (z : Cause × EventOutcome). Some z.0.event) (same_Some y x h)
 event_at (y ∷ ys) (suc i) x h = event_at ys i x h
 
-told_of : (told : List (Cause × EventOutcome)) (i : ℕ) (m : Made) → Some m ≡ made_in told i → ToldOf (events_told told) i m
+told_of : (told : List (Cause × EventOutcome)) (i : ℕ) (m : Made) → Some m ≡ made_event_in told i → ToldOf (events_without_outcomes told) i m
 told_of told i m h = go (slice_get told i) refl h
   where
-    go : (o : Option (Cause × EventOutcome)) → slice_get told i ≡ o → Some m ≡ option_and_then {U = Made} (λ x. made_after (events_told (take i told)) x.0.event x.1) o
-        → ToldOf (events_told told) i m
+    go : (o : Option (Cause × EventOutcome)) → slice_get told i ≡ o → Some m ≡ option_and_then {U = Made} (λ x. made_event_after (events_without_outcomes (take i told)) x.0.event x.1) o
+        → ToldOf (events_without_outcomes told) i m
     go None is k = absurd (cc)
-    go (Some x) is k = record { here = x.0.event; is = event_at told i x is; actor = actor_is (events_told (take i told)) x.0.event x.1 m k }
+    go (Some x) is k = record { here = x.0.event; is = event_at told i x is; actor = actor_is (events_without_outcomes (take i told)) x.0.event x.1 m k }
 
-pub saved_at : (s : State) (i : ℕ) (m : Made) (n : NodeId) → IsSome (replay s.load s.kept) → Some m ≡ made_in (outcomes_of_kept s) i → n ≡ actor_in m
-    → with_feed (step_line n) ≡ line_at (slice_get s.kept i)
+pub saved_at : (s : State) (i : ℕ) (m : Made) (n : NodeId) → IsSome (replay s.load s.kept) → Some m ≡ made_event_in (outcomes_of_kept s) i → n ≡ actor_in m
+    → with_feed (step_command_line n) ≡ line_at (slice_get s.kept i)
 saved_at s i m n some h actor =
-    let t : ToldOf (events_told (outcomes_of_kept s)) i m = told_of (outcomes_of_kept s) i m h in
-    ap (λ z. with_feed (step_line z)) (actor ∙ sym t.actor)
+    let t : ToldOf (events_without_outcomes (outcomes_of_kept s)) i m = told_of (outcomes_of_kept s) i m h in
+    ap (λ z. with_feed (step_command_line z)) (actor ∙ sym t.actor)
     ∙ ap line_at (sym t.is) ∙ ap (λ z. line_at (slice_get z i)) (kept_told s some)
 
 none_of : (events : List Event) (i : ℕ) → length events ≤ i → slice_get events i ≡ None
@@ -75,7 +75,7 @@ pub none_at : (s : State) (i : ℕ) → length s.kept ≤ i → [] ≡ line_at (
 none_at s i past = ap line_at (sym (none_of s.kept i past))
 
 -- the lines of a list of events are those of their reports
-lines_listed : (told : List (Cause × EventOutcome)) → flat_map cause_line (map (λ (x : Cause × EventOutcome). x.0) told) ≡ flat_map with_feed (map saved_line (events_told told))
+lines_listed : (told : List (Cause × EventOutcome)) → flat_map cause_line (map (λ (x : Cause × EventOutcome). x.0) told) ≡ flat_map with_feed (map saved_line (events_without_outcomes told))
 lines_listed [] = refl
 lines_listed (x ∷ xs) = ap (λ (z : List ℕ). with_feed (saved_line x.0.event) ++ z) (lines_listed xs)
 

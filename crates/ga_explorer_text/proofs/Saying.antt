@@ -7,40 +7,40 @@ use Rattle.std.proofs.lemmas.List.{append-nil, drop_more, drop_all}
 use Rattle.ga_text.proofs.WriteLemmas.{written_as, said_assoc, cut_assoc, truncated_within}
 use Rattle.ga_grid.specs.declared.node_id.NodeId.{NodeId}
 use Rattle.ga_lab.specs.Machine.{State, has_step, history_of, chip_of, causes_of, rewind_answer}
-use Rattle.ga_provenance.specs.Writes.{written_at, either, newest_written}
+use Rattle.ga_provenance.specs.Writes.{cell_write_at, newer_write, newest_cell_write}
 use Rattle.ga_provenance.specs.declared.writes.CellWrite.{CellWrite}
 use Rattle.ga_provenance.proofs.Keeping.{written_step, first_told}
-use Rattle.ga_explorer_text.specs.Writing.{written_text, cell_writes}
+use Rattle.ga_explorer_text.specs.Writing.{cell_write_text, cell_writes}
 use Rattle.std.specs.List.{slice_get, All}
 use Rattle.std.proofs.lemmas.Option.{same_Some}
 use Rattle.ga_debug_info.specs.declared.notes.DebugInfo.{DebugInfo}
 use Rattle.ga_provenance.specs.declared.value.Value.{Value}
 use Rattle.ga_provenance.specs.declared.listing.ProvenanceRow.{ProvenanceRow}
 use Rattle.ga_provenance.specs.Origins.{node_after, origin_of}
-use Rattle.ga_provenance.specs.Rows.{row_at, made_row, AreRows}
+use Rattle.ga_provenance.specs.Rows.{row_at_depth, origin_row, AreProvenanceRows}
 use Rattle.ga_explorer_text.specs.inner.{is_first}
-use Rattle.ga_explorer_text.specs.Trees.{blanks, rows_by, tree_rows_text, more_text, most_rows, TellsTree, word_of_value, a_of_value, worded_text, value_text}
-use Rattle.ga_explorer_text.specs.Waiting.{each_node, node_count, all_waiting, stuck_text, all_rings, rest_text}
+use Rattle.ga_explorer_text.specs.Trees.{blanks, tree_rows_by_root, tree_rows_text, more_rows_text, max_tree_rows, IsTreeAnswer, word_of_value, a_of_value, value_with_word_text, value_text}
+use Rattle.ga_explorer_text.specs.Waiting.{texts_of_nodes, node_count, all_waiting_text, stuck_text, wait_cycles_text, ended_and_idle_text}
 use Rattle.ga_explorer_text.specs.Ended.{AreEnded}
 use Rattle.std.proofs.lemmas.Bool.Decides.{nat_tests}
-use Rattle.ga_event.specs.Told.{steps_of}
+use Rattle.ga_event.specs.Told.{count_steps}
 use Rattle.ga_lab.specs.declared.fault.LabFault.TheVariants.{NoStep, Memory}
-use Rattle.ga_display.specs.Texts.{refusal_text, advised_text}
-use Rattle.ga_explorer_text.specs.SourceSuffix.{step_tail}
-use Rattle.ga_explorer_text.specs.Around.{step_registers_text, place_text, places_text, lesser, around_text}
+use Rattle.ga_display.specs.Texts.{refusal_text, advised_refusal_text}
+use Rattle.ga_explorer_text.specs.SourceSuffix.{step_suffix_text}
+use Rattle.ga_explorer_text.specs.Around.{step_registers_text, numbered_step_text, numbered_steps_text, smaller_number, steps_around_text}
 use Rattle.ga_node.specs.Record.{NodeRecord}
 use Rattle.ga_lab.specs.declared.fault.LabFault.{LabFault}
-use Rattle.ga_scheduler.specs.Effects.{effects_of}
+use Rattle.ga_scheduler.specs.Effects.{rollback_effects}
 use Rattle.ga_races.specs.Acts.{AreDeadlocked, IsSubset}
-use Rattle.ga_scheduler.specs.Idle.{MarksIdle}
+use Rattle.ga_scheduler.specs.Idle.{AreIdleMarks}
 use Rattle.ga_scheduler.specs.declared.effects.RollbackEffect.{RollbackEffect}
 use Rattle.ga_race_detector.specs.declared.races.Race.{Race}
-use Rattle.ga_race_detector.specs.Races.{races_asked, has_looks, first_ready}
+use Rattle.ga_race_detector.specs.Races.{requested_races, has_looks, first_ready_node}
 use Rattle.ga_race_detector.specs.declared.readings.LookRace.{LookRace}
-use Rattle.ga_race_detector.specs.Readings.{IsTold, NoneMissed}
-use Rattle.ga_explorer_text.specs.Races.{listed_text, TellsRaces}
+use Rattle.ga_race_detector.specs.Readings.{IsReportedLookRace, HasAllNearLookRaces}
+use Rattle.ga_explorer_text.specs.Races.{listed_races_text, IsRacesAnswer}
 use Rattle.ga_explorer_text.specs.Texts.{effects_text, effects_answer}
-use Rattle.ga_explorer_text.specs.Telling.{TellsEffects, TellsWho}
+use Rattle.ga_explorer_text.specs.Telling.{IsEffectsAnswer, IsWhoAnswer}
 
 -- ---- A text that was said, under another name
 
@@ -101,7 +101,7 @@ joined_written (Err why) contents before said text more pending h = cut_assoc co
 
 -- ---- steps that wrote, one after another from the newest on
 
-one_step : (s : State) (node : NodeId) (cell k : ℕ) → cell_writes s node cell (suc k) ≡ written_text node (written_at s node.number cell k) ++ cell_writes s node cell k
+one_step : (s : State) (node : NodeId) (cell k : ℕ) → cell_writes s node cell (suc k) ≡ cell_write_text node (cell_write_at s node.number cell k) ++ cell_writes s node cell k
 unfolding cell_writes
 one_step s node cell k = refl
 
@@ -110,66 +110,66 @@ unfolding cell_writes
 no_step s node cell = refl
 
 -- a step that wrote nothing has no line
-passed : (s : State) (node : NodeId) (cell k : ℕ) → written_at s node.number cell k ≡ None → cell_writes s node cell (suc k) ≡ cell_writes s node cell k
-passed s node cell k is = one_step s node cell k ∙ ap (λ (o : Option CellWrite). written_text node o ++ cell_writes s node cell k) is
+passed : (s : State) (node : NodeId) (cell k : ℕ) → cell_write_at s node.number cell k ≡ None → cell_writes s node cell (suc k) ≡ cell_writes s node cell k
+passed s node cell k is = one_step s node cell k ∙ ap (λ (o : Option CellWrite). cell_write_text node o ++ cell_writes s node cell k) is
 
-pub no_write : (s : State) (node : NodeId) (cell left : ℕ) → None ≡ newest_written s node.number cell left → cell_writes s node cell left ≡ []
+pub no_write : (s : State) (node : NodeId) (cell left : ℕ) → None ≡ newest_cell_write s node.number cell left → cell_writes s node cell left ≡ []
 no_write s node cell zero e = no_step s node cell
-no_write s node cell (suc k) e = go (written_at s node.number cell k) refl (λ h. no_write s node cell k h) e
+no_write s node cell (suc k) e = go (cell_write_at s node.number cell k) refl (λ h. no_write s node cell k h) e
   where
-    go : (o : Option CellWrite) → written_at s node.number cell k ≡ o → (None ≡ newest_written s node.number cell k → cell_writes s node cell k ≡ [])
-        → None ≡ either o (newest_written s node.number cell k) → cell_writes s node cell (suc k) ≡ []
+    go : (o : Option CellWrite) → cell_write_at s node.number cell k ≡ o → (None ≡ newest_cell_write s node.number cell k → cell_writes s node cell k ≡ [])
+        → None ≡ newer_write o (newest_cell_write s node.number cell k) → cell_writes s node cell (suc k) ≡ []
     go None is before h = passed s node cell k is ∙ before h
     go (Some wrote) is before h = absurd (cc)
 
 -- the newest is written first, and then those before it
-newest : (s : State) (node : NodeId) (cell left : ℕ) (wrote : CellWrite) → Some wrote ≡ newest_written s node.number cell left
-    → cell_writes s node cell left ≡ written_text node (Some wrote) ++ cell_writes s node cell (wrote.step - 1)
+newest : (s : State) (node : NodeId) (cell left : ℕ) (wrote : CellWrite) → Some wrote ≡ newest_cell_write s node.number cell left
+    → cell_writes s node cell left ≡ cell_write_text node (Some wrote) ++ cell_writes s node cell (wrote.step - 1)
 newest s node cell zero wrote e = absurd (cc)
-newest s node cell (suc k) wrote e = go (written_at s node.number cell k) refl (λ h. newest s node cell k wrote h) e
+newest s node cell (suc k) wrote e = go (cell_write_at s node.number cell k) refl (λ h. newest s node cell k wrote h) e
   where
-    go : (o : Option CellWrite) → written_at s node.number cell k ≡ o
-        → (Some wrote ≡ newest_written s node.number cell k → cell_writes s node cell k ≡ written_text node (Some wrote) ++ cell_writes s node cell (wrote.step - 1))
-        → Some wrote ≡ either o (newest_written s node.number cell k)
-        → cell_writes s node cell (suc k) ≡ written_text node (Some wrote) ++ cell_writes s node cell (wrote.step - 1)
+    go : (o : Option CellWrite) → cell_write_at s node.number cell k ≡ o
+        → (Some wrote ≡ newest_cell_write s node.number cell k → cell_writes s node cell k ≡ cell_write_text node (Some wrote) ++ cell_writes s node cell (wrote.step - 1))
+        → Some wrote ≡ newer_write o (newest_cell_write s node.number cell k)
+        → cell_writes s node cell (suc k) ≡ cell_write_text node (Some wrote) ++ cell_writes s node cell (wrote.step - 1)
     go None is before h = passed s node cell k is ∙ before h
     go (Some other) is before h =
         let step = written_step s node.number cell k wrote (h ∙ sym is) in
         one_step s node cell k
-        ∙ ap (λ (o : Option CellWrite). written_text node o ++ cell_writes s node cell k) (is ∙ sym h)
-        ∙ ap (λ (m : ℕ). written_text node (Some wrote) ++ cell_writes s node cell m) (let f : k ≡ wrote.step - 1 = omega (arith, step) in f)
+        ∙ ap (λ (o : Option CellWrite). cell_write_text node o ++ cell_writes s node cell k) (is ∙ sym h)
+        ∙ ap (λ (m : ℕ). cell_write_text node (Some wrote) ++ cell_writes s node cell m) (let f : k ≡ wrote.step - 1 = omega (arith, step) in f)
 
-pub next_write : (s : State) (node : NodeId) (cell left : ℕ) (wrote : CellWrite) (line : List ℕ) → Some wrote ≡ newest_written s node.number cell left → line ≡ written_text node (Some wrote)
+pub next_write : (s : State) (node : NodeId) (cell left : ℕ) (wrote : CellWrite) (line : List ℕ) → Some wrote ≡ newest_cell_write s node.number cell left → line ≡ cell_write_text node (Some wrote)
     → cell_writes s node cell left ≡ line ++ cell_writes s node cell (wrote.step - 1)
 next_write s node cell left wrote line e is = newest s node cell left wrote e ∙ ap (λ z. z ++ cell_writes s node cell (wrote.step - 1)) (sym is)
 
 -- ---- A tree that was written
 
 -- whether the step of the query made the value can be read off the first row
-by_first : (s : State) (step : ℕ) (value : Value) (rows : List ProvenanceRow) → slice_get rows 0 ≡ Some (made_row s (row_at 0 value)) → is_first step rows ≡ ((origin_of s value).step == step)
+by_first : (s : State) (step : ℕ) (value : Value) (rows : List ProvenanceRow) → slice_get rows 0 ≡ Some (origin_row s (row_at_depth 0 value)) → is_first step rows ≡ ((origin_of s value).step == step)
 by_first s step value [] e = absurd (cc)
 by_first s step value (row ∷ rows) e = ap (λ (r : ProvenanceRow). r.value.step == step) (same_Some _ _ e)
 
-pub made_by : (s : State) (step : ℕ) (value : Value) (rows : List ProvenanceRow) (is_whole : Bool) → AreRows s [] (row_at 0 value ∷ []) rows is_whole → (is_whole ≡ false → length rows ≡ most_rows)
+pub made_by : (s : State) (step : ℕ) (value : Value) (rows : List ProvenanceRow) (is_whole : Bool) → AreProvenanceRows s [] (row_at_depth 0 value ∷ []) rows is_whole → (is_whole ≡ false → length rows ≡ max_tree_rows)
     → is_first step rows ≡ ((origin_of s value).step == step)
 made_by s step value rows is_whole told cut = by_first s step value rows (first_told s value rows is_whole told (λ no. let long = cut no in omega (arith, long)))
 
 -- the whole text
-pub tree_told : (notes : Option DebugInfo) (s : State) (node : NodeId) (step : ℕ) (value : Value) (rows told : List ProvenanceRow) (is_whole : Bool) (first last : List ℕ) → AreRows s [] (row_at 0 value ∷ []) rows is_whole
-    → length rows ≤ most_rows → (is_whole ≡ false → length rows ≡ most_rows) → told ≡ rows → first ≡ rows_by notes s node step value (is_first step told) told → last ≡ more_text is_whole
-    → TellsTree notes s node step value (first ++ last)
+pub tree_told : (notes : Option DebugInfo) (s : State) (node : NodeId) (step : ℕ) (value : Value) (rows told : List ProvenanceRow) (is_whole : Bool) (first last : List ℕ) → AreProvenanceRows s [] (row_at_depth 0 value ∷ []) rows is_whole
+    → length rows ≤ max_tree_rows → (is_whole ≡ false → length rows ≡ max_tree_rows) → told ≡ rows → first ≡ tree_rows_by_root notes s node step value (is_first step told) told → last ≡ more_rows_text is_whole
+    → IsTreeAnswer notes s node step value (first ++ last)
 tree_told notes s node step value rows told is_whole first last are most cut same f l = record {
   rows = rows;
   is_whole = is_whole;
   told = are;
   most = most;
   cut = cut;
-  text = ap (λ z. z ++ last) (f ∙ ap (λ z. rows_by notes s node step value (is_first step z) z) same ∙ ap (λ (b : Bool). rows_by notes s node step value b rows) (made_by s step value rows is_whole are cut)) ∙ ap (λ z. tree_rows_text notes s node step value rows ++ z) l;
+  text = ap (λ z. z ++ last) (f ∙ ap (λ z. tree_rows_by_root notes s node step value (is_first step z) z) same ∙ ap (λ (b : Bool). tree_rows_by_root notes s node step value b rows) (made_by s step value rows is_whole are cut)) ∙ ap (λ z. tree_rows_text notes s node step value rows ++ z) l;
 }
 
 -- a line with the words of its value
-pub worded_as : (s : State) (value : Value) (word a : ℕ) → word ≡ word_of_value s value → a ≡ a_of_value s value → worded_text s value word a ≡ value_text s value
-worded_as s value word a e f = ap (λ (w : ℕ). worded_text s value w a) e ∙ ap (worded_text s value (word_of_value s value)) f
+pub worded_as : (s : State) (value : Value) (word a : ℕ) → word ≡ word_of_value s value → a ≡ a_of_value s value → value_with_word_text s value word a ≡ value_text s value
+worded_as s value word a e f = ap (λ (w : ℕ). value_with_word_text s value w a) e ∙ ap (value_with_word_text s value (word_of_value s value)) f
 
 -- ---- blanks, two more at a time
 
@@ -188,33 +188,33 @@ next_level left less some e =
 
 -- ---- texts of nodes, one node more at a time
 
-no_node : (text : ℕ → List ℕ) (n : ℕ) → each_node text n zero ≡ []
-unfolding each_node
+no_node : (text : ℕ → List ℕ) (n : ℕ) → texts_of_nodes text n zero ≡ []
+unfolding texts_of_nodes
 no_node text n = refl
 
-one_node : (text : ℕ → List ℕ) (n more : ℕ) → each_node text n (suc more) ≡ text n ++ each_node text (n + 1) more
-unfolding each_node
+one_node : (text : ℕ → List ℕ) (n more : ℕ) → texts_of_nodes text n (suc more) ≡ text n ++ texts_of_nodes text (n + 1) more
+unfolding texts_of_nodes
 one_node text n more = refl
 
 one_fewer : (n : ℕ) → n < 144 → 144 - n ≡ suc (144 - (n + 1))
 one_fewer n l = omega arith
 
-pub next_node : (text : ℕ → List ℕ) (n m : ℕ) → n < 144 → m ≡ n → each_node text n (144 - n) ≡ text m ++ each_node text (n + 1) (144 - (n + 1))
+pub next_node : (text : ℕ → List ℕ) (n m : ℕ) → n < 144 → m ≡ n → texts_of_nodes text n (144 - n) ≡ text m ++ texts_of_nodes text (n + 1) (144 - (n + 1))
 next_node text n m l e =
-    ap (each_node text n) (one_fewer n l) ∙ one_node text n (144 - (n + 1)) ∙ ap (λ (z : ℕ). text z ++ each_node text (n + 1) (144 - (n + 1))) (sym e)
+    ap (texts_of_nodes text n) (one_fewer n l) ∙ one_node text n (144 - (n + 1)) ∙ ap (λ (z : ℕ). text z ++ texts_of_nodes text (n + 1) (144 - (n + 1))) (sym e)
 
-pub all_told : (text : ℕ → List ℕ) (n left : ℕ) → left ≡ zero → each_node text n left ≡ []
-all_told text n left e = ap (each_node text n) e ∙ no_node text n
+pub all_told : (text : ℕ → List ℕ) (n left : ℕ) → left ≡ zero → texts_of_nodes text n left ≡ []
+all_told text n left e = ap (texts_of_nodes text n) e ∙ no_node text n
 
 -- the same where a text is made of them
 pub next_added : (text : ℕ → List ℕ) (n m : ℕ) (out new rest : List ℕ) → n < 144 → m ≡ n → new ≡ out ++ text m
-    → out ++ each_node text n (144 - n) ≡ rest → new ++ each_node text (n + 1) (144 - (n + 1)) ≡ rest
+    → out ++ texts_of_nodes text n (144 - n) ≡ rest → new ++ texts_of_nodes text (n + 1) (144 - (n + 1)) ≡ rest
 next_added text n m out new rest l e g h =
-    ap (λ (z : List ℕ). z ++ each_node text (n + 1) (144 - (n + 1))) g
-    ∙ append_assoc out (text m) (each_node text (n + 1) (144 - (n + 1)))
+    ap (λ (z : List ℕ). z ++ texts_of_nodes text (n + 1) (144 - (n + 1))) g
+    ∙ append_assoc out (text m) (texts_of_nodes text (n + 1) (144 - (n + 1)))
     ∙ ap (λ (z : List ℕ). out ++ z) (sym (next_node text n m l e)) ∙ h
 
-pub all_added : (text : ℕ → List ℕ) (n left : ℕ) (out rest : List ℕ) → left ≡ zero → out ++ each_node text n left ≡ rest → out ≡ rest
+pub all_added : (text : ℕ → List ℕ) (n left : ℕ) (out rest : List ℕ) → left ≡ zero → out ++ texts_of_nodes text n left ≡ rest → out ≡ rest
 all_added text n left out rest e h = sym (append-nil out) ∙ ap (λ (z : List ℕ). out ++ z) (sym (all_told text n left e)) ∙ h
 
 -- how many nodes a test holds of, with one node more
@@ -240,43 +240,43 @@ counted_whole test n most count e all = e ∙ ap (node_count test) all
 
 -- ---- steps around one, one more at a time
 
-one_place : (notes : Option DebugInfo) (s : State) (node : NodeId) (k more : ℕ) → places_text notes s node k (suc more) ≡ place_text notes s node k ++ places_text notes s node (k + 1) more
-unfolding places_text
+one_place : (notes : Option DebugInfo) (s : State) (node : NodeId) (k more : ℕ) → numbered_steps_text notes s node k (suc more) ≡ numbered_step_text notes s node k ++ numbered_steps_text notes s node (k + 1) more
+unfolding numbered_steps_text
 one_place notes s node k more = refl
 
-pub no_place : (notes : Option DebugInfo) (s : State) (node : NodeId) (k left : ℕ) → left ≡ zero → places_text notes s node k left ≡ []
-unfolding places_text
+pub no_place : (notes : Option DebugInfo) (s : State) (node : NodeId) (k left : ℕ) → left ≡ zero → numbered_steps_text notes s node k left ≡ []
+unfolding numbered_steps_text
 no_place notes s node k zero e = refl
 no_place notes s node k (suc more) e = absurd (omega (arith, e))
 
 pub next_place : (notes : Option DebugInfo) (s : State) (node : NodeId) (k last m : ℕ) → k < last → m ≡ k
-    → places_text notes s node k (last - k) ≡ place_text notes s node m ++ places_text notes s node (k + 1) (last - (k + 1))
+    → numbered_steps_text notes s node k (last - k) ≡ numbered_step_text notes s node m ++ numbered_steps_text notes s node (k + 1) (last - (k + 1))
 next_place notes s node k last m l is =
-    ap (places_text notes s node k) (let e : last - k ≡ suc (last - (k + 1)) = omega (arith, l) in e) ∙ one_place notes s node k (last - (k + 1))
-    ∙ ap (λ (n : ℕ). place_text notes s node n ++ places_text notes s node (k + 1) (last - (k + 1))) (sym is)
+    ap (numbered_steps_text notes s node k) (let e : last - k ≡ suc (last - (k + 1)) = omega (arith, l) in e) ∙ one_place notes s node k (last - (k + 1))
+    ∙ ap (λ (n : ℕ). numbered_step_text notes s node n ++ numbered_steps_text notes s node (k + 1) (last - (k + 1))) (sym is)
 
 -- a step by its number, which is one more than its place
 pub placed : (notes : Option DebugInfo) (s : State) (node : NodeId) (k step : ℕ) → k ≡ step → 0 < step
-    → step_registers_text node k (slice_get (history_of s node.number) (k - 1)) (node_after s node.number k) ++ step_tail notes s node k ≡ place_text notes s node (step - 1)
+    → step_registers_text node k (slice_get (history_of s node.number) (k - 1)) (node_after s node.number k) ++ step_suffix_text notes s node k ≡ numbered_step_text notes s node (step - 1)
 placed notes s node k step is some =
-    ap (λ (n : ℕ). step_registers_text node n (slice_get (history_of s node.number) (n - 1)) (node_after s node.number n) ++ step_tail notes s node n) is
-    ∙ ap (λ (n : ℕ). step_registers_text node n (slice_get (history_of s node.number) (step - 1)) (node_after s node.number n) ++ step_tail notes s node n)
+    ap (λ (n : ℕ). step_registers_text node n (slice_get (history_of s node.number) (n - 1)) (node_after s node.number n) ++ step_suffix_text notes s node n) is
+    ∙ ap (λ (n : ℕ). step_registers_text node n (slice_get (history_of s node.number) (step - 1)) (node_after s node.number n) ++ step_suffix_text notes s node n)
     (let e : step ≡ step - 1 + 1 = omega (arith, some) in e)
 
 -- if the step exists, and if it doesn't
 pub around_here : (notes : Option DebugInfo) (s : State) (node : NodeId) (step around first last : ℕ) → has_step s node.number step ≡ true → first ≡ step - 1 - around
-    → last ≡ lesser (step + around) (steps_of node.number s.kept) → places_text notes s node first (last - first) ≡ around_text notes s node step around
+    → last ≡ smaller_number (step + around) (count_steps node.number s.kept) → numbered_steps_text notes s node first (last - first) ≡ steps_around_text notes s node step around
 around_here notes s node step around first last is e f =
-    ap (λ (m : ℕ). places_text notes s node m (last - m)) e
-    ∙ ap (λ (m : ℕ). places_text notes s node (step - 1 - around) (m - (step - 1 - around))) f
-    ∙ sym (ap (λ (b : Bool). if b then places_text notes s node (step - 1 - around) (lesser (step + around) (steps_of node.number s.kept) - (step - 1 - around)) else refusal_text NoStep) is)
+    ap (λ (m : ℕ). numbered_steps_text notes s node m (last - m)) e
+    ∙ ap (λ (m : ℕ). numbered_steps_text notes s node (step - 1 - around) (m - (step - 1 - around))) f
+    ∙ sym (ap (λ (b : Bool). if b then numbered_steps_text notes s node (step - 1 - around) (smaller_number (step + around) (count_steps node.number s.kept) - (step - 1 - around)) else refusal_text NoStep) is)
 
-pub around_nowhere : (notes : Option DebugInfo) (s : State) (node : NodeId) (step around : ℕ) → has_step s node.number step ≡ false → refusal_text NoStep ≡ around_text notes s node step around
+pub around_nowhere : (notes : Option DebugInfo) (s : State) (node : NodeId) (step around : ℕ) → has_step s node.number step ≡ false → refusal_text NoStep ≡ steps_around_text notes s node step around
 around_nowhere notes s node step around is =
-    sym (ap (λ (b : Bool). if b then places_text notes s node (step - 1 - around) (lesser (step + around) (steps_of node.number s.kept) - (step - 1 - around)) else refusal_text NoStep) is)
+    sym (ap (λ (b : Bool). if b then numbered_steps_text notes s node (step - 1 - around) (smaller_number (step + around) (count_steps node.number s.kept) - (step - 1 - around)) else refusal_text NoStep) is)
 
 -- the lesser of two numbers
-lesser_is : (m n k : ℕ) → (m ≤ n → k ≡ m) → (n < m → k ≡ n) → k ≡ lesser m n
+lesser_is : (m n k : ℕ) → (m ≤ n → k ≡ m) → (n < m → k ≡ n) → k ≡ smaller_number m n
 lesser_is m n k first second = go (nat_le m n) refl
   where
     go : (b : Bool) → nat_le m n ≡ b → k ≡ cond b m n
@@ -284,27 +284,27 @@ lesser_is m n k first second = go (nat_le m n) refl
     go false e = second (grind (arith, nat_tests))
 
 -- and where the first is cut at the greatest number of 32 bits, which the second is not above
-pub last_is : (m n capped last : ℕ) → capped ≡ min m 4294967295 → last ≡ min capped n → n < 4294967296 → last ≡ lesser m n
+pub last_is : (m n capped last : ℕ) → capped ≡ min m 4294967295 → last ≡ min capped n → n < 4294967296 → last ≡ smaller_number m n
 last_is m n capped last e f fits = lesser_is m n last (λ l. omega (arith, e, f, fits, l)) (λ l. omega (arith, e, f, fits, l))
 
 -- ---- what a call means for the answer to a command
 
 pub effects_found : (s : State) (node : NodeId) (step events : ℕ) (nodes : List RollbackEffect) (text : List ℕ) → rewind_answer s node.number step ≡ Ok events
-    → nodes ≡ effects_of s node.number step → text ≡ effects_text events nodes → TellsEffects s node step text
+    → nodes ≡ rollback_effects s node.number step → text ≡ effects_text events nodes → IsEffectsAnswer s node step text
 effects_found s node step events nodes text answer is t =
-    inl (t ∙ ap (effects_text events) is ∙ ap (λ (r : Result ℕ LabFault). effects_answer (effects_of s node.number step) r) (sym answer))
+    inl (t ∙ ap (effects_text events) is ∙ ap (λ (r : Result ℕ LabFault). effects_answer (rollback_effects s node.number step) r) (sym answer))
 
 pub effects_refused : (s : State) (node : NodeId) (step : ℕ) (why : LabFault) (text : List ℕ)
     → (rewind_answer s node.number step ≡ Err why) ⊎ ((why ≡ Memory) × IsOk (rewind_answer s node.number step))
-    → text ≡ advised_text why → TellsEffects s node step text
+    → text ≡ advised_refusal_text why → IsEffectsAnswer s node step text
 effects_refused s node step why text (inl answer) t =
-    inl (t ∙ ap (λ (r : Result ℕ LabFault). effects_answer (effects_of s node.number step) r) (sym answer))
-effects_refused s node step why text (inr wanting) t = inr (wanting.1, t ∙ ap advised_text wanting.0)
+    inl (t ∙ ap (λ (r : Result ℕ LabFault). effects_answer (rollback_effects s node.number step) r) (sym answer))
+effects_refused s node step why text (inr wanting) t = inr (wanting.1, t ∙ ap advised_refusal_text wanting.0)
 
 pub who_told : (s : State) (chip : List NodeRecord) (marks ended over idle : ℕ → Bool) (first second third last : List ℕ) → chip ≡ chip_of s → AreDeadlocked chip marks
     → ((others : ℕ → Bool) → AreDeadlocked chip others → IsSubset others marks) → AreEnded chip ended → ((n : ℕ) → n < 144 → over n ≡ (marks n && ended n))
-    → MarksIdle s idle → first ≡ all_waiting chip idle
-    → second ≡ stuck_text marks over idle → third ≡ all_rings chip marks → last ≡ rest_text over idle → TellsWho s (first ++ second ++ third ++ last)
+    → AreIdleMarks s idle → first ≡ all_waiting_text chip idle
+    → second ≡ stuck_text marks over idle → third ≡ wait_cycles_text chip marks → last ≡ ended_and_idle_text over idle → IsWhoAnswer s (first ++ second ++ third ++ last)
 who_told s chip marks ended over idle first second third last e stuck greatest done both silent f g h i = record {
   marks = marks;
   stuck = subst (λ z. AreDeadlocked z marks) e stuck;
@@ -318,17 +318,17 @@ who_told s chip marks ended over idle first second third last e stuck greatest d
   text = rw (f, g, h, i, e) refl;
 }
 
-pub races_found : (s : State) (only : Option NodeId) (races : List Race) (readings : List LookRace) (looks quiet : Bool) (text : List ℕ) → races ≡ races_asked s only
-    → All (IsTold s only) readings → NoneMissed s only readings → looks ≡ has_looks (causes_of s) (chip_of s) → quiet ≡ is_none (first_ready (chip_of s))
-    → text ≡ listed_text only races readings looks quiet → TellsRaces s only text
+pub races_found : (s : State) (only : Option NodeId) (races : List Race) (readings : List LookRace) (looks quiet : Bool) (text : List ℕ) → races ≡ requested_races s only
+    → All (IsReportedLookRace s only) readings → HasAllNearLookRaces s only readings → looks ≡ has_looks (causes_of s) (chip_of s) → quiet ≡ is_none (first_ready_node (chip_of s))
+    → text ≡ listed_races_text only races readings looks quiet → IsRacesAnswer s only text
 races_found s only races readings looks quiet text r told found l q t =
     inl (
       readings,
       told,
       found,
-      t ∙ ap (λ (z : List Race). listed_text only z readings looks quiet) r ∙ ap (λ (z : Bool). listed_text only (races_asked s only) readings z quiet) l
-          ∙ ap (listed_text only (races_asked s only) readings (has_looks (causes_of s) (chip_of s))) q,
+      t ∙ ap (λ (z : List Race). listed_races_text only z readings looks quiet) r ∙ ap (λ (z : Bool). listed_races_text only (requested_races s only) readings z quiet) l
+          ∙ ap (listed_races_text only (requested_races s only) readings (has_looks (causes_of s) (chip_of s))) q,
     )
 
-pub races_refused : (s : State) (only : Option NodeId) (why : LabFault) (text : List ℕ) → why ≡ Memory → text ≡ advised_text why → TellsRaces s only text
-races_refused s only why text e t = inr (t ∙ ap advised_text e)
+pub races_refused : (s : State) (only : Option NodeId) (why : LabFault) (text : List ℕ) → why ≡ Memory → text ≡ advised_refusal_text why → IsRacesAnswer s only text
+races_refused s only why text e t = inr (t ∙ ap advised_refusal_text e)

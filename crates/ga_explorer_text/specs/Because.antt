@@ -6,48 +6,48 @@ use Rattle.ga_event.specs.declared.made.Made.{Made}
 use Rattle.ga_event.specs.declared.made.Made.TheVariants.{Own, Pass}
 use Rattle.ga_lab.specs.Machine.{State, has_step}
 use Rattle.ga_lab.specs.declared.fault.LabFault.TheVariants.{NoStep}
-use Rattle.ga_event.specs.declared.flow.part.Part.{Part}
+use Rattle.ga_event.specs.declared.flow.part.NodePart.{NodePart}
 use Rattle.ga_provenance.specs.declared.deciding.Decision.{Decision}
-use Rattle.ga_provenance.specs.Deciding.{newest_decided}
-use Rattle.ga_provenance.specs.Rows.{row_at}
+use Rattle.ga_provenance.specs.Deciding.{newest_decision}
+use Rattle.ga_provenance.specs.Rows.{row_at_depth}
 use Rattle.ga_text.specs.Digits.{step_text}
 use Rattle.ga_display.specs.Texts.{register_text, refusal_text}
 use Rattle.ga_debug_info.specs.declared.notes.DebugInfo.{DebugInfo}
 use Rattle.ga_explorer_text.specs.Deeds.{action_text}
-use Rattle.ga_explorer_text.specs.SourceSuffix.{step_tail}
+use Rattle.ga_explorer_text.specs.SourceSuffix.{step_suffix_text}
 use Rattle.ga_explorer_text.specs.Trees.{part_name, tree_row_text}
 
 -- the register that a step of the node's own tested, with its word; a transferred word is in the text already
-abbrev pub tested_text : Made → Part → ℕ → Text
-tested_text (Own node step kind) at word = register_text (part_name at) word
-tested_text (Pass writer i reader j word) at other = []
+abbrev pub tested_register_text : Made → NodePart → ℕ → Text
+tested_register_text (Own node step kind) at word = register_text (part_name at) word
+tested_register_text (Pass writer i reader j word) at other = []
 
 -- the step of a decision, what it did and what it tested
-abbrev pub decided_text : NodeId → Decision → Text
-decided_text node decision =
-    step_text node decision.step ++ codes " " ++ action_text decision.made node.number ++ tested_text decision.made decision.tested.part decision.word
+abbrev pub decision_step_text : NodeId → Decision → Text
+decision_step_text node decision =
+    step_text node decision.step ++ codes " " ++ action_text decision.made node.number ++ tested_register_text decision.made decision.tested.part decision.word
 
 -- the line of a decision, and below it the line of the value's origin, as `whence` prints it
 abbrev pub decision_text : Option DebugInfo → State → NodeId → Decision → Text
 decision_text notes s node decision =
-    decided_text node decision ++ (step_tail notes s node decision.step ++ tree_row_text notes s 1 (row_at 0 decision.source))
+    decision_step_text node decision ++ (step_suffix_text notes s node decision.step ++ tree_row_text notes s 1 (row_at_depth 0 decision.source))
 
 -- the newest decision, and those before it
-abbrev pub from_newest : Option DebugInfo → State → NodeId → (ℕ → Text) → Option Decision → Text
-from_newest notes s node before None = []
-from_newest notes s node before (Some decision) = decision_text notes s node decision ++ before (decision.step - 1)
+abbrev pub decisions_from_newest : Option DebugInfo → State → NodeId → (ℕ → Text) → Option Decision → Text
+decisions_from_newest notes s node before None = []
+decisions_from_newest notes s node before (Some decision) = decision_text notes s node decision ++ before (decision.step - 1)
 
 -- at most `left` decisions among the first `k` steps of a node, the newest first
 unfoldable pub decisions_text : Option DebugInfo → State → NodeId → ℕ → ℕ → Text
 decisions_text notes s node zero k = []
-decisions_text notes s node (suc more) k = from_newest notes s node (decisions_text notes s node more) (newest_decided s node k)
+decisions_text notes s node (suc more) k = decisions_from_newest notes s node (decisions_text notes s node more) (newest_decision s node k)
 
 -- at most `most` decisions among the first `k` steps of a node, where there is one, or else that there is none
-abbrev pub newest_decision_text : Option DebugInfo → State → NodeId → ℕ → ℕ → Option Decision → Text
-newest_decision_text notes s node most k None = codes "none\n"
-newest_decision_text notes s node most k (Some newest) = decisions_text notes s node most k
+abbrev pub decisions_or_none_text : Option DebugInfo → State → NodeId → ℕ → ℕ → Option Decision → Text
+decisions_or_none_text notes s node most k None = codes "none\n"
+decisions_or_none_text notes s node most k (Some newest) = decisions_text notes s node most k
 
 -- the decisions before a step, if it exists
 abbrev pub because_text : Option DebugInfo → State → NodeId → ℕ → ℕ → Text
 because_text notes s node step most =
-    if has_step s node.number step then newest_decision_text notes s node most (step - 1) (newest_decided s node (step - 1)) else refusal_text NoStep
+    if has_step s node.number step then decisions_or_none_text notes s node most (step - 1) (newest_decision s node (step - 1)) else refusal_text NoStep

@@ -3,15 +3,15 @@ use Rattle.std.specs.Prelude.{ℕ, ◌==◌, ◌%◌, if◌then◌else◌, ◌++
 use Rattle.ga_text.specs.Lines.{Text}
 use Rattle.ga_word.specs.Word.{hex6_of}
 use Rattle.ga_slots.specs.Codes.{name_of, op_of}
-use Rattle.ga_node.specs.declared.kind.Kind.{Kind}
-use Rattle.ga_node.specs.declared.kind.Kind.TheVariants as kind
+use Rattle.ga_node.specs.declared.kind.OwnEventKind.{OwnEventKind}
+use Rattle.ga_node.specs.declared.kind.OwnEventKind.TheVariants as kind
 use Rattle.ga_grid.specs.declared.node_id.NodeId.{NodeId}
 use Rattle.ga_event.specs.declared.made.Made.{Made}
 use Rattle.ga_event.specs.declared.made.Made.TheVariants.{Own, Pass}
 use Rattle.ga_text.specs.Digits.{step_text}
 
 -- an event of a node's own: the opcode's name, or what came in its place
-abbrev pub kind_name : Kind → Text
+abbrev pub kind_name : OwnEventKind → Text
 kind_name kind.Fetch = codes "fetch"
 kind_name (kind.Run code) = name_of (op_of (code % 32))
 kind_name kind.Wait = codes "wait"

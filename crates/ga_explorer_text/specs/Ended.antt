@@ -11,40 +11,40 @@ use Rattle.ga_grid.specs.Chip.{record_at}
 use Rattle.ga_races.specs.Acts.{awaits, IsSubset}
 
 -- whether the node on a side is marked, if there is one
-abbrev pub is_ended : (ℕ → Bool) → Option ℕ → Bool
-is_ended marks None = true
-is_ended marks (Some m) = marks m
+abbrev pub is_ended_neighbour : (ℕ → Bool) → Option ℕ → Bool
+is_ended_neighbour marks None = true
+is_ended_neighbour marks (Some m) = marks m
 
 -- the node awaits no neighbour on this side but a marked one
-abbrev pub ended_on : List NodeRecord → (ℕ → Bool) → ℕ → Side → Bool
-ended_on chip marks n side = not (awaits (record_at chip n).wait side) || is_ended marks (neighbour_of n side)
+abbrev pub is_side_ended : List NodeRecord → (ℕ → Bool) → ℕ → Side → Bool
+is_side_ended chip marks n side = not (awaits (record_at chip n).wait side) || is_ended_neighbour marks (neighbour_of n side)
 
 -- the node awaits a neighbour on this side
-abbrev pub is_beside : Option ℕ → Bool → Bool
-is_beside None awaited = false
-is_beside (Some m) awaited = awaited
+abbrev pub has_awaited_neighbour : Option ℕ → Bool → Bool
+has_awaited_neighbour None awaited = false
+has_awaited_neighbour (Some m) awaited = awaited
 
 abbrev pub awaits_on : List NodeRecord → ℕ → Side → Bool
-awaits_on chip n side = is_beside (neighbour_of n side) (awaits (record_at chip n).wait side)
+awaits_on chip n side = has_awaited_neighbour (neighbour_of n side) (awaits (record_at chip n).wait side)
 
 -- the node awaits a neighbour
 abbrev pub awaits_any : List NodeRecord → ℕ → Bool
 awaits_any chip n = awaits_on chip n Right || (awaits_on chip n Down || (awaits_on chip n Left || awaits_on chip n Up))
 
 -- the node awaits marked neighbours, and no other
-abbrev pub awaits_ended : List NodeRecord → (ℕ → Bool) → ℕ → Bool
-awaits_ended chip marks n =
-    awaits_any chip n && (ended_on chip marks n Right && (ended_on chip marks n Down && (ended_on chip marks n Left && ended_on chip marks n Up)))
+abbrev pub awaits_only_ended : List NodeRecord → (ℕ → Bool) → ℕ → Bool
+awaits_only_ended chip marks n =
+    awaits_any chip n && (is_side_ended chip marks n Right && (is_side_ended chip marks n Down && (is_side_ended chip marks n Left && is_side_ended chip marks n Up)))
 
 -- the node has ended if the marked ones have: it waits for code, or to read from marked nodes alone
-abbrev pub ends_by : Wait → Bool → Bool
-ends_by (wait.Fetch sides) ended = true
-ends_by (wait.Read sides) ended = ended
-ends_by (wait.Write side) ended = false
-ends_by wait.Nothing ended = false
+abbrev pub is_ended_wait : Wait → Bool → Bool
+is_ended_wait (wait.Fetch sides) ended = true
+is_ended_wait (wait.Read sides) ended = ended
+is_ended_wait (wait.Write side) ended = false
+is_ended_wait wait.Nothing ended = false
 
 unfoldable pub has_ended : List NodeRecord → (ℕ → Bool) → ℕ → Bool
-has_ended chip marks n = ends_by (record_at chip n).wait (awaits_ended chip marks n)
+has_ended chip marks n = is_ended_wait (record_at chip n).wait (awaits_only_ended chip marks n)
 
 -- each node is marked that has ended if the marked ones have
 abbrev pub MarksEnded : List NodeRecord → (ℕ → Bool) → Type 0

@@ -9,10 +9,10 @@ use Rattle.ga_lab.specs.Machine.{State, chip_of, causes_of}
 use Rattle.ga_lab.specs.declared.fault.LabFault.TheVariants.{Memory}
 use Rattle.ga_race_detector.specs.declared.races.Race.{Race}
 use Rattle.ga_race_detector.specs.declared.readings.LookRace.{LookRace}
-use Rattle.ga_race_detector.specs.Readings.{back_of, IsTold, NoneMissed}
-use Rattle.ga_race_detector.specs.Races.{races_asked, has_looks, first_ready}
+use Rattle.ga_race_detector.specs.Readings.{rollback_step_of, IsReportedLookRace, HasAllNearLookRaces}
+use Rattle.ga_race_detector.specs.Races.{requested_races, has_looks, first_ready_node}
 use Rattle.ga_text.specs.Digits.{name_of_node, step_text}
-use Rattle.ga_display.specs.Texts.{advised_text}
+use Rattle.ga_display.specs.Texts.{advised_refusal_text}
 
 -- the step and the word that it took, another that it could have taken, and the commands that make it take that
 abbrev pub race_text : Race → Text
@@ -26,48 +26,48 @@ abbrev pub races_head : ℕ → Text
 races_head count = codes "races " ++ decimal count ++ codes "\n"
 
 -- if no step is listed and no node looks: whether some node has an event
-abbrev pub calm_line : Bool → Text
-calm_line true = codes "every order ends on this chip\n"
-calm_line false = codes "no other order, as long as no node makes more steps\n"
+abbrev pub no_race_line : Bool → Text
+no_race_line true = codes "every order ends on this chip\n"
+no_race_line false = codes "no other order, as long as no node makes more steps\n"
 
 -- the last line if no node looks: about one node nothing is said of the whole; listed steps suffice
-abbrev pub order_line : Option NodeId → List Race → Bool → Text
-order_line None [] quiet = calm_line quiet
-order_line None (race ∷ races) quiet = []
-order_line (Some node) races quiet = []
+abbrev pub other_orders_line : Option NodeId → List Race → Bool → Text
+other_orders_line None [] quiet = no_race_line quiet
+other_orders_line None (race ∷ races) quiet = []
+other_orders_line (Some node) races quiet = []
 
 -- the last line: a look may read otherwise in another order, and hide another race
-abbrev pub last_line : Option NodeId → List Race → Bool → Bool → Text
-last_line only races true quiet = codes "looks are kept or come next: there may be other races\n"
-last_line only races false quiet = order_line only races quiet
+abbrev pub races_last_line : Option NodeId → List Race → Bool → Bool → Text
+races_last_line only races true quiet = codes "looks are kept or come next: there may be other races\n"
+races_last_line only races false quiet = other_orders_line only races quiet
 
 -- on which side of a change a look would have read another word
-abbrev pub before_or_behind : Bool → Text
-before_or_behind true = codes " behind "
-before_or_behind false = codes " before "
+abbrev pub before_or_after_text : Bool → Text
+before_or_after_text true = codes " behind "
+before_or_after_text false = codes " before "
 
 -- a look and the word that it read, another that it could have read, and the commands that make it read that
-abbrev pub reading_text : LookRace → Text
-reading_text reading =
+abbrev pub look_race_text : LookRace → Text
+look_race_text reading =
     step_text reading.node reading.step ++ codes " reads " ++ hex6_of reading.word ++ codes ", or " ++ hex6_of reading.other
-    ++ before_or_behind reading.early ++ step_text reading.neighbour reading.change
-    ++ codes ": rewind " ++ step_text (back_of reading).0 (back_of reading).1 ++ codes ", step " ++ name_of_node reading.node ++ codes "\n"
+    ++ before_or_after_text reading.is_look_first ++ step_text reading.neighbour reading.change
+    ++ codes ": rewind " ++ step_text (rollback_step_of reading).0 (rollback_step_of reading).1 ++ codes ", step " ++ name_of_node reading.node ++ codes "\n"
 
 -- how many lines of steps follow, and the lines of these passes
 abbrev pub race_lines_text : List Race → ℕ → Text
 race_lines_text races count = races_head count ++ flat_map race_text races
 
-abbrev pub listed_text : Option NodeId → List Race → List LookRace → Bool → Bool → Text
-listed_text only races readings looks quiet =
-    race_lines_text races (length races + length readings) ++ (flat_map reading_text readings ++ last_line only races looks quiet)
+abbrev pub listed_races_text : Option NodeId → List Race → List LookRace → Bool → Bool → Text
+listed_races_text only races readings looks quiet =
+    race_lines_text races (length races + length readings) ++ (flat_map look_race_text readings ++ races_last_line only races looks quiet)
 
 -- the answer to `races`, with these looks
 abbrev pub races_text : State → Option NodeId → List LookRace → Text
 races_text s only readings =
-    listed_text only (races_asked s only) readings (has_looks (causes_of s) (chip_of s)) (is_none (first_ready (chip_of s)))
+    listed_races_text only (requested_races s only) readings (has_looks (causes_of s) (chip_of s)) (is_none (first_ready_node (chip_of s)))
 
 -- all races of passes are listed, and the looks that could have read another word, all that a near change leads to; or an
 -- allocation failed
-abbrev pub TellsRaces : State → Option NodeId → Text → Type 0
-TellsRaces s only answer =
-    ((readings : List LookRace) × All (IsTold s only) readings × NoneMissed s only readings × (answer ≡ races_text s only readings)) ⊎ (answer ≡ advised_text Memory)
+abbrev pub IsRacesAnswer : State → Option NodeId → Text → Type 0
+IsRacesAnswer s only answer =
+    ((readings : List LookRace) × All (IsReportedLookRace s only) readings × HasAllNearLookRaces s only readings × (answer ≡ races_text s only readings)) ⊎ (answer ≡ advised_refusal_text Memory)

@@ -3,17 +3,17 @@ use Rattle.std.specs.Prelude.{List, [], ◌∷◌, ◌++◌, codes, map, flat_ma
 use Rattle.ga_text.specs.Lines.{Text, Line}
 use Rattle.ga_grid.specs.declared.node_id.NodeId.{NodeId}
 use Rattle.ga_event.specs.declared.event.Event.{Event}
-use Rattle.ga_lab.specs.Machine.{State, actor_of}
+use Rattle.ga_lab.specs.Machine.{State, acting_node}
 use Rattle.ga_text.specs.Digits.{name_of_node}
-use Rattle.ga_display.specs.Texts.{spaced}
+use Rattle.ga_display.specs.Texts.{space_separated}
 
 -- a step of a node
-abbrev pub step_line : NodeId → Text
-step_line node = spaced (codes "step" ∷ name_of_node node ∷ [])
+abbrev pub step_command_line : NodeId → Text
+step_command_line node = space_separated (codes "step" ∷ name_of_node node ∷ [])
 
 -- the line of a kept event: the step of its node, of a pass of the writer
 abbrev pub saved_line : Event → Text
-saved_line e = step_line (actor_of e)
+saved_line e = step_command_line (acting_node e)
 
 abbrev pub saved_lines : State → List Line
 saved_lines s = map saved_line s.kept

@@ -3,48 +3,48 @@
 use Rattle.std.specs.Prelude.{ℕ, ◌+◌, ◌-◌, ◌%◌, ◌==◌, min, if◌then◌else◌, [], ◌++◌, codes, Option, Some, None}
 use Rattle.ga_text.specs.Lines.{Text}
 use Rattle.ga_grid.specs.declared.node_id.NodeId.{NodeId}
-use Rattle.ga_event.specs.Told.{steps_of}
+use Rattle.ga_event.specs.Told.{count_steps}
 use Rattle.ga_lab.specs.Machine.{State}
-use Rattle.ga_event.specs.declared.flow.part.Part.{Part}
-use Rattle.ga_event.specs.declared.flow.part.Part.TheVariants as part
+use Rattle.ga_event.specs.declared.flow.part.NodePart.{NodePart}
+use Rattle.ga_event.specs.declared.flow.part.NodePart.TheVariants as part
 use Rattle.ga_debug_info.specs.declared.notes.DebugInfo.{DebugInfo}
-use Rattle.ga_debug_info.specs.Notes.{first_note_text, first_note_is_long, slot_text}
+use Rattle.ga_debug_info.specs.Notes.{first_cell_source_text, is_first_cell_source_long, slot_text}
 use Rattle.ga_provenance.specs.declared.value.Value.{Value}
 use Rattle.ga_provenance.specs.Origins.{node_after}
 use Rattle.ga_provenance.specs.Fetched.{fetched_cell}
 
 -- the source line of a cell of a node; nothing for an image
-abbrev pub noted_cell : Option DebugInfo → NodeId → Option ℕ → Text
-noted_cell None node cell = []
-noted_cell (Some notes) node cell = first_note_text notes.notes.items node cell
+abbrev pub cell_note_text : Option DebugInfo → NodeId → Option ℕ → Text
+cell_note_text None node cell = []
+cell_note_text (Some notes) node cell = first_cell_source_text notes.notes.items node cell
 
 -- the source word of a slot of a cell of a node, if the line of the cell is long
-abbrev pub noted_slot : Option DebugInfo → NodeId → Option ℕ → ℕ → Text
-noted_slot None node cell slot = []
-noted_slot (Some notes) node cell slot = if first_note_is_long notes.notes.items node cell then slot_text notes.words.items node cell slot else []
+abbrev pub slot_note_text : Option DebugInfo → NodeId → Option ℕ → ℕ → Text
+slot_note_text None node cell slot = []
+slot_note_text (Some notes) node cell slot = if is_first_cell_source_long notes.notes.items node cell then slot_text notes.words.items node cell slot else []
 
-abbrev pub noted_text : Option DebugInfo → NodeId → Option ℕ → ℕ → Text
-noted_text notes node cell slot = noted_cell notes node cell ++ noted_slot notes node cell slot
+abbrev pub source_note_text : Option DebugInfo → NodeId → Option ℕ → ℕ → Text
+source_note_text notes node cell slot = cell_note_text notes node cell ++ slot_note_text notes node cell slot
 
 -- the source line of a cell of a node and the word of a slot of it, and the end of the line
-abbrev pub tail_text : Option DebugInfo → NodeId → Option ℕ → ℕ → Text
-tail_text notes node cell slot = noted_text notes node cell slot ++ codes "\n"
+abbrev pub source_suffix_line : Option DebugInfo → NodeId → Option ℕ → ℕ → Text
+source_suffix_line notes node cell slot = source_note_text notes node cell slot ++ codes "\n"
 
 -- the slot that was next before a step of a node: 4 before a fetch
 abbrev pub slot_before : State → NodeId → ℕ → ℕ
-slot_before s node step = (node_after s node.number (min (step - 1) (steps_of node.number s.kept))).slot
+slot_before s node step = (node_after s node.number (min (step - 1) (count_steps node.number s.kept))).slot
 
 -- after a step of a node: the cell from which its instruction word was fetched, and the slot that it ran
-abbrev pub step_tail : Option DebugInfo → State → NodeId → ℕ → Text
-step_tail notes s node step = tail_text notes node (fetched_cell s node step) (slot_before s node step)
+abbrev pub step_suffix_text : Option DebugInfo → State → NodeId → ℕ → Text
+step_suffix_text notes s node step = source_suffix_line notes node (fetched_cell s node step) (slot_before s node step)
 
 -- the cell that a part of a node is
-abbrev pub part_cell : Part → Option ℕ
+abbrev pub part_cell : NodePart → Option ℕ
 part_cell (part.Ram k) = Some k
 part_cell (part.Rom k) = Some (128 + k % 64)
 part_cell _ = None
 
 -- after a value: that of the step that made it, or of the cell where it was loaded, from the word that begins it
-abbrev pub value_tail : Option DebugInfo → State → Value → Text
-value_tail notes s value =
-    if value.step == 0 then tail_text notes value.node (part_cell value.part) 4 else step_tail notes s value.node value.step
+abbrev pub value_suffix_text : Option DebugInfo → State → Value → Text
+value_suffix_text notes s value =
+    if value.step == 0 then source_suffix_line notes value.node (part_cell value.part) 4 else step_suffix_text notes s value.node value.step

@@ -4,23 +4,23 @@ use Rattle.ga_text.specs.Lines.{Text}
 use Rattle.ga_grid.specs.declared.node_id.NodeId.{NodeId}
 use Rattle.ga_lab.specs.Machine.{State, chip_of, rewind_answer}
 use Rattle.ga_lab.specs.declared.fault.LabFault.TheVariants.{Memory}
-use Rattle.ga_scheduler.specs.Effects.{effects_of}
+use Rattle.ga_scheduler.specs.Effects.{rollback_effects}
 use Rattle.ga_races.specs.Acts.{AreDeadlocked, IsSubset}
-use Rattle.ga_scheduler.specs.Idle.{MarksIdle}
-use Rattle.ga_display.specs.Texts.{advised_text}
+use Rattle.ga_scheduler.specs.Idle.{AreIdleMarks}
+use Rattle.ga_display.specs.Texts.{advised_refusal_text}
 use Rattle.ga_explorer_text.specs.Texts.{effects_answer}
 use Rattle.ga_explorer_text.specs.Ended.{AreEnded}
 use Rattle.ga_explorer_text.specs.Waiting.{who_text}
 
 -- The answer is what a rollback would remove, or out of memory if one is possible.
-abbrev pub TellsEffects : State → NodeId → ℕ → Text → Type 0
-TellsEffects s node step answer =
-    (answer ≡ effects_answer (effects_of s node.number step) (rewind_answer s node.number step))
-    ⊎ (IsOk (rewind_answer s node.number step) × (answer ≡ advised_text Memory))
+abbrev pub IsEffectsAnswer : State → NodeId → ℕ → Text → Type 0
+IsEffectsAnswer s node step answer =
+    (answer ≡ effects_answer (rollback_effects s node.number step) (rewind_answer s node.number step))
+    ⊎ (IsOk (rewind_answer s node.number step) × (answer ≡ advised_refusal_text Memory))
 
 -- For each node that waits, unless it is idle, the answer has for whom it waits; which nodes are deadlocked: the greatest set of
 -- such nodes; and which of these have ended.
-pub record TellsWho (s : State) (answer : Text) : Type 0 where
+pub record IsWhoAnswer (s : State) (answer : Text) : Type 0 where
   pub marks : ℕ → Bool
   pub stuck : AreDeadlocked (chip_of s) marks
   pub greatest : (others : ℕ → Bool) → AreDeadlocked (chip_of s) others → IsSubset others marks
@@ -29,5 +29,5 @@ pub record TellsWho (s : State) (answer : Text) : Type 0 where
   pub over : ℕ → Bool
   pub both : (n : ℕ) → n < 144 → over n ≡ (marks n && ended n)
   pub idle : ℕ → Bool
-  pub silent : MarksIdle s idle
+  pub silent : AreIdleMarks s idle
   pub text : answer ≡ who_text (chip_of s) marks over idle

@@ -7,41 +7,41 @@ use Rattle.ga_node.specs.declared.wait.Wait.{Wait}
 use Rattle.ga_node.specs.declared.wait.Wait.TheVariants as wait
 use Rattle.ga_grid.specs.Chip.{record_at}
 use Rattle.ga_grid.specs.declared.node_id.NodeId.{NodeId}
-use Rattle.ga_event.specs.Told.{steps_of}
+use Rattle.ga_event.specs.Told.{count_steps}
 use Rattle.ga_lab.specs.Machine.{State, chip_of}
 use Rattle.ga_lab.specs.declared.fault.LabFault.{LabFault}
 use Rattle.ga_lab.specs.declared.fault.LabFault.TheVariants.{Waiting, Stopped, Full, Memory, Empty, NoStep, Spent}
-use Rattle.ga_races.specs.HappensBefore.{are_linked}
-use Rattle.ga_scheduler.specs.Words.{words_of, word_count}
+use Rattle.ga_races.specs.HappensBefore.{are_neighbours}
+use Rattle.ga_scheduler.specs.Words.{words_of, link_transfer_count}
 use Rattle.ga_scheduler.specs.declared.effects.RollbackEffect.{RollbackEffect}
 use Rattle.ga_scheduler.specs.declared.words.Transfer.{Transfer}
 use Rattle.ga_scheduler.specs.declared.running.RunEnd.{RunEnd}
 use Rattle.ga_scheduler.specs.declared.running.RunEnd.TheVariants.{Reached, Made, Quiet, Refused}
-use Rattle.ga_display.specs.Texts.{made_text, removed_text, advice_text, advised_text}
+use Rattle.ga_display.specs.Texts.{event_text, removed_text, advice_text, advised_refusal_text}
 use Rattle.ga_text.specs.Digits.{name_of_node, step_text}
 
 -- ---- `run`
 
 -- why a step was refused
-abbrev pub fault_word : LabFault → Text
-fault_word Waiting = codes "waiting "
-fault_word Stopped = codes "stopped "
-fault_word Full = codes "full "
-fault_word Memory = codes "memory "
-fault_word Empty = codes "empty "
-fault_word NoStep = codes "nostep "
-fault_word Spent = codes "spent "
+abbrev pub fault_name_text : LabFault → Text
+fault_name_text Waiting = codes "waiting "
+fault_name_text Stopped = codes "stopped "
+fault_name_text Full = codes "full "
+fault_name_text Memory = codes "memory "
+fault_name_text Empty = codes "empty "
+fault_name_text NoStep = codes "nostep "
+fault_name_text Spent = codes "spent "
 
 -- which of several conditions held, counted from 1; nothing of one alone
-abbrev pub which_text : ℕ → ℕ → Text
-which_text conditions which = if nat_lt 1 conditions then codes " by " ++ decimal (which + 1) else []
+abbrev pub held_condition_text : ℕ → ℕ → Text
+held_condition_text conditions which = if nat_lt 1 conditions then codes " by " ++ decimal (which + 1) else []
 
 -- how many events were made until one of the conditions held, why the run ended, and what to do if there is no room for more
 abbrev pub run_text : ℕ → ℕ → RunEnd → Text
-run_text conditions events (Reached made which) = codes "reached " ++ decimal events ++ which_text conditions which ++ codes " " ++ made_text made
+run_text conditions events (Reached made which) = codes "reached " ++ decimal events ++ held_condition_text conditions which ++ codes " " ++ event_text made
 run_text conditions events Made = codes "made " ++ decimal events ++ codes "\n"
 run_text conditions events Quiet = codes "quiet " ++ decimal events ++ codes "\n"
-run_text conditions events (Refused why) = fault_word why ++ decimal events ++ advice_text why
+run_text conditions events (Refused why) = fault_name_text why ++ decimal events ++ advice_text why
 
 -- ---- `chip`
 
@@ -55,26 +55,26 @@ side_letter sides =
     else codes "+"
 
 -- what a node does: it waits for code, reads or writes, by the side; runs; or is stopped
-abbrev pub doing_text : Wait → ℕ → Text
-doing_text (wait.Fetch sides) stop = codes " @" ++ side_letter sides
-doing_text (wait.Read sides) stop = codes " ?" ++ side_letter sides
-doing_text (wait.Write side) stop = codes " !" ++ side_letter (only side)
-doing_text wait.Nothing stop = if stop == 0 then codes "  *" else codes "  x"
+abbrev pub activity_symbol : Wait → ℕ → Text
+activity_symbol (wait.Fetch sides) stop = codes " @" ++ side_letter sides
+activity_symbol (wait.Read sides) stop = codes " ?" ++ side_letter sides
+activity_symbol (wait.Write side) stop = codes " !" ++ side_letter (only side)
+activity_symbol wait.Nothing stop = if stop == 0 then codes "  *" else codes "  x"
 
 -- what a node does; of one that made no step, that it is as at load
-abbrev pub cell_text : State → ℕ → Text
-cell_text s n =
-    if nat_lt (steps_of n s.kept) 1 then codes "  ."
-    else doing_text (record_at (chip_of s) n).wait (record_at (chip_of s) n).stop
+abbrev pub node_symbol_text : State → ℕ → Text
+node_symbol_text s n =
+    if nat_lt (count_steps n s.kept) 1 then codes "  ."
+    else activity_symbol (record_at (chip_of s) n).wait (record_at (chip_of s) n).stop
 
 -- `n` nodes of a row, from this one on
-unfoldable pub cells_text : State → ℕ → ℕ → Text
-cells_text s n zero = []
-cells_text s n (suc more) = cell_text s n ++ cells_text s (n + 1) more
+unfoldable pub node_symbols_text : State → ℕ → ℕ → Text
+node_symbols_text s n zero = []
+node_symbols_text s n (suc more) = node_symbol_text s n ++ node_symbols_text s (n + 1) more
 
 -- a row: its number and its eighteen nodes
 abbrev pub row_text : State → ℕ → Text
-row_text s row = decimal row ++ cells_text s (18 * row) 18 ++ codes "\n"
+row_text s row = decimal row ++ node_symbols_text s (18 * row) 18 ++ codes "\n"
 
 -- the rows below this one, the upmost first
 unfoldable pub rows_text : State → ℕ → Text
@@ -100,7 +100,7 @@ effects_text events effects = effects_head events (length effects) ++ flat_map e
 -- the text about a rollback, by what `rewind` would answer
 abbrev pub effects_answer : List RollbackEffect → Result ℕ LabFault → Text
 effects_answer effects (Ok events) = effects_text events effects
-effects_answer effects (Err why) = advised_text why
+effects_answer effects (Err why) = advised_refusal_text why
 
 -- ---- `back until`
 
@@ -112,8 +112,8 @@ back_text None kept = codes "none\n"
 -- ---- `words`
 
 -- a word: its number, the steps of both ends and itself
-abbrev pub sent_text : NodeId → NodeId → Transfer → Text
-sent_text from to sent =
+abbrev pub transfer_line_text : NodeId → NodeId → Transfer → Text
+transfer_line_text from to sent =
     decimal sent.number ++ codes " " ++ step_text from sent.writer_step ++ codes " " ++ step_text to sent.reader_step ++ codes " " ++ hex6_of sent.word
     ++ codes "\n"
 
@@ -126,8 +126,8 @@ abbrev pub no_link : Text
 no_link = codes "no 34 nolink\n"
 
 -- the link between two neighbours, and the words of it that are kept
-abbrev pub linked_text : State → NodeId → NodeId → Text
-linked_text s from to = words_head from to (word_count s from.number to.number) ++ flat_map (sent_text from to) (words_of s from.number to.number)
+abbrev pub transfers_text : State → NodeId → NodeId → Text
+transfers_text s from to = words_head from to (link_transfer_count s from.number to.number) ++ flat_map (transfer_line_text from to) (words_of s from.number to.number)
 
 abbrev pub link_words_text : State → NodeId → NodeId → Text
-link_words_text s from to = if are_linked from.number to.number then linked_text s from to else no_link
+link_words_text s from to = if are_neighbours from.number to.number then transfers_text s from to else no_link

@@ -8,27 +8,27 @@ use Rattle.ga_word.specs.Word.{hex6_of}
 use Rattle.ga_grid.specs.declared.node_id.NodeId.{NodeId}
 use Rattle.ga_event.specs.declared.made.Made.{Made}
 use Rattle.ga_event.specs.declared.made.Made.TheVariants.{Own, Pass}
-use Rattle.ga_event.specs.Told.{steps_of}
-use Rattle.ga_event.specs.Flow.{part_of}
+use Rattle.ga_event.specs.Told.{count_steps}
+use Rattle.ga_event.specs.Flow.{part_value}
 use Rattle.ga_lab.specs.Machine.{State, has_step, history_of}
 use Rattle.ga_lab.specs.declared.fault.LabFault.TheVariants.{NoStep, Memory}
-use Rattle.ga_node.specs.declared.kind.Kind.{Kind}
-use Rattle.ga_node.specs.declared.kind.Kind.TheVariants as kind
-use Rattle.ga_event.specs.declared.flow.part.Part.{Part}
-use Rattle.ga_event.specs.declared.flow.part.Part.TheVariants as part
+use Rattle.ga_node.specs.declared.kind.OwnEventKind.{OwnEventKind}
+use Rattle.ga_node.specs.declared.kind.OwnEventKind.TheVariants as kind
+use Rattle.ga_event.specs.declared.flow.part.NodePart.{NodePart}
+use Rattle.ga_event.specs.declared.flow.part.NodePart.TheVariants as part
 use Rattle.ga_provenance.specs.declared.value.Value.{Value}
 use Rattle.ga_provenance.specs.declared.listing.ProvenanceRow.{ProvenanceRow}
 use Rattle.ga_provenance.specs.Origins.{value_of_step, node_after, origin_of}
-use Rattle.ga_provenance.specs.Rows.{row_at, AreRows}
+use Rattle.ga_provenance.specs.Rows.{row_at_depth, AreProvenanceRows}
 use Rattle.ga_provenance.specs.Asked.{queried_value}
-use Rattle.ga_display.specs.Texts.{register_text, refusal_text, advised_text}
+use Rattle.ga_display.specs.Texts.{register_text, refusal_text, advised_refusal_text}
 use Rattle.ga_debug_info.specs.declared.notes.DebugInfo.{DebugInfo}
 use Rattle.ga_explorer_text.specs.Deeds.{action_text}
-use Rattle.ga_explorer_text.specs.SourceSuffix.{step_tail, value_tail}
+use Rattle.ga_explorer_text.specs.SourceSuffix.{step_suffix_text, value_suffix_text}
 
 -- how many lines a tree has at most
-abbrev pub most_rows : ℕ
-most_rows = 100
+abbrev pub max_tree_rows : ℕ
+max_tree_rows = 100
 
 -- the name of a part: of a cell its address; T, S and R have letters of their own
 abbrev pub data_name : ℕ → Text
@@ -37,7 +37,7 @@ data_name k = if k == 0 then codes "t" else if k == 1 then codes "s" else codes 
 abbrev pub return_name : ℕ → Text
 return_name k = if k == 0 then codes "r" else codes "r" ++ decimal k
 
-abbrev pub part_name : Part → Text
+abbrev pub part_name : NodePart → Text
 part_name (part.Data k) = data_name k
 part_name (part.Return k) = return_name k
 part_name (part.Ram k) = hex2_of k
@@ -54,25 +54,25 @@ part_name part.Stop = codes "stop"
 part_name part.Outside = codes "outside"
 
 -- The name of a part follows what a step did, but for T, the instruction word and a cell, which are implied.
-abbrev pub mark_text : Part → Text
-mark_text (part.Data k) = if k == 0 then [] else codes " " ++ data_name k
-mark_text (part.Ram k) = []
-mark_text (part.Rom k) = []
-mark_text part.I = []
-mark_text at = codes " " ++ part_name at
+abbrev pub part_mark_text : NodePart → Text
+part_mark_text (part.Data k) = if k == 0 then [] else codes " " ++ data_name k
+part_mark_text (part.Ram k) = []
+part_mark_text (part.Rom k) = []
+part_mark_text part.I = []
+part_mark_text at = codes " " ++ part_name at
 
 -- what a step with this report did
-abbrev pub told_step_text : Option Made → ℕ → Text
-told_step_text None n = []
-told_step_text (Some made) n = action_text made n
+abbrev pub step_event_text : Option Made → ℕ → Text
+step_event_text None n = []
+step_event_text (Some made) n = action_text made n
 
 -- the step of a node, with what it did
-abbrev pub did_text : State → NodeId → ℕ → Text
-did_text s node step = step_text node step ++ codes " " ++ told_step_text (slice_get (history_of s node.number) (step - 1)) node.number
+abbrev pub step_action_text : State → NodeId → ℕ → Text
+step_action_text s node step = step_text node step ++ codes " " ++ step_event_text (slice_get (history_of s node.number) (step - 1)) node.number
 
 -- the word of a value: the one in its part after its step, or after the last step of a node that made fewer
 abbrev pub word_of_value : State → Value → ℕ
-word_of_value s value = part_of 0 (node_after s value.node.number (min value.step (steps_of value.node.number s.kept))) value.part
+word_of_value s value = part_value 0 (node_after s value.node.number (min value.step (count_steps value.node.number s.kept))) value.part
 
 -- A after the step of a value
 abbrev pub a_of_value : State → Value → ℕ
@@ -80,41 +80,41 @@ a_of_value s value = word_of_value s (value_of_step value.node value.step part.A
 
 -- the word that a step left in a part, where A was this after it: `+*` makes both T and A, and a transferred word, in T or the
 -- instruction word, is in the text of the transfer
-abbrev pub left_by_op : ℕ → Part → ℕ → ℕ → Text
-left_by_op code (part.Data k) word a = if code == 16 && k == 0 then (codes " " ++ hex6_of word) ++ register_text (codes "a") a else codes " " ++ hex6_of word
-left_by_op code at word a = codes " " ++ hex6_of word
+abbrev pub op_result_text : ℕ → NodePart → ℕ → ℕ → Text
+op_result_text code (part.Data k) word a = if code == 16 && k == 0 then (codes " " ++ hex6_of word) ++ register_text (codes "a") a else codes " " ++ hex6_of word
+op_result_text code at word a = codes " " ++ hex6_of word
 
-abbrev pub left_by_kind : Kind → Part → ℕ → ℕ → Text
-left_by_kind (kind.Run code) at word a = left_by_op code at word a
-left_by_kind what at word a = codes " " ++ hex6_of word
+abbrev pub own_event_result_text : OwnEventKind → NodePart → ℕ → ℕ → Text
+own_event_result_text (kind.Run code) at word a = op_result_text code at word a
+own_event_result_text what at word a = codes " " ++ hex6_of word
 
-abbrev pub left_by_transfer : Part → ℕ → Text
-left_by_transfer (part.Data k) word = if k == 0 then [] else codes " " ++ hex6_of word
-left_by_transfer part.I word = []
-left_by_transfer at word = codes " " ++ hex6_of word
+abbrev pub transfer_result_text : NodePart → ℕ → Text
+transfer_result_text (part.Data k) word = if k == 0 then [] else codes " " ++ hex6_of word
+transfer_result_text part.I word = []
+transfer_result_text at word = codes " " ++ hex6_of word
 
-abbrev pub left_text : Option Made → Part → ℕ → ℕ → Text
-left_text (Some (Pass writer i reader j sent)) at word a = left_by_transfer at word
-left_text (Some (Own node step what)) at word a = left_by_kind what at word a
-left_text None at word a = codes " " ++ hex6_of word
+abbrev pub step_result_text : Option Made → NodePart → ℕ → ℕ → Text
+step_result_text (Some (Pass writer i reader j sent)) at word a = transfer_result_text at word
+step_result_text (Some (Own node step what)) at word a = own_event_result_text what at word a
+step_result_text None at word a = codes " " ++ hex6_of word
 
 -- a value with this word, where A was this after its step: the step that made it, or that it was loaded
-abbrev pub worded_text : State → Value → ℕ → ℕ → Text
-worded_text s value word a =
+abbrev pub value_with_word_text : State → Value → ℕ → ℕ → Text
+value_with_word_text s value word a =
     if value.step == 0 then name_of_node value.node ++ codes " load " ++ part_name value.part ++ (codes " " ++ hex6_of word)
-    else did_text s value.node value.step ++ mark_text value.part ++ left_text (slice_get (history_of s value.node.number) (value.step - 1)) value.part word a
+    else step_action_text s value.node value.step ++ part_mark_text value.part ++ step_result_text (slice_get (history_of s value.node.number) (value.step - 1)) value.part word a
 
 abbrev pub value_text : State → Value → Text
-value_text s value = worded_text s value (word_of_value s value) (a_of_value s value)
+value_text s value = value_with_word_text s value (word_of_value s value) (a_of_value s value)
 
 -- the queried value of a step, by the name of its part; the word that a step sent, T before it, is in the text of the transfer
-abbrev pub queried_of_transfer : ℕ → Value → ℕ → Text
-queried_of_transfer step value word = if value.step == step then register_text (part_name value.part) word else []
+abbrev pub queried_transfer_text : ℕ → Value → ℕ → Text
+queried_transfer_text step value word = if value.step == step then register_text (part_name value.part) word else []
 
-abbrev pub queried_text : Option Made → ℕ → Value → ℕ → Text
-queried_text (Some (Pass writer i reader j sent)) step value word = queried_of_transfer step value word
-queried_text (Some (Own node k what)) step value word = register_text (part_name value.part) word
-queried_text None step value word = register_text (part_name value.part) word
+abbrev pub queried_value_text : Option Made → ℕ → Value → ℕ → Text
+queried_value_text (Some (Pass writer i reader j sent)) step value word = queried_transfer_text step value word
+queried_value_text (Some (Own node k what)) step value word = register_text (part_name value.part) word
+queried_value_text None step value word = register_text (part_name value.part) word
 
 -- two blanks for each level
 unfoldable pub blanks : ℕ → Text
@@ -123,51 +123,51 @@ blanks (suc level) = codes "  " ++ blanks level
 
 -- a line, `depth` levels deeper than the row
 abbrev pub tree_row_text : Option DebugInfo → State → ℕ → ProvenanceRow → Text
-tree_row_text notes s deeper row = blanks (row.depth + deeper) ++ (value_text s row.value ++ value_tail notes s row.value)
+tree_row_text notes s deeper row = blanks (row.depth + deeper) ++ (value_text s row.value ++ value_suffix_text notes s row.value)
 
 -- the step of the query alone, and with the queried value
-abbrev pub head_text : Option DebugInfo → State → NodeId → ℕ → Text
-head_text notes s node step = did_text s node step ++ step_tail notes s node step
+abbrev pub queried_step_text : Option DebugInfo → State → NodeId → ℕ → Text
+queried_step_text notes s node step = step_action_text s node step ++ step_suffix_text notes s node step
 
-abbrev pub did_queried_text : State → NodeId → ℕ → Value → Text
-did_queried_text s node step value = did_text s node step ++ queried_text (slice_get (history_of s node.number) (step - 1)) step value (word_of_value s value)
+abbrev pub step_with_queried_value : State → NodeId → ℕ → Value → Text
+step_with_queried_value s node step value = step_action_text s node step ++ queried_value_text (slice_get (history_of s node.number) (step - 1)) step value (word_of_value s value)
 
-abbrev pub queried_head_text : Option DebugInfo → State → NodeId → ℕ → Value → Text
-queried_head_text notes s node step value = did_queried_text s node step value ++ step_tail notes s node step
+abbrev pub queried_step_line : Option DebugInfo → State → NodeId → ℕ → Value → Text
+queried_step_line notes s node step value = step_with_queried_value s node step value ++ step_suffix_text notes s node step
 
 -- The step of the query is the first row if it made the value. Otherwise it comes before the rows, which are one level deeper.
-abbrev pub rows_by : Option DebugInfo → State → NodeId → ℕ → Value → Bool → List ProvenanceRow → Text
-rows_by notes s node step value made rows =
-    if made then flat_map (tree_row_text notes s 0) rows else queried_head_text notes s node step value ++ flat_map (tree_row_text notes s 1) rows
+abbrev pub tree_rows_by_root : Option DebugInfo → State → NodeId → ℕ → Value → Bool → List ProvenanceRow → Text
+tree_rows_by_root notes s node step value made rows =
+    if made then flat_map (tree_row_text notes s 0) rows else queried_step_line notes s node step value ++ flat_map (tree_row_text notes s 1) rows
 
 abbrev pub tree_rows_text : Option DebugInfo → State → NodeId → ℕ → Value → List ProvenanceRow → Text
-tree_rows_text notes s node step value rows = rows_by notes s node step value ((origin_of s value).step == step) rows
+tree_rows_text notes s node step value rows = tree_rows_by_root notes s node step value ((origin_of s value).step == step) rows
 
 -- the line after the rows of a tree, if these are not all
-abbrev pub more_text : Bool → Text
-more_text true = []
-more_text false = codes "more\n"
+abbrev pub more_rows_text : Bool → Text
+more_rows_text true = []
+more_rows_text false = codes "more\n"
 
 -- The rows of the value are written, all or as many as allowed; or an allocation failed.
-pub record TellsTree (notes : Option DebugInfo) (s : State) (node : NodeId) (step : ℕ) (value : Value) (answer : Text) : Type 0 where
+pub record IsTreeAnswer (notes : Option DebugInfo) (s : State) (node : NodeId) (step : ℕ) (value : Value) (answer : Text) : Type 0 where
   pub rows : List ProvenanceRow
   pub is_whole : Bool
-  pub told : AreRows s [] (row_at 0 value ∷ []) rows is_whole
-  pub most : length rows ≤ most_rows
-  pub cut : is_whole ≡ false → length rows ≡ most_rows
-  pub text : answer ≡ tree_rows_text notes s node step value rows ++ more_text is_whole
+  pub told : AreProvenanceRows s [] (row_at_depth 0 value ∷ []) rows is_whole
+  pub most : length rows ≤ max_tree_rows
+  pub cut : is_whole ≡ false → length rows ≡ max_tree_rows
+  pub text : answer ≡ tree_rows_text notes s node step value rows ++ more_rows_text is_whole
 
 -- the text about a step for which this value is queried; the step alone if it made none
-abbrev pub TellsAsked : Option DebugInfo → State → NodeId → ℕ → Option Value → Text → Type 0
-TellsAsked notes s node step None answer = answer ≡ head_text notes s node step
-TellsAsked notes s node step (Some value) answer = (answer ≡ advised_text Memory) ⊎ TellsTree notes s node step value answer
+abbrev pub IsStepOrTreeAnswer : Option DebugInfo → State → NodeId → ℕ → Option Value → Text → Type 0
+IsStepOrTreeAnswer notes s node step None answer = answer ≡ queried_step_text notes s node step
+IsStepOrTreeAnswer notes s node step (Some value) answer = (answer ≡ advised_refusal_text Memory) ⊎ IsTreeAnswer notes s node step value answer
 
 -- the value of a part after a step, or the one that the step selects where no part is named
-abbrev pub asked_value : State → NodeId → ℕ → Option Part → Option Value
-asked_value s node step None = queried_value s node step
-asked_value s node step (Some at) = Some (value_of_step node step at)
+abbrev pub selected_value : State → NodeId → ℕ → Option NodePart → Option Value
+selected_value s node step None = queried_value s node step
+selected_value s node step (Some at) = Some (value_of_step node step at)
 
-abbrev pub TellsWhence : Option DebugInfo → State → NodeId → ℕ → Option Part → Text → Type 0
-TellsWhence notes s node step at answer =
+abbrev pub IsWhenceAnswer : Option DebugInfo → State → NodeId → ℕ → Option NodePart → Text → Type 0
+IsWhenceAnswer notes s node step at answer =
     ((has_step s node.number step ≡ false) × (answer ≡ refusal_text NoStep))
-    ⊎ ((has_step s node.number step ≡ true) × TellsAsked notes s node step (asked_value s node step at) answer)
+    ⊎ ((has_step s node.number step ≡ true) × IsStepOrTreeAnswer notes s node step (selected_value s node step at) answer)

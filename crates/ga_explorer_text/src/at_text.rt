@@ -2,7 +2,7 @@
 
 ghost use Rattle.std.specs.Prelude.{◌≡◌, ◌<◌, ◌≤◌, ◌+◌, ◌-◌};
 ghost use Rattle.ga_text.specs.Output.{WritesSome};
-ghost use Rattle.ga_explorer_text.specs.Around.{around_text};
+ghost use Rattle.ga_explorer_text.specs.Around.{steps_around_text};
 
 use crate::passed_text::step_registers_line;
 use crate::source_suffix::StepContext;
@@ -18,7 +18,7 @@ use std::io::Write;
 ///
 /// # Errors
 /// A write failed.
-pub fn write_at<W: Write>(
+pub fn write_steps_around<W: Write>(
     lab: &Lab,
     notes: &Option<DebugInfo>,
     node: NodeId,
@@ -26,7 +26,7 @@ pub fn write_at<W: Write>(
     around: u32,
     writer: &mut Writer<'_, W>,
 ) -> WriteResult
-    ensures { WritesSome result (λ text. text ≡ around_text notes.now lab.now node step around) W.contents writer.old writer.new }
+    ensures { WritesSome result (λ text. text ≡ steps_around_text notes.now lab.now node step around) W.contents writer.old writer.new }
 {
     if lab.has_step((node, step)) {
         let first = (step - 1).saturating_sub(around);
@@ -43,11 +43,11 @@ impl<'l> StepContext<'l> {
     ghost use Rattle.ga_lab.specs.Machine.{history_of};
     ghost use Rattle.ga_provenance.specs.Origins.{node_after};
     ghost use Rattle.ga_text.specs.Output.{WritesSome, WritesExactly};
-    ghost use Rattle.ga_explorer_text.specs.Around.{step_registers_text, place_text, places_text};
+    ghost use Rattle.ga_explorer_text.specs.Around.{step_registers_text, numbered_step_text, numbered_steps_text};
 
     /// Says the steps from one place on, the first of which is at place 0, up to the step to which the node is walked back.
     fn say_places<W: Write>(&self, first: u32, writer: &mut Writer<'_, W>) -> WriteResult
-        ensures { WritesSome result (λ text. text ≡ places_text self.now.notes.now self.now.lab.now self.now.node first (self.now.near.step - first))
+        ensures { WritesSome result (λ text. text ≡ numbered_steps_text self.now.notes.now self.now.lab.now self.now.node first (self.now.near.step - first))
             W.contents writer.old writer.new }
     {
         let last = self.near.step();
@@ -61,10 +61,10 @@ impl<'l> StepContext<'l> {
     fn say_made<W: Write>(&self, step: u32, writer: &mut Writer<'_, W>) -> WriteResult
         requires some { 0 < step }
         requires made { step ≤ self.now.near.step }
-        ensures { WritesExactly result (place_text self.now.notes.now self.now.lab.now self.now.node (step - 1)) W.contents writer.old writer.new }
+        ensures { WritesExactly result (numbered_step_text self.now.notes.now self.now.lab.now self.now.node (step - 1)) W.contents writer.old writer.new }
     {
         let mut near = self.near.copy();
-        near.back_to(step);
+        near.walk_back_to(step);
         let there = StepContext {
             lab: self.lab,
             notes: self.notes,
@@ -72,7 +72,7 @@ impl<'l> StepContext<'l> {
             near,
         };
         writer.write_blocks(there.place_line().as_slice())?;
-        there.say_own_tail(writer)
+        there.write_own_suffix(writer)
     }
 
     /// The text of the step to which the node is walked back.
@@ -82,7 +82,7 @@ impl<'l> StepContext<'l> {
             (node_after self.now.lab.now self.now.node.number self.now.near.step) }
     {
         let step = self.near.step();
-        match self.lab.made_by_step(self.node, step - 1) {
+        match self.lab.made_event_of_step(self.node, step - 1) {
             Some(made) => step_registers_line(self.node, step, made, self.near.node()),
             None => ArrayVec::new(),
         }

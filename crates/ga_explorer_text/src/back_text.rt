@@ -2,7 +2,7 @@
 
 ghost use Rattle.std.specs.Prelude.{◌≡◌, length};
 ghost use Rattle.ga_text.specs.Output.{WritesSome};
-ghost use Rattle.ga_scheduler.specs.Backward.{find_newest_holding, left_from, gone_from};
+ghost use Rattle.ga_scheduler.specs.Backward.{find_newest_holding, machine_back_at_place, removed_event_count};
 ghost use Rattle.ga_explorer_text.specs.Texts.{back_text};
 
 use ga_display::write_removed;
@@ -22,8 +22,8 @@ pub fn write_back_until<W: Write>(
     only: Option<NodeId>,
     writer: &mut Writer<'_, W>,
 ) -> WriteResult
-    ensures said { WritesSome result (λ text. text ≡ back_text (gone_from only lab.old (find_newest_holding until.now only lab.old)) (length lab.new.kept)) W.contents writer.old writer.new }
-    ensures state { lab.new ≡ left_from only lab.old (find_newest_holding until.now only lab.old) }
+    ensures said { WritesSome result (λ text. text ≡ back_text (removed_event_count only lab.old (find_newest_holding until.now only lab.old)) (length lab.new.kept)) W.contents writer.old writer.new }
+    ensures state { lab.new ≡ machine_back_at_place only lab.old (find_newest_holding until.now only lab.old) }
 {
     match back_until(lab, until, only) {
         Some(gone) => write_removed(writer, gone, lab.counts().kept),

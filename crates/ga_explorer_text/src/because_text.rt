@@ -2,7 +2,7 @@
 
 ghost use Rattle.std.specs.Prelude.{◌≡◌, ◌+◌, ◌-◌, ◌≤◌, ◌<◌, ◌^◌, ◌++◌};
 ghost use Rattle.ga_text.specs.Output.{WritesSome};
-ghost use Rattle.ga_explorer_text.specs.Because.{decided_text, because_text};
+ghost use Rattle.ga_explorer_text.specs.Because.{decision_step_text, because_text};
 
 use crate::deed_text::push_action;
 use crate::part_text::push_named_word;
@@ -40,7 +40,7 @@ pub fn write_because<W: Write>(
 
 /// A step, what it did and what it tested.
 fn decided_line(node: NodeId, decision: Decision) -> TextBuffer
-    ensures { result.items ≡ decided_text node decision }
+    ensures { result.items ≡ decision_step_text node decision }
 {
     let mut out = ArrayVec::new();
     push_step(&mut out, node, decision.step);
@@ -55,14 +55,14 @@ fn decided_line(node: NodeId, decision: Decision) -> TextBuffer
 impl<'l> StepContext<'l> {
     ghost use Rattle.std.specs.Prelude.{◌≡◌, ◌-◌};
     ghost use Rattle.ga_text.specs.Output.{WritesSome, WritesExactly};
-    ghost use Rattle.ga_provenance.specs.Deciding.{newest_decided};
-    ghost use Rattle.ga_explorer_text.specs.Because.{decision_text, decisions_text, newest_decision_text};
+    ghost use Rattle.ga_provenance.specs.Deciding.{newest_decision};
+    ghost use Rattle.ga_explorer_text.specs.Because.{decision_text, decisions_text, decisions_or_none_text};
     ghost use Rattle.ga_lab.specs.Machine.{node_at_step};
 
     /// Writes those before the step to which the node is walked back, or `none`.
     fn write_decisions<W: Write>(&self, most: u32, writer: &mut Writer<'_, W>) -> WriteResult
-        ensures { WritesSome result (λ text. text ≡ newest_decision_text self.now.notes.now self.now.lab.now self.now.node most (self.now.near.step - 1)
-            (newest_decided self.now.lab.now self.now.node (self.now.near.step - 1))) W.contents writer.old writer.new }
+        ensures { WritesSome result (λ text. text ≡ decisions_or_none_text self.now.notes.now self.now.lab.now self.now.node most (self.now.near.step - 1)
+            (newest_decision self.now.lab.now self.now.node (self.now.near.step - 1))) W.contents writer.old writer.new }
     {
         let mut decisions = Decisions::before(self.lab, &self.near, self.node);
         let Some(newest) = decisions.next() else {
@@ -108,6 +108,6 @@ impl<'l> StepContext<'l> {
         };
         writer.write_blocks(decided_line(self.node, decision).as_slice())?;
         self.write_step_suffix(self.node, step, writer)?;
-        self.say_row(1, row, writer)
+        self.write_tree_row(1, row, writer)
     }
 }

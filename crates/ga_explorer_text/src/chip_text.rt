@@ -2,7 +2,7 @@
 
 ghost use Rattle.std.specs.Prelude.{◌≡◌, ◌+◌, ◌*◌, ◌-◌, ◌<◌, ◌≤◌, ◌++◌, ◌∷◌, []};
 ghost use Rattle.arrayvec.specs.ArrayVec.{array_vec_len};
-ghost use Rattle.ga_explorer_text.specs.Texts.{chip_text, row_text, cell_text, cells_text, side_letter, doing_text};
+ghost use Rattle.ga_explorer_text.specs.Texts.{chip_text, row_text, node_symbol_text, node_symbols_text, side_letter, activity_symbol};
 
 use arrayvec::ArrayVec;
 use ga_grid::NodeId;
@@ -54,7 +54,7 @@ fn push_row(out: &mut ChipText, lab: &Lab, row: u8)
 fn push_cells(out: &mut ChipText, lab: &Lab, first: u8)
     requires first { first ≤ 126 }
     requires room { array_vec_len out.old + 54 ≤ CHIP_ROOM }
-    ensures text { out.new.items ≡ out.old.items ++ cells_text lab.now first 18 }
+    ensures text { out.new.items ≡ out.old.items ++ node_symbols_text lab.now first 18 }
     ensures len { array_vec_len out.new ≡ array_vec_len out.old + 54 }
 {
     let mut column = 0u8;
@@ -68,7 +68,7 @@ fn push_cells(out: &mut ChipText, lab: &Lab, first: u8)
 fn push_cell(out: &mut ChipText, lab: &Lab, number: u8)
     requires number { number < 144 }
     requires room { array_vec_len out.old + CELL_ROOM ≤ CHIP_ROOM }
-    ensures text { out.new.items ≡ out.old.items ++ cell_text lab.now number }
+    ensures text { out.new.items ≡ out.old.items ++ node_symbol_text lab.now number }
     ensures len { array_vec_len out.new ≡ array_vec_len out.old + CELL_ROOM }
 {
     let node = NodeId::new(number);
@@ -84,7 +84,7 @@ fn push_cell(out: &mut ChipText, lab: &Lab, number: u8)
 /// Adds what a node does: it waits, runs or is stopped.
 fn push_doing(out: &mut ChipText, wait: Wait, stop: u8)
     requires room { array_vec_len out.old + CELL_ROOM ≤ CHIP_ROOM }
-    ensures text { out.new.items ≡ out.old.items ++ doing_text wait stop }
+    ensures text { out.new.items ≡ out.old.items ++ activity_symbol wait stop }
     ensures len { array_vec_len out.new ≡ array_vec_len out.old + CELL_ROOM }
 {
     match wait {

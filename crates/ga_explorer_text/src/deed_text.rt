@@ -7,7 +7,7 @@ ghost use Rattle.ga_explorer_text.specs.Deeds.{action_text, kind_name, pass_text
 
 use ga_grid::NodeId;
 use ga_lab::Made;
-use ga_node::Kind;
+use ga_node::OwnEventKind;
 use ga_slots::Op;
 use ga_text::{
     MAX_NUMBER_DIGITS, MAX_STEP_BYTES, TextBuffer, WORD_DIGITS, push_number, push_step, push_text,
@@ -64,16 +64,16 @@ fn push_pass(out: &mut TextBuffer, way: &[u8], word: Word18, end: &[u8], other: 
 }
 
 /// Adds what an event of a node's own was.
-fn push_kind(out: &mut TextBuffer, kind: Kind)
+fn push_kind(out: &mut TextBuffer, kind: OwnEventKind)
     requires { array_vec_len out.old + KIND_ROOM ≤ 256 }
     ensures text { out.new.items ≡ out.old.items ++ kind_name kind }
     ensures len { array_vec_len out.new ≤ array_vec_len out.old + KIND_ROOM }
 {
     match kind {
-        Kind::Fetch => push_text(out, b"fetch"),
-        Kind::Run(code) => push_text(out, opcode_name(code)),
-        Kind::Wait => push_text(out, b"wait"),
-        Kind::Stop(number) => {
+        OwnEventKind::Fetch => push_text(out, b"fetch"),
+        OwnEventKind::Run(code) => push_text(out, opcode_name(code)),
+        OwnEventKind::Wait => push_text(out, b"wait"),
+        OwnEventKind::Stop(number) => {
             push_text(out, b"stop ");
             push_number(out, u64::from(number));
         }

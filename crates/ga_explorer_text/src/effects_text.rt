@@ -3,13 +3,13 @@
 ghost use Rattle.std.specs.Prelude.{◌≡◌};
 ghost use Rattle.ga_text.specs.Output.{WritesSome, WritesExactly};
 ghost use Rattle.ga_explorer_text.specs.Texts.{effect_text, effects_head, effects_text};
-ghost use Rattle.ga_explorer_text.specs.Telling.{TellsEffects};
+ghost use Rattle.ga_explorer_text.specs.Telling.{IsEffectsAnswer};
 
 use arrayvec::ArrayVec;
-use ga_display::advised_text;
+use ga_display::advised_refusal_text;
 use ga_grid::NodeId;
 use ga_lab::Lab;
-use ga_scheduler::{Effects, RollbackEffect, find_effects};
+use ga_scheduler::{Effects, RollbackEffect, find_rollback_effects};
 use ga_text::{TextBuffer, WriteResult, Writer, push_number, push_step, push_text};
 use std::alloc::Global;
 use std::io::Write;
@@ -25,12 +25,12 @@ pub fn write_effects<W: Write>(
     step: u32,
     writer: &mut Writer<'_, W>,
 ) -> WriteResult
-    ensures said { WritesSome result (TellsEffects lab.old node step) W.contents writer.old writer.new }
+    ensures said { WritesSome result (IsEffectsAnswer lab.old node step) W.contents writer.old writer.new }
     ensures same { lab.new ≡ lab.old }
 {
-    match find_effects(alloc, lab, node, step) {
+    match find_rollback_effects(alloc, lab, node, step) {
         Ok(effects) => say_found(&effects, writer),
-        Err(fault) => writer.write_text(advised_text(fault)),
+        Err(fault) => writer.write_text(advised_refusal_text(fault)),
     }
 }
 

@@ -3,7 +3,7 @@
 ghost use Rattle.std.specs.Prelude.{◌≡◌, ◌<◌, ◌&&◌, not, ℕ, Bool, true, false, length, IfSome, IfNone};
 ghost use Rattle.ga_grid.specs.Chip.{records_of};
 ghost use Rattle.ga_causal.specs.Dependence.{is_marked};
-ghost use Rattle.ga_explorer_text.specs.Ended.{ended_on, awaits_on, awaits_any, awaits_ended, has_ended, AreEnded};
+ghost use Rattle.ga_explorer_text.specs.Ended.{is_side_ended, awaits_on, awaits_any, awaits_only_ended, has_ended, AreEnded};
 ghost use Rattle.ga_explorer_text.specs.inner.{ended_but};
 
 use ga_grid::{Chip, NodeId, neighbour};
@@ -13,7 +13,7 @@ use ga_races::awaits;
 
 // Whether a node awaits no neighbour on a side but one that isn't among the live ones.
 fn is_ended_on(chip: &Chip, live: &[bool; 144], node: NodeId, side: Side) -> bool
-    ensures { result ≡ ended_on (records_of chip.now) (ended_but live.now) node.number side }
+    ensures { result ≡ is_side_ended (records_of chip.now) (ended_but live.now) node.number side }
 {
     if !awaits(&chip.node(node).wait(), side) {
         return true;
@@ -46,8 +46,8 @@ fn awaits_any(chip: &Chip, node: NodeId) -> bool
 }
 
 // Whether a node awaits neighbours, and none of the live ones.
-fn awaits_ended(chip: &Chip, live: &[bool; 144], node: NodeId) -> bool
-    ensures { result ≡ awaits_ended (records_of chip.now) (ended_but live.now) node.number }
+fn awaits_only_ended(chip: &Chip, live: &[bool; 144], node: NodeId) -> bool
+    ensures { result ≡ awaits_only_ended (records_of chip.now) (ended_but live.now) node.number }
 {
     let right = is_ended_on(chip, live, node, Side::Right);
     let down = is_ended_on(chip, live, node, Side::Down);
@@ -64,7 +64,7 @@ fn has_ended(chip: &Chip, live: &[bool; 144], node: NodeId) -> bool
 {
     match chip.node(node).wait() {
         Wait::Fetch(_) => true,
-        Wait::Read(_) => awaits_ended(chip, live, node),
+        Wait::Read(_) => awaits_only_ended(chip, live, node),
         Wait::Write(_) => false,
         Wait::Nothing => false,
     }
@@ -104,13 +104,13 @@ pub(crate) fn ended_among(marks: &[bool; 144], live: &[bool; 144]) -> [bool; 144
 {
     let mut ended = [false; 144];
     'nodes: for number in 0..144u8 {
-        ended[number as usize] = is_ended(marks, live, NodeId::new(number));
+        ended[number as usize] = is_ended_neighbour(marks, live, NodeId::new(number));
     }
     ended
 }
 
 // Whether a marked node has ended.
-fn is_ended(marks: &[bool; 144], live: &[bool; 144], node: NodeId) -> bool
+fn is_ended_neighbour(marks: &[bool; 144], live: &[bool; 144], node: NodeId) -> bool
     ensures { result ≡ (is_marked marks.now node.number && ended_but live.now node.number) }
 {
     marks[node.index()] && !live[node.index()]

@@ -21,7 +21,7 @@ mod who_text;
 mod words_text;
 mod writes_text;
 
-pub use at_text::write_at;
+pub use at_text::write_steps_around;
 pub use back_text::write_back_until;
 pub use because_text::write_because;
 pub use chip_text::chip_overview;

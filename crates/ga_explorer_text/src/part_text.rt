@@ -3,11 +3,12 @@
 ghost use Rattle.std.specs.Prelude.{◌≡◌, ◌+◌, ◌≤◌, ◌++◌};
 ghost use Rattle.arrayvec.specs.ArrayVec.{array_vec_len};
 ghost use Rattle.ga_display.specs.Texts.{register_text};
-ghost use Rattle.ga_explorer_text.specs.Trees.{data_name, return_name, part_name, mark_text};
+ghost use Rattle.ga_explorer_text.specs.Trees.{data_name, return_name, part_name, part_mark_text};
 
-use ga_event::Part;
+use ga_event::NodePart;
 use ga_text::{
-    MAX_NUMBER_DIGITS, TextBuffer, WORD_DIGITS, push_byte, push_number, push_spaced, push_text,
+    MAX_NUMBER_DIGITS, TextBuffer, WORD_DIGITS, push_hex_byte, push_number, push_spaced_word,
+    push_text,
 };
 use ga_word::Word18;
 
@@ -18,26 +19,26 @@ pub(crate) const MAX_PART_BYTES: usize = b"d".len() + MAX_NUMBER_DIGITS;
 pub(crate) const MAX_NAMED_WORD_BYTES: usize = 1 + MAX_PART_BYTES + 1 + WORD_DIGITS;
 
 /// Adds the name of a part: of a cell its address.
-pub(crate) fn push_part(out: &mut TextBuffer, part: Part)
+pub(crate) fn push_part(out: &mut TextBuffer, part: NodePart)
     requires { array_vec_len out.old + MAX_PART_BYTES ≤ 256 }
     ensures text { out.new.items ≡ out.old.items ++ part_name part }
     ensures len { array_vec_len out.new ≤ array_vec_len out.old + MAX_PART_BYTES }
 {
     match part {
-        Part::Data(k) => push_data(out, k),
-        Part::Return(k) => push_return(out, k),
-        Part::Ram(k) => push_byte(out, k),
-        Part::Rom(k) => push_byte(out, 128 + k % 64),
-        Part::A => push_text(out, b"a"),
-        Part::B => push_text(out, b"b"),
-        Part::P => push_text(out, b"p"),
-        Part::I => push_text(out, b"i"),
-        Part::Io => push_text(out, b"io"),
-        Part::Carry => push_text(out, b"carry"),
-        Part::Slot => push_text(out, b"slot"),
-        Part::Wait => push_text(out, b"wait"),
-        Part::Stop => push_text(out, b"stop"),
-        Part::Outside => push_text(out, b"outside"),
+        NodePart::Data(k) => push_data(out, k),
+        NodePart::Return(k) => push_return(out, k),
+        NodePart::Ram(k) => push_hex_byte(out, k),
+        NodePart::Rom(k) => push_hex_byte(out, 128 + k % 64),
+        NodePart::A => push_text(out, b"a"),
+        NodePart::B => push_text(out, b"b"),
+        NodePart::P => push_text(out, b"p"),
+        NodePart::I => push_text(out, b"i"),
+        NodePart::Io => push_text(out, b"io"),
+        NodePart::Carry => push_text(out, b"carry"),
+        NodePart::Slot => push_text(out, b"slot"),
+        NodePart::Wait => push_text(out, b"wait"),
+        NodePart::Stop => push_text(out, b"stop"),
+        NodePart::Outside => push_text(out, b"outside"),
     }
 }
 
@@ -70,16 +71,16 @@ fn push_return(out: &mut TextBuffer, k: u8)
 }
 
 /// Adds the name of the part in which a step left what it made, but for T, the instruction word and a cell.
-pub(crate) fn push_part_suffix(out: &mut TextBuffer, part: Part)
+pub(crate) fn push_part_suffix(out: &mut TextBuffer, part: NodePart)
     requires { array_vec_len out.old + 1 + MAX_PART_BYTES ≤ 256 }
-    ensures text { out.new.items ≡ out.old.items ++ mark_text part }
+    ensures text { out.new.items ≡ out.old.items ++ part_mark_text part }
     ensures len { array_vec_len out.new ≤ array_vec_len out.old + 1 + MAX_PART_BYTES }
 {
     match part {
-        Part::Data(0) => (),
-        Part::Ram(_) => (),
-        Part::Rom(_) => (),
-        Part::I => (),
+        NodePart::Data(0) => (),
+        NodePart::Ram(_) => (),
+        NodePart::Rom(_) => (),
+        NodePart::I => (),
         _ => {
             push_text(out, b" ");
             push_part(out, part);
@@ -88,11 +89,11 @@ pub(crate) fn push_part_suffix(out: &mut TextBuffer, part: Part)
 }
 
 /// Adds the name of a part, and its word.
-pub(crate) fn push_named_word(out: &mut TextBuffer, part: Part, word: Word18)
+pub(crate) fn push_named_word(out: &mut TextBuffer, part: NodePart, word: Word18)
     requires { array_vec_len out.old + MAX_NAMED_WORD_BYTES ≤ 256 }
     ensures { out.new.items ≡ out.old.items ++ register_text (part_name part) word }
 {
     push_text(out, b" ");
     push_part(out, part);
-    push_spaced(out, word);
+    push_spaced_word(out, word);
 }

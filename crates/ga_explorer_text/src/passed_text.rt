@@ -5,14 +5,14 @@ ghost use Rattle.arrayvec.specs.ArrayVec.{array_vec_len};
 ghost use Rattle.ga_word.specs.Word.{hex6_of};
 ghost use Rattle.ga_node.specs.Record.{record_of};
 ghost use Rattle.ga_display.specs.Texts.{register_text};
-ghost use Rattle.ga_explorer_text.specs.Around.{behind_text, step_registers_text};
+ghost use Rattle.ga_explorer_text.specs.Around.{registers_after_text, step_registers_text};
 
 use crate::deed_text::push_action;
 use arrayvec::ArrayVec;
 use ga_grid::NodeId;
 use ga_lab::Made;
 use ga_node::{Node, Place};
-use ga_text::{TextBuffer, WORD_DIGITS, push_spaced, push_step, push_text};
+use ga_text::{TextBuffer, WORD_DIGITS, push_spaced_word, push_step, push_text};
 use ga_word::Word18;
 
 /// The bytes of a register: a space, its name, a space and a word.
@@ -37,7 +37,7 @@ pub(crate) fn step_registers_line(node: NodeId, step: u32, made: Made, behind: &
 #[tactic(auto, unfolding(ga_node::specs::Record::record_of))]
 fn push_behind(out: &mut TextBuffer, node: &Node)
     requires { array_vec_len out.old + BEHIND_ROOM ≤ 256 }
-    ensures text { out.new.items ≡ out.old.items ++ behind_text (record_of node.now) }
+    ensures text { out.new.items ≡ out.old.items ++ registers_after_text (record_of node.now) }
     ensures len { array_vec_len out.new ≡ array_vec_len out.old + BEHIND_ROOM }
 {
     push_register(out, b"t", node.d(0));
@@ -66,5 +66,5 @@ fn push_value(out: &mut TextBuffer, value: u32)
     ensures text { out.new.items ≡ out.old.items ++ (codes " " ++ hex6_of value) }
     ensures len { array_vec_len out.new ≡ array_vec_len out.old + 1 + WORD_DIGITS }
 {
-    push_spaced(out, Word18::truncated(value));
+    push_spaced_word(out, Word18::from_low_bits(value));
 }

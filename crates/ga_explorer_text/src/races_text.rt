@@ -5,11 +5,11 @@ ghost use Rattle.arrayvec.specs.ArrayVec.{array_vec_len};
 ghost use Rattle.ga_word.specs.Word.{hex6_of};
 ghost use Rattle.ga_text.specs.Output.{WritesSome, WritesExactly};
 ghost use Rattle.ga_text.specs.Digits.{name_of_node};
-ghost use Rattle.ga_race_detector.specs.Readings.{back_of};
-ghost use Rattle.ga_explorer_text.specs.Races.{race_text, reading_text, before_or_behind, races_head, race_lines_text, last_line, listed_text, TellsRaces};
+ghost use Rattle.ga_race_detector.specs.Readings.{rollback_step_of};
+ghost use Rattle.ga_explorer_text.specs.Races.{race_text, look_race_text, before_or_after_text, races_head, race_lines_text, races_last_line, listed_races_text, IsRacesAnswer};
 
 use arrayvec::ArrayVec;
-use ga_display::advised_text;
+use ga_display::advised_refusal_text;
 use ga_grid::NodeId;
 use ga_lab::Lab;
 use ga_race_detector::{LookRace, Race, Races, find_races};
@@ -34,12 +34,12 @@ pub fn write_races<W: Write>(
     only: Option<NodeId>,
     writer: &mut Writer<'_, W>,
 ) -> WriteResult
-    ensures said { WritesSome result (TellsRaces lab.old only) W.contents writer.old writer.new }
+    ensures said { WritesSome result (IsRacesAnswer lab.old only) W.contents writer.old writer.new }
     ensures same { lab.new ≡ lab.old }
 {
     match find_races(alloc, lab, only) {
         Ok(races) => say_found(only, &races, writer),
-        Err(fault) => writer.write_text(advised_text(fault)),
+        Err(fault) => writer.write_text(advised_refusal_text(fault)),
     }
 }
 
@@ -49,14 +49,14 @@ fn say_found<W: Write>(
     races: &Races,
     writer: &mut Writer<'_, W>,
 ) -> WriteResult
-    ensures { WritesSome result (λ text. text ≡ listed_text only races.now.list.items races.now.readings.items races.now.looks races.now.quiet)
+    ensures { WritesSome result (λ text. text ≡ listed_races_text only races.now.list.items races.now.readings.items races.now.looks races.now.quiet)
         W.contents writer.old writer.new }
 {
     let list = races.list.as_slice();
     let readings = races.readings.as_slice();
     let count = list.len() as u64 + readings.len() as u64;
     say_list(list, count, writer)?;
-    let last = last_line(only, list, races.looks, races.quiet);
+    let last = races_last_line(only, list, races.looks, races.quiet);
     say_rest(readings, last, writer)
 }
 
@@ -78,7 +78,7 @@ fn say_rest<W: Write>(
     last: &'static [u8],
     writer: &mut Writer<'_, W>,
 ) -> WriteResult
-    ensures { WritesSome result (λ text. text ≡ flat_map reading_text readings.now ++ last.now)
+    ensures { WritesSome result (λ text. text ≡ flat_map look_race_text readings.now ++ last.now)
         W.contents writer.old writer.new }
 {
     'readings: for reading in readings {
@@ -89,7 +89,7 @@ fn say_rest<W: Write>(
 
 /// Says a look that could have read otherwise.
 fn say_reading<W: Write>(reading: LookRace, writer: &mut Writer<'_, W>) -> WriteResult
-    ensures { WritesExactly result (reading_text reading) W.contents writer.old writer.new }
+    ensures { WritesExactly result (look_race_text reading) W.contents writer.old writer.new }
 {
     writer.write_blocks(reading_line(reading).as_slice())
 }
@@ -115,16 +115,16 @@ fn head_line(count: u64) -> TextBuffer
 /// A look with the word that it read, another that it could have read, the change before or after which it would have read
 /// that, and the commands that lead there.
 fn reading_line(reading: LookRace) -> TextBuffer
-    ensures { result.items ≡ reading_text reading }
+    ensures { result.items ≡ look_race_text reading }
 {
-    let (node, step) = back_of(&reading);
+    let (node, step) = rollback_step_of(&reading);
     let mut out = ArrayVec::new();
     push_step(&mut out, reading.node, reading.step);
     push_text(&mut out, b" reads ");
     push_word(&mut out, reading.word);
     push_text(&mut out, b", or ");
     push_word(&mut out, reading.other);
-    push_text(&mut out, side_of(reading.early));
+    push_text(&mut out, side_of(reading.is_look_first));
     push_step(&mut out, reading.neighbour, reading.change);
     push_text(&mut out, b": rewind ");
     push_step(&mut out, node, step);
@@ -135,17 +135,21 @@ fn reading_line(reading: LookRace) -> TextBuffer
 }
 
 /// On which side of the change a look would have read the other word.
-fn side_of(early: bool) -> &'static [u8; 8]
-    ensures { result.now ≡ before_or_behind early }
+fn side_of(is_look_first: bool) -> &'static [u8; 8]
+    ensures { result.now ≡ before_or_after_text is_look_first }
 {
-    if early { b" behind " } else { b" before " }
+    if is_look_first {
+        b" behind "
+    } else {
+        b" before "
+    }
 }
 
 /// The step that is taken back for a look to read the other word.
-fn back_of(reading: &LookRace) -> (NodeId, u32)
-    ensures { result ≡ back_of reading.now }
+fn rollback_step_of(reading: &LookRace) -> (NodeId, u32)
+    ensures { result ≡ rollback_step_of reading.now }
 {
-    if reading.early {
+    if reading.is_look_first {
         (reading.node, reading.step)
     } else {
         (reading.neighbour, reading.change)
@@ -182,8 +186,8 @@ fn push_from(out: &mut TextBuffer, word: Word18, node: NodeId)
 }
 
 /// What holds of other orders.
-fn last_line(only: Option<NodeId>, races: &[Race], looks: bool, quiet: bool) -> &'static [u8]
-    ensures { result.now ≡ last_line only races.now looks quiet }
+fn races_last_line(only: Option<NodeId>, races: &[Race], looks: bool, quiet: bool) -> &'static [u8]
+    ensures { result.now ≡ races_last_line only races.now looks quiet }
 {
     if looks {
         b"looks are kept or come next: there may be other races\n"

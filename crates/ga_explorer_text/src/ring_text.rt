@@ -2,10 +2,10 @@
 
 ghost use Rattle.ga_text.specs.Output.{WritesSome};
 ghost use Rattle.std.specs.Prelude.{◌≡◌, ◌+◌, [], Some};
-ghost use Rattle.ga_grid.specs.Grid.{number_where_any};
+ghost use Rattle.ga_grid.specs.Grid.{optional_number};
 ghost use Rattle.ga_grid.specs.Chip.{records_of};
 ghost use Rattle.ga_causal.specs.Dependence.{is_marked};
-ghost use Rattle.ga_explorer_text.specs.Waiting.{awaited_at, sole, only_awaited, ring_names, ring_line, wait_cycle_text, all_rings};
+ghost use Rattle.ga_explorer_text.specs.Waiting.{awaited_neighbour, only_present, only_awaited_neighbour, wait_cycle_names, wait_cycle_line, wait_cycle_text, wait_cycles_text};
 
 use arrayvec::ArrayVec;
 use ga_grid::{Chip, NodeId, neighbour};
@@ -26,7 +26,7 @@ pub(crate) fn write_wait_cycles<W: Write>(
     stuck: &[bool; 144],
     writer: &mut Writer<'_, W>,
 ) -> WriteResult
-    ensures { WritesSome result (λ text. text ≡ all_rings (records_of chip.now) (is_marked stuck.now))
+    ensures { WritesSome result (λ text. text ≡ wait_cycles_text (records_of chip.now) (is_marked stuck.now))
         W.contents writer.old writer.new }
 {
     'nodes: for number in 0..144u8 {
@@ -49,12 +49,12 @@ fn line_of_ring(chip: &Chip, stuck: &[bool; 144], node: NodeId) -> RingLine
 
 /// The line of the wait cycle that leads from a node back to it by nodes of greater numbers; empty if it doesn't.
 fn ring_from(chip: &Chip, first: NodeId) -> RingLine
-    ensures { result.items ≡ ring_line first.number (ring_names (records_of chip.now) first.number 144 (only_awaited (records_of chip.now) first.number)) }
+    ensures { result.items ≡ wait_cycle_line first.number (wait_cycle_names (records_of chip.now) first.number 144 (only_awaited_neighbour (records_of chip.now) first.number)) }
 {
     let mut out = ArrayVec::new();
     push_text(&mut out, b"ring ");
     push_node(&mut out, first);
-    let mut next = only_awaited(chip, first);
+    let mut next = only_awaited_neighbour(chip, first);
     'ring: for _ in 0..144u8 {
         let Some(node) = next else {
             return ArrayVec::new();
@@ -68,30 +68,30 @@ fn ring_from(chip: &Chip, first: NodeId) -> RingLine
         }
         push_text(&mut out, b" ");
         push_node(&mut out, node);
-        next = only_awaited(chip, node);
+        next = only_awaited_neighbour(chip, node);
     }
     ArrayVec::new()
 }
 
 /// The neighbour that a node awaits, where it awaits no other.
-fn only_awaited(chip: &Chip, node: NodeId) -> Option<NodeId>
-    ensures { number_where_any result ≡ only_awaited (records_of chip.now) node.number }
+fn only_awaited_neighbour(chip: &Chip, node: NodeId) -> Option<NodeId>
+    ensures { optional_number result ≡ only_awaited_neighbour (records_of chip.now) node.number }
 {
-    let right = awaited_at(chip, node, Side::Right);
-    let down = awaited_at(chip, node, Side::Down);
-    let left = awaited_at(chip, node, Side::Left);
-    let up = awaited_at(chip, node, Side::Up);
-    sole(right, down, left, up)
+    let right = awaited_neighbour(chip, node, Side::Right);
+    let down = awaited_neighbour(chip, node, Side::Down);
+    let left = awaited_neighbour(chip, node, Side::Left);
+    let up = awaited_neighbour(chip, node, Side::Up);
+    only_present(right, down, left, up)
 }
 
 /// The one that is there of four, where no other is.
-fn sole(
+fn only_present(
     right: Option<NodeId>,
     down: Option<NodeId>,
     left: Option<NodeId>,
     up: Option<NodeId>,
 ) -> Option<NodeId>
-    ensures { number_where_any result ≡ sole (number_where_any right) (number_where_any down) (number_where_any left) (number_where_any up) }
+    ensures { optional_number result ≡ only_present (optional_number right) (optional_number down) (optional_number left) (optional_number up) }
 {
     match (right, down, left, up) {
         (Some(node), None, None, None) => Some(node),
@@ -103,8 +103,8 @@ fn sole(
 }
 
 /// The neighbour on a side, where the node awaits it.
-fn awaited_at(chip: &Chip, node: NodeId, side: Side) -> Option<NodeId>
-    ensures { number_where_any result ≡ awaited_at (records_of chip.now) node.number side }
+fn awaited_neighbour(chip: &Chip, node: NodeId, side: Side) -> Option<NodeId>
+    ensures { optional_number result ≡ awaited_neighbour (records_of chip.now) node.number side }
 {
     if awaits(&chip.node(node).wait(), side) {
         neighbour(node, side)

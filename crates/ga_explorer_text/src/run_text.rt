@@ -2,10 +2,10 @@
 
 ghost use Rattle.std.specs.Prelude.{◌≡◌, ◌+◌, ◌*◌, ◌≤◌, ◌++◌, length, decimal};
 ghost use Rattle.arrayvec.specs.ArrayVec.{array_vec_len};
-ghost use Rattle.ga_explorer_text.specs.Texts.{run_text, which_text, fault_word};
+ghost use Rattle.ga_explorer_text.specs.Texts.{run_text, held_condition_text, fault_name_text};
 
 use arrayvec::ArrayVec;
-use ga_display::{advice_text, push_made};
+use ga_display::{advice_text, push_event_text};
 use ga_lab::LabFault;
 use ga_scheduler::{RunEnd, RunResult};
 use ga_text::{MAX_LINE_BYTES, MAX_NUMBER_DIGITS, push_number, push_text};
@@ -28,7 +28,7 @@ pub fn run_result_text(ran: &RunResult, conditions: usize) -> RunText
             push_number(&mut out, ran.events);
             push_which(&mut out, conditions, which);
             push_text(&mut out, b" ");
-            push_made(&mut out, made);
+            push_event_text(&mut out, made);
         }
         RunEnd::Made => push_count(&mut out, b"made ", ran.events, b"\n"),
         RunEnd::Quiet => push_count(&mut out, b"quiet ", ran.events, b"\n"),
@@ -40,7 +40,7 @@ pub fn run_result_text(ran: &RunResult, conditions: usize) -> RunText
 /// Adds which of several conditions held, counted from 1, and nothing of one alone.
 fn push_which(out: &mut RunText, conditions: usize, which: u8)
     requires { array_vec_len out.old + 2 * MAX_NUMBER_DIGITS ≤ MAX_LINE_BYTES }
-    ensures text { out.new.items ≡ out.old.items ++ which_text conditions which }
+    ensures text { out.new.items ≡ out.old.items ++ held_condition_text conditions which }
     ensures len { array_vec_len out.new ≤ array_vec_len out.old + 2 * MAX_NUMBER_DIGITS }
 {
     if conditions > 1 {
@@ -62,7 +62,7 @@ fn push_count(out: &mut RunText, word: &[u8], events: u64, rest: &[u8])
 
 /// Why a step was refused.
 fn word_of(why: LabFault) -> &'static [u8]
-    ensures text { result.now ≡ fault_word why }
+    ensures text { result.now ≡ fault_name_text why }
     ensures len { length result.now ≤ 8 }
 {
     match why {

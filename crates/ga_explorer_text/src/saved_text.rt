@@ -2,9 +2,9 @@
 
 ghost use Rattle.std.specs.Prelude.{◌≡◌, flat_map};
 ghost use Rattle.std.specs.List.{slice_get};
-ghost use Rattle.ga_lab.specs.Machine.{actor_of};
+ghost use Rattle.ga_lab.specs.Machine.{acting_node};
 ghost use Rattle.ga_text.specs.Output.{WritesSome, WritesExactly};
-ghost use Rattle.ga_explorer_text.specs.Saved.{step_line, with_feed, saved_text};
+ghost use Rattle.ga_explorer_text.specs.Saved.{step_command_line, with_feed, saved_text};
 ghost use Rattle.ga_explorer_text.specs.inner.{actor_in, line_at, cause_line};
 
 use arrayvec::ArrayVec;
@@ -43,14 +43,14 @@ fn say_listed<W: Write>(causes: &[Cause], writer: &mut Writer<'_, W>) -> WriteRe
 
 /// Says the line of an event.
 fn say_event<W: Write>(event: Event, writer: &mut Writer<'_, W>) -> WriteResult
-    ensures { WritesExactly result (with_feed (step_line (actor_of event))) W.contents writer.old writer.new }
+    ensures { WritesExactly result (with_feed (step_command_line (acting_node event))) W.contents writer.old writer.new }
 {
-    writer.write_blocks(step_line(actor_of(event)).as_slice())
+    writer.write_blocks(step_command_line(acting_node(event)).as_slice())
 }
 
 /// The node that makes the event: of a pass the writer.
-fn actor_of(event: Event) -> NodeId
-    ensures { result ≡ actor_of event }
+fn acting_node(event: Event) -> NodeId
+    ensures { result ≡ acting_node event }
 {
     match event {
         Event::Own(node) => node,
@@ -76,8 +76,8 @@ fn say_step<W: Write>(lab: &Lab, place: u32, writer: &mut Writer<'_, W>) -> Writ
 {
     // So the history is the one that is written.
     let _chip = lab.chip();
-    match lab.made_at(place) {
-        Some(made) => writer.write_blocks(step_line(actor(&made)).as_slice()),
+    match lab.made_event_at(place) {
+        Some(made) => writer.write_blocks(step_command_line(actor(&made)).as_slice()),
         None => Ok(()),
     }
 }
@@ -93,8 +93,8 @@ fn actor(made: &Made) -> NodeId
 }
 
 /// `step NNN`
-fn step_line(node: NodeId) -> TextBuffer
-    ensures { result.items ≡ with_feed (step_line node) }
+fn step_command_line(node: NodeId) -> TextBuffer
+    ensures { result.items ≡ with_feed (step_command_line node) }
 {
     let mut out = ArrayVec::new();
     push_text(&mut out, b"step ");

@@ -2,16 +2,16 @@
 
 ghost use Rattle.std.specs.Prelude.{◌≡◌, ◌≤◌};
 ghost use Rattle.ga_node.specs.Record.{record_of};
-ghost use Rattle.ga_event.specs.Told.{steps_of};
+ghost use Rattle.ga_event.specs.Told.{count_steps};
 ghost use Rattle.ga_lab.specs.Machine.{node_at_step};
 ghost use Rattle.ga_provenance.specs.Origins.{node_after};
 ghost use Rattle.ga_text.specs.Output.{WritesExactly};
-ghost use Rattle.ga_explorer_text.specs.SourceSuffix.{noted_cell, noted_slot as noted_slot_of, tail_text, part_cell};
+ghost use Rattle.ga_explorer_text.specs.SourceSuffix.{cell_note_text, slot_note_text as noted_slot_of, source_suffix_line, part_cell};
 
 use ga_debug_info::DebugInfo;
-use ga_event::Part;
+use ga_event::NodePart;
 use ga_grid::NodeId;
-use ga_lab::{Lab, Walk};
+use ga_lab::{Lab, NodeWalk};
 use ga_node::{Node, Place};
 use ga_provenance::{Value, fetched_cell_at};
 use ga_text::{WriteResult, Writer};
@@ -22,7 +22,7 @@ const FETCH: usize = 4;
 
 /// What the source says of a cell.
 fn noted(notes: &Option<DebugInfo>, node: NodeId, cell: Option<u8>) -> &[u8]
-    ensures { result.now ≡ noted_cell notes.now node cell }
+    ensures { result.now ≡ cell_note_text notes.now node cell }
 {
     match notes {
         Some(notes) => notes.text_of(node, cell),
@@ -31,7 +31,7 @@ fn noted(notes: &Option<DebugInfo>, node: NodeId, cell: Option<u8>) -> &[u8]
 }
 
 /// What it says of a slot of the cell.
-fn noted_slot(notes: &Option<DebugInfo>, node: NodeId, cell: Option<u8>, slot: usize) -> &[u8]
+fn slot_note_text(notes: &Option<DebugInfo>, node: NodeId, cell: Option<u8>, slot: usize) -> &[u8]
     ensures { result.now ≡ noted_slot_of notes.now node cell slot }
 {
     match notes {
@@ -47,12 +47,12 @@ fn noted_slot(notes: &Option<DebugInfo>, node: NodeId, cell: Option<u8>, slot: u
 }
 
 /// The cell that a part of a node is.
-fn part_cell(part: Part) -> Option<u8>
+fn part_cell(part: NodePart) -> Option<u8>
     ensures { result ≡ part_cell part }
 {
     match part {
-        Part::Ram(cell) => Some(cell),
-        Part::Rom(cell) => Some(128 + cell % 64),
+        NodePart::Ram(cell) => Some(cell),
+        NodePart::Rom(cell) => Some(128 + cell % 64),
         _ => None,
     }
 }
@@ -73,16 +73,16 @@ fn say_tail<W: Write>(
     slot: usize,
     writer: &mut Writer<'_, W>,
 ) -> WriteResult
-    ensures { WritesExactly result (tail_text notes.now node cell slot) W.contents writer.old writer.new }
+    ensures { WritesExactly result (source_suffix_line notes.now node cell slot) W.contents writer.old writer.new }
 {
     writer.write_blocks(noted(notes, node, cell))?;
-    writer.write_blocks(noted_slot(notes, node, cell, slot))?;
+    writer.write_blocks(slot_note_text(notes, node, cell, slot))?;
     writer.write_text(b"\n")
 }
 
 /// The slot of a node that is walked back to its first `place` steps.
-fn walked_slot(lab: &Lab, node: NodeId, place: u32, walk: &Walk<'_>) -> u32
-    requires within { place ≤ steps_of node.number lab.now.kept }
+fn walked_slot(lab: &Lab, node: NodeId, place: u32, walk: &NodeWalk<'_>) -> u32
+    requires within { place ≤ count_steps node.number lab.now.kept }
     requires walk { walk.now ≡ node_at_step lab.now node place }
     ensures { result ≡ (node_after lab.now node.number place).slot }
 {
@@ -96,22 +96,22 @@ pub(crate) struct StepContext<'l> {
     pub lab: &'l Lab,
     pub notes: &'l Option<DebugInfo>,
     pub node: NodeId,
-    pub near: Walk<'l>,
+    pub near: NodeWalk<'l>,
     ghost stands: { near ≡ node_at_step lab.now node near.step },
 }
 
 impl<'l> StepContext<'l> {
     ghost use Rattle.std.specs.Prelude.{◌≡◌, ◌≤◌, ℕ};
-    ghost use Rattle.ga_event.specs.Told.{steps_of};
+    ghost use Rattle.ga_event.specs.Told.{count_steps};
     ghost use Rattle.ga_lab.specs.Machine.{node_at_step};
     ghost use Rattle.ga_text.specs.Output.{WritesExactly};
     ghost use Rattle.ga_provenance.specs.Fetched.{fetched_cell as cell_fetched};
     ghost use Rattle.ga_provenance.specs.Origins.{node_after};
-    ghost use Rattle.ga_explorer_text.specs.SourceSuffix.{noted_text, slot_before, step_tail, value_tail};
+    ghost use Rattle.ga_explorer_text.specs.SourceSuffix.{source_note_text, slot_before, step_suffix_text, value_suffix_text};
 
     /// An outlook from a node that is walked back to its step.
     pub fn new(lab: &'l Lab, notes: &'l Option<DebugInfo>, node: NodeId, step: u32) -> Self
-        requires { step ≤ steps_of node.number lab.now.kept }
+        requires { step ≤ count_steps node.number lab.now.kept }
         ensures lab { result.lab.now ≡ lab.now }
         ensures notes { result.notes.now ≡ notes.now }
         ensures node { result.node ≡ node }
@@ -127,13 +127,13 @@ impl<'l> StepContext<'l> {
 
     /// A node that is walked back to its first `place` steps: from here, if this is the same node and not earlier, else from its
     /// newest step.
-    pub fn walk_near(&self, node: NodeId, place: u32) -> Walk<'l>
-        requires { place ≤ steps_of node.number self.now.lab.now.kept }
+    pub fn walk_back_to_step(&self, node: NodeId, place: u32) -> NodeWalk<'l>
+        requires { place ≤ count_steps node.number self.now.lab.now.kept }
         ensures { result ≡ node_at_step self.now.lab.now node place }
     {
         if self.node == node && place <= self.near.step() {
             let mut walk = self.near.copy();
-            walk.back_to(place);
+            walk.walk_back_to(place);
             walk
         } else {
             self.lab.walk(node, place)
@@ -142,10 +142,10 @@ impl<'l> StepContext<'l> {
 
     /// The slot after the first `place` steps of a node, which is walked back there.
     fn slot_near(&self, node: NodeId, place: u32) -> u32
-        requires { place ≤ steps_of node.number self.now.lab.now.kept }
+        requires { place ≤ count_steps node.number self.now.lab.now.kept }
         ensures { result ≡ (node_after self.now.lab.now node.number place).slot }
     {
-        walked_slot(self.lab, node, place, &self.walk_near(node, place))
+        walked_slot(self.lab, node, place, &self.walk_back_to_step(node, place))
     }
 
     /// The slot that was next before a step.
@@ -158,7 +158,7 @@ impl<'l> StepContext<'l> {
 
     /// The slot that was next before a step, if the source has slots of the cell; else that before a fetch.
     fn step_slot(&self, node: NodeId, step: u32, cell: Option<u8>) -> usize
-        ensures { noted_text self.now.notes.now node cell result ≡ noted_text self.now.notes.now node cell (slot_before self.now.lab.now node step) }
+        ensures { source_note_text self.now.notes.now node cell result ≡ source_note_text self.now.notes.now node cell (slot_before self.now.lab.now node step) }
     {
         match self.notes {
             Some(notes) => {
@@ -174,8 +174,8 @@ impl<'l> StepContext<'l> {
 
     /// The cell from which the instruction word of a step was fetched, where the source says something of cells.
     fn step_cell(&self, node: NodeId, step: u32) -> Option<u8>
-        ensures { (slot : ℕ) → noted_text self.now.notes.now node result slot
-            ≡ noted_text self.now.notes.now node (cell_fetched self.now.lab.now node step) slot }
+        ensures { (slot : ℕ) → source_note_text self.now.notes.now node result slot
+            ≡ source_note_text self.now.notes.now node (cell_fetched self.now.lab.now node step) slot }
     {
         match self.notes {
             Some(_) => fetched_cell_at(self.lab, &self.near, self.node, node, step),
@@ -193,7 +193,7 @@ impl<'l> StepContext<'l> {
         step: u32,
         writer: &mut Writer<'_, W>,
     ) -> WriteResult
-        ensures { WritesExactly result (step_tail self.now.notes.now self.now.lab.now node step) W.contents writer.old writer.new }
+        ensures { WritesExactly result (step_suffix_text self.now.notes.now self.now.lab.now node step) W.contents writer.old writer.new }
     {
         let cell = self.step_cell(node, step);
         let slot = self.step_slot(node, step, cell);
@@ -204,8 +204,8 @@ impl<'l> StepContext<'l> {
     ///
     /// # Errors
     /// A write failed.
-    pub fn say_own_tail<W: Write>(&self, writer: &mut Writer<'_, W>) -> WriteResult
-        ensures { WritesExactly result (step_tail self.now.notes.now self.now.lab.now self.now.node self.now.near.step) W.contents writer.old writer.new }
+    pub fn write_own_suffix<W: Write>(&self, writer: &mut Writer<'_, W>) -> WriteResult
+        ensures { WritesExactly result (step_suffix_text self.now.notes.now self.now.lab.now self.now.node self.now.near.step) W.contents writer.old writer.new }
     {
         self.write_step_suffix(self.node, self.near.step(), writer)
     }
@@ -219,7 +219,7 @@ impl<'l> StepContext<'l> {
         value: Value,
         writer: &mut Writer<'_, W>,
     ) -> WriteResult
-        ensures { WritesExactly result (value_tail self.now.notes.now self.now.lab.now value) W.contents writer.old writer.new }
+        ensures { WritesExactly result (value_suffix_text self.now.notes.now self.now.lab.now value) W.contents writer.old writer.new }
     {
         if value.step == 0 {
             let cell = part_cell(value.part);

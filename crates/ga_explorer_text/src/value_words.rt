@@ -2,15 +2,15 @@
 
 ghost use Rattle.std.specs.Prelude.{◌≡◌, ◌≤◌, ◌<◌, ◌^◌, slice_index};
 ghost use Rattle.ga_node.specs.Record.{record_of};
-ghost use Rattle.ga_event.specs.Flow.{part_of};
-ghost use Rattle.ga_event.specs.Told.{steps_of};
+ghost use Rattle.ga_event.specs.Flow.{part_value};
+ghost use Rattle.ga_event.specs.Told.{count_steps};
 ghost use Rattle.ga_lab.specs.Machine.{node_at_step};
 ghost use Rattle.ga_provenance.specs.Origins.{node_after};
 
 use crate::source_suffix::StepContext;
-use ga_event::Part;
+use ga_event::NodePart;
 use ga_grid::NodeId;
-use ga_lab::{Lab, Walk};
+use ga_lab::{Lab, NodeWalk};
 use ga_node::{Node, Place};
 use ga_provenance::{ProvenanceRow, Value};
 use ga_word::Word18;
@@ -72,35 +72,35 @@ fn rom_word(node: &Node, cell: u8) -> u32
 
 /// The word in a part of a node.
 #[tactic(auto, unfolding(ga_node::specs::Record::record_of))]
-fn part_word(node: &Node, part: Part) -> u32
-    ensures value { result ≡ part_of 0 (record_of node.now) part }
+fn part_word(node: &Node, part: NodePart) -> u32
+    ensures value { result ≡ part_value 0 (record_of node.now) part }
     ensures fits { result < 2 ^ 18 }
 {
     match part {
-        Part::Data(place) => data_word(node, place),
-        Part::Return(place) => return_word(node, place),
-        Part::Ram(cell) => ram_word(node, cell),
-        Part::Rom(cell) => rom_word(node, cell),
-        Part::A => node.get(Place::A),
-        Part::B => node.get(Place::B),
-        Part::P => node.get(Place::P),
-        Part::I => node.get(Place::I),
-        Part::Io => node.get(Place::Io),
-        Part::Carry => node.get(Place::Carry),
-        Part::Slot => node.get(Place::Slot),
-        Part::Wait => node.get(Place::Wait),
-        Part::Stop => node.get(Place::Stop),
-        Part::Outside => 0,
+        NodePart::Data(place) => data_word(node, place),
+        NodePart::Return(place) => return_word(node, place),
+        NodePart::Ram(cell) => ram_word(node, cell),
+        NodePart::Rom(cell) => rom_word(node, cell),
+        NodePart::A => node.get(Place::A),
+        NodePart::B => node.get(Place::B),
+        NodePart::P => node.get(Place::P),
+        NodePart::I => node.get(Place::I),
+        NodePart::Io => node.get(Place::Io),
+        NodePart::Carry => node.get(Place::Carry),
+        NodePart::Slot => node.get(Place::Slot),
+        NodePart::Wait => node.get(Place::Wait),
+        NodePart::Stop => node.get(Place::Stop),
+        NodePart::Outside => 0,
     }
 }
 
 /// The word in a part of a node that is walked back to its first `place` steps.
-fn walked_word(lab: &Lab, node: NodeId, place: u32, walk: &Walk<'_>, part: Part) -> Word18
-    requires within { place ≤ steps_of node.number lab.now.kept }
+fn walked_word(lab: &Lab, node: NodeId, place: u32, walk: &NodeWalk<'_>, part: NodePart) -> Word18
+    requires within { place ≤ count_steps node.number lab.now.kept }
     requires walk { walk.now ≡ node_at_step lab.now node place }
-    ensures { result ≡ part_of 0 (node_after lab.now node.number place) part }
+    ensures { result ≡ part_value 0 (node_after lab.now node.number place) part }
 {
-    Word18::truncated(part_word(walk.node(), part))
+    Word18::from_low_bits(part_word(walk.node(), part))
 }
 
 impl<'l> StepContext<'l> {
@@ -128,7 +128,7 @@ impl<'l> StepContext<'l> {
             lab: self.lab,
             notes: self.notes,
             node,
-            near: self.walk_near(node, place),
+            near: self.walk_back_to_step(node, place),
         }
     }
 
@@ -139,10 +139,10 @@ impl<'l> StepContext<'l> {
     {
         let Value { node, step, part } = value;
         let place = step.min(self.lab.steps(node));
-        let walk = self.walk_near(node, place);
+        let walk = self.walk_back_to_step(node, place);
         ValueWords {
             word: walked_word(self.lab, node, place, &walk, part),
-            a: walked_word(self.lab, node, place, &walk, Part::A),
+            a: walked_word(self.lab, node, place, &walk, NodePart::A),
         }
     }
 }

@@ -5,8 +5,8 @@ ghost use Rattle.ga_word.specs.Word.{hex6_of};
 ghost use Rattle.ga_display.specs.Texts.{register_text};
 ghost use Rattle.arrayvec.specs.ArrayVec.{array_vec_len};
 ghost use Rattle.ga_text.specs.Output.{WritesSome, WritesExactly};
-ghost use Rattle.ga_explorer_text.specs.Trees.{blanks, left_by_transfer, left_by_op, left_by_kind, left_text, worded_text, queried_of_transfer, queried_text, did_text, more_text, asked_value, TellsWhence};
-ghost use Rattle.ga_event.specs.Flow.{IsPart};
+ghost use Rattle.ga_explorer_text.specs.Trees.{blanks, transfer_result_text, op_result_text, own_event_result_text, step_result_text, value_with_word_text, queried_transfer_text, queried_value_text, step_action_text, more_rows_text, selected_value, IsWhenceAnswer};
+ghost use Rattle.ga_event.specs.Flow.{IsNodePart};
 ghost use Rattle.ga_lab.specs.Machine.{history_of, node_at_step};
 ghost use Rattle.std.specs.List.{slice_get};
 ghost use Rattle.ga_explorer_text.specs.inner.{is_first};
@@ -17,14 +17,14 @@ use crate::source_suffix::StepContext;
 use crate::value_words::ValueWords;
 use arrayvec::ArrayVec;
 use ga_debug_info::DebugInfo;
-use ga_display::{advised_text, refusal_text};
-use ga_event::Part;
+use ga_display::{advised_refusal_text, refusal_text};
+use ga_event::NodePart;
 use ga_grid::NodeId;
-use ga_lab::{Lab, LabFault, Made, Walk};
-use ga_node::Kind;
+use ga_lab::{Lab, LabFault, Made, NodeWalk};
+use ga_node::OwnEventKind;
 use ga_provenance::{ProvenanceRow, Value, find_provenance_at, queried_value_at};
 use ga_text::{
-    MAX_STEP_BYTES, TextBuffer, WORD_DIGITS, WriteResult, Writer, push_node, push_spaced,
+    MAX_STEP_BYTES, TextBuffer, WORD_DIGITS, WriteResult, Writer, push_node, push_spaced_word,
     push_step, push_text,
 };
 use ga_word::Word18;
@@ -54,28 +54,33 @@ pub fn write_whence<W: Write>(
     notes: &Option<DebugInfo>,
     node: NodeId,
     step: u32,
-    part: Option<Part>,
+    part: Option<NodePart>,
     writer: &mut Writer<'_, W>,
 ) -> WriteResult
-    requires { IfSome part IsPart }
-    ensures { WritesSome result (TellsWhence notes.now lab.now node step part) W.contents writer.old writer.new }
+    requires { IfSome part IsNodePart }
+    ensures { WritesSome result (IsWhenceAnswer notes.now lab.now node step part) W.contents writer.old writer.new }
 {
     if !lab.has_step((node, step)) {
         return writer.write_text(refusal_text(LabFault::NoStep));
     }
     let here = StepContext::new(lab, notes, node, step);
-    match asked_value(lab, &here.near, node, part) {
+    match selected_value(lab, &here.near, node, part) {
         Some(value) => here.say_asked(alloc, value, writer),
         None => here.say_head(writer),
     }
 }
 
 /// The value of a part of a node where it is walked back to, or the one that its step selects where no part is named.
-fn asked_value(lab: &Lab, near: &Walk<'_>, node: NodeId, part: Option<Part>) -> Option<Value>
-    requires part { IfSome part IsPart }
+fn selected_value(
+    lab: &Lab,
+    near: &NodeWalk<'_>,
+    node: NodeId,
+    part: Option<NodePart>,
+) -> Option<Value>
+    requires part { IfSome part IsNodePart }
     requires near { near.now ≡ node_at_step lab.now node near.now.step }
-    ensures value { result ≡ asked_value lab.now node near.now.step part }
-    ensures part { IfSome result (λ value. IsPart value.part) }
+    ensures value { result ≡ selected_value lab.now node near.now.step part }
+    ensures part { IfSome result (λ value. IsNodePart value.part) }
 {
     match part {
         Some(part) => Some(Value {
@@ -89,7 +94,7 @@ fn asked_value(lab: &Lab, near: &Walk<'_>, node: NodeId, part: Option<Part>) -> 
 
 /// The text after the rows, if these are not all.
 fn more(is_whole: bool) -> &'static [u8]
-    ensures { result.now ≡ more_text is_whole }
+    ensures { result.now ≡ more_rows_text is_whole }
 {
     if is_whole { b"" } else { b"more\n" }
 }
@@ -118,7 +123,7 @@ fn say_blanks<W: Write>(levels: u64, writer: &mut Writer<'_, W>) -> WriteResult
 
 /// A step of a node, with what it did.
 fn head_line(lab: &Lab, node: NodeId, step: u32) -> TextBuffer
-    ensures { result.items ≡ did_text lab.now node step }
+    ensures { result.items ≡ step_action_text lab.now node step }
 {
     let mut out = ArrayVec::new();
     push_did(&mut out, lab, node, step);
@@ -127,29 +132,29 @@ fn head_line(lab: &Lab, node: NodeId, step: u32) -> TextBuffer
 
 /// A step of a node, with what it did and the queried value.
 fn queried_line(lab: &Lab, node: NodeId, step: u32, value: Value, word: Word18) -> TextBuffer
-    ensures { result.items ≡ did_text lab.now node step ++ queried_text (slice_get (history_of lab.now node.number) (step - 1)) step value word }
+    ensures { result.items ≡ step_action_text lab.now node step ++ queried_value_text (slice_get (history_of lab.now node.number) (step - 1)) step value word }
 {
     let mut out = ArrayVec::new();
     push_did(&mut out, lab, node, step);
-    let made = lab.made_by_step(node, step.saturating_sub(1));
+    let made = lab.made_event_of_step(node, step.saturating_sub(1));
     push_queried(&mut out, made, step, value, word);
     out
 }
 
 /// The step that made a value, or that it was loaded, with the value's word.
 fn value_line(lab: &Lab, value: Value, words: ValueWords) -> TextBuffer
-    ensures { result.items ≡ worded_text lab.now value words.word words.a }
+    ensures { result.items ≡ value_with_word_text lab.now value words.word words.a }
 {
     let mut out = ArrayVec::new();
     if value.step == 0 {
         push_node(&mut out, value.node);
         push_text(&mut out, b" load ");
         push_part(&mut out, value.part);
-        push_spaced(&mut out, words.word);
+        push_spaced_word(&mut out, words.word);
     } else {
         push_did(&mut out, lab, value.node, value.step);
         push_part_suffix(&mut out, value.part);
-        let made = lab.made_by_step(value.node, value.step - 1);
+        let made = lab.made_event_of_step(value.node, value.step - 1);
         push_left(&mut out, made, value.part, words);
     }
     out
@@ -158,12 +163,12 @@ fn value_line(lab: &Lab, value: Value, words: ValueWords) -> TextBuffer
 /// Adds a step of a node, with what it did.
 fn push_did(out: &mut TextBuffer, lab: &Lab, node: NodeId, step: u32)
     requires { array_vec_len out.old + DID_ROOM ≤ 256 }
-    ensures text { out.new.items ≡ out.old.items ++ did_text lab.now node step }
+    ensures text { out.new.items ≡ out.old.items ++ step_action_text lab.now node step }
     ensures len { array_vec_len out.new ≤ array_vec_len out.old + DID_ROOM }
 {
     push_step(out, node, step);
     push_text(out, b" ");
-    if let Some(made) = lab.made_by_step(node, step.saturating_sub(1)) {
+    if let Some(made) = lab.made_event_of_step(node, step.saturating_sub(1)) {
         push_action(out, made, node);
     }
 }
@@ -171,7 +176,7 @@ fn push_did(out: &mut TextBuffer, lab: &Lab, node: NodeId, step: u32)
 /// Adds the queried value of a step, but for the word that it sent.
 fn push_queried(out: &mut TextBuffer, made: Option<Made>, step: u32, value: Value, word: Word18)
     requires { array_vec_len out.old + MAX_NAMED_WORD_BYTES ≤ 256 }
-    ensures { out.new.items ≡ out.old.items ++ queried_text made step value word }
+    ensures { out.new.items ≡ out.old.items ++ queried_value_text made step value word }
 {
     match made {
         Some(Made::Pass { .. }) => push_queried_of_transfer(out, step, value, word),
@@ -183,7 +188,7 @@ fn push_queried(out: &mut TextBuffer, made: Option<Made>, step: u32, value: Valu
 /// Adds the queried value of a transfer: one that its node has after it.
 fn push_queried_of_transfer(out: &mut TextBuffer, step: u32, value: Value, word: Word18)
     requires { array_vec_len out.old + MAX_NAMED_WORD_BYTES ≤ 256 }
-    ensures { out.new.items ≡ out.old.items ++ queried_of_transfer step value word }
+    ensures { out.new.items ≡ out.old.items ++ queried_transfer_text step value word }
 {
     if value.step == step {
         push_named_word(out, value.part, word);
@@ -191,44 +196,44 @@ fn push_queried_of_transfer(out: &mut TextBuffer, step: u32, value: Value, word:
 }
 
 /// Adds the word that a step left in a part, but for a transferred one.
-fn push_left(out: &mut TextBuffer, made: Option<Made>, part: Part, words: ValueWords)
+fn push_left(out: &mut TextBuffer, made: Option<Made>, part: NodePart, words: ValueWords)
     requires { array_vec_len out.old + TWO_WORDS ≤ 256 }
-    ensures { out.new.items ≡ out.old.items ++ left_text made part words.word words.a }
+    ensures { out.new.items ≡ out.old.items ++ step_result_text made part words.word words.a }
 {
     match made {
         Some(Made::Pass { .. }) => push_beside_transfer(out, part, words.word),
         Some(Made::Own { kind, .. }) => push_left_by_kind(out, kind, part, words),
-        None => push_spaced(out, words.word),
+        None => push_spaced_word(out, words.word),
     }
 }
 
 /// Adds the word that an event of a node's own left in a part.
-fn push_left_by_kind(out: &mut TextBuffer, kind: Kind, part: Part, words: ValueWords)
+fn push_left_by_kind(out: &mut TextBuffer, kind: OwnEventKind, part: NodePart, words: ValueWords)
     requires { array_vec_len out.old + TWO_WORDS ≤ 256 }
-    ensures { out.new.items ≡ out.old.items ++ left_by_kind kind part words.word words.a }
+    ensures { out.new.items ≡ out.old.items ++ own_event_result_text kind part words.word words.a }
 {
     match kind {
-        Kind::Run(code) => push_left_by_op(out, code, part, words),
-        Kind::Fetch => push_spaced(out, words.word),
-        Kind::Wait => push_spaced(out, words.word),
-        Kind::Stop(_) => push_spaced(out, words.word),
+        OwnEventKind::Run(code) => push_left_by_op(out, code, part, words),
+        OwnEventKind::Fetch => push_spaced_word(out, words.word),
+        OwnEventKind::Wait => push_spaced_word(out, words.word),
+        OwnEventKind::Stop(_) => push_spaced_word(out, words.word),
     }
 }
 
 /// Adds the word that an opcode left in a part, and A where it is T of `+*`.
-fn push_left_by_op(out: &mut TextBuffer, code: u8, part: Part, words: ValueWords)
+fn push_left_by_op(out: &mut TextBuffer, code: u8, part: NodePart, words: ValueWords)
     requires { array_vec_len out.old + TWO_WORDS ≤ 256 }
-    ensures { out.new.items ≡ out.old.items ++ left_by_op code part words.word words.a }
+    ensures { out.new.items ≡ out.old.items ++ op_result_text code part words.word words.a }
 {
     match part {
-        Part::Data(k) => {
+        NodePart::Data(k) => {
             if code == MULTIPLY_STEP && k == 0 {
                 push_t_and_a(out, words);
             } else {
-                push_spaced(out, words.word);
+                push_spaced_word(out, words.word);
             }
         }
-        _ => push_spaced(out, words.word),
+        _ => push_spaced_word(out, words.word),
     }
 }
 
@@ -237,27 +242,27 @@ fn push_t_and_a(out: &mut TextBuffer, words: ValueWords)
     requires { array_vec_len out.old + TWO_WORDS ≤ 256 }
     ensures { out.new.items ≡ out.old.items ++ ((codes " " ++ hex6_of words.word) ++ register_text (codes "a") words.a) }
 {
-    push_spaced(out, words.word);
-    push_named_word(out, Part::A, words.a);
+    push_spaced_word(out, words.word);
+    push_named_word(out, NodePart::A, words.a);
 }
 
 /// Adds the word that a transfer left in a part, but for the transferred one, which is in T or the instruction word.
-fn push_beside_transfer(out: &mut TextBuffer, part: Part, word: Word18)
+fn push_beside_transfer(out: &mut TextBuffer, part: NodePart, word: Word18)
     requires { array_vec_len out.old + 1 + WORD_DIGITS ≤ 256 }
-    ensures { out.new.items ≡ out.old.items ++ left_by_transfer part word }
+    ensures { out.new.items ≡ out.old.items ++ transfer_result_text part word }
 {
     match part {
-        Part::Data(0) => (),
-        Part::I => (),
-        _ => push_spaced(out, word),
+        NodePart::Data(0) => (),
+        NodePart::I => (),
+        _ => push_spaced_word(out, word),
     }
 }
 
 impl<'l> StepContext<'l> {
     ghost use Rattle.std.specs.Prelude.{◌≡◌, Some, flat_map};
-    ghost use Rattle.ga_event.specs.Flow.{IsPart};
+    ghost use Rattle.ga_event.specs.Flow.{IsNodePart};
     ghost use Rattle.ga_text.specs.Output.{WritesSome, WritesExactly};
-    ghost use Rattle.ga_explorer_text.specs.Trees.{tree_row_text, rows_by, head_text, queried_head_text, TellsAsked};
+    ghost use Rattle.ga_explorer_text.specs.Trees.{tree_row_text, tree_rows_by_root, queried_step_text, queried_step_line, IsStepOrTreeAnswer};
     ghost use Rattle.ga_explorer_text.specs.inner.{is_first};
 
     /// Writes the tree of a value for the step to which its node is walked back.
@@ -267,8 +272,8 @@ impl<'l> StepContext<'l> {
         value: Value,
         writer: &mut Writer<'_, W>,
     ) -> WriteResult
-        requires { IsPart value.part }
-        ensures { WritesSome result (λ text. TellsAsked self.now.notes.now self.now.lab.now self.now.node self.now.near.step (Some value) text)
+        requires { IsNodePart value.part }
+        ensures { WritesSome result (λ text. IsStepOrTreeAnswer self.now.notes.now self.now.lab.now self.now.node self.now.near.step (Some value) text)
             W.contents writer.old writer.new }
     {
         match find_provenance_at(alloc, self.lab, &self.near, self.node, value, MOST_ROWS) {
@@ -276,7 +281,7 @@ impl<'l> StepContext<'l> {
                 self.say_rows(value, listing.rows.as_slice(), writer)?;
                 writer.write_blocks(more(listing.is_whole))
             }
-            Err(_) => writer.write_text(advised_text(LabFault::Memory)),
+            Err(_) => writer.write_text(advised_refusal_text(LabFault::Memory)),
         }
     }
 
@@ -287,7 +292,7 @@ impl<'l> StepContext<'l> {
         rows: &[ProvenanceRow],
         writer: &mut Writer<'_, W>,
     ) -> WriteResult
-        ensures { WritesSome result (λ text. text ≡ rows_by self.now.notes.now self.now.lab.now self.now.node self.now.near.step value (is_first self.now.near.step rows.now) rows.now)
+        ensures { WritesSome result (λ text. text ≡ tree_rows_by_root self.now.notes.now self.now.lab.now self.now.node self.now.near.step value (is_first self.now.near.step rows.now) rows.now)
             W.contents writer.old writer.new }
     {
         if is_first(self.near.step(), rows) {
@@ -299,22 +304,22 @@ impl<'l> StepContext<'l> {
 
     /// Says the step asked for, to which its node is walked back, with the queried value.
     fn say_queried<W: Write>(&self, value: Value, writer: &mut Writer<'_, W>) -> WriteResult
-        ensures { WritesSome result (λ text. text ≡ queried_head_text self.now.notes.now self.now.lab.now self.now.node self.now.near.step value)
+        ensures { WritesSome result (λ text. text ≡ queried_step_line self.now.notes.now self.now.lab.now self.now.node self.now.near.step value)
             W.contents writer.old writer.new }
     {
         let word = self.words_of(value).word;
         let line = queried_line(self.lab, self.node, self.near.step(), value, word);
         writer.write_blocks(line.as_slice())?;
-        self.say_own_tail(writer)
+        self.write_own_suffix(writer)
     }
 
     /// Says the step asked for, to which its node is walked back.
     fn say_head<W: Write>(&self, writer: &mut Writer<'_, W>) -> WriteResult
-        ensures { WritesSome result (λ text. text ≡ head_text self.now.notes.now self.now.lab.now self.now.node self.now.near.step)
+        ensures { WritesSome result (λ text. text ≡ queried_step_text self.now.notes.now self.now.lab.now self.now.node self.now.near.step)
             W.contents writer.old writer.new }
     {
         writer.write_blocks(head_line(self.lab, self.node, self.near.step()).as_slice())?;
-        self.say_own_tail(writer)
+        self.write_own_suffix(writer)
     }
 
     /// Says the lines of some rows, each so much deeper, with words that are read from the first of them on.
@@ -342,13 +347,13 @@ impl<'l> StepContext<'l> {
             W.contents writer.old writer.new }
     {
         'rows: for row in rows {
-            self.say_row(deeper, *row, writer)?;
+            self.write_tree_row(deeper, *row, writer)?;
         }
         Ok(())
     }
 
     /// Says the line of a row.
-    pub fn say_row<W: Write>(
+    pub fn write_tree_row<W: Write>(
         &self,
         deeper: u8,
         row: ProvenanceRow,

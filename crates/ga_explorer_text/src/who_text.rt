@@ -2,12 +2,12 @@
 
 ghost use Rattle.std.specs.Prelude.{◌≡◌, ◌++◌, ◌+◌, ◌≤◌, ◌&&◌, not, if◌then◌else◌, length};
 ghost use Rattle.arrayvec.specs.ArrayVec.{array_vec_len};
-ghost use Rattle.ga_grid.specs.Grid.{number_where_any};
+ghost use Rattle.ga_grid.specs.Grid.{optional_number};
 ghost use Rattle.ga_grid.specs.Chip.{records_of};
 ghost use Rattle.ga_causal.specs.Dependence.{is_marked};
 ghost use Rattle.ga_text.specs.Output.{WritesSome, WritesExactly};
-ghost use Rattle.ga_explorer_text.specs.Waiting.{doing_word, does_text, beside_text, awaited_text, awaiting_text, waiting_text, busy_text, all_waiting, name_if, busy_names, node_count, idle_tail, stuck_line, stuck_text, ended_line, idle_line, rest_text};
-ghost use Rattle.ga_explorer_text.specs.Telling.{TellsWho};
+ghost use Rattle.ga_explorer_text.specs.Waiting.{activity_name, node_activity_text, neighbour_activity_text, awaited_neighbour_text, waiting_node_line, waiting_node_text, non_idle_node_text, all_waiting_text, name_if_marked, non_idle_names, node_count, idle_count_suffix, stuck_line, stuck_text, ended_line, idle_line, ended_and_idle_text};
+ghost use Rattle.ga_explorer_text.specs.Telling.{IsWhoAnswer};
 
 use super::ended::{ended_among, find_live};
 use super::ring_text::write_wait_cycles;
@@ -62,7 +62,7 @@ type RestLines = ArrayVec<u8, REST_ROOM>;
 /// # Errors
 /// A write failed.
 pub fn write_who<W: Write>(lab: &Lab, writer: &mut Writer<'_, W>) -> WriteResult
-    ensures { WritesSome result (TellsWho lab.now) W.contents writer.old writer.new }
+    ensures { WritesSome result (IsWhoAnswer lab.now) W.contents writer.old writer.new }
 {
     let chip = lab.chip();
     let stuck = find_deadlocked(chip);
@@ -76,7 +76,7 @@ pub fn write_who<W: Write>(lab: &Lab, writer: &mut Writer<'_, W>) -> WriteResult
 
 /// Says the lines of the nodes that wait and are not idle.
 fn say_waiting<W: Write>(chip: &Chip, idle: &[bool; 144], writer: &mut Writer<'_, W>) -> WriteResult
-    ensures { WritesSome result (λ text. text ≡ all_waiting (records_of chip.now) (is_marked idle.now))
+    ensures { WritesSome result (λ text. text ≡ all_waiting_text (records_of chip.now) (is_marked idle.now))
         W.contents writer.old writer.new }
 {
     'nodes: for number in 0..144u8 {
@@ -92,14 +92,14 @@ fn say_node<W: Write>(
     node: NodeId,
     writer: &mut Writer<'_, W>,
 ) -> WriteResult
-    ensures { WritesExactly result (busy_text (records_of chip.now) (is_marked idle.now) node.number) W.contents writer.old writer.new }
+    ensures { WritesExactly result (non_idle_node_text (records_of chip.now) (is_marked idle.now) node.number) W.contents writer.old writer.new }
 {
     writer.write_blocks(busy_line(chip, idle, node).as_slice())
 }
 
 /// The line of a node that waits, where it is not idle.
 fn busy_line(chip: &Chip, idle: &[bool; 144], node: NodeId) -> TextBuffer
-    ensures { result.items ≡ busy_text (records_of chip.now) (is_marked idle.now) node.number }
+    ensures { result.items ≡ non_idle_node_text (records_of chip.now) (is_marked idle.now) node.number }
 {
     if idle[node.index()] {
         ArrayVec::new()
@@ -110,7 +110,7 @@ fn busy_line(chip: &Chip, idle: &[bool; 144], node: NodeId) -> TextBuffer
 
 /// The line of a node that waits: what it does, and of each neighbour that it awaits the side, the name and what that one does.
 fn waiting_line(chip: &Chip, node: NodeId) -> TextBuffer
-    ensures { result.items ≡ waiting_text (records_of chip.now) node.number }
+    ensures { result.items ≡ waiting_node_text (records_of chip.now) node.number }
 {
     match chip.node(node).wait() {
         Wait::Nothing => ArrayVec::new(),
@@ -121,7 +121,7 @@ fn waiting_line(chip: &Chip, node: NodeId) -> TextBuffer
 }
 
 fn awaiting_line(chip: &Chip, node: NodeId) -> TextBuffer
-    ensures { result.items ≡ awaiting_text (records_of chip.now) node.number }
+    ensures { result.items ≡ waiting_node_line (records_of chip.now) node.number }
 {
     let mut out = ArrayVec::new();
     push_node(&mut out, node);
@@ -138,7 +138,7 @@ fn awaiting_line(chip: &Chip, node: NodeId) -> TextBuffer
 /// Adds what a node does.
 fn push_does(out: &mut TextBuffer, chip: &Chip, node: NodeId)
     requires { array_vec_len out.old + DOING_ROOM ≤ 256 }
-    ensures text { out.new.items ≡ out.old.items ++ does_text (records_of chip.now) node.number }
+    ensures text { out.new.items ≡ out.old.items ++ node_activity_text (records_of chip.now) node.number }
     ensures len { array_vec_len out.new ≤ array_vec_len out.old + DOING_ROOM }
 {
     let at = chip.node(node);
@@ -147,7 +147,7 @@ fn push_does(out: &mut TextBuffer, chip: &Chip, node: NodeId)
 
 fn push_doing(out: &mut TextBuffer, wait: Wait, stop: u8)
     requires { array_vec_len out.old + DOING_ROOM ≤ 256 }
-    ensures text { out.new.items ≡ out.old.items ++ doing_word wait stop }
+    ensures text { out.new.items ≡ out.old.items ++ activity_name wait stop }
     ensures len { array_vec_len out.new ≤ array_vec_len out.old + DOING_ROOM }
 {
     match wait {
@@ -168,7 +168,7 @@ fn push_doing(out: &mut TextBuffer, wait: Wait, stop: u8)
 /// Adds the neighbour on a side, where the node awaits it.
 fn push_awaited(out: &mut TextBuffer, chip: &Chip, node: NodeId, side: Side, letter: u8)
     requires { array_vec_len out.old + BESIDE_ROOM ≤ 256 }
-    ensures text { out.new.items ≡ out.old.items ++ awaited_text (records_of chip.now) node.number side letter }
+    ensures text { out.new.items ≡ out.old.items ++ awaited_neighbour_text (records_of chip.now) node.number side letter }
     ensures len { array_vec_len out.new ≤ array_vec_len out.old + BESIDE_ROOM }
 {
     if awaits(&chip.node(node).wait(), side) {
@@ -179,7 +179,7 @@ fn push_awaited(out: &mut TextBuffer, chip: &Chip, node: NodeId, side: Side, let
 /// Adds a neighbour, where there is one.
 fn push_beside(out: &mut TextBuffer, chip: &Chip, beside: Option<NodeId>, letter: u8)
     requires { array_vec_len out.old + BESIDE_ROOM ≤ 256 }
-    ensures text { out.new.items ≡ out.old.items ++ beside_text (records_of chip.now) (number_where_any beside) letter }
+    ensures text { out.new.items ≡ out.old.items ++ neighbour_activity_text (records_of chip.now) (optional_number beside) letter }
     ensures len { array_vec_len out.new ≤ array_vec_len out.old + BESIDE_ROOM }
 {
     if let Some(other) = beside {
@@ -194,7 +194,10 @@ fn push_beside(out: &mut TextBuffer, chip: &Chip, beside: Option<NodeId>, letter
 fn stuck_line(marks: &[bool; 144], ended: &[bool; 144], idle: &[bool; 144]) -> StuckLine
     ensures { result.items ≡ stuck_text (is_marked marks.now) (is_marked ended.now) (is_marked idle.now) }
 {
-    line_of_names(busy_names(marks, ended).as_slice(), idle_among(marks, idle))
+    line_of_names(
+        non_idle_names(marks, ended).as_slice(),
+        idle_among(marks, idle),
+    )
 }
 
 /// The line of these names and the number of idle nodes.
@@ -215,7 +218,7 @@ fn line_of_names(names: &[u8], idle: u8) -> StuckLine
 /// Adds how many idle nodes are among those of a line, where some are.
 fn push_idle(out: &mut StuckLine, idle: u8)
     requires { array_vec_len out.old + IDLE_ROOM ≤ STUCK_ROOM }
-    ensures text { out.new.items ≡ out.old.items ++ idle_tail idle }
+    ensures text { out.new.items ≡ out.old.items ++ idle_count_suffix idle }
     ensures len { array_vec_len out.new ≤ array_vec_len out.old + IDLE_ROOM }
 {
     if idle > 0 {
@@ -226,8 +229,8 @@ fn push_idle(out: &mut StuckLine, idle: u8)
 }
 
 /// The names of the marked nodes that are not among the others, each after a space.
-fn busy_names(marks: &[bool; 144], idle: &[bool; 144]) -> Names
-    ensures { result.items ≡ busy_names (is_marked marks.now) (is_marked idle.now) }
+fn non_idle_names(marks: &[bool; 144], idle: &[bool; 144]) -> Names
+    ensures { result.items ≡ non_idle_names (is_marked marks.now) (is_marked idle.now) }
 {
     let mut out = ArrayVec::new();
     'nodes: for number in 0..144u8 {
@@ -247,7 +250,7 @@ fn is_busy(marks: &[bool; 144], idle: &[bool; 144], node: NodeId) -> bool
 /// Adds a node's name after a space, if it is to be named.
 fn push_name_if(out: &mut Names, node: NodeId, named: bool)
     requires { array_vec_len out.old + NAME_ROOM ≤ NAMES_ROOM }
-    ensures text { out.new.items ≡ out.old.items ++ name_if named node.number }
+    ensures text { out.new.items ≡ out.old.items ++ name_if_marked named node.number }
     ensures len { array_vec_len out.new ≤ array_vec_len out.old + NAME_ROOM }
 {
     if named {
@@ -302,9 +305,9 @@ fn one_if(holds: bool) -> u8
 
 /// The last lines: which nodes have ended, and how many are idle.
 fn rest_lines(ended: &[bool; 144], idle: &[bool; 144]) -> RestLines
-    ensures { result.items ≡ rest_text (is_marked ended.now) (is_marked idle.now) }
+    ensures { result.items ≡ ended_and_idle_text (is_marked ended.now) (is_marked idle.now) }
 {
-    rest_of_names(busy_names(ended, idle).as_slice(), idle_count(idle))
+    rest_of_names(non_idle_names(ended, idle).as_slice(), idle_count(idle))
 }
 
 /// The line of these names, and that of the number of idle nodes.

@@ -2,15 +2,15 @@
 
 ghost use Rattle.std.specs.Prelude.{◌≡◌};
 ghost use Rattle.ga_text.specs.Output.{WritesSome, WritesExactly};
-ghost use Rattle.ga_explorer_text.specs.Texts.{sent_text, words_head, linked_text, link_words_text};
+ghost use Rattle.ga_explorer_text.specs.Texts.{transfer_line_text, words_head, transfers_text, link_words_text};
 
 use arrayvec::ArrayVec;
 use ga_grid::NodeId;
 use ga_lab::Lab;
-use ga_races::are_linked;
+use ga_races::are_neighbours;
 use ga_scheduler::{Transfer, TransferIter, count_transfers};
 use ga_text::{
-    TextBuffer, WriteResult, Writer, push_node, push_number, push_spaced, push_step, push_text,
+    TextBuffer, WriteResult, Writer, push_node, push_number, push_spaced_word, push_step, push_text,
 };
 use std::io::Write;
 
@@ -26,7 +26,7 @@ pub fn write_words<W: Write>(
 ) -> WriteResult
     ensures { WritesSome result (λ text. text ≡ link_words_text lab.now from to) W.contents writer.old writer.new }
 {
-    if are_linked(from, to) {
+    if are_neighbours(from, to) {
         say_linked(lab, from, to, writer)
     } else {
         writer.write_text(b"no 34 nolink\n")
@@ -40,7 +40,7 @@ fn say_linked<W: Write>(
     to: NodeId,
     writer: &mut Writer<'_, W>,
 ) -> WriteResult
-    ensures { WritesSome result (λ text. text ≡ linked_text lab.now from to)
+    ensures { WritesSome result (λ text. text ≡ transfers_text lab.now from to)
         W.contents writer.old writer.new }
 {
     let count = count_transfers(lab, from, to);
@@ -62,7 +62,7 @@ fn say_sent<W: Write>(
     sent: &Transfer,
     writer: &mut Writer<'_, W>,
 ) -> WriteResult
-    ensures { WritesExactly result (sent_text from to sent.now) W.contents writer.old writer.new }
+    ensures { WritesExactly result (transfer_line_text from to sent.now) W.contents writer.old writer.new }
 {
     writer.write_blocks(sent_line(from, to, sent).as_slice())
 }
@@ -84,7 +84,7 @@ fn head_line(from: NodeId, to: NodeId, count: u32) -> TextBuffer
 
 /// A word: its number, the steps of both ends and itself.
 fn sent_line(from: NodeId, to: NodeId, sent: &Transfer) -> TextBuffer
-    ensures { result.items ≡ sent_text from to sent.now }
+    ensures { result.items ≡ transfer_line_text from to sent.now }
 {
     let mut out = ArrayVec::new();
     push_number(&mut out, u64::from(sent.number));
@@ -92,7 +92,7 @@ fn sent_line(from: NodeId, to: NodeId, sent: &Transfer) -> TextBuffer
     push_step(&mut out, from, sent.writer_step);
     push_text(&mut out, b" ");
     push_step(&mut out, to, sent.reader_step);
-    push_spaced(&mut out, sent.word);
+    push_spaced_word(&mut out, sent.word);
     push_text(&mut out, b"\n");
     out
 }

@@ -2,15 +2,15 @@
 
 ghost use Rattle.std.specs.Prelude.{◌≡◌, ◌<◌, Some};
 ghost use Rattle.ga_text.specs.Output.{WritesSome};
-ghost use Rattle.ga_event.specs.Told.{steps_of};
-ghost use Rattle.ga_explorer_text.specs.Writing.{written_text, cell_writes, writes_text};
+ghost use Rattle.ga_event.specs.Told.{count_steps};
+ghost use Rattle.ga_explorer_text.specs.Writing.{cell_write_text, cell_writes, writes_text};
 
 use crate::deed_text::push_action;
 use arrayvec::ArrayVec;
 use ga_grid::NodeId;
 use ga_lab::Lab;
 use ga_provenance::{CellWrite, CellWrites};
-use ga_text::{TextBuffer, WriteResult, Writer, push_spaced, push_step, push_text};
+use ga_text::{TextBuffer, WriteResult, Writer, push_spaced_word, push_step, push_text};
 use std::io::Write;
 
 /// `writes NNN HH`: writes the steps of a node that wrote at an address of its memory, the newest first. Allocates nothing.
@@ -35,7 +35,7 @@ pub fn write_writes<W: Write>(
 /// Says the steps that wrote a cell of RAM.
 fn say_cell<W: Write>(lab: &Lab, node: NodeId, cell: u8, writer: &mut Writer<'_, W>) -> WriteResult
     requires { cell < 64 }
-    ensures { WritesSome result (λ text. text ≡ cell_writes lab.now node cell (steps_of node.number lab.now.kept))
+    ensures { WritesSome result (λ text. text ≡ cell_writes lab.now node cell (count_steps node.number lab.now.kept))
         W.contents writer.old writer.new }
 {
     let mut writes = CellWrites::new(lab, node, cell);
@@ -47,14 +47,14 @@ fn say_cell<W: Write>(lab: &Lab, node: NodeId, cell: u8, writer: &mut Writer<'_,
 
 /// A step that wrote: its number, the opcode's name, and the word.
 fn written_line(node: NodeId, written: CellWrite) -> TextBuffer
-    ensures { result.items ≡ written_text node (Some written) }
+    ensures { result.items ≡ cell_write_text node (Some written) }
 {
     let CellWrite { step, made, word } = written;
     let mut out = ArrayVec::new();
     push_step(&mut out, node, step);
     push_text(&mut out, b" ");
     push_action(&mut out, made, node);
-    push_spaced(&mut out, word);
+    push_spaced_word(&mut out, word);
     push_text(&mut out, b"\n");
     out
 }

@@ -1,6 +1,6 @@
 -- The chip: 144 nodes, as they are stored and as records.
 use Rattle.std.specs.Prelude.{ℕ, List, map, slice_index_or, slice_set, ◌<◌}
-use Rattle.ga_node.specs.Record.{NodeState, fresh_node, NodeRecord, record_of, IsSteady}
+use Rattle.ga_node.specs.Record.{NodeState, fresh_node, NodeRecord, record_of, HasConsistentWait}
 use Rattle.std.specs.Borrow.{Lends, MutBor, Fml}
 use Rattle.ga_node.specs.contracts.node.Node.{the_row as node_row}
 use Rattle.ga_grid.specs.contracts.chip.Chip.{the_row}
@@ -28,8 +28,8 @@ record_at chip n = slice_index_or chip n (record_of nowhere)
 -- ---- chips whose nodes are steady
 
 -- each node is steady
-abbrev pub AreSteady : List NodeRecord → Type 0
-AreSteady chip = (n : ℕ) → n < 144 → IsSteady (record_at chip n)
+abbrev pub HaveConsistentWaits : List NodeRecord → Type 0
+HaveConsistentWaits chip = (n : ℕ) → n < 144 → HasConsistentWait (record_at chip n)
 
 -- ---- A mutable reference to one node of a chip
 

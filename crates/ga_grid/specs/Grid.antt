@@ -18,13 +18,13 @@ abbrev pub decimal_digit : ℕ → Option ℕ
 decimal_digit byte = if nat_le 48 byte && nat_le byte 57 then Some (byte - 48) else None
 
 -- the number of exactly three decimal digits
-unfoldable pub node_number : List ℕ → Option ℕ
-node_number (x ∷ y ∷ z ∷ []) = do
+unfoldable pub parse_node_name : List ℕ → Option ℕ
+parse_node_name (x ∷ y ∷ z ∷ []) = do
   row ← decimal_digit x
   tens ← decimal_digit y
   ones ← decimal_digit z
   Some (100 * row + 10 * tens + ones)
-node_number _ = None
+parse_node_name _ = None
 
 abbrev pub row_of : ℕ → ℕ
 row_of n = n / 18
@@ -37,29 +37,29 @@ abbrev pub yxx_of : ℕ → ℕ
 yxx_of n = 100 * row_of n + column_of n
 
 -- the node of a name
-abbrev pub node_of : ℕ → Option ℕ
-node_of yxx = if nat_lt (yxx / 100) 8 && nat_lt (yxx % 100) 18 then Some (18 * (yxx / 100) + yxx % 100) else None
+abbrev pub number_of_yxx : ℕ → Option ℕ
+number_of_yxx yxx = if nat_lt (yxx / 100) 8 && nat_lt (yxx % 100) 18 then Some (18 * (yxx / 100) + yxx % 100) else None
 
 abbrev pub is_even : ℕ → Bool
 is_even n = n % 2 == 0
 
 -- the next or the previous place, where there are `size` places; none past the ends
-abbrev pub next_place : ℕ → ℕ → Bool → Option ℕ
-next_place place size true = if nat_lt (place + 1) size then Some (place + 1) else None
-next_place place size false = if place == 0 then None else Some (place - 1)
+abbrev pub adjacent_place : ℕ → ℕ → Bool → Option ℕ
+adjacent_place place size true = if nat_lt (place + 1) size then Some (place + 1) else None
+adjacent_place place size false = if place == 0 then None else Some (place - 1)
 
 -- right and left lead to another column of the row, down and up to another row of the column: right and down from an even one
 -- to the next and from an odd one to the one before, left and up the other way
 abbrev pub neighbour_of : ℕ → Side → Option ℕ
-neighbour_of n Right = option_map (λ column. 18 * row_of n + column) (next_place (column_of n) 18 (is_even (column_of n)))
-neighbour_of n Left = option_map (λ column. 18 * row_of n + column) (next_place (column_of n) 18 (not (is_even (column_of n))))
-neighbour_of n Down = option_map (λ row. 18 * row + column_of n) (next_place (row_of n) 8 (is_even (row_of n)))
-neighbour_of n Up = option_map (λ row. 18 * row + column_of n) (next_place (row_of n) 8 (not (is_even (row_of n))))
+neighbour_of n Right = option_map (λ column. 18 * row_of n + column) (adjacent_place (column_of n) 18 (is_even (column_of n)))
+neighbour_of n Left = option_map (λ column. 18 * row_of n + column) (adjacent_place (column_of n) 18 (not (is_even (column_of n))))
+neighbour_of n Down = option_map (λ row. 18 * row + column_of n) (adjacent_place (row_of n) 8 (is_even (row_of n)))
+neighbour_of n Up = option_map (λ row. 18 * row + column_of n) (adjacent_place (row_of n) 8 (not (is_even (row_of n))))
 
 -- the number of a node where there is one
-abbrev pub number_where_any : Option NodeId → Option ℕ
-number_where_any None = None
-number_where_any (Some node) = Some node.number
+abbrev pub optional_number : Option NodeId → Option ℕ
+optional_number None = None
+optional_number (Some node) = Some node.number
 
 -- the node of a number; from 144 on the nodes begin again
 abbrev pub node_id : ℕ → NodeId
@@ -68,12 +68,12 @@ node_id n = record { number = n % 144; in_range = mod-lt n (lit< tt) }
 -- ---- the chip at load. P holds the address that names the ports of all sides on which a node has a neighbour (this project's own choice).
 
 -- the number of a side where the node has a neighbour there, else 0
-abbrev pub linked_of : ℕ → Side → ℕ
-linked_of n side = if is_some (neighbour_of n side) then only side else 0
+abbrev pub linked_side_value : ℕ → Side → ℕ
+linked_side_value n side = if is_some (neighbour_of n side) then only side else 0
 
 -- the ports are in bits 7 to 4 of an address, exclusive-ored with 155
 abbrev pub load_p_of : ℕ → ℕ
-load_p_of n = bit_xor 0x155 (16 * (linked_of n Right + linked_of n Down + linked_of n Left + linked_of n Up))
+load_p_of n = bit_xor 0x155 (16 * (linked_side_value n Right + linked_side_value n Down + linked_side_value n Left + linked_side_value n Up))
 
 -- the chip at load (its values are this project's own choice)
 unfoldable pub default_chip : List NodeState

@@ -2,10 +2,10 @@
 
 ghost use Rattle.std.specs.Prelude.{◌≡◌, ◌<◌, ◌^◌};
 ghost use Rattle.std.specs.Borrow.{sem};
-ghost use Rattle.ga_grid.specs.Grid.{linked_of, load_p_of};
+ghost use Rattle.ga_grid.specs.Grid.{linked_side_value, load_p_of};
 
 use crate::link::neighbour;
-use crate::node_id::{NODES, NodeId};
+use crate::node_id::{CHIP_NODES, NodeId};
 use ga_node::Node;
 use ga_ports::Side;
 use std::alloc::{AllocError, AllocFailed, Global};
@@ -48,7 +48,7 @@ impl Model for Chip {
 
 // The number of a side where the node has a neighbour there, else 0.
 fn linked(node: NodeId, side: Side) -> u32
-    ensures { result ≡ linked_of node.number side }
+    ensures { result ≡ linked_side_value node.number side }
 {
     if neighbour(node, side).is_some() {
         side.bit() as u32
@@ -81,8 +81,8 @@ impl Chip {
     pub fn new(alloc: Global) -> Result<Self, Memory>
         ensures { IfOk result (λ chip. chip ≡ default_chip) }
     {
-        let mut nodes = Vec::with_capacity(alloc, NODES)?;
-        for number in 0..NODES as u8 {
+        let mut nodes = Vec::with_capacity(alloc, CHIP_NODES)?;
+        for number in 0..CHIP_NODES as u8 {
             nodes.push(Node::new(load_p(NodeId::new(number))))?;
         }
         Ok(Chip { nodes })

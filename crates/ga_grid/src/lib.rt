@@ -8,5 +8,5 @@ mod node_id;
 
 pub use chip::{Chip, Memory, load_p};
 pub use link::neighbour;
-pub use name::{decimal_digit, node_number};
-pub use node_id::{NODES, NodeId};
+pub use name::{decimal_digit, parse_node_name};
+pub use node_id::{CHIP_NODES, NodeId};

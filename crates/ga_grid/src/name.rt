@@ -1,7 +1,7 @@
 //! The names of the nodes as texts.
 
 ghost use Rattle.std.specs.Prelude.{◌≡◌, ◌<◌, IfSome};
-ghost use Rattle.ga_grid.specs.Grid.{decimal_digit, node_number};
+ghost use Rattle.ga_grid.specs.Grid.{decimal_digit, parse_node_name};
 
 /// The value of a decimal digit.
 pub fn decimal_digit(byte: u8) -> Option<u32>
@@ -15,9 +15,9 @@ pub fn decimal_digit(byte: u8) -> Option<u32>
 }
 
 /// The row and the column of a node, as three decimal digits. `NodeId::from_yxx` returns the node, if there is one.
-#[tactic(auto, unfolding(crate::specs::Grid::node_number))]
-pub fn node_number(text: &[u8]) -> Option<u32>
-    ensures value { result ≡ node_number text.now }
+#[tactic(auto, unfolding(crate::specs::Grid::parse_node_name))]
+pub fn parse_node_name(text: &[u8]) -> Option<u32>
+    ensures value { result ≡ parse_node_name text.now }
     ensures in_range { IfSome result (λ yxx. yxx < 1000) }
 {
     match text {

@@ -5,7 +5,7 @@ ghost use Rattle.std.specs.Prelude.{◌<◌};
 use std::fmt;
 
 /// How many nodes the chip has.
-pub const NODES: usize = 144;
+pub const CHIP_NODES: usize = 144;
 
 /// A node of the grid, by its number: 18 for each row before its own, and its column.
 #[derive(Clone, Copy, PartialEq, Eq, Debug)]
@@ -17,7 +17,7 @@ pub struct NodeId {
 
 impl NodeId {
     ghost use Rattle.std.specs.Prelude.{◌≡◌, ◌≢◌, ◌<◌, ℕ, Some, IfSome, IfNone, option_map};
-    ghost use Rattle.ga_grid.specs.Grid.{yxx_of, node_of, number_where_any, node_id};
+    ghost use Rattle.ga_grid.specs.Grid.{yxx_of, number_of_yxx, optional_number, node_id};
 
     /// The node with this number.
     #[inline(always)]
@@ -30,8 +30,8 @@ impl NodeId {
 
     /// The node that is named by 100 times its row plus its column, where there is one.
     pub fn from_yxx(yxx: u32) -> Option<Self>
-        ensures value { number_where_any result ≡ node_of yxx }
-        ensures node { result ≡ option_map node_id (node_of yxx) }
+        ensures value { optional_number result ≡ number_of_yxx yxx }
+        ensures node { result ≡ option_map node_id (number_of_yxx yxx) }
         ensures named { IfSome result (λ node. yxx_of node.number ≡ yxx) }
         ensures none { IfNone result ((n : ℕ) → n < 144 → yxx_of n ≢ yxx) }
     {
@@ -48,7 +48,7 @@ impl NodeId {
     /// The node's name: 100 times its row plus its column.
     pub fn yxx(self) -> u32
         ensures value { result ≡ yxx_of self.number }
-        ensures back { node_of result ≡ Some self.number }
+        ensures back { number_of_yxx result ≡ Some self.number }
     {
         let number = self.number as u32;
         100 * (number / 18) + number % 18

@@ -6,18 +6,18 @@ use Rattle.std.proofs.Common.{◌≡◌, ◌≢◌, ℕ, ◌+◌, ◌<◌, ◌�
 use Rattle.std.proofs.lemmas.Bool.{eqb-true}
 use Rattle.std.proofs.lemmas.Bool.Decides.{nat_tests, Decides-or, Decides-like, Decides-at, eqb_tells}
 use Rattle.std.proofs.lemmas.List.{append-nil, get_or-set_same, get_or-set_other}
-use Rattle.ga_grid.specs.Grid.{node_of, yxx_of}
+use Rattle.ga_grid.specs.Grid.{number_of_yxx, yxx_of}
 use Rattle.ga_image.specs.declared.fault.ImageCause.TheVariants as cause
 use Rattle.ga_image.specs.declared.field.Field.{Field}
 use Rattle.ga_image.specs.declared.field.Field.TheVariants.{A, B, P, I, Io, Carry, Slot, Wait, Stop, Data, Return, Ram, Rom}
-use Rattle.ga_image.specs.declared.field.Held.{Held}
+use Rattle.ga_image.specs.declared.field.RunState.{RunState}
 use Rattle.ga_image.specs.inner.{HasCell}
-use Rattle.ga_image.specs.Fields.{writes, number_of, goes_past, held_at_load, held_after}
-use Rattle.ga_image.specs.Spelling.{Form, Node, Words, End, Spells}
-use Rattle.ga_image.specs.Grammar.{header, format_of, all_writes}
-use Rattle.ga_image.specs.Reading.{Progress, Stage, fault_of, line_fault, later_fault, form_in, is_misplaced, is_header, after_line, after_form, with_writes, with_block, nothing_given, start}
+use Rattle.ga_image.specs.Fields.{field_writes, field_number, exceeds_field, load_run_state, run_state_after}
+use Rattle.ga_image.specs.Spelling.{Form, Node, Words, End, IsTextOfForm}
+use Rattle.ga_image.specs.Grammar.{header, format_of, field_line_writes}
+use Rattle.ga_image.specs.Reading.{Progress, Stage, fault_of, line_fault, later_fault, form_in_format, is_misplaced, is_header, after_line, progress_after_form, with_field_writes, with_block, no_fields_given, start}
 use Rattle.ga_image.specs.Reading as stage
-use Rattle.ga_image.specs.FirstFault.{SpellFields, GivesLines, format_in, OneOf, IsEnd, BeginsBlockOf, BeginsBlock, GivesField, WasGiven}
+use Rattle.ga_image.specs.FirstFault.{AreTextsOfFieldLines, HasLastFieldLines, format_in, HoldsForOne, IsEndLine, IsNodeLineOf, IsNodeLine, HasWordForField, IsFieldGiven}
 use Rattle.ga_image.proofs.Spellings.{kept_spelled}
 use Rattle.ga_image.proofs.Meanings.{none_flagged, marked, in_memory, line_later, past_later, short_past, all_written}
 use Rattle.ga_image.proofs.Found.{not_short, neither, some_form, node_ok, field_ok, yxx_of_node, held-append, header_named}
@@ -27,39 +27,39 @@ use Rattle.ga_image.proofs.LineCauses.{each_has_cell, in_block}
 
 -- ---- one line more
 
-pub one_front : (Holds : List ℕ → Type 0) (xs : List (List ℕ)) (y : List ℕ) → OneOf Holds xs → OneOf Holds (xs ++ y ∷ [])
+pub one_front : (Holds : List ℕ → Type 0) (xs : List (List ℕ)) (y : List ℕ) → HoldsForOne Holds xs → HoldsForOne Holds (xs ++ y ∷ [])
 one_front Holds [] y none = absurd none
 one_front Holds (x ∷ xs) y (inl here) = inl here
 one_front Holds (x ∷ xs) y (inr there) = inr (one_front Holds xs y there)
 
-pub one_last : (Holds : List ℕ → Type 0) (xs : List (List ℕ)) (y : List ℕ) → Holds y → OneOf Holds (xs ++ y ∷ [])
+pub one_last : (Holds : List ℕ → Type 0) (xs : List (List ℕ)) (y : List ℕ) → Holds y → HoldsForOne Holds (xs ++ y ∷ [])
 one_last Holds [] y here = inl here
 one_last Holds (x ∷ xs) y here = inr (one_last Holds xs y here)
 
-pub one_split : (Holds : List ℕ → Type 0) (xs : List (List ℕ)) (y : List ℕ) → OneOf Holds (xs ++ y ∷ []) → OneOf Holds xs ⊎ Holds y
+pub one_split : (Holds : List ℕ → Type 0) (xs : List (List ℕ)) (y : List ℕ) → HoldsForOne Holds (xs ++ y ∷ []) → HoldsForOne Holds xs ⊎ Holds y
 one_split Holds [] y (inl here) = inr here
 one_split Holds [] y (inr none) = absurd none
 one_split Holds (x ∷ xs) y (inl here) = inl (inl here)
 one_split Holds (x ∷ xs) y (inr there) = elim (one_split Holds xs y there) [ inl front ↦ inl (inr front) | inr last ↦ inr last ]
 
-none_more : (Holds : List ℕ → Type 0) (xs : List (List ℕ)) (y : List ℕ) → ¬ OneOf Holds xs → ¬ Holds y → ¬ OneOf Holds (xs ++ y ∷ [])
+none_more : (Holds : List ℕ → Type 0) (xs : List (List ℕ)) (y : List ℕ) → ¬ HoldsForOne Holds xs → ¬ Holds y → ¬ HoldsForOne Holds (xs ++ y ∷ [])
 none_more Holds xs y none other = λ some. elim (one_split Holds xs y some) [ inl front ↦ none front | inr last ↦ other last ]
 
-given_last : (before : List (List ℕ)) (line : List ℕ) (field : Field) → GivesField field line → WasGiven (before ++ line ∷ []) field
+given_last : (before : List (List ℕ)) (line : List ℕ) (field : Field) → HasWordForField field line → IsFieldGiven (before ++ line ∷ []) field
 given_last [] line field gives = inr (gives, λ none. none)
 given_last (first ∷ before) line field gives = inl (given_last before line field gives)
 
-given_front : (before : List (List ℕ)) (line : List ℕ) (field : Field) → ¬ BeginsBlock line → WasGiven before field → WasGiven (before ++ line ∷ []) field
+given_front : (before : List (List ℕ)) (line : List ℕ) (field : Field) → ¬ IsNodeLine line → IsFieldGiven before field → IsFieldGiven (before ++ line ∷ []) field
 given_front [] line field other none = absurd none
 given_front (first ∷ before) line field other (inl later) = inl (given_front before line field other later)
-given_front (first ∷ before) line field other (inr here) = inr (here.0, none_more BeginsBlock before line here.1 other)
+given_front (first ∷ before) line field other (inr here) = inr (here.0, none_more IsNodeLine before line here.1 other)
 
-given_split : (before : List (List ℕ)) (line : List ℕ) (field : Field) → WasGiven (before ++ line ∷ []) field → (¬ BeginsBlock line × WasGiven before field) ⊎ GivesField field line
+given_split : (before : List (List ℕ)) (line : List ℕ) (field : Field) → IsFieldGiven (before ++ line ∷ []) field → (¬ IsNodeLine line × IsFieldGiven before field) ⊎ HasWordForField field line
 given_split [] line field (inl none) = absurd none
 given_split [] line field (inr here) = inr here.0
 given_split (first ∷ before) line field (inl later) = elim (given_split before line field later) [ inl front ↦ inl (front.0, inl front.1) | inr last ↦ inr last ]
 given_split (first ∷ before) line field (inr here) =
-    inl (λ begins. here.1 (one_last BeginsBlock before line begins), inr (here.0, λ some. here.1 (one_front BeginsBlock before line some)))
+    inl (λ begins_with_text. here.1 (one_last IsNodeLine before line begins_with_text), inr (here.0, λ some. here.1 (one_front IsNodeLine before line some)))
 
 some_more : (before : List (List ℕ)) (line : List ℕ) → (before ++ line ∷ []) ≢ []
 some_more [] line = λ e. cc
@@ -74,7 +74,7 @@ register_at n =
 field_at : ℕ → Field
 field_at n = cond (nat_lt n 9) (register_at n) (cond (nat_lt n 19) (Data (n - 9)) (cond (nat_lt n 28) (Return (n - 19)) (cond (nat_lt n 92) (Ram (n - 28)) (Rom (n - 92)))))
 
-named : (field : Field) → HasCell field → field_at (number_of field) ≡ field
+named : (field : Field) → HasCell field → field_at (field_number field) ≡ field
 unfolding field_at register_at
 named A cell = refl
 named B cell = refl
@@ -111,10 +111,10 @@ named (Rom c) cell =
     let same : 92 + c - 92 ≡ c = omega arith in
     rw (t9, t19, t28, t92, same) refl
 
-same_field : (f g : Field) → HasCell f → HasCell g → number_of f ≡ number_of g → f ≡ g
+same_field : (f g : Field) → HasCell f → HasCell g → field_number f ≡ field_number g → f ≡ g
 same_field f g first second same = sym (named f first) ∙ ap field_at same ∙ named g second
 
-number_below : (field : Field) → HasCell field → number_of field < 156
+number_below : (field : Field) → HasCell field → field_number field < 156
 number_below A cell = omega arith
 number_below B cell = omega arith
 number_below P cell = omega arith
@@ -132,7 +132,7 @@ number_below (Rom c) cell = omega arith
 -- one of the words is for the field of this number
 abbrev any_numbered : ℕ → List (Field × ℕ) → Bool
 any_numbered n [] = false
-any_numbered n (w ∷ ws) = nat_eq (number_of w.0) n || any_numbered n ws
+any_numbered n (w ∷ ws) = nat_eq (field_number w.0) n || any_numbered n ws
 
 either : (x y z : Bool) → (x ≡ true → z ≡ true) → (x ≡ false → z ≡ y) → z ≡ (y || x)
 either true true z p q = p refl
@@ -148,41 +148,41 @@ or_assoc false y z = refl
 marked_or : (given : List Bool) (n : ℕ) (ws : List (Field × ℕ)) → length given ≡ 156 → AllByRecursion (λ w. HasCell w.0) ws → get_or (marked given ws) n false ≡ (get_or given n false || any_numbered n ws)
 marked_or given n [] size cells = either false (get_or given n false) (get_or given n false) (λ e. cc) (λ e. refl)
 marked_or given n (w ∷ ws) size cells =
-    let rest = marked_or (set given (number_of w.0) true) n ws (length-set given (number_of w.0) true ∙ size) cells.1 in
-    let below : number_of w.0 < length given = let less = number_below w.0 cells.0 in omega (arith, size) in
-    let here : get_or (set given (number_of w.0) true) n false ≡ (get_or given n false || nat_eq (number_of w.0) n) =
-    either (nat_eq (number_of w.0) n) (get_or given n false) (get_or (set given (number_of w.0) true) n false)
-    (λ is. subst (λ (k : ℕ). get_or (set given (number_of w.0) true) k false ≡ true) (eqb-true (number_of w.0) n is) (get_or-set_same given (number_of w.0) true false below))
-    (λ isn't. elim (eqb_tells (number_of w.0) n) [
+    let rest = marked_or (set given (field_number w.0) true) n ws (length-set given (field_number w.0) true ∙ size) cells.1 in
+    let below : field_number w.0 < length given = let less = number_below w.0 cells.0 in omega (arith, size) in
+    let here : get_or (set given (field_number w.0) true) n false ≡ (get_or given n false || nat_eq (field_number w.0) n) =
+    either (nat_eq (field_number w.0) n) (get_or given n false) (get_or (set given (field_number w.0) true) n false)
+    (λ is. subst (λ (k : ℕ). get_or (set given (field_number w.0) true) k false ≡ true) (eqb-true (field_number w.0) n is) (get_or-set_same given (field_number w.0) true false below))
+    (λ isn't. elim (eqb_tells (field_number w.0) n) [
       | inl same ↦ let never : true ≡ false = sym same.0 ∙ isn't in cc
-      | inr other ↦ get_or-set_other given (number_of w.0) n true false (λ e. other.1 (sym e))
+      | inr other ↦ get_or-set_other given (field_number w.0) n true false (λ e. other.1 (sym e))
     ]) in
-    rest ∙ ap (λ b. b || any_numbered n ws) here ∙ or_assoc (get_or given n false) (nat_eq (number_of w.0) n) (any_numbered n ws)
+    rest ∙ ap (λ b. b || any_numbered n ws) here ∙ or_assoc (get_or given n false) (nat_eq (field_number w.0) n) (any_numbered n ws)
 
-is_numbered : (f g : Field) → HasCell f → HasCell g → Decides (nat_eq (number_of f) (number_of g)) (f ≡ g)
+is_numbered : (f g : Field) → HasCell f → HasCell g → Decides (nat_eq (field_number f) (field_number g)) (f ≡ g)
 is_numbered f g first second = (
-  λ e. same_field f g first second (eqb-true (number_of f) (number_of g) e),
-  λ e. elim (eqb_tells (number_of f) (number_of g)) [ inl same ↦ same.0 | inr other ↦ absurd (other.1 (ap number_of e)) ],
+  λ e. same_field f g first second (eqb-true (field_number f) (field_number g) e),
+  λ e. elim (eqb_tells (field_number f) (field_number g)) [ inl same ↦ same.0 | inr other ↦ absurd (other.1 (ap field_number e)) ],
 )
 
-numbered : (field : Field) (ws : List (Field × ℕ)) → HasCell field → AllByRecursion (λ w. HasCell w.0) ws → Decides (any_numbered (number_of field) ws) (OneOf (λ w. w.0 ≡ field) ws)
+numbered : (field : Field) (ws : List (Field × ℕ)) → HasCell field → AllByRecursion (λ w. HasCell w.0) ws → Decides (any_numbered (field_number field) ws) (HoldsForOne (λ w. w.0 ≡ field) ws)
 numbered field [] cell cells = (λ e. cc, λ none. absurd none)
 numbered field (w ∷ ws) cell cells = Decides-or _ _ (is_numbered w.0 field cells.0 cell) (numbered field ws cell cells.1)
 
 -- ---- the state after a line without fault
 
-not_ended : (st : Stage) (f : Form) (before : List (List ℕ)) → st ≢ stage.Header → StandsAt st before → is_misplaced st (Some f) ≡ false → ¬ OneOf IsEnd before
+not_ended : (st : Stage) (f : Form) (before : List (List ℕ)) → st ≢ stage.Header → StandsAt st before → is_misplaced st (Some f) ≡ false → ¬ HoldsForOne IsEndLine before
 not_ended stage.Header f before behind stands placed = absurd (behind refl)
 not_ended stage.Open f before behind stands placed = stands.1
 not_ended (stage.Block node) f before behind stands placed = stands.1
 not_ended stage.Ended f before behind stands placed = cc
 
 -- the blocks are unchanged after a line that begins none
-blocks_kept : (progress : Progress) (before : List (List ℕ)) (line : List ℕ) → IsAfter progress before → ((yxx : ℕ) → ¬ BeginsBlockOf yxx line)
-    → (yxx n : ℕ) → node_of yxx ≡ Some n → Decides (get_or progress.blocks n false) (OneOf (BeginsBlockOf yxx) (before ++ line ∷ []))
+blocks_kept : (progress : Progress) (before : List (List ℕ)) (line : List ℕ) → IsAfter progress before → ((yxx : ℕ) → ¬ IsNodeLineOf yxx line)
+    → (yxx n : ℕ) → number_of_yxx yxx ≡ Some n → Decides (get_or progress.blocks n false) (HoldsForOne (IsNodeLineOf yxx) (before ++ line ∷ []))
 blocks_kept progress before line after other yxx n is =
-    Decides-like (get_or progress.blocks n false) (one_front (BeginsBlockOf yxx) before line)
-    (λ some. elim (one_split (BeginsBlockOf yxx) before line some) [ inl front ↦ front | inr last ↦ absurd (other yxx last) ]) (after.blocks yxx n is)
+    Decides-like (get_or progress.blocks n false) (one_front (IsNodeLineOf yxx) before line)
+    (λ some. elim (one_split (IsNodeLineOf yxx) before line some) [ inl front ↦ front | inr last ↦ absurd (other yxx last) ]) (after.blocks yxx n is)
 
 -- the format is that of the first line
 format_more : (before : List (List ℕ)) (line : List ℕ) → before ≢ [] → format_in before ≡ format_in (before ++ line ∷ [])
@@ -193,33 +193,33 @@ format_kept : (progress : Progress) (before : List (List ℕ)) (line : List ℕ)
 format_kept progress before line after behind =
     let some = later progress.stage before behind after.stands in after.format some ∙ format_more before line some
 
-fields_more : (lines : List (List ℕ)) (line : List ℕ) (field_lines : List (Field × List ℕ)) (field : Field) (words : List ℕ) → SpellFields lines field_lines → Spells line (Words field words) → SpellFields (lines ++ line ∷ []) (field_lines ++ (field, words) ∷ [])
+fields_more : (lines : List (List ℕ)) (line : List ℕ) (field_lines : List (Field × List ℕ)) (field : Field) (words : List ℕ) → AreTextsOfFieldLines lines field_lines → IsTextOfForm line (Words field words) → AreTextsOfFieldLines (lines ++ line ∷ []) (field_lines ++ (field, words) ∷ [])
 fields_more [] line [] field words each last = (last, tt)
 fields_more [] line (f ∷ fs) field words each last = absurd each
 fields_more (first ∷ lines) line [] field words each last = absurd each
 fields_more (first ∷ lines) line (f ∷ fs) field words each last = (each.0, fields_more lines line fs field words each.1 last)
 
-lines_more : (before : List (List ℕ)) (line : List ℕ) (field_lines : List (Field × List ℕ)) (field : Field) (words : List ℕ) → GivesLines before field_lines → Spells line (Words field words) → GivesLines (before ++ line ∷ []) (field_lines ++ (field, words) ∷ [])
+lines_more : (before : List (List ℕ)) (line : List ℕ) (field_lines : List (Field × List ℕ)) (field : Field) (words : List ℕ) → HasLastFieldLines before field_lines → IsTextOfForm line (Words field words) → HasLastFieldLines (before ++ line ∷ []) (field_lines ++ (field, words) ∷ [])
 lines_more [] line field_lines field words none last = absurd none
 lines_more (first ∷ before) line field_lines field words (inl later) last = inl (lines_more before line field_lines field words later last)
 lines_more (first ∷ before) line field_lines field words (inr here) last = inr (here.0, fields_more before line field_lines field words here.1 last)
 
-lines_begun : (before : List (List ℕ)) (line : List ℕ) → BeginsBlock line → GivesLines (before ++ line ∷ []) []
-lines_begun [] line begins = inr (begins, tt)
-lines_begun (first ∷ before) line begins = inl (lines_begun before line begins)
+lines_begun : (before : List (List ℕ)) (line : List ℕ) → IsNodeLine line → HasLastFieldLines (before ++ line ∷ []) []
+lines_begun [] line begins_with_text = inr (begins_with_text, tt)
+lines_begun (first ∷ before) line begins_with_text = inl (lines_begun before line begins_with_text)
 
-held_more : (held : Held) (field_lines : List (Field × List ℕ)) (field : Field) (words : List ℕ) → held_after (held_after held (all_writes field_lines)) (writes field words) ≡ held_after held (all_writes (field_lines ++ (field, words) ∷ []))
-held_more held [] field words = ap (held_after held) (sym (append-nil (writes field words)))
+held_more : (held : RunState) (field_lines : List (Field × List ℕ)) (field : Field) (words : List ℕ) → run_state_after (run_state_after held (field_line_writes field_lines)) (field_writes field words) ≡ run_state_after held (field_line_writes (field_lines ++ (field, words) ∷ []))
+held_more held [] field words = ap (run_state_after held) (sym (append-nil (field_writes field words)))
 held_more held (f ∷ fs) field words =
-    ap (λ h. held_after h (writes field words)) (held-append held (writes f.0 f.1) (all_writes fs))
-    ∙ held_more (held_after held (writes f.0 f.1)) fs field words
-    ∙ sym (held-append held (writes f.0 f.1) (all_writes (fs ++ (field, words) ∷ [])))
+    ap (λ h. run_state_after h (field_writes field words)) (held-append held (field_writes f.0 f.1) (field_line_writes fs))
+    ∙ held_more (run_state_after held (field_writes f.0 f.1)) fs field words
+    ∙ sym (held-append held (field_writes f.0 f.1) (field_line_writes (fs ++ (field, words) ∷ [])))
 
-after_end : (progress : Progress) (before : List (List ℕ)) (line : List ℕ) → IsAfter progress before → progress.stage ≢ stage.Header → Spells line End → IsAfter (record progress { stage = stage.Ended }) (before ++ line ∷ [])
+after_end : (progress : Progress) (before : List (List ℕ)) (line : List ℕ) → IsAfter progress before → progress.stage ≢ stage.Header → IsTextOfForm line End → IsAfter (record progress { stage = stage.Ended }) (before ++ line ∷ [])
 after_end progress before line after behind end = record {
-  stands = (some_more before line, one_last IsEnd before line end);
+  stands = (some_more before line, one_last IsEndLine before line end);
   sized = record { blocks = after.sized.blocks; given = after.sized.given };
-  blocks = blocks_kept progress before line after (λ yxx begins. node_no_end line yxx begins end);
+  blocks = blocks_kept progress before line after (λ yxx begins_with_text. node_no_end line yxx begins_with_text end);
   given = λ node e. absurd (let never : stage.Ended ≡ stage.Block node = e in let clash : true ≡ false = cc in cc);
   format = λ some. format_kept progress before line after behind;
   held = λ node e. absurd (let never : stage.Ended ≡ stage.Block node = e in let clash : true ≡ false = cc in cc);
@@ -229,34 +229,34 @@ after_header : (progress : Progress) (before : List (List ℕ)) (line : List ℕ
 after_header progress before line after is first =
     let formless = header_formless line (format_of line) first in
     let none : before ≡ [] = let Q : Stage → Type 0 = λ st. StandsAt st before in subst Q is after.stands in
-    let no_line : (Holds : List ℕ → Type 0) → ¬ OneOf Holds before = λ Holds some. let Q : List (List ℕ) → Type 0 = OneOf Holds in absurd (subst Q none some) in
+    let no_line : (Holds : List ℕ → Type 0) → ¬ HoldsForOne Holds before = λ Holds some. let Q : List (List ℕ) → Type 0 = HoldsForOne Holds in absurd (subst Q none some) in
     record {
       stands = (
         some_more before line,
-        none_more IsEnd before line (λ some. no_line IsEnd some) (formless End),
-        none_more BeginsBlock before line (λ some. no_line BeginsBlock some) (λ begins. formless (Node begins.0) begins.1),
+        none_more IsEndLine before line (λ some. no_line IsEndLine some) (formless End),
+        none_more IsNodeLine before line (λ some. no_line IsNodeLine some) (λ begins_with_text. formless (Node begins_with_text.0) begins_with_text.1),
       );
       sized = record { blocks = after.sized.blocks; given = after.sized.given };
-      blocks = blocks_kept progress before line after (λ yxx begins. formless (Node yxx) begins);
+      blocks = blocks_kept progress before line after (λ yxx begins_with_text. formless (Node yxx) begins_with_text);
       given = λ node e. absurd (let never : stage.Open ≡ stage.Block node = e in let clash : true ≡ false = cc in cc);
       format = λ some. ap (λ (b : List (List ℕ)). format_in (b ++ line ∷ [])) (sym none);
       held = λ node e. absurd (let never : stage.Open ≡ stage.Block node = e in let clash : true ≡ false = cc in cc);
     }
 
-in_node : (y n m k : ℕ) → node_of y ≡ Some n → node_of m ≡ Some k → n ≡ k → y ≡ m
+in_node : (y n m k : ℕ) → number_of_yxx y ≡ Some n → number_of_yxx m ≡ Some k → n ≡ k → y ≡ m
 in_node y n m k first second same =
     (yxx_of_node y n first).0 ∙ ap yxx_of same ∙ sym (yxx_of_node m k second).0
 
-after_node : (progress : Progress) (before : List (List ℕ)) (line : List ℕ) (y n : ℕ) → IsAfter progress before → Spells line (Node y) → progress.stage ≢ stage.Header
-    → is_misplaced progress.stage (Some (Node y)) ≡ false → node_of y ≡ Some n
-    → IsAfter (record progress { stage = stage.Block n; blocks = set progress.blocks n true; given = nothing_given; held = held_at_load }) (before ++ line ∷ [])
+after_node : (progress : Progress) (before : List (List ℕ)) (line : List ℕ) (y n : ℕ) → IsAfter progress before → IsTextOfForm line (Node y) → progress.stage ≢ stage.Header
+    → is_misplaced progress.stage (Some (Node y)) ≡ false → number_of_yxx y ≡ Some n
+    → IsAfter (record progress { stage = stage.Block n; blocks = set progress.blocks n true; given = no_fields_given; held = load_run_state }) (before ++ line ∷ [])
 after_node progress before line y n after spelled behind placed is =
     let within : n < length progress.blocks = let small = (yxx_of_node y n is).1 in omega (arith, after.sized.blocks) in
     record {
       stands = (
         some_more before line,
-        none_more IsEnd before line (not_ended progress.stage (Node y) before behind after.stands placed) (node_no_end line y spelled),
-        one_last BeginsBlock before line (y, spelled),
+        none_more IsEndLine before line (not_ended progress.stage (Node y) before behind after.stands placed) (node_no_end line y spelled),
+        one_last IsNodeLine before line (y, spelled),
       );
       sized = record { blocks = length-set progress.blocks n true ∙ after.sized.blocks; given = refl };
       format = λ some. format_kept progress before line after behind;
@@ -264,23 +264,23 @@ after_node progress before line y n after spelled behind placed is =
       blocks = λ m k names. elim (eqb_tells n k) [
         | inl same ↦
             let number : y ≡ m = in_node y n m k is names same.1 in (
-              λ e. let Q : ℕ → Type 0 = λ v. Spells line (Node v) in one_last (BeginsBlockOf m) before line (subst Q number spelled),
+              λ e. let Q : ℕ → Type 0 = λ v. IsTextOfForm line (Node v) in one_last (IsNodeLineOf m) before line (subst Q number spelled),
               λ some. subst (λ (v : ℕ). get_or (set progress.blocks n true) v false ≡ true) same.1 (get_or-set_same progress.blocks n true false within),
             )
         | inr other ↦
             Decides-at _ _ (get_or-set_other progress.blocks n k true false (λ e. other.1 (sym e)))
-            (Decides-like (get_or progress.blocks k false) (one_front (BeginsBlockOf m) before line)
-            (λ some. elim (one_split (BeginsBlockOf m) before line some) [
+            (Decides-like (get_or progress.blocks k false) (one_front (IsNodeLineOf m) before line)
+            (λ some. elim (one_split (IsNodeLineOf m) before line some) [
               | inl front ↦ front
               | inr last ↦
                   let forms : Node y ≡ Node m = one_form line _ _ spelled last in
                   let number : y ≡ m = cc in
-                  let numbers : Some n ≡ Some k = sym is ∙ ap node_of number ∙ names in
+                  let numbers : Some n ≡ Some k = sym is ∙ ap number_of_yxx number ∙ names in
                   let same : n ≡ k = cc in absurd (other.1 same)
             ])
             (after.blocks m k names))
       ];
-      given = λ node e field cell. Decides-at _ _ (none_flagged 156 (number_of field)) (
+      given = λ node e field cell. Decides-at _ _ (none_flagged 156 (field_number field)) (
         λ never. cc,
         λ was. elim (given_split before line field was) [
           | inl front ↦ absurd (front.0 (y, spelled))
@@ -289,16 +289,16 @@ after_node progress before line y n after spelled behind placed is =
       );
     }
 
-after_words : (progress : Progress) (before : List (List ℕ)) (line : List ℕ) (node : ℕ) (field : Field) (words : List ℕ) → IsAfter progress before → Spells line (Words field words)
-    → progress.stage ≡ stage.Block node → goes_past field (length words) ≡ false → IsAfter (with_writes progress (writes field words)) (before ++ line ∷ [])
+after_words : (progress : Progress) (before : List (List ℕ)) (line : List ℕ) (node : ℕ) (field : Field) (words : List ℕ) → IsAfter progress before → IsTextOfForm line (Words field words)
+    → progress.stage ≡ stage.Block node → exceeds_field field (length words) ≡ false → IsAfter (with_field_writes progress (field_writes field words)) (before ++ line ∷ [])
 after_words progress before line node field words after spelled is inside =
-    let ws = writes field words in
+    let ws = field_writes field words in
     let cells = each_has_cell field words inside in
     let Q : Stage → Type 0 = λ st. StandsAt st before in
     let stood = subst Q is after.stands in
     let R : Stage → Type 0 = λ st. StandsAt st (before ++ line ∷ []) in
-    let no_node : ¬ BeginsBlock line = λ begins. node_no_words line begins.0 field words begins.1 spelled in
-    let stands = subst R (sym is) (some_more before line, none_more IsEnd before line stood.1 (λ end. end_no_words line field words end spelled), one_front BeginsBlock before line stood.2) in
+    let no_node : ¬ IsNodeLine line = λ begins_with_text. node_no_words line begins_with_text.0 field words begins_with_text.1 spelled in
+    let stands = subst R (sym is) (some_more before line, none_more IsEndLine before line stood.1 (λ end. end_no_words line field words end spelled), one_front IsNodeLine before line stood.2) in
     subst (λ (p : Progress). IsAfter p (before ++ line ∷ [])) (sym (all_written progress ws)) (record {
       stands = stands;
       sized = record { blocks = after.sized.blocks; given = length-marked progress.given ws ∙ after.sized.given };
@@ -307,11 +307,11 @@ after_words progress before line node field words after spelled is inside =
           let was = after.held n at in (
             was.0 ++ (field, words) ∷ [],
             lines_more before line was.0 field words was.1 spelled,
-            ap (λ h. held_after h ws) was.2 ∙ held_more held_at_load was.0 field words,
+            ap (λ h. run_state_after h ws) was.2 ∙ held_more load_run_state was.0 field words,
           );
-      blocks = blocks_kept progress before line after (λ yxx begins. no_node (yxx, begins));
+      blocks = blocks_kept progress before line after (λ yxx begins_with_text. no_node (yxx, begins_with_text));
       given = λ other e g cell.
-          Decides-at _ _ (marked_or progress.given (number_of g) ws after.sized.given cells)
+          Decides-at _ _ (marked_or progress.given (field_number g) ws after.sized.given cells)
           (Decides-like _
           (λ either. elim either [ inl front ↦ given_front before line g no_node front | inr last ↦ given_last before line g (field, words, spelled, last) ])
           (λ was. elim (given_split before line g was) [
@@ -320,15 +320,15 @@ after_words progress before line node field words after spelled is inside =
                 let forms : Words last.0 last.1 ≡ Words field words = one_form line _ _ last.2 spelled in
                 let fields : last.0 ≡ field = cc in
                 let word_lists : last.1 ≡ words = cc in
-                let U : List ℕ → Type 0 = λ vs. OneOf (λ w. w.0 ≡ g) (writes field vs) in
-                let V : Field → Type 0 = λ f. OneOf (λ w. w.0 ≡ g) (writes f last.1) in
+                let U : List ℕ → Type 0 = λ vs. HoldsForOne (λ w. w.0 ≡ g) (field_writes field vs) in
+                let V : Field → Type 0 = λ f. HoldsForOne (λ w. w.0 ≡ g) (field_writes f last.1) in
                 inr (subst U word_lists (subst V fields last.3))
           ])
           (Decides-or _ _ (after.given node is g cell) (numbered g ws cell cells)));
     })
 
-after_form_of : (progress : Progress) (before : List (List ℕ)) (line : List ℕ) (f : Form) → IsAfter progress before → Spells line f → progress.stage ≢ stage.Header
-    → later_fault progress (Some f) ≡ None → IsAfter (after_form progress (Some f)) (before ++ line ∷ [])
+after_form_of : (progress : Progress) (before : List (List ℕ)) (line : List ℕ) (f : Form) → IsAfter progress before → IsTextOfForm line f → progress.stage ≢ stage.Header
+    → later_fault progress (Some f) ≡ None → IsAfter (progress_after_form progress (Some f)) (before ++ line ∷ [])
 after_form_of progress before line End after spelled behind none = after_end progress before line after behind spelled
 after_form_of progress before line (Node y) after spelled behind none =
     let ok = node_ok progress y none in
@@ -356,11 +356,11 @@ after_one progress before line after none =
     elim (known progress.stage) [
       | inl is ↦ subst Q (sym (past_start progress line is)) (after_header progress before line after is (header_line progress.stage progress line is (not_short progress line none)))
       | inr later ↦
-          let none_later : later_fault progress (form_in progress.format line) ≡ None = sym (line_later progress.stage progress line later) ∙ not_short progress line none in
-          let placed = neither (is_misplaced progress.stage (form_in progress.format line)) _ _ none_later in
-          let meaning = some_form progress.stage (form_in progress.format line) later placed.0 in
+          let none_later : later_fault progress (form_in_format progress.format line) ≡ None = sym (line_later progress.stage progress line later) ∙ not_short progress line none in
+          let placed = neither (is_misplaced progress.stage (form_in_format progress.format line)) _ _ none_later in
+          let meaning = some_form progress.stage (form_in_format progress.format line) later placed.0 in
           let fault : later_fault progress (Some meaning.0) ≡ None = ap (later_fault progress) (sym meaning.1) ∙ none_later in
-          let past : after_line progress line ≡ after_form progress (Some meaning.0) = short_past progress line ∙ past_later progress.stage progress line later ∙ ap (after_form progress) meaning.1 in
+          let past : after_line progress line ≡ progress_after_form progress (Some meaning.0) = short_past progress line ∙ past_later progress.stage progress line later ∙ ap (progress_after_form progress) meaning.1 in
           subst Q (sym past) (after_form_of progress before line meaning.0 after (kept_spelled progress.format line meaning.0 meaning.1).0 later fault)
     ]
 

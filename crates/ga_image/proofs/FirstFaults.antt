@@ -8,13 +8,13 @@ use Rattle.ga_image.specs.declared.fault.ImageCause.TheVariants as cause
 use Rattle.ga_image.specs.declared.field.Field.{Field}
 use Rattle.ga_image.specs.declared.field.Format.{Format}
 use Rattle.ga_image.specs.declared.field.Format.TheVariants.{One, Two}
-use Rattle.ga_image.specs.declared.field.Held.{Held}
-use Rattle.ga_image.specs.Spelling.{Form, Node, Words, End, Spells}
-use Rattle.ga_text.specs.Lines.{longest}
+use Rattle.ga_image.specs.declared.field.RunState.{RunState}
+use Rattle.ga_image.specs.Spelling.{Form, Node, Words, End, IsTextOfForm}
+use Rattle.ga_text.specs.Lines.{max_input_line}
 use Rattle.ga_image.specs.Grammar.{header, is_header_of}
-use Rattle.ga_image.specs.Reading.{Progress, Stage, fault_of, line_fault, later_fault, form_fault, is_misplaced, ends_unsteady, form_in, is_header, reading, refused, at_end, after_line, start, Gives}
+use Rattle.ga_image.specs.Reading.{Progress, Stage, fault_of, line_fault, later_fault, form_fault, is_misplaced, ends_inconsistent_block, form_in_format, is_header, reading, refused, result_at_end, after_line, start, Gives}
 use Rattle.ga_image.specs.Reading as stage
-use Rattle.ga_image.specs.FirstFault.{GivesLines, causes, no_memory, OneOf, IsEnd, IsFirstCause, HasNone, AreFaultless, IsAtLine, IsEndMissing, IsFirstFault}
+use Rattle.ga_image.specs.FirstFault.{HasLastFieldLines, causes, memory_fault, HoldsForOne, IsEndLine, IsFirstCause, HasNoneOfCauses, AreFaultless, IsLineFault, IsEndMissing, IsFirstFault}
 use Rattle.ga_image.proofs.Spellings.{kept_spelled}
 use Rattle.ga_image.proofs.Meanings.{or_false}
 use Rattle.ga_image.proofs.Found.{some_form, header_named}
@@ -29,7 +29,7 @@ use Rattle.ga_image.proofs.Standing as standing
 
 -- ---- any line
 
-end_tells : (before : List (List ℕ)) (line : List ℕ) → Spells line End → Tells before line after_state None
+end_tells : (before : List (List ℕ)) (line : List ℕ) → IsTextOfForm line End → Tells before line after_state None
 end_tells before line end = (
   λ names. node_no_end line names.0 names.1 end,
   (
@@ -37,8 +37,8 @@ end_tells before line end = (
     (
       λ gives. end_no_words line gives.0 gives.1 end gives.2,
       (
-        λ repeats. elim repeats [
-          | inl begins ↦ node_no_end line begins.0 begins.1 end
+        λ has_repeated_field. elim has_repeated_field [
+          | inl begins_with_text ↦ node_no_end line begins_with_text.0 begins_with_text.1 end
           | inr gives ↦ end_no_words line gives.1.0 gives.1.1 end gives.1.2
         ],
         tt,
@@ -47,38 +47,38 @@ end_tells before line end = (
   ),
 )
 
-words_steady : (st : Stage) (held : Held) (field : Field) (words : List ℕ) → ends_unsteady st held (Some (Words field words)) ≡ false
+words_steady : (st : Stage) (held : RunState) (field : Field) (words : List ℕ) → ends_inconsistent_block st held (Some (Words field words)) ≡ false
 words_steady stage.Header held field words = refl
 words_steady stage.Open held field words = refl
 words_steady (stage.Block node) held field words = refl
 words_steady stage.Ended held field words = refl
 
-form_tells : (progress : Progress) (before : List (List ℕ)) (line : List ℕ) (f : Form) → IsAfter progress before → Spells line f
-    → is_misplaced progress.stage (Some f) ≡ false → Tells before line standing.after_line (cond (ends_unsteady progress.stage progress.held (Some f)) (Some cause.State) (form_fault progress (Some f)))
+form_tells : (progress : Progress) (before : List (List ℕ)) (line : List ℕ) (f : Form) → IsAfter progress before → IsTextOfForm line f
+    → is_misplaced progress.stage (Some f) ≡ false → Tells before line standing.after_line (cond (ends_inconsistent_block progress.stage progress.held (Some f)) (Some cause.State) (form_fault progress (Some f)))
 form_tells progress before line (Node y) after spelled placed =
-    tested before line cause.State after_state (ends_unsteady progress.stage progress.held (Some (Node y))) _
+    tested before line cause.State after_state (ends_inconsistent_block progress.stage progress.held (Some (Node y))) _
     (node_unsteady progress.stage progress before line y after refl after.stands placed spelled) (λ steady. node_tells progress before line y after spelled)
 form_tells progress before line (Words field words) after spelled placed =
-    tested before line cause.State after_state (ends_unsteady progress.stage progress.held (Some (Words field words))) _ (
+    tested before line cause.State after_state (ends_inconsistent_block progress.stage progress.held (Some (Words field words))) _ (
       λ e. absurd (let never : true ≡ false = sym e ∙ words_steady progress.stage progress.held field words in cc),
       λ unsteady. absurd (elim unsteady.0 [
-        | inl begins ↦ node_no_words line begins.0 field words begins.1 spelled
+        | inl begins_with_text ↦ node_no_words line begins_with_text.0 field words begins_with_text.1 spelled
         | inr end ↦ end_no_words line field words end spelled
       ]),
     )
     (λ steady. words_tell progress before line field words after spelled placed)
 form_tells progress before line End after spelled placed =
-    tested before line cause.State after_state (ends_unsteady progress.stage progress.held (Some End)) _
+    tested before line cause.State after_state (ends_inconsistent_block progress.stage progress.held (Some End)) _
     (end_unsteady progress.stage progress before line after refl after.stands placed spelled) (λ steady. end_tells before line spelled)
 
 later_tells : (progress : Progress) (before : List (List ℕ)) (line : List ℕ) → IsAfter progress before → progress.stage ≢ stage.Header
-    → Tells before line after_long (later_fault progress (form_in progress.format line))
+    → Tells before line after_long (later_fault progress (form_in_format progress.format line))
 later_tells progress before line after behind =
     let some = later progress.stage before behind after.stands in
     passed_over before line cause.Header after_header _ (λ other. some other.0)
-    (tested before line cause.Line standing.after_line (is_misplaced progress.stage (form_in progress.format line)) _ (misplaced progress.stage progress.format (form_in progress.format line) before line (after.format some) refl behind after.stands) (λ placed.
-    let f = some_form progress.stage (form_in progress.format line) behind placed in
-    let Q : Option Form → Type 0 = λ o. Tells before line standing.after_line (cond (ends_unsteady progress.stage progress.held o) (Some cause.State) (form_fault progress o)) in
+    (tested before line cause.Line standing.after_line (is_misplaced progress.stage (form_in_format progress.format line)) _ (misplaced progress.stage progress.format (form_in_format progress.format line) before line (after.format some) refl behind after.stands) (λ placed.
+    let f = some_form progress.stage (form_in_format progress.format line) behind placed in
+    let Q : Option Form → Type 0 = λ o. Tells before line standing.after_line (cond (ends_inconsistent_block progress.stage progress.held o) (Some cause.State) (form_fault progress o)) in
     subst Q (sym f.1) (form_tells progress before line f.0 after (kept_spelled progress.format line f.0 f.1).0 (ap (is_misplaced progress.stage) (sym f.1) ∙ placed))))
 
 no_header : (line : List ℕ) (format : Format) → is_header line ≡ false → line ≢ header format
@@ -93,7 +93,7 @@ header_tells before line true is first =
       (
         λ no. no.0 first,
         (
-          λ unsteady. let Q : List (List ℕ) → Type 0 = λ b. GivesLines b unsteady.1.0 in let none : GivesLines [] unsteady.1.0 = subst Q first unsteady.1.1 in none,
+          λ unsteady. let Q : List (List ℕ) → Type 0 = λ b. HasLastFieldLines b unsteady.1.0 in let none : HasLastFieldLines [] unsteady.1.0 = subst Q first unsteady.1.1 in none,
           (
             λ names. formless (Node names.0) names.1,
             (
@@ -101,7 +101,7 @@ header_tells before line true is first =
               (
                 λ gives. formless (Words gives.0 gives.1) gives.2,
                 (
-                  λ repeats. elim repeats [ inl begins ↦ formless (Node begins.0) begins.1 | inr gives ↦ formless (Words gives.1.0 gives.1.1) gives.1.2 ],
+                  λ has_repeated_field. elim has_repeated_field [ inl begins_with_text ↦ formless (Node begins_with_text.0) begins_with_text.1 | inr gives ↦ formless (Words gives.1.0 gives.1.1) gives.1.2 ],
                   tt,
                 ),
               ),
@@ -124,12 +124,12 @@ line_tells stage.Ended progress before line is after = later_tells progress befo
 pub fault_tells : (progress : Progress) (before : List (List ℕ)) (line : List ℕ) → IsAfter progress before → Tells before line causes (fault_of progress line)
 unfolding fault_of
 fault_tells progress before line after =
-    tested before line cause.Long after_long (nat_lt longest (length line)) (line_fault progress.stage progress line) (Decides-ltb longest (length line))
+    tested before line cause.Long after_long (nat_lt max_input_line (length line)) (line_fault progress.stage progress line) (Decides-ltb max_input_line (length line))
     (λ short. line_tells progress.stage progress before line refl after)
 
 -- ---- the first cause of a line
 
-none_first : (before : List (List ℕ)) (line : List ℕ) (left : List ImageCause) (first : ImageCause) → HasNone before line left → ¬ IsFirstCause before line left first
+none_first : (before : List (List ℕ)) (line : List ℕ) (left : List ImageCause) (first : ImageCause) → HasNoneOfCauses before line left → ¬ IsFirstCause before line left first
 none_first before line [] first none = λ is. is
 none_first before line (c ∷ left) first none = λ is. elim is [ inl here ↦ none.0 here.1 | inr there ↦ none_first before line left first none.1 there.1 ]
 
@@ -140,7 +140,7 @@ one_first before line (c ∷ left) first second (inl p) (inr q) = absurd (q.0 p.
 one_first before line (c ∷ left) first second (inr p) (inl q) = absurd (p.0 q.1)
 one_first before line (c ∷ left) first second (inr p) (inr q) = one_first before line left first second p.1 q.1
 
-no_fault : (before : List (List ℕ)) (line : List ℕ) (found : Option ImageCause) → Tells before line causes found → HasNone before line causes → found ≡ None
+no_fault : (before : List (List ℕ)) (line : List ℕ) (found : Option ImageCause) → Tells before line causes found → HasNoneOfCauses before line causes → found ≡ None
 no_fault before line None tells none = refl
 no_fault before line (Some c) tells none = absurd (none_first before line causes c none tells)
 
@@ -150,16 +150,16 @@ the_fault before line (Some c) first tells is = ap (λ x. Some x) (one_first bef
 
 -- ---- what reading refuses
 
-one_more : (before lines : List (List ℕ)) (line : List ℕ) → AreFaultless before lines → HasNone (before ++ lines) line causes → AreFaultless before (lines ++ line ∷ [])
-one_more before [] line each none = (subst (λ (b : List (List ℕ)). HasNone b line causes) (append-nil before) none, tt)
+one_more : (before lines : List (List ℕ)) (line : List ℕ) → AreFaultless before lines → HasNoneOfCauses (before ++ lines) line causes → AreFaultless before (lines ++ line ∷ [])
+one_more before [] line each none = (subst (λ (b : List (List ℕ)). HasNoneOfCauses b line causes) (append-nil before) none, tt)
 one_more before (first ∷ lines) line each none =
-    (each.0, one_more (before ++ first ∷ []) lines line each.1 (subst (λ (b : List (List ℕ)). HasNone b line causes) (sym (append_assoc before (first ∷ []) lines)) none))
+    (each.0, one_more (before ++ first ∷ []) lines line each.1 (subst (λ (b : List (List ℕ)). HasNoneOfCauses b line causes) (sym (append_assoc before (first ∷ []) lines)) none))
 
-not_at_end : (st : Stage) (chip : List NodeState) (line : ℕ) (before : List (List ℕ)) (fault : ImageFault) → StandsAt st before → at_end st chip line ≡ Err fault
-    → (¬ OneOf IsEnd before) × (record { line = line; cause = cause.Truncated } ≡ fault)
+not_at_end : (st : Stage) (chip : List NodeState) (line : ℕ) (before : List (List ℕ)) (fault : ImageFault) → StandsAt st before → result_at_end st chip line ≡ Err fault
+    → (¬ HoldsForOne IsEndLine before) × (record { line = line; cause = cause.Truncated } ≡ fault)
 not_at_end stage.Header chip line before fault stands e =
     let same : record { line = line; cause = cause.Truncated } ≡ fault = cc in
-    let Q : List (List ℕ) → Type 0 = OneOf IsEnd in (λ some. let none : OneOf IsEnd [] = subst Q stands some in none, same)
+    let Q : List (List ℕ) → Type 0 = HoldsForOne IsEndLine in (λ some. let none : HoldsForOne IsEndLine [] = subst Q stands some in none, same)
 not_at_end stage.Open chip line before fault stands e = let same : record { line = line; cause = cause.Truncated } ≡ fault = cc in (stands.1, same)
 not_at_end (stage.Block node) chip line before fault stands e = let same : record { line = line; cause = cause.Truncated } ≡ fault = cc in (stands.1, same)
 not_at_end stage.Ended chip line before fault stands e = cc
@@ -233,19 +233,19 @@ read_fault : (progress : Progress) (number : ℕ) (line : List ℕ) (rest : List
 unfolding reading
 read_fault progress number line rest fault is same = rw (is, ← same) refl
 
-read_end : (progress : Progress) (texts : List (List ℕ)) (fault : ImageFault) → IsAfter progress texts → ¬ OneOf IsEnd texts → fault.cause ≡ cause.Truncated → fault.line ≡ length texts + 1 → reading progress (length texts + 1) [] ≡ Err fault
+read_end : (progress : Progress) (texts : List (List ℕ)) (fault : ImageFault) → IsAfter progress texts → ¬ HoldsForOne IsEndLine texts → fault.cause ≡ cause.Truncated → fault.line ≡ length texts + 1 → reading progress (length texts + 1) [] ≡ Err fault
 unfolding reading
-read_end progress texts fault after unended truncated number = at_stage progress.stage after.stands ∙ ap (λ f. Err f) same where
+read_end progress texts fault after unended from_low_bits number = at_stage progress.stage after.stands ∙ ap (λ f. Err f) same where
   same : record { line = length texts + 1; cause = cause.Truncated } ≡ fault
-  same = rw (← number, ← truncated) refl
+  same = rw (← number, ← from_low_bits) refl
 
-  at_stage : (st : Stage) → StandsAt st texts → at_end st progress.chip (length texts + 1) ≡ Err (record { line = length texts + 1; cause = cause.Truncated })
+  at_stage : (st : Stage) → StandsAt st texts → result_at_end st progress.chip (length texts + 1) ≡ Err (record { line = length texts + 1; cause = cause.Truncated })
   at_stage stage.Header stands = refl
   at_stage stage.Open stands = refl
   at_stage (stage.Block node) stands = refl
   at_stage stage.Ended stands = absurd (unended stands.1)
 
-first_refused_at : (texts : List (List ℕ)) (fault : ImageFault) → IsAtLine texts fault → reading start 1 texts ≡ Err fault
+first_refused_at : (texts : List (List ℕ)) (fault : ImageFault) → IsLineFault texts fault → reading start 1 texts ≡ Err fault
 first_refused_at texts fault at =
     let on = read_on at.before (at.line ∷ at.after) start [] after_none at.faultless in
     let here = read_fault on.0 (length at.before + 1) at.line at.after fault (the_fault at.before at.line _ fault.cause (fault_tells on.0 at.before at.line on.1) at.cause) at.number in
@@ -262,7 +262,7 @@ first_refused texts fault (inl at) = first_refused_at texts fault at
 first_refused texts fault (inr end) = first_refused_end texts fault end
 
 -- what a call refused is the first fault, unless memory was refused
-pub refused_by : (result : Result (List NodeState) ImageFault) (texts : List (List ℕ)) → Gives result (reading start 1 texts) → IfErr result (λ fault. (fault ≡ no_memory) ⊎ IsFirstFault texts fault)
+pub refused_by : (result : Result (List NodeState) ImageFault) (texts : List (List ℕ)) → Gives result (reading start 1 texts) → IfErr result (λ fault. (fault ≡ memory_fault) ⊎ IsFirstFault texts fault)
 refused_by (Ok chip) texts gives = tt
 refused_by (Err fault) texts (inl memory) = inl memory
 refused_by (Err fault) texts (inr fails) = inr (refused_first texts fault fails)

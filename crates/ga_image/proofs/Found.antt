@@ -7,21 +7,21 @@ use Rattle.std.proofs.Common.{◌≡◌, ◌≢◌, ℕ, ◌+◌, ◌*◌, ◌/�
 use Rattle.std.proofs.lemmas.Bool.Decides.{nat_tests}
 use Rattle.std.proofs.lemmas.Slice.Eq.{bytes_eq-Decides}
 use Rattle.ga_node.specs.Record.{NodeState}
-use Rattle.ga_grid.specs.Grid.{node_of, yxx_of}
+use Rattle.ga_grid.specs.Grid.{number_of_yxx, yxx_of}
 use Rattle.ga_image.specs.declared.field.Field.{Field}
 use Rattle.ga_image.specs.declared.field.Field.TheVariants.{A, B, P, I, Io, Carry, Slot, Wait, Stop, Data, Return, Ram, Rom}
 use Rattle.ga_image.specs.declared.field.Format.{Format}
 use Rattle.ga_image.specs.declared.field.Format.TheVariants.{One, Two}
-use Rattle.ga_image.specs.declared.field.Held.{Held}
+use Rattle.ga_image.specs.declared.field.RunState.{RunState}
 use Rattle.ga_image.specs.declared.fault.ImageFault.{ImageFault}
 use Rattle.ga_image.specs.declared.fault.ImageCause.{ImageCause}
-use Rattle.ga_text.specs.Lines.{longest}
-use Rattle.ga_image.specs.Grammar.{with_word, header, is_header_of, format_of, Block, field_line_form, block_forms, all_writes, Fits, IsFieldLine, IsBlock, chip_with_words, loaded, IsImage}
-use Rattle.ga_image.specs.Reading.{Progress, Stage, node_of_stage, reading, refused, at_end, fault_of, line_fault, later_fault, node_fault, words_fault, is_misplaced, ends_unsteady, form_in, after_line, after_form, with_block, start, nothing_given, is_header, has_block, Gives}
+use Rattle.ga_text.specs.Lines.{max_input_line}
+use Rattle.ga_image.specs.Grammar.{with_word, header, is_header_of, format_of, Block, field_line_form, block_forms, field_line_writes, IsWithinField, IsFieldLine, IsBlock, chip_with_words, chip_with_blocks, IsImage}
+use Rattle.ga_image.specs.Reading.{Progress, Stage, node_of_stage, reading, refused, result_at_end, fault_of, line_fault, later_fault, node_fault, words_fault, is_misplaced, ends_inconsistent_block, form_in_format, after_line, progress_after_form, with_block, start, no_fields_given, is_header, has_block, Gives}
 use Rattle.ga_image.specs.Spelling.{Form, Node, Words, End}
-use Rattle.ga_image.specs.Fields.{held_at_load, with_held, held_after, is_unsteady, writes, repeats, goes_past, is_too_great, greatest}
+use Rattle.ga_image.specs.Fields.{load_run_state, with_run_state_write, run_state_after, is_inconsistent_state, field_writes, has_repeated_field, exceeds_field, has_too_great_word, greatest}
 use Rattle.ga_image.proofs.Spellings.{forms_spelled}
-use Rattle.ga_image.proofs.Meanings.{seen_twice, AreBelow, once_apart, or_false, reads, marked, repeats-append, line_later, past_later, still_later, short_past, same_format, numbers, repeats_numbers, fields_below, all_written, opened, opened_ready, nodes_below, image_read}
+use Rattle.ga_image.proofs.Meanings.{seen_twice, AreBelow, once_apart, or_false, reads, marked, has_repeated_field-append, line_later, past_later, still_later, short_past, same_format, numbers, repeats_numbers, fields_below, all_written, opened, opened_ready, nodes_below, image_read}
 
 -- a line that is not refused has no fault
 pub passed : (fault : Option ImageCause) (line : ℕ) (others : Result (List NodeState) ImageFault) (chip : List NodeState) → refused fault line others ≡ Ok chip → (fault ≡ None) × (others ≡ Ok chip)
@@ -42,7 +42,7 @@ neither false c others e = (refl, e)
 -- a line without fault is not too long
 pub not_short : (progress : Progress) (text : List ℕ) → fault_of progress text ≡ None → line_fault progress.stage progress text ≡ None
 unfolding fault_of
-not_short progress text e = (neither (nat_lt longest (length text)) cause.Long (line_fault progress.stage progress text) e).1
+not_short progress text e = (neither (nat_lt max_input_line (length text)) cause.Long (line_fault progress.stage progress text) e).1
 
 -- a line that is not misplaced has a form
 pub some_form : (st : Stage) (found : Option Form) → st ≢ stage.Header → is_misplaced st found ≡ false → (f : Form) × (found ≡ Some f)
@@ -56,36 +56,36 @@ some_form stage.Ended (Some f) later e = (f, refl)
 
 -- lines that are read have meanings
 pub forms_of : (lines : List (List ℕ)) (progress : Progress) (format : Format) (line : ℕ) (chip : List NodeState) → progress.stage ≢ stage.Header → progress.format ≡ format → reading progress line lines ≡ Ok chip
-    → (forms : List Form) × (map (form_in format) lines ≡ map (λ f. Some f) forms) × (reads progress line forms ≡ Ok chip)
+    → (forms : List Form) × (map (form_in_format format) lines ≡ map (λ f. Some f) forms) × (reads progress line forms ≡ Ok chip)
 unfolding reading
 forms_of [] progress format line chip later is e = ([], refl, e)
 forms_of (text ∷ lines) progress format line chip later is e =
     let parts = passed (fault_of progress text) line (reading (after_line progress text) (line + 1) lines) chip e in
-    let none : later_fault progress (form_in progress.format text) ≡ None = sym (line_later progress.stage progress text later) ∙ not_short progress text parts.0 in
-    let placed = neither (is_misplaced progress.stage (form_in progress.format text)) cause.Line _ none in
-    let meaning = some_form progress.stage (form_in progress.format text) later placed.0 in
-    let past : after_line progress text ≡ after_form progress (Some meaning.0) = short_past progress text ∙ past_later progress.stage progress text later ∙ ap (after_form progress) meaning.1 in
-    let onward : reading (after_form progress (Some meaning.0)) (line + 1) lines ≡ Ok chip = ap (λ f. reading f (line + 1) lines) (sym past) ∙ parts.1 in
-    let rest = forms_of lines (after_form progress (Some meaning.0)) format (line + 1) chip (still_later progress meaning.0 later) (same_format progress meaning.0 ∙ is) onward in
+    let none : later_fault progress (form_in_format progress.format text) ≡ None = sym (line_later progress.stage progress text later) ∙ not_short progress text parts.0 in
+    let placed = neither (is_misplaced progress.stage (form_in_format progress.format text)) cause.Line _ none in
+    let meaning = some_form progress.stage (form_in_format progress.format text) later placed.0 in
+    let past : after_line progress text ≡ progress_after_form progress (Some meaning.0) = short_past progress text ∙ past_later progress.stage progress text later ∙ ap (progress_after_form progress) meaning.1 in
+    let onward : reading (progress_after_form progress (Some meaning.0)) (line + 1) lines ≡ Ok chip = ap (λ f. reading f (line + 1) lines) (sym past) ∙ parts.1 in
+    let rest = forms_of lines (progress_after_form progress (Some meaning.0)) format (line + 1) chip (still_later progress meaning.0 later) (same_format progress meaning.0 ∙ is) onward in
     let fault : later_fault progress (Some meaning.0) ≡ None = ap (later_fault progress) (sym meaning.1) ∙ none in
-    (meaning.0 ∷ rest.0, both _ _ _ _ (ap (λ g. form_in g text) (sym is) ∙ meaning.1) rest.1, goes_on _ line _ fault ∙ rest.2)
+    (meaning.0 ∷ rest.0, both _ _ _ _ (ap (λ g. form_in_format g text) (sym is) ∙ meaning.1) rest.1, goes_on _ line _ fault ∙ rest.2)
 
 pub named : (found : Option ℕ) → is_none found ≡ false → (n : ℕ) × (found ≡ Some n)
 named None e = cc
 named (Some n) e = (n, refl)
 
 -- a line that begins a block without fault
-pub node_ok : (progress : Progress) (y : ℕ) → later_fault progress (Some (Node y)) ≡ None → (n : ℕ) × (node_of y ≡ Some n) × (get_or progress.blocks n false ≡ false)
+pub node_ok : (progress : Progress) (y : ℕ) → later_fault progress (Some (Node y)) ≡ None → (n : ℕ) × (number_of_yxx y ≡ Some n) × (get_or progress.blocks n false ≡ false)
 unfolding node_fault
 node_ok progress y none =
     let tests = neither (is_misplaced progress.stage (Some (Node y))) cause.Line _ none in
-    let steady = neither (ends_unsteady progress.stage progress.held (Some (Node y))) cause.State (node_fault progress y) tests.1 in
-    let first = neither (is_none (node_of y)) cause.Node _ steady.1 in
-    let second = neither (has_block progress (node_of y)) cause.Repeated None first.1 in
-    let node = named (node_of y) first.0 in
+    let steady = neither (ends_inconsistent_block progress.stage progress.held (Some (Node y))) cause.State (node_fault progress y) tests.1 in
+    let first = neither (is_none (number_of_yxx y)) cause.Node _ steady.1 in
+    let second = neither (has_block progress (number_of_yxx y)) cause.Repeated None first.1 in
+    let node = named (number_of_yxx y) first.0 in
     (node.0, node.1, ap (has_block progress) (sym node.1) ∙ second.0)
 
-pub within : (field : Field) (count : ℕ) → goes_past field count ≡ false → Fits field count
+pub within : (field : Field) (count : ℕ) → exceeds_field field count ≡ false → IsWithinField field count
 within A count e = tt
 within B count e = tt
 within P count e = tt
@@ -108,14 +108,14 @@ smalls most (word ∷ words) e =
     (here, smalls most words parts.1)
 
 -- a field line without fault
-pub field_ok : (progress : Progress) (field : Field) (words : List ℕ) → later_fault progress (Some (Words field words)) ≡ None → IsFieldLine (field, words) × (repeats progress.given (writes field words) ≡ false)
+pub field_ok : (progress : Progress) (field : Field) (words : List ℕ) → later_fault progress (Some (Words field words)) ≡ None → IsFieldLine (field, words) × (has_repeated_field progress.given (field_writes field words) ≡ false)
 unfolding words_fault
 field_ok progress field words none =
     let tests = neither (is_misplaced progress.stage (Some (Words field words))) cause.Line _ none in
-    let steady = neither (ends_unsteady progress.stage progress.held (Some (Words field words))) cause.State (words_fault progress field words) tests.1 in
-    let first = neither (goes_past field (length words)) cause.Place _ steady.1 in
-    let second = neither (is_too_great field words) cause.Word _ first.1 in
-    let third = neither (repeats progress.given (writes field words)) cause.Repeated None second.1 in
+    let steady = neither (ends_inconsistent_block progress.stage progress.held (Some (Words field words))) cause.State (words_fault progress field words) tests.1 in
+    let first = neither (exceeds_field field (length words)) cause.Place _ steady.1 in
+    let second = neither (has_too_great_word field words) cause.Word _ first.1 in
+    let third = neither (has_repeated_field progress.given (field_writes field words)) cause.Repeated None second.1 in
     ((within field (length words) first.0, smalls (greatest field) words second.0), third.0)
 
 choice : (b : Bool) (x n : ℕ) → cond b (Some x) None ≡ Some n → (b ≡ true) × (x ≡ n)
@@ -127,7 +127,7 @@ sizes true y e = (refl, e)
 sizes false y e = cc
 
 -- a number below 144 and its row and column
-pub yxx_of_node : (y n : ℕ) → node_of y ≡ Some n → (y ≡ yxx_of n) × (n < 144)
+pub yxx_of_node : (y n : ℕ) → number_of_yxx y ≡ Some n → (y ≡ yxx_of n) × (n < 144)
 yxx_of_node y n e =
     let test = choice (nat_lt (y / 100) 8 && nat_lt (y % 100) 18) (18 * (y / 100) + y % 100) n e in
     let small = sizes (nat_lt (y / 100) 8) (nat_lt (y % 100) 18) test.0 in
@@ -148,16 +148,16 @@ record Rest (progress : Progress) (forms : List Form) (chip : List NodeState) : 
   blocks : List Block
   spelled : forms ≡ map field_line_form field_lines ++ (flat_map block_forms blocks ++ End ∷ [])
   unopened : progress.stage ≡ stage.Open → field_lines ≡ []
-  steady : (node : ℕ) → progress.stage ≡ stage.Block node → is_unsteady (held_after progress.held (all_writes field_lines)) ≡ false
+  steady : (node : ℕ) → progress.stage ≡ stage.Block node → is_inconsistent_state (run_state_after progress.held (field_line_writes field_lines)) ≡ false
   each_field : AllByRecursion IsFieldLine field_lines
-  once : repeats progress.given (all_writes field_lines) ≡ false
+  once : has_repeated_field progress.given (field_line_writes field_lines) ≡ false
   each : AllByRecursion IsBlock blocks
   apart : seen_twice progress.blocks (map (λ b. b.node) blocks) ≡ false
-  describes : chip ≡ loaded (chip_with_words (node_of_stage progress.stage) progress.chip (all_writes field_lines)) blocks
+  describes : chip ≡ chip_with_blocks (chip_with_words (node_of_stage progress.stage) progress.chip (field_line_writes field_lines)) blocks
 
-cut : (progress : Progress) (line : ℕ) (chip : List NodeState) → IsOpened progress → at_end progress.stage progress.chip line ≡ Ok chip → ⊥
-cut progress line chip (inl is) e = let never : at_end stage.Open progress.chip line ≡ Ok chip = subst (λ (s : Stage). at_end s progress.chip line ≡ Ok chip) is e in cc
-cut progress line chip (inr (node, is)) e = let never : at_end (stage.Block node) progress.chip line ≡ Ok chip = subst (λ (s : Stage). at_end s progress.chip line ≡ Ok chip) is e in cc
+cut : (progress : Progress) (line : ℕ) (chip : List NodeState) → IsOpened progress → result_at_end progress.stage progress.chip line ≡ Ok chip → ⊥
+cut progress line chip (inl is) e = let never : result_at_end stage.Open progress.chip line ≡ Ok chip = subst (λ (s : Stage). result_at_end s progress.chip line ≡ Ok chip) is e in cc
+cut progress line chip (inr (node, is)) e = let never : result_at_end (stage.Block node) progress.chip line ≡ Ok chip = subst (λ (s : Stage). result_at_end s progress.chip line ≡ Ok chip) is e in cc
 
 -- nothing comes after the end
 last : (forms : List Form) (progress : Progress) (line : ℕ) (chip : List NodeState) → reads (record progress { stage = stage.Ended }) line forms ≡ Ok chip → (forms ≡ []) × (chip ≡ progress.chip)
@@ -175,24 +175,24 @@ written-append : (node : ℕ) (chip : List NodeState) (xs ys : List (Field × �
 written-append node chip [] ys = refl
 written-append node chip (x ∷ xs) ys = written-append node (with_word chip node x) xs ys
 
-pub held-append : (held : Held) (xs ys : List (Field × ℕ)) → held_after held (xs ++ ys) ≡ held_after (held_after held xs) ys
+pub held-append : (held : RunState) (xs ys : List (Field × ℕ)) → run_state_after held (xs ++ ys) ≡ run_state_after (run_state_after held xs) ys
 held-append held [] ys = refl
-held-append held (x ∷ xs) ys = held-append (with_held held x) xs ys
+held-append held (x ∷ xs) ys = held-append (with_run_state_write held x) xs ys
 
 -- a block that ends without fault is consistent
-ended_steady : (st : Stage) (held : Held) (node : ℕ) → ends_unsteady st held (Some End) ≡ false → st ≡ stage.Block node → is_unsteady held ≡ false
-ended_steady st held node e is = ap (λ s. ends_unsteady s held (Some End)) (sym is) ∙ e
+ended_steady : (st : Stage) (held : RunState) (node : ℕ) → ends_inconsistent_block st held (Some End) ≡ false → st ≡ stage.Block node → is_inconsistent_state held ≡ false
+ended_steady st held node e is = ap (λ s. ends_inconsistent_block s held (Some End)) (sym is) ∙ e
 
-left_steady : (st : Stage) (held : Held) (node y : ℕ) → ends_unsteady st held (Some (Node y)) ≡ false → st ≡ stage.Block node → is_unsteady held ≡ false
-left_steady st held node y e is = ap (λ s. ends_unsteady s held (Some (Node y))) (sym is) ∙ e
+left_steady : (st : Stage) (held : RunState) (node y : ℕ) → ends_inconsistent_block st held (Some (Node y)) ≡ false → st ≡ stage.Block node → is_inconsistent_state held ≡ false
+left_steady st held node y e is = ap (λ s. ends_inconsistent_block s held (Some (Node y))) (sym is) ∙ e
 
 rest_of : (forms : List Form) (progress : Progress) (line : ℕ) (chip : List NodeState) → IsOpened progress → reads progress line forms ≡ Ok chip → Rest progress forms chip
 rest_of [] progress line chip ready e = absurd (cut progress line chip ready e)
 rest_of (End ∷ forms) progress line chip ready e =
-    let parts = passed (later_fault progress (Some End)) line (reads (after_form progress (Some End)) (line + 1) forms) chip e in
+    let parts = passed (later_fault progress (Some End)) line (reads (progress_after_form progress (Some End)) (line + 1) forms) chip e in
     let after = last forms progress (line + 1) chip parts.1 in
     let tests = neither (is_misplaced progress.stage (Some End)) cause.Line _ parts.0 in
-    let stood = neither (ends_unsteady progress.stage progress.held (Some End)) cause.State _ tests.1 in
+    let stood = neither (ends_inconsistent_block progress.stage progress.held (Some End)) cause.State _ tests.1 in
     record {
       field_lines = [];
       blocks = [];
@@ -206,16 +206,16 @@ rest_of (End ∷ forms) progress line chip ready e =
       describes = after.1;
     }
 rest_of (Node y ∷ forms) progress line chip ready e =
-    let parts = passed (later_fault progress (Some (Node y))) line (reads (after_form progress (Some (Node y))) (line + 1) forms) chip e in
+    let parts = passed (later_fault progress (Some (Node y))) line (reads (progress_after_form progress (Some (Node y))) (line + 1) forms) chip e in
     let ok = node_ok progress y parts.0 in
     let at = yxx_of_node y ok.0 ok.1 in
-    let begun : Progress = record progress { stage = stage.Block ok.0; blocks = set progress.blocks ok.0 true; given = nothing_given; held = held_at_load } in
+    let begun : Progress = record progress { stage = stage.Block ok.0; blocks = set progress.blocks ok.0 true; given = no_fields_given; held = load_run_state } in
     let tests = neither (is_misplaced progress.stage (Some (Node y))) cause.Line _ parts.0 in
-    let stood = neither (ends_unsteady progress.stage progress.held (Some (Node y))) cause.State _ tests.1 in
-    let is : after_form progress (Some (Node y)) ≡ begun = ap (with_block progress) ok.1 in
+    let stood = neither (ends_inconsistent_block progress.stage progress.held (Some (Node y))) cause.State _ tests.1 in
+    let is : progress_after_form progress (Some (Node y)) ≡ begun = ap (with_block progress) ok.1 in
     let rest = rest_of forms begun (line + 1) chip (inr (ok.0, refl)) (ap (λ f. reads f (line + 1) forms) (sym is) ∙ parts.1) in
     let below = fields_below rest.field_lines rest.each_field in
-    let apart = once_apart nothing_given (numbers (all_writes rest.field_lines)) below (sym (repeats_numbers nothing_given (all_writes rest.field_lines)) ∙ rest.once) in
+    let apart = once_apart no_fields_given (numbers (field_line_writes rest.field_lines)) below (sym (repeats_numbers no_fields_given (field_line_writes rest.field_lines)) ∙ rest.once) in
     record {
       field_lines = [];
       blocks = record { node = ok.0; field_lines = rest.field_lines } ∷ rest.blocks;
@@ -229,23 +229,23 @@ rest_of (Node y ∷ forms) progress line chip ready e =
       describes = rest.describes;
     }
 rest_of (Words field words ∷ forms) progress line chip ready e =
-    let parts = passed (later_fault progress (Some (Words field words))) line (reads (after_form progress (Some (Words field words))) (line + 1) forms) chip e in
+    let parts = passed (later_fault progress (Some (Words field words))) line (reads (progress_after_form progress (Some (Words field words))) (line + 1) forms) chip e in
     let block = field_in_block progress field words ready parts.0 in
     let ok = field_ok progress field words parts.0 in
-    let filled : Progress = record progress { given = marked progress.given (writes field words); held = held_after progress.held (writes field words); chip = chip_with_words (node_of_stage progress.stage) progress.chip (writes field words) } in
-    let is : after_form progress (Some (Words field words)) ≡ filled = all_written progress (writes field words) in
+    let filled : Progress = record progress { given = marked progress.given (field_writes field words); held = run_state_after progress.held (field_writes field words); chip = chip_with_words (node_of_stage progress.stage) progress.chip (field_writes field words) } in
+    let is : progress_after_form progress (Some (Words field words)) ≡ filled = all_written progress (field_writes field words) in
     let rest = rest_of forms filled (line + 1) chip (inr block) (ap (λ f. reads f (line + 1) forms) (sym is) ∙ parts.1) in
     record {
       field_lines = (field, words) ∷ rest.field_lines;
       blocks = rest.blocks;
       spelled = ap (λ fs. Words field words ∷ fs) rest.spelled;
-      unopened = λ begins. absurd (let never : stage.Open ≡ stage.Block block.0 = sym begins ∙ block.1 in cc);
-      steady = λ node at. ap is_unsteady (held-append progress.held (writes field words) (all_writes rest.field_lines)) ∙ rest.steady node at;
+      unopened = λ begins_with_text. absurd (let never : stage.Open ≡ stage.Block block.0 = sym begins_with_text ∙ block.1 in cc);
+      steady = λ node at. ap is_inconsistent_state (held-append progress.held (field_writes field words) (field_line_writes rest.field_lines)) ∙ rest.steady node at;
       each_field = (ok.0, rest.each_field);
-      once = repeats-append progress.given (writes field words) (all_writes rest.field_lines) ∙ rw ok.1 rest.once;
+      once = has_repeated_field-append progress.given (field_writes field words) (field_line_writes rest.field_lines) ∙ rw ok.1 rest.once;
       each = rest.each;
       apart = rest.apart;
-      describes = rest.describes ∙ ap (λ c. loaded c rest.blocks) (sym (written-append (node_of_stage progress.stage) progress.chip (writes field words) (all_writes rest.field_lines)));
+      describes = rest.describes ∙ ap (λ c. chip_with_blocks c rest.blocks) (sym (written-append (node_of_stage progress.stage) progress.chip (field_writes field words) (field_line_writes rest.field_lines)));
     }
 
 none_else : (b : Bool) (c : ImageCause) → cond b None (Some c) ≡ None → b ≡ true
@@ -304,8 +304,8 @@ image_found (text ∷ lines) chip e =
       each = rest.each;
       apart = (once_apart from.blocks (map (λ b. b.node) rest.blocks) below rest.apart).1;
       describes = rest.describes
-          ∙ ap (λ fs. loaded (chip_with_words (node_of_stage from.stage) from.chip (all_writes fs)) rest.blocks) none
-          ∙ ap (λ c. loaded c rest.blocks) ready.2;
+          ∙ ap (λ fs. chip_with_blocks (chip_with_words (node_of_stage from.stage) from.chip (field_line_writes fs)) rest.blocks) none
+          ∙ ap (λ c. chip_with_blocks c rest.blocks) ready.2;
     }
 
 -- ---- what a reading implies for the grammar

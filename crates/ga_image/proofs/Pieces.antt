@@ -8,10 +8,10 @@ use Rattle.ga_word.specs.Word.{hex6_of, hex_digit}
 use Rattle.ga_image.specs.declared.field.Field.{Field}
 use Rattle.ga_node.specs.Record.{NodeRecord}
 use Rattle.ga_grid.specs.Grid.{yxx_of}
-use Rattle.ga_image.specs.Spelling.{Node, End, Form, Words, letter, set_text, wait_text, field_name, numbers_of, code_text, HasCount, SpellsWords, IsCode, SpellsCode, SpellsField, SpellsIn}
+use Rattle.ga_image.specs.Spelling.{Node, End, Form, Words, side_letter_or_hyphen, side_set_text, wait_text, field_name, field_numbers_text, code_text, HasWordCount, IsTextOfWords, IsFieldCode, IsTextOfCode, IsTextOfField, IsTextInFormat}
 use Rattle.ga_text.specs.Digits.{words_text, decimal3_of, hex2_of}
-use Rattle.ga_image.specs.Grammar.{Block, field_line_form, block_forms, Spell, header}
-use Rattle.ga_image.specs.Printing.{AreWords, lines_text, line_text, field_text, line_unless, word_unless, row_cells, lines_at, block_unless, blocks_from, printed}
+use Rattle.ga_image.specs.Grammar.{Block, field_line_form, block_forms, AreLinesOfForms, header}
+use Rattle.ga_image.specs.Printing.{AreWords, lines_text, line_text, field_text, line_unless_default, word_line_unless_default, row_start_cells, lines_at, block_unless_empty, blocks_from, printed_image}
 use Rattle.ga_image.specs.inner.{fields_text, blocks_text}
 use Rattle.std.specs.Char.{to_ascii_lowercase}
 use Rattle.std.specs.Str.{str_to_ascii_lowercase}
@@ -53,19 +53,19 @@ pub lines_grown : (old mid new : List ℕ) (xs ys : List (Field × List ℕ)) �
 lines_grown old mid new xs ys p q = grown old mid new (fields_text xs) (fields_text ys) p q ∙ ap (λ zs. old ++ zs) (sym (fields_append xs ys))
 
 -- the line of a word that is known
-pub word_grown : (old new : List ℕ) (at_load : ℕ) (field : Field) (v w : ℕ) → v ≡ w → new ≡ old ++ fields_text (word_unless at_load field v) → new ≡ old ++ fields_text (word_unless at_load field w)
-word_grown old new at_load field v w is e = e ∙ ap (λ (n : ℕ). old ++ fields_text (word_unless at_load field n)) is
+pub word_grown : (old new : List ℕ) (at_load : ℕ) (field : Field) (v w : ℕ) → v ≡ w → new ≡ old ++ fields_text (word_line_unless_default at_load field v) → new ≡ old ++ fields_text (word_line_unless_default at_load field w)
+word_grown old new at_load field v w is e = e ∙ ap (λ (n : ℕ). old ++ fields_text (word_line_unless_default at_load field n)) is
 
 -- and of words
-pub words_grown : (old new : List ℕ) (at_load : ℕ) (field : Field) (vs ws : List ℕ) → vs ≡ ws → new ≡ old ++ fields_text (line_unless at_load field vs) → new ≡ old ++ fields_text (line_unless at_load field ws)
-words_grown old new at_load field vs ws is e = e ∙ ap (λ ns. old ++ fields_text (line_unless at_load field ns)) is
+pub words_grown : (old new : List ℕ) (at_load : ℕ) (field : Field) (vs ws : List ℕ) → vs ≡ ws → new ≡ old ++ fields_text (line_unless_default at_load field vs) → new ≡ old ++ fields_text (line_unless_default at_load field ws)
+words_grown old new at_load field vs ws is e = e ∙ ap (λ ns. old ++ fields_text (line_unless_default at_load field ns)) is
 
 -- no line
-pub none_written : (text : List ℕ) (at_load : ℕ) (field : Field) (words : List ℕ) → list_all (λ word. word == at_load) words ≡ true → text ≡ text ++ fields_text (line_unless at_load field words)
+pub none_written : (text : List ℕ) (at_load : ℕ) (field : Field) (words : List ℕ) → list_all (λ word. word == at_load) words ≡ true → text ≡ text ++ fields_text (line_unless_default at_load field words)
 none_written text at_load field words all = rw all (sym (append-nil text))
 
 -- one line
-pub one_written : (old new : List ℕ) (at_load : ℕ) (field : Field) (words : List ℕ) → list_all (λ word. word == at_load) words ≡ false → new ≡ old ++ (field_text field words ++ 10 ∷ []) → new ≡ old ++ fields_text (line_unless at_load field words)
+pub one_written : (old new : List ℕ) (at_load : ℕ) (field : Field) (words : List ℕ) → list_all (λ word. word == at_load) words ≡ false → new ≡ old ++ (field_text field words ++ 10 ∷ []) → new ≡ old ++ fields_text (line_unless_default at_load field words)
 one_written old new at_load field words some e = rw some (e ∙ ap (λ xs. old ++ xs) (sym (append-nil (field_text field words ++ 10 ∷ []))))
 
 -- a list as far as it is filled
@@ -91,7 +91,7 @@ rows_more lines cells i within =
     ∙ ap (λ xs. flat_map lines (take i cells) ++ xs) (append-nil (lines (get_or cells i 0)))
 
 -- the first cell of a row
-pub row_cell : (i : ℕ) → i < 8 → get_or row_cells i 0 ≡ 8 * i
+pub row_cell : (i : ℕ) → i < 8 → get_or row_start_cells i 0 ≡ 8 * i
 row_cell zero small = refl
 row_cell (suc zero) small = refl
 row_cell (suc (suc zero)) small = refl
@@ -118,14 +118,14 @@ abbrev pub block_head : ℕ → List ℕ
 block_head number = codes "node " ++ (decimal3_of (yxx_of number) ++ 10 ∷ [])
 
 -- the block of a node that has lines
-pub block_text : (number : ℕ) (lines : List (Field × List ℕ)) → length (fields_text lines) ≢ 0 → blocks_text (block_unless number lines) ≡ block_head number ++ fields_text lines
+pub block_text : (number : ℕ) (lines : List (Field × List ℕ)) → length (fields_text lines) ≢ 0 → blocks_text (block_unless_empty number lines) ≡ block_head number ++ fields_text lines
 block_text number [] some = absurd (some refl)
 block_text number (line ∷ lines) some =
     ap (λ forms. lines_text (line_text (Node (yxx_of number)) ∷ map line_text forms)) (append-nil (map field_line_form (line ∷ lines)))
     ∙ ap (λ texts. block_head number ++ lines_text texts) (forms_text (line ∷ lines))
 
 -- and of one that has none
-pub no_block_text : (number : ℕ) (lines : List (Field × List ℕ)) → length (fields_text lines) ≡ 0 → blocks_text (block_unless number lines) ≡ []
+pub no_block_text : (number : ℕ) (lines : List (Field × List ℕ)) → length (fields_text lines) ≡ 0 → blocks_text (block_unless_empty number lines) ≡ []
 no_block_text number [] none = refl
 no_block_text number (line ∷ lines) none = absurd (omega (arith, some_text line lines))
 
@@ -138,11 +138,11 @@ blocks_append xs ys =
 
 -- the blocks of the nodes from a number on are the block of that node and those after it
 pub blocks_more : (nodes : List NodeRecord) (i : ℕ) (d : NodeRecord) → i < length nodes
-    → blocks_text (blocks_from i (drop i nodes)) ≡ blocks_text (block_unless i (lines_at i (get_or nodes i d))) ++ blocks_text (blocks_from (i + 1) (drop (i + 1) nodes))
+    → blocks_text (blocks_from i (drop i nodes)) ≡ blocks_text (block_unless_empty i (lines_at i (get_or nodes i d))) ++ blocks_text (blocks_from (i + 1) (drop (i + 1) nodes))
 unfolding blocks_from
 blocks_more nodes i d within =
     ap (λ left. blocks_text (blocks_from i left)) (drop_more nodes i d within)
-    ∙ blocks_append (block_unless i (lines_at i (get_or nodes i d))) (blocks_from (i + 1) (drop (i + 1) nodes))
+    ∙ blocks_append (block_unless_empty i (lines_at i (get_or nodes i d))) (blocks_from (i + 1) (drop (i + 1) nodes))
 
 -- after the last node there are none
 pub blocks_end : (nodes : List NodeRecord) (i : ℕ) → length nodes ≤ i → blocks_text (blocks_from i (drop i nodes)) ≡ []
@@ -150,8 +150,8 @@ unfolding blocks_from
 blocks_end nodes i past = ap (λ left. blocks_text (blocks_from i left)) (drop_all i nodes past)
 
 -- the whole text
-pub whole : (nodes : List NodeRecord) → printed nodes ≡ codes "ga144 2\n" ++ (blocks_text (blocks_from 0 nodes) ++ codes "end\n")
-unfolding printed
+pub whole : (nodes : List NodeRecord) → printed_image nodes ≡ codes "ga144 2\n" ++ (blocks_text (blocks_from 0 nodes) ++ codes "end\n")
+unfolding printed_image
 whole nodes =
     let forms = flat_map block_forms (blocks_from 0 nodes) in
     ap (λ texts. codes "ga144 2\n" ++ lines_text texts) (map-append line_text forms (End ∷ []))
@@ -167,14 +167,14 @@ longer : (t3 t4 more : List ℕ) → t4 ≡ t3 ++ more → length t4 ≡ length 
 longer t3 t4 more e = ap length e ∙ length-append t3 more
 
 pub block_grown : (old t1 t2 t3 t4 : List ℕ) (number : ℕ) (lines : List (Field × List ℕ)) → t1 ≡ old ++ codes "node " → t2 ≡ t1 ++ decimal3_of (yxx_of number) → t3 ≡ t2 ++ 10 ∷ [] → t4 ≡ t3 ++ fields_text lines
-    → length t4 ≢ length t3 → t4 ≡ old ++ blocks_text (block_unless number lines)
+    → length t4 ≢ length t3 → t4 ≡ old ++ blocks_text (block_unless_empty number lines)
 block_grown old t1 t2 t3 t4 number lines first second third fourth other =
     let some : length (fields_text lines) ≢ 0 = λ none. other (omega (arith, longer t3 t4 (fields_text lines) fourth, none)) in
     block_written old t1 t2 t3 t4 number lines first second third fourth ∙ ap (λ xs. old ++ xs) (sym (block_text number lines some))
 
 -- and where it has none and its first line is taken away
 pub block_dropped : (old t1 t2 t3 t4 : List ℕ) (number : ℕ) (lines : List (Field × List ℕ)) → t1 ≡ old ++ codes "node " → t2 ≡ t1 ++ decimal3_of (yxx_of number) → t3 ≡ t2 ++ 10 ∷ [] → t4 ≡ t3 ++ fields_text lines
-    → length t4 ≡ length t3 → take (length old) t4 ≡ old ++ blocks_text (block_unless number lines)
+    → length t4 ≡ length t3 → take (length old) t4 ≡ old ++ blocks_text (block_unless_empty number lines)
 block_dropped old t1 t2 t3 t4 number lines first second third fourth same =
     let none : length (fields_text lines) ≡ 0 = omega (arith, longer t3 t4 (fields_text lines) fourth) in
     ap (take (length old)) (block_written old t1 t2 t3 t4 number lines first second third fourth)
@@ -184,15 +184,15 @@ block_dropped old t1 t2 t3 t4 number lines first second third fourth same =
 
 -- one block more
 pub next_block : (nodes : List NodeRecord) (i : ℕ) (d : NodeRecord) (text new all : List ℕ) → i < length nodes → text ++ blocks_text (blocks_from i (drop i nodes)) ≡ all
-    → new ≡ text ++ blocks_text (block_unless i (lines_at i (get_or nodes i d))) → new ++ blocks_text (blocks_from (i + 1) (drop (i + 1) nodes)) ≡ all
+    → new ≡ text ++ blocks_text (block_unless_empty i (lines_at i (get_or nodes i d))) → new ++ blocks_text (blocks_from (i + 1) (drop (i + 1) nodes)) ≡ all
 next_block nodes i d text new all within before piece =
-    let block = blocks_text (block_unless i (lines_at i (get_or nodes i d))) in
+    let block = blocks_text (block_unless_empty i (lines_at i (get_or nodes i d))) in
     let left = blocks_text (blocks_from (i + 1) (drop (i + 1) nodes)) in
     ap (λ xs. xs ++ left) piece ∙ append_assoc text block left ∙ ap (λ xs. text ++ xs) (sym (blocks_more nodes i d within)) ∙ before
 
 -- the end after the last
 pub finished : (nodes : List NodeRecord) (i : ℕ) (text new : List ℕ) → length nodes ≤ i → text ++ blocks_text (blocks_from i (drop i nodes)) ≡ codes "ga144 2\n" ++ blocks_text (blocks_from 0 nodes)
-    → new ≡ text ++ codes "end\n" → new ≡ printed nodes
+    → new ≡ text ++ codes "end\n" → new ≡ printed_image nodes
 finished nodes i text new past before last =
     let all : text ≡ codes "ga144 2\n" ++ blocks_text (blocks_from 0 nodes) = sym (append-nil text) ∙ ap (λ xs. text ++ xs) (sym (blocks_end nodes i past)) ∙ before in
     last ∙ ap (λ xs. xs ++ codes "end\n") all ∙ append_assoc (codes "ga144 2\n") (blocks_text (blocks_from 0 nodes)) (codes "end\n") ∙ sym (whole nodes)
@@ -215,7 +215,7 @@ lower_words (w ∷ words) =
 lower_cell : (cell : ℕ) (words : List ℕ) → str_to_ascii_lowercase (hex2_of cell ++ words_text words) ≡ hex2_of cell ++ words_text words
 lower_cell cell words = rw (lower_place cell 1, lower_place cell 0, lower_words words) refl
 
-lower_numbers : (field : Field) (words : List ℕ) → str_to_ascii_lowercase (numbers_of field words) ≡ numbers_of field words
+lower_numbers : (field : Field) (words : List ℕ) → str_to_ascii_lowercase (field_numbers_text field words) ≡ field_numbers_text field words
 lower_numbers A words = lower_words words
 lower_numbers B words = lower_words words
 lower_numbers P words = lower_words words
@@ -234,10 +234,10 @@ lower_numbers (Rom cell) words = lower_cell cell words
 
 -- one number of a field, or as many words as the field has
 abbrev IsCodeLine : Field → List ℕ → Type 0
-IsCodeLine field words = (code : ℕ) × (words ≡ code ∷ []) × IsCode field code
+IsCodeLine field words = (code : ℕ) × (words ≡ code ∷ []) × IsFieldCode field code
 
 abbrev IsWordLine : Field → List ℕ → Type 0
-IsWordLine field words = HasCount field (length words) × AreSix words
+IsWordLine field words = HasWordCount field (length words) × AreSix words
 
 abbrev pub IsLine : Field → List ℕ → Type 0
 IsLine Carry words = IsCodeLine Carry words
@@ -252,16 +252,16 @@ IsPrintable (Node yxx) = yxx < 1000
 IsPrintable (Words field words) = IsLine field words
 IsPrintable End = Unit {0}
 
-words_spelled : (field : Field) (words : List ℕ) → IsWordLine field words → SpellsWords (field_name field ++ numbers_of field words) field words
+words_spelled : (field : Field) (words : List ℕ) → IsWordLine field words → IsTextOfWords (field_name field ++ field_numbers_text field words) field words
 words_spelled field words is = record {
   count = is.0;
   six_digits = is.1;
-  numbers = numbers_of field words;
+  numbers = field_numbers_text field words;
   parts = refl;
   digits = lower_numbers field words;
 }
 
-code_spelled : (field : Field) (words : List ℕ) → IsCodeLine field words → SpellsCode (field_name field ++ code_text field (slice_index words 0)) field words
+code_spelled : (field : Field) (words : List ℕ) → IsCodeLine field words → IsTextOfCode (field_name field ++ code_text field (slice_index words 0)) field words
 code_spelled field words is = record {
   code = is.0;
   one = is.1;
@@ -269,7 +269,7 @@ code_spelled field words is = record {
   parts = ap (λ (ws : List ℕ). field_name field ++ code_text field (slice_index ws 0)) is.1;
 }
 
-field_spelled : (field : Field) (words : List ℕ) → IsLine field words → SpellsField (field_text field words) field words
+field_spelled : (field : Field) (words : List ℕ) → IsLine field words → IsTextOfField (field_text field words) field words
 field_spelled A words is = words_spelled A words is
 field_spelled B words is = words_spelled B words is
 field_spelled P words is = words_spelled P words is
@@ -284,30 +284,30 @@ field_spelled (Return k) words is = words_spelled (Return k) words is
 field_spelled (Ram cell) words is = words_spelled (Ram cell) words is
 field_spelled (Rom cell) words is = words_spelled (Rom cell) words is
 
-form_printed : (form : Form) → IsPrintable form → SpellsIn Two (line_text form) form
+form_printed : (form : Form) → IsPrintable form → IsTextInFormat Two (line_text form) form
 form_printed (Node yxx) is = ((is, refl), tt)
 form_printed (Words field words) is = (field_spelled field words is, refl)
 form_printed End is = (refl, tt)
 
 -- the printed lines parse as the forms
-pub forms_printed : (forms : List Form) → AllByRecursion IsPrintable forms → Spell Two (map line_text forms) forms
+pub forms_printed : (forms : List Form) → AllByRecursion IsPrintable forms → AreLinesOfForms Two (map line_text forms) forms
 forms_printed [] each = tt
 forms_printed (form ∷ forms) each = (form_printed form each.0, forms_printed forms each.1)
 
 -- ---- line feeds
 
-abbrev pub HasNoFeed : List ℕ → Type 0
-HasNoFeed line = AllByRecursion (λ b. b ≢ 10) line
+abbrev pub HasNoLineFeed : List ℕ → Type 0
+HasNoLineFeed line = AllByRecursion (λ b. b ≢ 10) line
 
-no_feed_append : (xs ys : List ℕ) → HasNoFeed xs → HasNoFeed ys → HasNoFeed (xs ++ ys)
+no_feed_append : (xs ys : List ℕ) → HasNoLineFeed xs → HasNoLineFeed ys → HasNoLineFeed (xs ++ ys)
 no_feed_append [] ys first second = second
 no_feed_append (x ∷ xs) ys first second = (first.0, no_feed_append xs ys first.1 second)
 
 -- by a test
-no_feed_tested : (xs : List ℕ) → list_all (λ b. not (b == 10)) xs ≡ true → HasNoFeed xs
+no_feed_tested : (xs : List ℕ) → list_all (λ b. not (b == 10)) xs ≡ true → HasNoLineFeed xs
 no_feed_tested [] test = tt
 no_feed_tested (x ∷ xs) test = either (x == 10) refl test (no_feed_tested xs) where
-  either : (b : Bool) → (x == 10) ≡ b → (not b && list_all (λ c. not (c == 10)) xs) ≡ true → (list_all (λ c. not (c == 10)) xs ≡ true → HasNoFeed xs) → HasNoFeed (x ∷ xs)
+  either : (b : Bool) → (x == 10) ≡ b → (not b && list_all (λ c. not (c == 10)) xs) ≡ true → (list_all (λ c. not (c == 10)) xs ≡ true → HasNoLineFeed xs) → HasNoLineFeed (x ∷ xs)
   either true is rest more = cc
   either false is rest more = (eqb-false x 10 is, more rest)
 
@@ -317,34 +317,34 @@ no_feed_digit d small is = let never : None ≡ Some d = ap hex_digit_value (sym
 no_feed_place : (n place : ℕ) → hex_digit n place ≢ 10
 no_feed_place n place = no_feed_digit (n / 16 ^ place % 16) (mod-lt (n / 16 ^ place) (lit< tt))
 
-no_feed_words : (words : List ℕ) → HasNoFeed (words_text words)
+no_feed_words : (words : List ℕ) → HasNoLineFeed (words_text words)
 no_feed_words [] = tt
 no_feed_words (w ∷ words) =
     (omega arith, (no_feed_place w 5, (no_feed_place w 4, (no_feed_place w 3, (no_feed_place w 2, (no_feed_place w 1, (no_feed_place w 0, no_feed_words words)))))))
 
-no_feed_cell : (cell : ℕ) (words : List ℕ) → HasNoFeed (hex2_of cell ++ words_text words)
+no_feed_cell : (cell : ℕ) (words : List ℕ) → HasNoLineFeed (hex2_of cell ++ words_text words)
 no_feed_cell cell words = (no_feed_place cell 1, (no_feed_place cell 0, no_feed_words words))
 
-no_feed_letter : (name bit : ℕ) → name ≢ 10 → letter name bit ≢ 10
+no_feed_letter : (name bit : ℕ) → name ≢ 10 → side_letter_or_hyphen name bit ≢ 10
 no_feed_letter name bit other = either (bit == 1) where
   either : (b : Bool) → cond b name 45 ≢ 10
   either true = other
   either false = omega arith
 
-no_feed_set : (sides : ℕ) → HasNoFeed (set_text sides)
+no_feed_set : (sides : ℕ) → HasNoLineFeed (side_set_text sides)
 no_feed_set sides = (
   no_feed_letter 114 (sides / 8 % 2) (omega arith),
   (no_feed_letter 100 (sides / 4 % 2) (omega arith), (no_feed_letter 108 (sides / 2 % 2) (omega arith), (no_feed_letter 117 (sides % 2) (omega arith), tt))),
 )
 
-no_feed_wait : (code : ℕ) → HasNoFeed (wait_text code)
+no_feed_wait : (code : ℕ) → HasNoLineFeed (wait_text code)
 no_feed_wait code = either (nat_lt code 32) (nat_lt code 48) where
-  either : (b c : Bool) → HasNoFeed (cond b (codes "fetch " ++ set_text (code - 16)) (cond c (codes "read " ++ set_text (code - 32)) (codes "write " ++ set_text (code - 48))))
-  either true c = no_feed_append (codes "fetch ") (set_text (code - 16)) (no_feed_tested (codes "fetch ") refl) (no_feed_set (code - 16))
-  either false true = no_feed_append (codes "read ") (set_text (code - 32)) (no_feed_tested (codes "read ") refl) (no_feed_set (code - 32))
-  either false false = no_feed_append (codes "write ") (set_text (code - 48)) (no_feed_tested (codes "write ") refl) (no_feed_set (code - 48))
+  either : (b c : Bool) → HasNoLineFeed (cond b (codes "fetch " ++ side_set_text (code - 16)) (cond c (codes "read " ++ side_set_text (code - 32)) (codes "write " ++ side_set_text (code - 48))))
+  either true c = no_feed_append (codes "fetch ") (side_set_text (code - 16)) (no_feed_tested (codes "fetch ") refl) (no_feed_set (code - 16))
+  either false true = no_feed_append (codes "read ") (side_set_text (code - 32)) (no_feed_tested (codes "read ") refl) (no_feed_set (code - 32))
+  either false false = no_feed_append (codes "write ") (side_set_text (code - 48)) (no_feed_tested (codes "write ") refl) (no_feed_set (code - 48))
 
-no_feed_name : (field : Field) → HasNoFeed (field_name field)
+no_feed_name : (field : Field) → HasNoLineFeed (field_name field)
 no_feed_name A = no_feed_tested (codes "a") refl
 no_feed_name B = no_feed_tested (codes "b") refl
 no_feed_name P = no_feed_tested (codes "p") refl
@@ -359,7 +359,7 @@ no_feed_name (Return k) = no_feed_tested (codes "r") refl
 no_feed_name (Ram cell) = no_feed_tested (codes "ram ") refl
 no_feed_name (Rom cell) = no_feed_tested (codes "rom ") refl
 
-no_feed_field : (field : Field) (words : List ℕ) → HasNoFeed (field_text field words)
+no_feed_field : (field : Field) (words : List ℕ) → HasNoLineFeed (field_text field words)
 no_feed_field A words = no_feed_append (field_name A) (words_text words) (no_feed_name A) (no_feed_words words)
 no_feed_field B words = no_feed_append (field_name B) (words_text words) (no_feed_name B) (no_feed_words words)
 no_feed_field P words = no_feed_append (field_name P) (words_text words) (no_feed_name P) (no_feed_words words)
@@ -374,24 +374,24 @@ no_feed_field (Return k) words = no_feed_append (field_name (Return k)) (words_t
 no_feed_field (Ram cell) words = no_feed_append (field_name (Ram cell)) (hex2_of cell ++ words_text words) (no_feed_name (Ram cell)) (no_feed_cell cell words)
 no_feed_field (Rom cell) words = no_feed_append (field_name (Rom cell)) (hex2_of cell ++ words_text words) (no_feed_name (Rom cell)) (no_feed_cell cell words)
 
-no_feed_line : (form : Form) → HasNoFeed (line_text form)
+no_feed_line : (form : Form) → HasNoLineFeed (line_text form)
 no_feed_line (Node yxx) = no_feed_append (codes "node ") (decimal3_of yxx) (no_feed_tested (codes "node ") refl) (omega arith, (omega arith, (omega arith, tt)))
 no_feed_line (Words field words) = no_feed_field field words
 no_feed_line End = no_feed_tested (codes "end") refl
 
-pub no_feed_lines : (forms : List Form) → AllByRecursion HasNoFeed (map line_text forms)
+pub no_feed_lines : (forms : List Form) → AllByRecursion HasNoLineFeed (map line_text forms)
 no_feed_lines [] = tt
 no_feed_lines (form ∷ forms) = (no_feed_line form, no_feed_lines forms)
 
-pub no_feed_header : HasNoFeed (header Two)
+pub no_feed_header : HasNoLineFeed (header Two)
 no_feed_header = no_feed_tested (header Two) refl
 
-line_ends : (line text : List ℕ) → HasNoFeed line → lines_of (line ++ 10 ∷ text) ≡ line ∷ lines_of text
+line_ends : (line text : List ℕ) → HasNoLineFeed line → lines_of (line ++ 10 ∷ text) ≡ line ∷ lines_of text
 line_ends [] text none = refl
 line_ends (b ∷ line) text none = past_byte b (line ++ 10 ∷ text) none.0 ∙ ap (with_byte b) (line_ends line text none.1)
 
 -- lines that are each ended are the lines of their text
-pub lines_again : (lines : List (List ℕ)) → AllByRecursion HasNoFeed lines → lines_of (lines_text lines) ≡ lines
+pub lines_again : (lines : List (List ℕ)) → AllByRecursion HasNoLineFeed lines → lines_of (lines_text lines) ≡ lines
 lines_again [] each = refl
 lines_again (line ∷ lines) each =
     let more = lines_text lines in

@@ -15,9 +15,9 @@ use Rattle.ga_node.specs.State.{wait_code, IsWaitCode, wait_of}
 use Rattle.ga_node.specs.Record.{NodeRecord, fresh_record}
 use Rattle.ga_image.specs.declared.field.Field.{Field}
 use Rattle.ga_image.specs.declared.field.Field.TheVariants.{A, B, P, I, Io, Carry, Slot, Wait, Stop, Data, Return, Ram, Rom}
-use Rattle.ga_image.specs.Fields.{writes, number_of}
-use Rattle.ga_image.specs.Grammar.{all_writes, IsFieldLine}
-use Rattle.ga_image.specs.Printing.{AreWords, line_unless, row_of_words, memory_lines, register_lines, state_lines, lines_beside, IsSoundRecord, HasSides, HoldsWords}
+use Rattle.ga_image.specs.Fields.{field_writes, field_number}
+use Rattle.ga_image.specs.Grammar.{field_line_writes, IsFieldLine}
+use Rattle.ga_image.specs.Printing.{AreWords, line_unless_default, row_of_words, memory_lines, register_lines, state_lines, changed_lines, IsSoundRecord, HasWaitSides, AreBankWords}
 use Rattle.ga_image.proofs.Pieces.{IsLine}
 use Rattle.ga_image.proofs.Spelled.{AreSix}
 use Rattle.std.proofs.Math.Seq.{take-add}
@@ -25,7 +25,7 @@ use Rattle.std.proofs.Math.Seq.{take-add}
 -- ---- each line
 
 -- what holds of a line that isn't written for nothing holds of each
-unless_all : (Q : Field × List ℕ → Type 0) (at_load : ℕ) (field : Field) (words : List ℕ) → (list_all (λ word. word == at_load) words ≡ false → Q (field, words)) → AllByRecursion Q (line_unless at_load field words)
+unless_all : (Q : Field × List ℕ → Type 0) (at_load : ℕ) (field : Field) (words : List ℕ) → (list_all (λ word. word == at_load) words ≡ false → Q (field, words)) → AllByRecursion Q (line_unless_default at_load field words)
 unless_all Q at_load field words holds = either (list_all (λ word. word == at_load) words) refl where
   either : (b : Bool) → list_all (λ word. word == at_load) words ≡ b → AllByRecursion Q (cond b [] ((field, words) ∷ []))
   either true is = tt
@@ -39,7 +39,7 @@ all_append Q (x ∷ xs) ys first second = (first.0, all_append Q xs ys first.1 s
 record Each (Q : Field × List ℕ → Type 0) (lines : List (Field × List ℕ)) : Type 0 where
   all : AllByRecursion Q lines
 
-each_unless : (Q : Field × List ℕ → Type 0) (at_load : ℕ) (field : Field) (words : List ℕ) → (list_all (λ word. word == at_load) words ≡ false → Q (field, words)) → Each Q (line_unless at_load field words)
+each_unless : (Q : Field × List ℕ → Type 0) (at_load : ℕ) (field : Field) (words : List ℕ) → (list_all (λ word. word == at_load) words ≡ false → Q (field, words)) → Each Q (line_unless_default at_load field words)
 each_unless Q at_load field words holds = record { all = unless_all Q at_load field words holds }
 
 each_append : (Q : Field × List ℕ → Type 0) {xs ys : List (Field × List ℕ)} → Each Q xs → Each Q ys → Each Q (xs ++ ys)
@@ -74,7 +74,7 @@ small_drop zero words small = small
 small_drop (suc n) [] small = tt
 small_drop (suc n) (w ∷ words) small = small_drop n words small.1
 
-wait_fits : (wait : NodeWait) → HasSides wait → IsWaitCode (wait_code wait)
+wait_fits : (wait : NodeWait) → HasWaitSides wait → IsWaitCode (wait_code wait)
 wait_fits Nothing sides = inl refl
 wait_fits (Fetch s) sides = inr (inl (let h = sides.0 in omega arith, let h = sides.1 in omega arith))
 wait_fits (Read s) sides = inr (inr (inl (let h = sides.0 in omega arith, let h = sides.1 in omega arith)))
@@ -83,7 +83,7 @@ wait_fits (Write Down) sides = inr (inr (inr (inr (inr (inl refl)))))
 wait_fits (Write Left) sides = inr (inr (inr (inr (inl refl))))
 wait_fits (Write Up) sides = inr (inr (inr (inl refl)))
 
-wait_most : (wait : NodeWait) → HasSides wait → wait_code wait ≤ 56
+wait_most : (wait : NodeWait) → HasWaitSides wait → wait_code wait ≤ 56
 wait_most Nothing sides = omega arith
 wait_most (Fetch s) sides = let h = sides.1 in omega arith
 wait_most (Read s) sides = let h = sides.1 in omega arith
@@ -117,7 +117,7 @@ rom_good memory cell small size low =
 -- what holds of each row holds of each line of a memory
 rows_each : (Q : Field × List ℕ → Type 0) (field : ℕ → Field) (memory : List ℕ) → ((cell : ℕ) → cell ≤ 56 → Q (field cell, row_of_words memory cell)) → Each Q (memory_lines field memory)
 rows_each Q field memory holds =
-    let at : (cell : ℕ) → cell ≤ 56 → Each Q (line_unless 0 (field cell) (row_of_words memory cell)) = λ cell low. each_unless Q 0 (field cell) (row_of_words memory cell) (λ _. holds cell low) in
+    let at : (cell : ℕ) → cell ≤ 56 → Each Q (line_unless_default 0 (field cell) (row_of_words memory cell)) = λ cell low. each_unless Q 0 (field cell) (row_of_words memory cell) (λ _. holds cell low) in
     each_append Q (at 0 (omega arith))
     (each_append Q (at 8 (omega arith))
     (each_append Q (at 16 (omega arith))
@@ -145,7 +145,7 @@ state_good p node is =
     (each_unless IsGood 0 Stop (node.stop ∷ []) (λ some. let other = other_word 0 node.stop some in let h = is.state.stop in ((node.stop, refl, (omega arith, is.state.stop)), (tt, (is.state.stop, tt)))))))))
 
 -- each line of a node can be printed and read
-pub lines_good : (p : ℕ) (node : NodeRecord) → IsSoundRecord node → AllByRecursion IsGood (lines_beside (fresh_record p) node)
+pub lines_good : (p : ℕ) (node : NodeRecord) → IsSoundRecord node → AllByRecursion IsGood (changed_lines (fresh_record p) node)
 lines_good p node is =
     let good =
     each_append IsGood (registers_good (fresh_record p) node is)
@@ -183,10 +183,10 @@ climbs_apart low (n ∷ ns) high climbs = (above (rank n + 1) n ns high (omega a
 
 -- the numbers of the fields that lines give
 abbrev pub numbers_in : List (Field × List ℕ) → List ℕ
-numbers_in lines = map (λ w. number_of w.0) (all_writes lines)
+numbers_in lines = map (λ w. field_number w.0) (field_line_writes lines)
 
 numbers_append : (xs ys : List (Field × List ℕ)) → numbers_in (xs ++ ys) ≡ numbers_in xs ++ numbers_in ys
-numbers_append xs ys = ap (map (λ w. number_of w.0)) (flat_map-append (λ line. writes line.0 line.1) xs ys) ∙ map-append (λ w. number_of w.0) (all_writes xs) (all_writes ys)
+numbers_append xs ys = ap (map (λ w. field_number w.0)) (flat_map-append (λ line. field_writes line.0 line.1) xs ys) ∙ map-append (λ w. field_number w.0) (field_line_writes xs) (field_line_writes ys)
 
 -- lines whose numbers climb
 record DoClimb (low : ℕ) (lines : List (Field × List ℕ)) (high : ℕ) : Type 0 where
@@ -202,13 +202,13 @@ climbs_lower low lower (n ∷ ns) high less climbs = (let h = climbs.0 in omega 
 
 -- the numbers of one line
 abbrev numbers_from : Field → List ℕ → List ℕ
-numbers_from field words = map (λ w. number_of w.0) (writes field words)
+numbers_from field words = map (λ w. field_number w.0) (field_writes field words)
 
-unless_climbs : (low at_load : ℕ) (field : Field) (words : List ℕ) (high : ℕ) → low ≤ high → Climbs low (numbers_from field words) high → DoClimb low (line_unless at_load field words) high
+unless_climbs : (low at_load : ℕ) (field : Field) (words : List ℕ) (high : ℕ) → low ≤ high → Climbs low (numbers_from field words) high → DoClimb low (line_unless_default at_load field words) high
 unless_climbs low at_load field words high less climbs = record { climb = either (list_all (λ word. word == at_load) words) } where
   either : (b : Bool) → Climbs low (numbers_in (cond b [] ((field, words) ∷ []))) high
   either true = less
-  either false = subst (λ (ws : List (Field × ℕ)). Climbs low (map (λ w. number_of w.0) ws) high) (sym (append-nil (writes field words))) climbs
+  either false = subst (λ (ws : List (Field × ℕ)). Climbs low (map (λ w. field_number w.0) ws) high) (sym (append-nil (field_writes field words))) climbs
 
 rank_data : (k : ℕ) → k < 10 → rank (9 + k) ≡ 7 + k
 rank_data k small = grind (arith, nat_tests)
@@ -250,10 +250,10 @@ rom_climbs k (w ∷ words) last few =
 rows_climb : (base : ℕ) (field : ℕ → Field) (memory : List ℕ) → ((cell : ℕ) → cell ≤ 56 → Climbs (base + cell) (numbers_from (field cell) (row_of_words memory cell)) (base + (cell + 8)))
     → DoClimb base (memory_lines field memory) (base + 64)
 rows_climb base field memory climbs =
-    let at : (cell : ℕ) → cell ≤ 56 → DoClimb (base + cell) (line_unless 0 (field cell) (row_of_words memory cell)) (base + (cell + 8)) =
+    let at : (cell : ℕ) → cell ≤ 56 → DoClimb (base + cell) (line_unless_default 0 (field cell) (row_of_words memory cell)) (base + (cell + 8)) =
     λ cell low. unless_climbs (base + cell) 0 (field cell) (row_of_words memory cell) (base + (cell + 8)) (omega arith) (climbs cell low) in
-    let row : (cell : ℕ) → cell ≤ 56 → DoClimb (base + cell) (line_unless 0 (field cell) (row_of_words memory cell)) (base + (cell + 8)) = at in
-    let first : DoClimb base (line_unless 0 (field 0) (row_of_words memory 0)) (base + 8) = unless_climbs base 0 (field 0) (row_of_words memory 0) (base + 8) (omega arith) (climbs_lower (base + 0) base (numbers_from (field 0) (row_of_words memory 0)) (base + 8) (omega arith) (climbs 0 (omega arith))) in
+    let row : (cell : ℕ) → cell ≤ 56 → DoClimb (base + cell) (line_unless_default 0 (field cell) (row_of_words memory cell)) (base + (cell + 8)) = at in
+    let first : DoClimb base (line_unless_default 0 (field 0) (row_of_words memory 0)) (base + 8) = unless_climbs base 0 (field 0) (row_of_words memory 0) (base + 8) (omega arith) (climbs_lower (base + 0) base (numbers_from (field 0) (row_of_words memory 0)) (base + 8) (omega arith) (climbs 0 (omega arith))) in
     let none : DoClimb (base + 64) [] (base + 64) = record { climb = omega arith } in
     lines_climb first
     (lines_climb (row 8 (omega arith))
@@ -282,19 +282,19 @@ state_climbs p node is =
     (unless_climbs 27 0 Stop (node.stop ∷ []) 28 (omega arith) (omega arith, omega arith))))))
 
 -- no field of a node is given twice
-pub lines_apart : (p : ℕ) (node : NodeRecord) → IsSoundRecord node → IsDistinct nat_eq (numbers_in (lines_beside (fresh_record p) node))
+pub lines_apart : (p : ℕ) (node : NodeRecord) → IsSoundRecord node → IsDistinct nat_eq (numbers_in (changed_lines (fresh_record p) node))
 lines_apart p node is =
-    let climbing : DoClimb 0 (lines_beside (fresh_record p) node) 156 =
+    let climbing : DoClimb 0 (changed_lines (fresh_record p) node) 156 =
     lines_climb (registers_climb (fresh_record p) node)
     (lines_climb (state_climbs p node is)
     (lines_climb (rows_climb 28 Ram node.ram (λ cell low. ram_climbs cell (row_of_words node.ram cell) (cell + 8) (let size = row_size node.ram cell is.ram.1 low in omega arith)))
     (rows_climb 92 Rom node.rom (λ cell low. rom_climbs cell (row_of_words node.rom cell) (cell + 8) (let size = row_size node.rom cell is.rom.1 low in omega arith))))) in
-    climbs_apart 0 (numbers_in (lines_beside (fresh_record p) node)) 156 climbing.climb
+    climbs_apart 0 (numbers_in (changed_lines (fresh_record p) node)) 156 climbing.climb
 
 -- ---- whatever is printed is sound
 
 -- the wait of a number names a side at least, where it is for one of a set
-pub sides_of : (code : ℕ) → IsWaitCode code → HasSides (wait_of code)
+pub sides_of : (code : ℕ) → IsWaitCode code → HasWaitSides (wait_of code)
 sides_of code (inl is) = rw is tt
 sides_of code (inr (inl low)) =
     let more = low.0 in
@@ -319,7 +319,7 @@ pub whole_row : (words : List ℕ) (size : ℕ) → length words ≡ size → ta
 whole_row words size count = take_all size words (omega arith)
 
 -- and its words are known
-pub holds_row : (size : ℕ) (found words : List ℕ) → found ≡ take size (drop 0 words) → AreWords found → length words ≡ size → HoldsWords size words
+pub holds_row : (size : ℕ) (found words : List ℕ) → found ≡ take size (drop 0 words) → AreWords found → length words ≡ size → AreBankWords size words
 holds_row size found words row each count = (subst AreWords (row ∙ whole_row words size count) each, count)
 
 -- one row more
@@ -330,7 +330,7 @@ rows_words memory number before row =
     subst AreWords (sym longer) (all_append (λ word. word < 2 ^ 18) (take (8 * number) memory) (row_of_words memory (8 * number)) before row)
 
 -- all rows
-pub memory_words : (memory : List ℕ) (number : ℕ) → 8 ≤ number → length memory ≡ 64 → AreWords (take (8 * number) memory) → HoldsWords 64 memory
+pub memory_words : (memory : List ℕ) (number : ℕ) → 8 ≤ number → length memory ≡ 64 → AreWords (take (8 * number) memory) → AreBankWords 64 memory
 memory_words memory number past size words = (subst AreWords (take_all (8 * number) memory (omega arith)) words, size)
 
 -- one more of a list

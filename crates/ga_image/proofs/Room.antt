@@ -3,10 +3,10 @@
 -- Steps of reading an image.
 use Rattle.std.proofs.Common.{◌≡◌, ◌≢◌, ℕ, zero, suc, ◌+◌, ◌*◌, ◌<◌, ◌≤◌, ◌⊎◌, inl, inr, Bool, true, false, List, [], ◌∷◌, length, get_or, set, Some, None, refl, sym, ◌∙◌, ap, subst, arith, length-set, lit≤, cond, Ok, Err}
 use Rattle.ga_image.specs.declared.field.Field.{Field}
-use Rattle.ga_image.specs.Reading.{Progress, Stage, form_in, fault_of, after_line, after_form, later_fault, with_block, start, nothing_given, is_misplaced, reading, line_fault, Header, Open, Block, Ended, at_end}
+use Rattle.ga_image.specs.Reading.{Progress, Stage, form_in_format, fault_of, after_line, progress_after_form, later_fault, with_block, start, no_fields_given, is_misplaced, reading, line_fault, Header, Open, Block, Ended, result_at_end}
 use Rattle.ga_image.specs.Reading as stage
 use Rattle.ga_image.specs.Spelling.{Form, Node, Words, End}
-use Rattle.ga_image.specs.Fields.{held_at_load, writes, next_field, number_of}
+use Rattle.ga_image.specs.Fields.{load_run_state, field_writes, next_field, field_number}
 use Rattle.ga_image.specs.Grammar.{format_of, IsImage}
 use Rattle.ga_image.proofs.Meanings.{or_false, seen_twice, AreBelow, marked, line_later, past_later, short_past, numbers, repeats_numbers, field_below, all_written, image_read}
 use Rattle.ga_image.proofs.Short.{some_spelled}
@@ -16,7 +16,7 @@ use Rattle.std.specs.Prelude.{nat_lt, ◌==◌}
 use Rattle.std.proofs.lemmas.Bool.Decides.{nat_tests}
 use Rattle.ga_node.specs.Record.{NodeState}
 use Rattle.ga_image.specs.declared.fault.ImageCause.TheVariants.{Long, Truncated}
-use Rattle.ga_text.specs.Lines.{longest, lines_of, with_byte}
+use Rattle.ga_text.specs.Lines.{max_input_line, lines_of, with_byte}
 use Rattle.ga_image.specs.declared.parser.Stage.{Stage as Expects}
 use Rattle.ga_image.specs.declared.parser.Stage.TheVariants as expects
 use Rattle.ga_image.specs.declared.fault.ImageCause.{ImageCause}
@@ -44,18 +44,18 @@ one_less (false ∷ flags) (suc n) below is = omega (arith, one_less flags n (om
 
 free-marked : (flags : List Bool) (ws : List (Field × ℕ)) → free (marked flags ws) ≤ free flags
 free-marked flags [] = omega arith
-free-marked flags (w ∷ ws) = omega (arith, free-marked (set flags (number_of w.0) true) ws, free-set flags (number_of w.0))
+free-marked flags (w ∷ ws) = omega (arith, free-marked (set flags (field_number w.0) true) ws, free-set flags (field_number w.0))
 
 -- marking keeps the number of flags
 pub length-marked : (flags : List Bool) (ws : List (Field × ℕ)) → length (marked flags ws) ≡ length flags
 length-marked flags [] = refl
-length-marked flags (w ∷ ws) = length-marked (set flags (number_of w.0) true) ws ∙ length-set flags (number_of w.0) true
+length-marked flags (w ∷ ws) = length-marked (set flags (field_number w.0) true) ws ∙ length-set flags (field_number w.0) true
 
-field_less : (flags : List Bool) (field : Field) (words : List ℕ) → length flags ≡ 156 → 0 < length words → AreBelow 156 (numbers (writes field words)) → seen_twice flags (numbers (writes field words)) ≡ false → free (marked flags (writes field words)) < free flags
+field_less : (flags : List Bool) (field : Field) (words : List ℕ) → length flags ≡ 156 → 0 < length words → AreBelow 156 (numbers (field_writes field words)) → seen_twice flags (numbers (field_writes field words)) ≡ false → free (marked flags (field_writes field words)) < free flags
 field_less flags field [] size some below once = absurd (omega arith)
 field_less flags field (word ∷ words) size some below once =
-    let parts = or_false (get_or flags (number_of field) false) _ once in
-    omega (arith, one_less flags (number_of field) (omega (arith, below.0)) parts.0, free-marked (set flags (number_of field) true) (writes (next_field field) words))
+    let parts = or_false (get_or flags (field_number field) false) _ once in
+    omega (arith, one_less flags (field_number field) (omega (arith, below.0)) parts.0, free-marked (set flags (field_number field) true) (field_writes (next_field field) words))
 
 -- the lines that a stage leaves room for, besides blocks and fields
 abbrev pub stage_room : Stage → ℕ
@@ -83,7 +83,7 @@ unended stage.Open f later e = refl
 unended (stage.Block node) f later e = refl
 unended stage.Ended f later e = cc
 
-form_less : (progress : Progress) (f : Form) → IsSized progress → progress.stage ≢ stage.Header → ((at : Field) (ws : List ℕ) → f ≡ Words at ws → 0 < length ws) → later_fault progress (Some f) ≡ None → IsLess progress (after_form progress (Some f))
+form_less : (progress : Progress) (f : Form) → IsSized progress → progress.stage ≢ stage.Header → ((at : Field) (ws : List ℕ) → f ≡ Words at ws → 0 < length ws) → later_fault progress (Some f) ≡ None → IsLess progress (progress_after_form progress (Some f))
 form_less progress End sized later some none =
     let one = unended progress.stage End later (neither (is_misplaced progress.stage (Some End)) _ _ none).0 in
     (omega arith, record { blocks = sized.blocks; given = sized.given })
@@ -91,16 +91,16 @@ form_less progress (Node y) sized later some none =
     let one = unended progress.stage (Node y) later (neither (is_misplaced progress.stage (Some (Node y))) _ _ none).0 in
     let ok = node_ok progress y none in
     let at = yxx_of_node y ok.0 ok.1 in
-    let begun : Progress = record progress { stage = stage.Block ok.0; blocks = set progress.blocks ok.0 true; given = nothing_given; held = held_at_load } in
+    let begun : Progress = record progress { stage = stage.Block ok.0; blocks = set progress.blocks ok.0 true; given = no_fields_given; held = load_run_state } in
     let less : free (set progress.blocks ok.0 true) < free progress.blocks = one_less progress.blocks ok.0 (omega (arith, at.1, sized.blocks)) ok.2 in
     let P : Progress → Type 0 = IsLess progress in
     subst P (ap (with_block progress) (sym ok.1)) (omega arith, record { blocks = length-set progress.blocks ok.0 true ∙ sized.blocks; given = refl })
 form_less progress (Words field words) sized later some none =
     let one = unended progress.stage (Words field words) later (neither (is_misplaced progress.stage (Some (Words field words))) _ _ none).0 in
     let ok = field_ok progress field words none in
-    let less = field_less progress.given field words sized.given (some field words refl) (field_below field words ok.0.0) (sym (repeats_numbers progress.given (writes field words)) ∙ ok.1) in
+    let less = field_less progress.given field words sized.given (some field words refl) (field_below field words ok.0.0) (sym (repeats_numbers progress.given (field_writes field words)) ∙ ok.1) in
     let P : Progress → Type 0 = IsLess progress in
-    subst P (sym (all_written progress (writes field words))) (omega arith, record { blocks = sized.blocks; given = length-marked progress.given (writes field words) ∙ sized.given })
+    subst P (sym (all_written progress (field_writes field words))) (omega arith, record { blocks = sized.blocks; given = length-marked progress.given (field_writes field words) ∙ sized.given })
 
 pub known : (s : Stage) → (s ≡ stage.Header) ⊎ (s ≢ stage.Header)
 known stage.Header = inl refl
@@ -120,11 +120,11 @@ line_less progress text sized none =
           let two : stage_room progress.stage ≡ 2 = ap stage_room is in
           subst P (sym (past_start progress text is)) (omega arith, record { blocks = sized.blocks; given = sized.given })
       | inr later ↦
-          let none_later : later_fault progress (form_in progress.format text) ≡ None = sym (line_later progress.stage progress text later) ∙ not_short progress text none in
-          let placed = neither (is_misplaced progress.stage (form_in progress.format text)) _ _ none_later in
-          let meaning = some_form progress.stage (form_in progress.format text) later placed.0 in
+          let none_later : later_fault progress (form_in_format progress.format text) ≡ None = sym (line_later progress.stage progress text later) ∙ not_short progress text none in
+          let placed = neither (is_misplaced progress.stage (form_in_format progress.format text)) _ _ none_later in
+          let meaning = some_form progress.stage (form_in_format progress.format text) later placed.0 in
           let fault : later_fault progress (Some meaning.0) ≡ None = ap (later_fault progress) (sym meaning.1) ∙ none_later in
-          let past : after_line progress text ≡ after_form progress (Some meaning.0) = short_past progress text ∙ past_later progress.stage progress text later ∙ ap (after_form progress) meaning.1 in
+          let past : after_line progress text ≡ progress_after_form progress (Some meaning.0) = short_past progress text ∙ past_later progress.stage progress text later ∙ ap (progress_after_form progress) meaning.1 in
           subst P (sym past) (form_less progress meaning.0 sized later (λ at ws is. some_spelled text at ws (kept_spelled progress.format text (Words at ws) (meaning.1 ∙ ap (λ f. Some f) is)).0) fault)
     ]
 
@@ -144,7 +144,7 @@ with_byte_size : (byte : ℕ) (lines : List (List ℕ)) → size lines + 1 ≤ s
 with_byte_size byte [] = omega arith
 with_byte_size byte (line ∷ lines) = omega arith
 
-byte_size : (is_feed : Bool) (byte : ℕ) (lines : List (List ℕ)) → size lines + 1 ≤ size (cond is_feed ([] ∷ lines) (with_byte byte lines))
+byte_size : (is_line_feed : Bool) (byte : ℕ) (lines : List (List ℕ)) → size lines + 1 ≤ size (cond is_line_feed ([] ∷ lines) (with_byte byte lines))
 byte_size true byte lines = omega arith
 byte_size false byte lines = with_byte_size byte lines
 
@@ -157,7 +157,7 @@ text_size (byte ∷ text) = let more = byte_size (byte == 10) byte (lines_of tex
 pub short_line : (progress : Progress) (text : List ℕ) → fault_of progress text ≡ None → length text ≤ 200
 unfolding fault_of
 short_line progress text none =
-    let short = (neither (nat_lt longest (length text)) Long (line_fault progress.stage progress text) none).0 in
+    let short = (neither (nat_lt max_input_line (length text)) Long (line_fault progress.stage progress text) none).0 in
     grind (arith, nat_tests)
 
 -- lines that are read take up room, 201 bytes at most each
@@ -195,16 +195,16 @@ pub reads_end : (progress : Progress) (line : ℕ) → progress.stage ≡ Ended 
 unfolding reading
 reads_end progress line ended = rw ended refl
 
-truncated : (stage : Stage) (chip : List NodeState) (line : ℕ) → stage ≢ Ended → at_end stage chip line ≡ Err (record { line = line; cause = Truncated })
-truncated Header chip line other = refl
-truncated Open chip line other = refl
-truncated (Block node) chip line other = refl
-truncated Ended chip line other = absurd (other refl)
+from_low_bits : (stage : Stage) (chip : List NodeState) (line : ℕ) → stage ≢ Ended → result_at_end stage chip line ≡ Err (record { line = line; cause = Truncated })
+from_low_bits Header chip line other = refl
+from_low_bits Open chip line other = refl
+from_low_bits (Block node) chip line other = refl
+from_low_bits Ended chip line other = absurd (other refl)
 
 -- at the end of a text that was cut off
 pub reads_cut : (progress : Progress) (line : ℕ) → progress.stage ≢ Ended → reading progress line [] ≡ Err (record { line = line; cause = Truncated })
 unfolding reading
-reads_cut progress line other = truncated progress.stage progress.chip line other
+reads_cut progress line other = from_low_bits progress.stage progress.chip line other
 
 -- the line `end` was not read
 pub still_open : (stage : Expects) → stage ≢ expects.Ended → stage_of stage ≢ Ended

@@ -5,11 +5,11 @@ use Rattle.std.specs.Str.{str_to_ascii_lowercase}
 use Rattle.std.proofs.Common.{◌≡◌, ℕ, ◌+◌, ◌*◌, ◌<◌, ◌≤◌, Bool, true, false, cond, List, [], ◌∷◌, length, refl, sym, ◌∙◌, ap, arith, length-append, take, drop, Option, Some, None, append_assoc}
 use Rattle.ga_image.specs.declared.field.Field.{Field}
 use Rattle.ga_image.specs.declared.field.Field.TheVariants.{A, B, P, I, Io, Carry, Slot, Wait, Stop, Data, Return, Ram, Rom}
-use Rattle.ga_image.specs.Spelling.{Form, Node, Words, End, Spells, SpellsField, SpellsWords, SpellsCode, HasCount, set_text, wait_text, code_text, field_name, numbers_of, spaced_words, words_in_row, few}
+use Rattle.ga_image.specs.Spelling.{Form, Node, Words, End, IsTextOfForm, IsTextOfField, IsTextOfWords, IsTextOfCode, HasWordCount, side_set_text, wait_text, code_text, field_name, field_numbers_text, spaced_words, words_in_row, few}
 use Rattle.ga_text.specs.Digits.{words_text}
 use Rattle.std.specs.Cmp.Lexicographic.{pointwise}
 use Rattle.std.proofs.lemmas.Bool.Decides.{nat_tests}
-use Rattle.ga_word.specs.Word.{read6_of}
+use Rattle.ga_word.specs.Word.{hex6_value}
 use Rattle.ga_ports.specs.Steps.{◌>>=◌}
 
 lower_length : (xs : List ℕ) → length (str_to_ascii_lowercase xs) ≡ length xs
@@ -21,7 +21,7 @@ words_length [] = refl
 words_length (w ∷ ws) = omega (arith, words_length ws)
 
 -- a field line has from 1 to 16 words
-counted : (field : Field) (count : ℕ) → HasCount field count → (0 < count) × (count ≤ 16)
+counted : (field : Field) (count : ℕ) → HasWordCount field count → (0 < count) × (count ≤ 16)
 counted A count has = (omega arith, omega arith)
 counted B count has = (omega arith, omega arith)
 counted P count has = (omega arith, omega arith)
@@ -36,7 +36,7 @@ counted (Return k) count has = (omega (arith, has.1), omega (arith, has.1))
 counted (Ram cell) count has = (omega (arith, has.1), omega (arith, has.2))
 counted (Rom cell) count has = (omega (arith, has.1), omega (arith, has.2))
 
-numbers_length : (field : Field) (ws : List ℕ) → length (field_name field) + length (numbers_of field ws) ≤ 6 + 7 * length ws
+numbers_length : (field : Field) (ws : List ℕ) → length (field_name field) + length (field_numbers_text field ws) ≤ 6 + 7 * length ws
 numbers_length A ws = omega (arith, words_length ws)
 numbers_length B ws = omega (arith, words_length ws)
 numbers_length P ws = omega (arith, words_length ws)
@@ -51,17 +51,17 @@ numbers_length (Return k) ws = omega (arith, words_length ws)
 numbers_length (Ram cell) ws = omega (arith, words_length ws)
 numbers_length (Rom cell) ws = omega (arith, words_length ws)
 
-short_words : (text : List ℕ) (field : Field) (ws : List ℕ) → SpellsWords text field ws → length text ≤ 200
+short_words : (text : List ℕ) (field : Field) (ws : List ℕ) → IsTextOfWords text field ws → length text ≤ 200
 short_words text field ws is =
     let most = (counted field (length ws) is.count).1 in
     let whole : length text ≡ length (field_name field) + length is.numbers = ap length is.parts ∙ length-append (field_name field) is.numbers in
-    let same : length is.numbers ≡ length (numbers_of field ws) = sym (lower_length is.numbers) ∙ ap length is.digits in
+    let same : length is.numbers ≡ length (field_numbers_text field ws) = sym (lower_length is.numbers) ∙ ap length is.digits in
     omega (arith, numbers_length field ws)
 
 -- the longest is a wait to write
 wait_length : (code : ℕ) → length (wait_text code) ≤ 10
 wait_length code = either (nat_lt code 32) (nat_lt code 48) where
-  either : (b c : Bool) → length (cond b (codes "fetch " ++ set_text (code - 16)) (cond c (codes "read " ++ set_text (code - 32)) (codes "write " ++ set_text (code - 48)))) ≤ 10
+  either : (b c : Bool) → length (cond b (codes "fetch " ++ side_set_text (code - 16)) (cond c (codes "read " ++ side_set_text (code - 32)) (codes "write " ++ side_set_text (code - 48)))) ≤ 10
   either true c = omega arith
   either false true = omega arith
   either false false = omega arith
@@ -81,10 +81,10 @@ code_length (Return k) code = omega arith
 code_length (Ram k) code = omega arith
 code_length (Rom k) code = omega arith
 
-short_code : (text : List ℕ) (field : Field) (ws : List ℕ) → SpellsCode text field ws → length text ≤ 200
+short_code : (text : List ℕ) (field : Field) (ws : List ℕ) → IsTextOfCode text field ws → length text ≤ 200
 short_code text field ws is = let same = ap length is.parts in omega (arith, code_length field is.code)
 
-short_field : (text : List ℕ) (field : Field) (ws : List ℕ) → SpellsField text field ws → length text ≤ 200
+short_field : (text : List ℕ) (field : Field) (ws : List ℕ) → IsTextOfField text field ws → length text ≤ 200
 short_field text A ws is = short_words text A ws is
 short_field text B ws is = short_words text B ws is
 short_field text P ws is = short_words text P ws is
@@ -100,13 +100,13 @@ short_field text (Ram cell) ws is = short_words text (Ram cell) ws is
 short_field text (Rom cell) ws is = short_words text (Rom cell) ws is
 
 -- a line with a form has at most 200 bytes
-pub short_spelled : (text : List ℕ) (f : Form) → Spells text f → length text ≤ 200
+pub short_spelled : (text : List ℕ) (f : Form) → IsTextOfForm text f → length text ≤ 200
 short_spelled text (Node yxx) is = let same = ap length is.1 in omega arith
 short_spelled text (Words field ws) is = short_field text field ws is
 short_spelled text End is = let same = ap length is in omega arith
 
 -- a field line has the number of words of its field
-pub count_spelled : (text : List ℕ) (field : Field) (ws : List ℕ) → SpellsField text field ws → HasCount field (length ws)
+pub count_spelled : (text : List ℕ) (field : Field) (ws : List ℕ) → IsTextOfField text field ws → HasWordCount field (length ws)
 count_spelled text A ws is = is.count
 count_spelled text B ws is = is.count
 count_spelled text P ws is = is.count
@@ -122,7 +122,7 @@ count_spelled text (Ram cell) ws is = is.count
 count_spelled text (Rom cell) ws is = is.count
 
 -- and has one
-pub some_spelled : (text : List ℕ) (field : Field) (ws : List ℕ) → SpellsField text field ws → 0 < length ws
+pub some_spelled : (text : List ℕ) (field : Field) (ws : List ℕ) → IsTextOfField text field ws → 0 < length ws
 some_spelled text field ws is = (counted field (length ws) (count_spelled text field ws is)).0
 
 -- ---- steps of the reading of words
@@ -133,7 +133,7 @@ words_after seen text = spaced_words text >>= λ found. few (seen ++ found)
 
 -- one word, then the others
 pub one_word : List ℕ → List ℕ → Option (List ℕ)
-one_word digits text = read6_of digits >>= λ word. spaced_words text >>= λ found. Some (word ∷ found)
+one_word digits text = hex6_value digits >>= λ word. spaced_words text >>= λ found. Some (word ∷ found)
 
 short : (text : List ℕ) → 0 < length text → length text < 7 → spaced_words text ≡ None
 unfolding spaced_words
@@ -176,7 +176,7 @@ unfolding words_after
 no_space seen text many other = rw (long text many, other) refl
 
 -- nor where six digits don't follow
-pub no_digits : (seen text : List ℕ) → 7 ≤ length text → has_space text ≡ true → read6_of (drop 1 (take 7 text)) ≡ None → words_after seen text ≡ None
+pub no_digits : (seen text : List ℕ) → 7 ≤ length text → has_space text ≡ true → hex6_value (drop 1 (take 7 text)) ≡ None → words_after seen text ≡ None
 unfolding words_after one_word
 no_digits seen text many space none = rw (long text many, space, none) refl
 
@@ -185,7 +185,7 @@ regroup seen word None = refl
 regroup seen word (Some ws) = rw (append_assoc seen (word ∷ []) ws) refl
 
 -- one word more
-pub next_word : (seen text : List ℕ) (word : ℕ) → 7 ≤ length text → has_space text ≡ true → read6_of (drop 1 (take 7 text)) ≡ Some word → words_after (seen ++ word ∷ []) (drop 7 text) ≡ words_after seen text
+pub next_word : (seen text : List ℕ) (word : ℕ) → 7 ≤ length text → has_space text ≡ true → hex6_value (drop 1 (take 7 text)) ≡ Some word → words_after (seen ++ word ∷ []) (drop 7 text) ≡ words_after seen text
 unfolding words_after one_word
 next_word seen text word many space is = rw (long text many, space, is) (regroup seen word (spaced_words (drop 7 text)))
 

@@ -2,9 +2,9 @@
 use Rattle.std.specs.Prelude.{◌==◌, nat_eq, nat_le, nat_lt, codes, ◌-◌}
 use Rattle.std.proofs.lemmas.Bool.{eqb-true}
 use Rattle.std.proofs.Common.{◌≡◌, ℕ, zero, suc, ◌+◌, ◌*◌, ◌/◌, ◌%◌, ◌<◌, ◌≤◌, inl, inr, true, false, List, [], ◌∷◌, Option, Some, None, refl, ◌∙◌, ap, arith, ◌^◌, Bool, cond, ◌&&◌, ◌++◌, length, take, drop, sym, subst, append_assoc}
-use Rattle.ga_ports.specs.Address.{side_value, set_number, is_single}
+use Rattle.ga_ports.specs.Address.{side_value, parse_side_set, is_single_side}
 use Rattle.ga_ports.specs.Steps.{◌>>=◌}
-use Rattle.ga_image.specs.Spelling.{letter, set_text, Form, Node, Words, End, wait_text, field_name, numbers_of, code_text, HasCount, SpellsWords, IsCode, SpellsCode, SpellsField, Spells, form, spaced_words, few, words_in_row, word_form, cells_form, stack_form, digit_form, set_form, side_form, wait_form, node_form, wide_form, state_form, begins}
+use Rattle.ga_image.specs.Spelling.{side_letter_or_hyphen, side_set_text, Form, Node, Words, End, wait_text, field_name, field_numbers_text, code_text, HasWordCount, IsTextOfWords, IsFieldCode, IsTextOfCode, IsTextOfField, IsTextOfForm, form, spaced_words, few, words_in_row, word_form, cells_form, stack_form, digit_form, set_form, side_form, wait_form, node_form, wide_form, state_form, begins_with_text}
 use Rattle.ga_text.proofs.Numbers.{chosen, word_spelled, word_read, cell_spelled, node_spelled, between}
 use Rattle.std.specs.List.{AllByRecursion}
 use Rattle.std.specs.Char.{to_ascii_lowercase}
@@ -13,15 +13,15 @@ use Rattle.std.specs.Cmp.Lexicographic.{pointwise}
 use Rattle.std.proofs.lemmas.Bool.Decides.{nat_tests}
 use Rattle.std.proofs.lemmas.List.{take-append-drop}
 use Rattle.std.proofs.lemmas.Slice.Eq.{bytes_eq-Decides}
-use Rattle.ga_word.specs.Word.{hex6_of, read6_of}
+use Rattle.ga_word.specs.Word.{hex6_of, hex6_value}
 use Rattle.ga_image.specs.declared.field.Field.{Field}
 use Rattle.ga_image.specs.declared.field.Field.TheVariants.{A, B, P, I, Io, Carry, Slot, Wait, Stop, Data, Return, Ram, Rom}
 use Rattle.ga_node.specs.State.{IsWaitCode}
-use Rattle.ga_grid.specs.Grid.{node_number}
-use Rattle.ga_text.specs.Digits.{byte_in, hex2_of, words_text}
+use Rattle.ga_grid.specs.Grid.{parse_node_name}
+use Rattle.ga_text.specs.Digits.{hex_byte_value, hex2_of, words_text}
 
 -- a side that is read is in the set, or isn't
-side_spelled : (name value c v : ℕ) → side_value name value c ≡ Some v → (bit : ℕ) × (bit ≤ 1) × (v ≡ value * bit) × (c ≡ letter name bit)
+side_spelled : (name value c v : ℕ) → side_value name value c ≡ Some v → (bit : ℕ) × (bit ≤ 1) × (v ≡ value * bit) × (c ≡ side_letter_or_hyphen name bit)
 side_spelled name value c v e =
     elim (chosen (c == name) value v _ e) [
       | inl named ↦ let is : c ≡ name = eqb-true c name named.0 in let same = named.1 in (1, omega arith, omega arith, is)
@@ -31,22 +31,22 @@ side_spelled name value c v e =
       ]
     ]
 
-right_read : (bit : ℕ) → bit ≤ 1 → side_value 114 8 (letter 114 bit) ≡ Some (8 * bit)
+right_read : (bit : ℕ) → bit ≤ 1 → side_value 114 8 (side_letter_or_hyphen 114 bit) ≡ Some (8 * bit)
 right_read zero small = refl
 right_read (suc zero) small = refl
 right_read (suc (suc bit)) small = absurd (omega arith)
 
-down_read : (bit : ℕ) → bit ≤ 1 → side_value 100 4 (letter 100 bit) ≡ Some (4 * bit)
+down_read : (bit : ℕ) → bit ≤ 1 → side_value 100 4 (side_letter_or_hyphen 100 bit) ≡ Some (4 * bit)
 down_read zero small = refl
 down_read (suc zero) small = refl
 down_read (suc (suc bit)) small = absurd (omega arith)
 
-left_read : (bit : ℕ) → bit ≤ 1 → side_value 108 2 (letter 108 bit) ≡ Some (2 * bit)
+left_read : (bit : ℕ) → bit ≤ 1 → side_value 108 2 (side_letter_or_hyphen 108 bit) ≡ Some (2 * bit)
 left_read zero small = refl
 left_read (suc zero) small = refl
 left_read (suc (suc bit)) small = absurd (omega arith)
 
-up_read : (bit : ℕ) → bit ≤ 1 → side_value 117 1 (letter 117 bit) ≡ Some (1 * bit)
+up_read : (bit : ℕ) → bit ≤ 1 → side_value 117 1 (side_letter_or_hyphen 117 bit) ≡ Some (1 * bit)
 up_read zero small = refl
 up_read (suc zero) small = refl
 up_read (suc (suc bit)) small = absurd (omega arith)
@@ -63,8 +63,8 @@ four_equal : (a b c d w x y z : ℕ) → a ≡ w → b ≡ x → c ≡ y → d �
 four_equal a b c d w x y z p q r s = cc
 
 -- four letters that give a set are that set's
-pub set_spelled : (text : List ℕ) (n : ℕ) → set_number text ≡ Some n → (n < 16) × (text ≡ set_text n)
-unfolding set_number
+pub set_spelled : (text : List ℕ) (n : ℕ) → parse_side_set text ≡ Some n → (n < 16) × (text ≡ side_set_text n)
+unfolding parse_side_set
 set_spelled [] n is = cc
 set_spelled (x ∷ []) n is = cc
 set_spelled (x ∷ y ∷ []) n is = cc
@@ -79,12 +79,12 @@ set_spelled (x ∷ y ∷ z ∷ w ∷ []) n is =
     let second : t ≡ n / 4 % 2 = omega arith in
     let third : l ≡ n / 2 % 2 = omega arith in
     let fourth : u ≡ n % 2 = omega arith in
-    (omega arith, four_equal _ _ _ _ _ _ _ _ (x_is ∙ ap (letter 114) first) (y_is ∙ ap (letter 100) second) (z_is ∙ ap (letter 108) third) (w_is ∙ ap (letter 117) fourth))
+    (omega arith, four_equal _ _ _ _ _ _ _ _ (x_is ∙ ap (side_letter_or_hyphen 114) first) (y_is ∙ ap (side_letter_or_hyphen 100) second) (z_is ∙ ap (side_letter_or_hyphen 108) third) (w_is ∙ ap (side_letter_or_hyphen 117) fourth))
 set_spelled (x ∷ y ∷ z ∷ w ∷ v ∷ text) n is = cc
 
 -- the letters of a set give it back
-pub set_read : (n : ℕ) → n < 16 → set_number (set_text n) ≡ Some n
-unfolding set_number
+pub set_read : (n : ℕ) → n < 16 → parse_side_set (side_set_text n) ≡ Some n
+unfolding parse_side_set
 set_read n small =
     let whole : 8 * (n / 8 % 2) + 4 * (n / 4 % 2) + 2 * (n / 2 % 2) + 1 * (n % 2) ≡ n = omega arith in
     rw (right_read (n / 8 % 2) (omega arith), down_read (n / 4 % 2) (omega arith), left_read (n / 2 % 2) (omega arith), up_read (n % 2) (omega arith)) (ap (λ (k : ℕ). Some k) whole)
@@ -144,7 +144,7 @@ words_spelled (a ∷ b ∷ c ∷ d ∷ f ∷ []) ws e = cc
 words_spelled (a ∷ b ∷ c ∷ d ∷ f ∷ g ∷ []) ws e = cc
 words_spelled (a ∷ b ∷ c ∷ d ∷ f ∷ g ∷ h ∷ text) ws e =
     let space : a ≡ 32 = eqb-true a 32 (guard_true (a == 32) _ ws e) in
-    let (w, vs, word, rest, both) = through_word (a == 32) (read6_of (b ∷ c ∷ d ∷ f ∷ g ∷ h ∷ [])) (spaced_words text) ws e in
+    let (w, vs, word, rest, both) = through_word (a == 32) (hex6_value (b ∷ c ∷ d ∷ f ∷ g ∷ h ∷ [])) (spaced_words text) ws e in
     let (small, digits) = word_spelled b c d f g h w word in
     let (others, more) = words_spelled text vs rest in
     spelled_on a b c d f g h text w vs ws space both small digits others more
@@ -189,7 +189,7 @@ pub row_read : (text ws : List ℕ) → AreSix ws → str_to_ascii_lowercase tex
 unfolding words_in_row
 row_read text ws six digits some most = rw (words_read text ws six digits) (grind (arith, nat_tests))
 
-six_spelled : (text : List ℕ) (n : ℕ) → read6_of text ≡ Some n → (n < 2 ^ 24) × (str_to_ascii_lowercase text ≡ hex6_of n)
+six_spelled : (text : List ℕ) (n : ℕ) → hex6_value text ≡ Some n → (n < 2 ^ 24) × (str_to_ascii_lowercase text ≡ hex6_of n)
 six_spelled [] n e = cc
 six_spelled (a ∷ []) n e = cc
 six_spelled (a ∷ b ∷ []) n e = cc
@@ -199,7 +199,7 @@ six_spelled (a ∷ b ∷ c ∷ d ∷ f ∷ []) n e = cc
 six_spelled (a ∷ b ∷ c ∷ d ∷ f ∷ g ∷ []) n e = word_spelled a b c d f g n e
 six_spelled (a ∷ b ∷ c ∷ d ∷ f ∷ g ∷ h ∷ text) n e = absurd (let long = eqb-true (length (a ∷ b ∷ c ∷ d ∷ f ∷ g ∷ h ∷ text)) 6 (guard_true _ _ n e) in omega arith)
 
-begun : (text front : List ℕ) → begins text front ≡ true → text ≡ front ++ drop (length front) text
+begun : (text front : List ℕ) → begins_with_text text front ≡ true → text ≡ front ++ drop (length front) text
 begun text front e = sym (take-append-drop (length front) text) ∙ ap (λ xs. xs ++ drop (length front) text) ((bytes_eq-Decides (take (length front) text) front).0 e)
 
 -- one branch of a test or the other
@@ -208,14 +208,14 @@ branch true x y z p q e = p refl e
 branch false x y z p q e = q e
 
 -- a register's line
-register_spelled : (text : List ℕ) (field : Field) (f : Form) → ((words : List ℕ) → numbers_of field words ≡ words_text words) → ((count : ℕ) → count ≡ 1 → HasCount field count)
-    → (digits : List ℕ) → text ≡ (field_name field ++ 32 ∷ []) ++ digits → word_form field digits ≡ Some f → ((words : List ℕ) → SpellsWords text field words → SpellsField text field words) → Spells text f
+register_spelled : (text : List ℕ) (field : Field) (f : Form) → ((words : List ℕ) → field_numbers_text field words ≡ words_text words) → ((count : ℕ) → count ≡ 1 → HasWordCount field count)
+    → (digits : List ℕ) → text ≡ (field_name field ++ 32 ∷ []) ++ digits → word_form field digits ≡ Some f → ((words : List ℕ) → IsTextOfWords text field words → IsTextOfField text field words) → IsTextOfForm text f
 unfolding word_form
 register_spelled text field f plain counted tail is e wide =
-    let (word, digits, made) = first_step (read6_of tail) _ f e in
+    let (word, digits, made) = first_step (hex6_value tail) _ f e in
     let same : Words field (word ∷ []) ≡ f = cc in
     let (small, lower) = six_spelled tail word digits in
-    subst (Spells text) same (wide (word ∷ []) (record {
+    subst (IsTextOfForm text) same (wide (word ∷ []) (record {
       count = counted 1 refl;
       six_digits = (small, tt);
       numbers = 32 ∷ tail;
@@ -229,7 +229,7 @@ unfolding cells_form
 cells_parts [] field f e = cc
 cells_parts (x ∷ []) field f e = cc
 cells_parts (x ∷ y ∷ text) field f e =
-    let (cell, digits, more) = first_step (byte_in (x ∷ y ∷ [])) _ f e in
+    let (cell, digits, more) = first_step (hex_byte_value (x ∷ y ∷ [])) _ f e in
     let (ws, row, made) = first_step (words_in_row text) _ f more in
     let same : Words (field cell) ws ≡ f = cc in
     let (small, front) = cell_spelled x y cell digits in
@@ -237,12 +237,12 @@ cells_parts (x ∷ y ∷ text) field f e =
     (cell, ws, same, small, six, ap (λ xs. xs ++ str_to_ascii_lowercase text) front ∙ ap (λ xs. hex2_of cell ++ xs) back, some, most)
 
 -- a line of cells
-cells_spelled : (text : List ℕ) (field : ℕ → Field) (f : Form) → ((cell : ℕ) (words : List ℕ) → numbers_of (field cell) words ≡ hex2_of cell ++ words_text words)
-    → ((cell count : ℕ) → cell < 256 → 1 ≤ count → count ≤ 16 → HasCount (field cell) count) → ((cell : ℕ) → text ≡ field_name (field cell) ++ drop 4 text) → cells_form field (drop 4 text) ≡ Some f
-    → ((cell : ℕ) (words : List ℕ) → SpellsWords text (field cell) words → SpellsField text (field cell) words) → Spells text f
+cells_spelled : (text : List ℕ) (field : ℕ → Field) (f : Form) → ((cell : ℕ) (words : List ℕ) → field_numbers_text (field cell) words ≡ hex2_of cell ++ words_text words)
+    → ((cell count : ℕ) → cell < 256 → 1 ≤ count → count ≤ 16 → HasWordCount (field cell) count) → ((cell : ℕ) → text ≡ field_name (field cell) ++ drop 4 text) → cells_form field (drop 4 text) ≡ Some f
+    → ((cell : ℕ) (words : List ℕ) → IsTextOfWords text (field cell) words → IsTextOfField text (field cell) words) → IsTextOfForm text f
 cells_spelled text field f plain counted is e wide =
     let (cell, ws, same, small, six, lower, some, most) = cells_parts (drop 4 text) field f e in
-    subst (Spells text) same (wide cell ws (record {
+    subst (IsTextOfForm text) same (wide cell ws (record {
       count = counted cell (length ws) small some most;
       six_digits = six;
       numbers = drop 4 text;
@@ -251,15 +251,15 @@ cells_spelled text field f plain counted is e wide =
     }))
 
 -- a line of a stack
-stack_spelled : (text : List ℕ) (field : Field) (count : ℕ) (f : Form) → ((words : List ℕ) → numbers_of field words ≡ words_text words) → HasCount field count → text ≡ field_name field ++ drop 1 text
-    → stack_form field count (drop 1 text) ≡ Some f → ((words : List ℕ) → SpellsWords text field words → SpellsField text field words) → Spells text f
+stack_spelled : (text : List ℕ) (field : Field) (count : ℕ) (f : Form) → ((words : List ℕ) → field_numbers_text field words ≡ words_text words) → HasWordCount field count → text ≡ field_name field ++ drop 1 text
+    → stack_form field count (drop 1 text) ≡ Some f → ((words : List ℕ) → IsTextOfWords text field words → IsTextOfField text field words) → IsTextOfForm text f
 unfolding stack_form
 stack_spelled text field count f plain counted is e wide =
     let (ws, row, made) = first_step (words_in_row (drop 1 text)) _ f e in
     let (test, same) = guarded (length ws == count) (Words field ws) f made in
     let (six, lower, some, most) = row_spelled (drop 1 text) ws row in
-    subst (Spells text) same (wide ws (record {
-      count = subst (HasCount field) (sym (eqb-true (length ws) count test)) counted;
+    subst (IsTextOfForm text) same (wide ws (record {
+      count = subst (HasWordCount field) (sym (eqb-true (length ws) count test)) counted;
       six_digits = six;
       numbers = drop 1 text;
       parts = is;
@@ -279,14 +279,14 @@ digit_spelled field least most (c ∷ []) f e =
 digit_spelled field least most (c ∷ d ∷ text) f e = cc
 
 -- a line of a code
-code_spelled : (text : List ℕ) (field : Field) (code : ℕ) (f : Form) → Words field (code ∷ []) ≡ f → IsCode field code → text ≡ field_name field ++ code_text field code
-    → ((words : List ℕ) → SpellsCode text field words → SpellsField text field words) → Spells text f
-code_spelled text field code f same valid is wide = subst (Spells text) same (wide (code ∷ []) (record { code = code; one = refl; valid = valid; parts = is }))
+code_spelled : (text : List ℕ) (field : Field) (code : ℕ) (f : Form) → Words field (code ∷ []) ≡ f → IsFieldCode field code → text ≡ field_name field ++ code_text field code
+    → ((words : List ℕ) → IsTextOfCode text field words → IsTextOfField text field words) → IsTextOfForm text f
+code_spelled text field code f same valid is wide = subst (IsTextOfForm text) same (wide (code ∷ []) (record { code = code; one = refl; valid = valid; parts = is }))
 
-set_parts : (kind : ℕ) (text : List ℕ) (f : Form) → set_form kind text ≡ Some f → (sides : ℕ) × (Words Wait ((kind + sides) ∷ []) ≡ f) × (0 < sides) × (sides < 16) × (text ≡ set_text sides)
+set_parts : (kind : ℕ) (text : List ℕ) (f : Form) → set_form kind text ≡ Some f → (sides : ℕ) × (Words Wait ((kind + sides) ∷ []) ≡ f) × (0 < sides) × (sides < 16) × (text ≡ side_set_text sides)
 unfolding set_form
 set_parts kind text f e =
-    let (sides, letters, made) = first_step (set_number text) _ f e in
+    let (sides, letters, made) = first_step (parse_side_set text) _ f e in
     let (small, is) = set_spelled text sides letters in
     branch (sides == 0) None (Some (Words Wait ((kind + sides) ∷ []))) (Some f)
     (λ none never. absurd (let clash : true ≡ false = cc in cc))
@@ -296,29 +296,29 @@ set_parts kind text f e =
       some_sides zero kind f made = cc
       some_sides (suc sides) kind f made = omega arith
 
-single_side : (sides : ℕ) → is_single sides ≡ true → IsWaitCode (48 + sides)
+single_side : (sides : ℕ) → is_single_side sides ≡ true → IsWaitCode (48 + sides)
 single_side sides e = grind (arith, nat_tests)
 
-side_parts : (text : List ℕ) (f : Form) → side_form text ≡ Some f → (sides : ℕ) × (Words Wait ((48 + sides) ∷ []) ≡ f) × IsWaitCode (48 + sides) × (sides < 16) × (text ≡ set_text sides)
+side_parts : (text : List ℕ) (f : Form) → side_form text ≡ Some f → (sides : ℕ) × (Words Wait ((48 + sides) ∷ []) ≡ f) × IsWaitCode (48 + sides) × (sides < 16) × (text ≡ side_set_text sides)
 unfolding side_form
 side_parts text f e =
-    let (sides, letters, made) = first_step (set_number text) _ f e in
+    let (sides, letters, made) = first_step (parse_side_set text) _ f e in
     let (small, is) = set_spelled text sides letters in
-    let (test, same) = guarded (is_single sides) (Words Wait ((48 + sides) ∷ [])) f made in
+    let (test, same) = guarded (is_single_side sides) (Words Wait ((48 + sides) ∷ [])) f made in
     (sides, same, single_side sides test, small, is)
 
-pub fetch_text : (sides : ℕ) → sides < 16 → wait_text (16 + sides) ≡ codes "fetch " ++ set_text sides
+pub fetch_text : (sides : ℕ) → sides < 16 → wait_text (16 + sides) ≡ codes "fetch " ++ side_set_text sides
 fetch_text sides small =
     let below : nat_lt (16 + sides) 32 ≡ true = grind (arith, nat_tests) in
     let same : 16 + sides - 16 ≡ sides = omega arith in rw (below, same) refl
 
-pub read_text : (sides : ℕ) → sides < 16 → wait_text (32 + sides) ≡ codes "read " ++ set_text sides
+pub read_text : (sides : ℕ) → sides < 16 → wait_text (32 + sides) ≡ codes "read " ++ side_set_text sides
 read_text sides small =
     let past : nat_lt (32 + sides) 32 ≡ false = grind (arith, nat_tests) in
     let below : nat_lt (32 + sides) 48 ≡ true = grind (arith, nat_tests) in
     let same : 32 + sides - 32 ≡ sides = omega arith in rw (past, below, same) refl
 
-pub write_text : (sides : ℕ) → wait_text (48 + sides) ≡ codes "write " ++ set_text sides
+pub write_text : (sides : ℕ) → wait_text (48 + sides) ≡ codes "write " ++ side_set_text sides
 write_text sides =
     let past : nat_lt (48 + sides) 32 ≡ false = grind (arith, nat_tests) in
     let over : nat_lt (48 + sides) 48 ≡ false = grind (arith, nat_tests) in
@@ -326,7 +326,7 @@ write_text sides =
 
 -- a wait, and what is read of it
 abbrev WaitParts : List ℕ → Form → Type 0
-WaitParts text f = (code : ℕ) × (Words Wait (code ∷ []) ≡ f) × IsCode Wait code × (text ≡ wait_text code)
+WaitParts text f = (code : ℕ) × (Words Wait (code ∷ []) ≡ f) × IsFieldCode Wait code × (text ≡ wait_text code)
 
 wait_parts : (text : List ℕ) (f : Form) → wait_form text ≡ Some f → WaitParts text f
 unfolding wait_form
@@ -342,20 +342,20 @@ wait_parts text f =
     (48 + sides, same, (valid, λ none. absurd (omega arith)), begun text (codes "write ") b ∙ ap (λ xs. codes "write " ++ xs) is ∙ sym (write_text sides)))
     (λ never. absurd (let clash : true ≡ false = cc in cc))))
 
-node_line_spelled : (text : List ℕ) (f : Form) → text ≡ codes "node " ++ drop 5 text → node_form (drop 5 text) ≡ Some f → Spells text f
+node_line_spelled : (text : List ℕ) (f : Form) → text ≡ codes "node " ++ drop 5 text → node_form (drop 5 text) ≡ Some f → IsTextOfForm text f
 unfolding node_form
 node_line_spelled text f is e =
-    let (yxx, digits, made) = first_step (node_number (drop 5 text)) _ f e in
+    let (yxx, digits, made) = first_step (parse_node_name (drop 5 text)) _ f e in
     let same : Node yxx ≡ f = cc in
     let (small, spelled) = node_spelled (drop 5 text) yxx digits in
-    subst (Spells text) same (small, is ∙ ap (λ xs. codes "node " ++ xs) spelled)
+    subst (IsTextOfForm text) same (small, is ∙ ap (λ xs. codes "node " ++ xs) spelled)
 
-end_spelled : (text : List ℕ) (f : Form) → cond (pointwise nat_eq text (codes "end")) (Some End) None ≡ Some f → Spells text f
+end_spelled : (text : List ℕ) (f : Form) → cond (pointwise nat_eq text (codes "end")) (Some End) None ≡ Some f → IsTextOfForm text f
 end_spelled text f e =
     let (test, same) = guarded (pointwise nat_eq text (codes "end")) End f e in
-    subst (Spells text) same ((bytes_eq-Decides text (codes "end")).0 test)
+    subst (IsTextOfForm text) same ((bytes_eq-Decides text (codes "end")).0 test)
 
-wide_spelled : (text : List ℕ) (f : Form) → wide_form text ≡ Some f → Spells text f
+wide_spelled : (text : List ℕ) (f : Form) → wide_form text ≡ Some f → IsTextOfForm text f
 unfolding wide_form
 wide_spelled text f =
     branch _ _ _ _ (λ b e. stack_spelled text (Data 0) 10 f (λ words. refl) (refl, refl) (begun text (codes "d") b) e (λ words is. is))
@@ -365,7 +365,7 @@ wide_spelled text f =
     (branch _ _ _ _ (λ b e. node_line_spelled text f (begun text (codes "node ") b) e)
     (end_spelled text f)))))
 
-state_spelled : (text : List ℕ) (f : Form) → state_form text ≡ Some f → Spells text f
+state_spelled : (text : List ℕ) (f : Form) → state_form text ≡ Some f → IsTextOfForm text f
 unfolding state_form
 state_spelled text f =
     branch _ _ _ _ (λ b e. let (code, same, least, most, is) = digit_spelled Carry 0 1 (drop 6 text) f e in
@@ -379,7 +379,7 @@ state_spelled text f =
     (wide_spelled text f))))
 
 -- a line is a text of the form that it parses as
-pub form_spelled : (text : List ℕ) (f : Form) → form text ≡ Some f → Spells text f
+pub form_spelled : (text : List ℕ) (f : Form) → form text ≡ Some f → IsTextOfForm text f
 unfolding form
 form_spelled text f =
     branch _ _ _ _ (λ b e. register_spelled text A f (λ words. refl) (λ count one. one) (drop 2 text) (begun text (codes "a ") b) e (λ words is. is))

@@ -2,29 +2,29 @@
 use Rattle.ga_image.specs.declared.parser.Stage.TheVariants as expects
 use Rattle.std.proofs.Common.{◌≢◌, refl, ◌≡◌, ℕ, ◌+◌, inl, inr, ◌<◌, ◌≤◌, true, false, ◌&&◌, List, [], ◌∷◌, ◌++◌, length, map, Option, Some, None, sym, ◌∙◌, ap, subst, arith}
 use Rattle.ga_image.specs.declared.parser.Stage.{Stage as Expects}
-use Rattle.ga_image.specs.inner.{stage_of, IsBehindHeader, HoldsCode, AreCodes}
+use Rattle.ga_image.specs.inner.{stage_of, IsAfterHeader, HoldsCode, AreCodes}
 use Rattle.std.specs.Prelude.{nat_le, codes, ◌==◌, ◌-◌}
 use Rattle.std.specs.Char.{to_ascii_lowercase}
 use Rattle.std.specs.Str.{str_to_ascii_lowercase}
 use Rattle.std.proofs.lemmas.Bool.Decides.{nat_tests}
-use Rattle.ga_word.specs.Word.{hex_digit, hex6_of, read6_of}
-use Rattle.ga_ports.specs.Address.{is_single}
+use Rattle.ga_word.specs.Word.{hex_digit, hex6_of, hex6_value}
+use Rattle.ga_ports.specs.Address.{is_single_side}
 use Rattle.ga_image.specs.declared.field.Field.{Field}
 use Rattle.ga_image.specs.declared.field.Field.TheVariants.{A, B, P, I, Io, Carry, Slot, Wait, Stop, Data, Return, Ram, Rom}
 use Rattle.ga_node.specs.State.{IsWaitCode}
 use Rattle.ga_image.specs.declared.field.Format.{Format}
 use Rattle.ga_image.specs.Fields.{has_field}
-use Rattle.ga_image.specs.Spelling.{Form, Node, Words, End, set_text, wait_text, field_name, code_text, SpellsWords, SpellsCode, SpellsField, Spells, IsFormOf, SpellsIn, form, word_form, cells_form, stack_form, digit_form, set_form, side_form, wait_form, node_form, wide_form, state_form}
+use Rattle.ga_image.specs.Spelling.{Form, Node, Words, End, side_set_text, wait_text, field_name, code_text, IsTextOfWords, IsTextOfCode, IsTextOfField, IsTextOfForm, IsFormOf, IsTextInFormat, form, word_form, cells_form, stack_form, digit_form, set_form, side_form, wait_form, node_form, wide_form, state_form}
 use Rattle.ga_text.specs.Digits.{decimal3_of, hex2_of, words_text}
-use Rattle.ga_image.specs.Reading.{form_in, kept_in}
-use Rattle.ga_image.specs.Grammar.{Spell}
+use Rattle.ga_image.specs.Reading.{form_in_format, allowed_form}
+use Rattle.ga_image.specs.Grammar.{AreLinesOfForms}
 use Rattle.ga_text.proofs.Numbers.{word_read, cell_read, node_read}
 use Rattle.ga_image.proofs.Spelled.{set_read, AreSix, guarded, lower_space, row_read, fetch_text, read_text, write_text, form_spelled}
 
 -- ---- the stage of a parser
 
 -- neither before the header nor after the end
-pub behind : (stage : Expects) → stage ≢ expects.Header → stage ≢ expects.Ended → IsBehindHeader (stage_of stage)
+pub behind : (stage : Expects) → stage ≢ expects.Header → stage ≢ expects.Ended → IsAfterHeader (stage_of stage)
 behind expects.Header begun unended = absurd (begun refl)
 behind expects.Open begun unended = tt
 behind (expects.Block node) begun unended = tt
@@ -37,7 +37,7 @@ one_word (w ∷ v ∷ ws) one = absurd (omega arith)
 
 -- the numbers after the name of a register
 register_numbers : (numbers ws : List ℕ) → length ws ≡ 1 → AreSix ws → str_to_ascii_lowercase numbers ≡ words_text ws
-    → (digits : List ℕ) × (w : ℕ) × (ws ≡ w ∷ []) × (numbers ≡ 32 ∷ digits) × (read6_of digits ≡ Some w)
+    → (digits : List ℕ) × (w : ℕ) × (ws ≡ w ∷ []) × (numbers ≡ 32 ∷ digits) × (hex6_value digits ≡ Some w)
 register_numbers [] [] one six is = absurd (omega arith)
 register_numbers (s ∷ digits) [] one six is = absurd (omega arith)
 register_numbers numbers (w ∷ v ∷ ws) one six is = absurd (omega arith)
@@ -59,29 +59,29 @@ cells_read field cell (x ∷ y ∷ text) ws small six is some most =
     let rest : str_to_ascii_lowercase text ≡ words_text ws = cc in
     rw (cell_read x y cell small high low, row_read text ws six rest some most) refl
 
-register_read : (field : Field) (name : List ℕ) → ((digits : List ℕ) (w : ℕ) → read6_of digits ≡ Some w → form (name ++ 32 ∷ digits) ≡ Some (Words field (w ∷ [])))
+register_read : (field : Field) (name : List ℕ) → ((digits : List ℕ) (w : ℕ) → hex6_value digits ≡ Some w → form (name ++ 32 ∷ digits) ≡ Some (Words field (w ∷ [])))
     → (text numbers ws : List ℕ) → text ≡ name ++ numbers → length ws ≡ 1 → AreSix ws → str_to_ascii_lowercase numbers ≡ words_text ws → form text ≡ Some (Words field ws)
 register_read field name reads text numbers ws parts one six is =
     let (digits, w, single, spaced, word) = register_numbers numbers ws one six is in
     ap form (parts ∙ ap (λ xs. name ++ xs) spaced) ∙ reads digits w word ∙ ap (λ xs. Some (Words field xs)) (sym single)
 
-a_read : (digits : List ℕ) (w : ℕ) → read6_of digits ≡ Some w → form (codes "a" ++ 32 ∷ digits) ≡ Some (Words A (w ∷ []))
+a_read : (digits : List ℕ) (w : ℕ) → hex6_value digits ≡ Some w → form (codes "a" ++ 32 ∷ digits) ≡ Some (Words A (w ∷ []))
 unfolding form word_form
 a_read digits w is = rw is refl
 
-b_read : (digits : List ℕ) (w : ℕ) → read6_of digits ≡ Some w → form (codes "b" ++ 32 ∷ digits) ≡ Some (Words B (w ∷ []))
+b_read : (digits : List ℕ) (w : ℕ) → hex6_value digits ≡ Some w → form (codes "b" ++ 32 ∷ digits) ≡ Some (Words B (w ∷ []))
 unfolding form word_form
 b_read digits w is = rw is refl
 
-p_read : (digits : List ℕ) (w : ℕ) → read6_of digits ≡ Some w → form (codes "p" ++ 32 ∷ digits) ≡ Some (Words P (w ∷ []))
+p_read : (digits : List ℕ) (w : ℕ) → hex6_value digits ≡ Some w → form (codes "p" ++ 32 ∷ digits) ≡ Some (Words P (w ∷ []))
 unfolding form word_form
 p_read digits w is = rw is refl
 
-i_read : (digits : List ℕ) (w : ℕ) → read6_of digits ≡ Some w → form (codes "i" ++ 32 ∷ digits) ≡ Some (Words I (w ∷ []))
+i_read : (digits : List ℕ) (w : ℕ) → hex6_value digits ≡ Some w → form (codes "i" ++ 32 ∷ digits) ≡ Some (Words I (w ∷ []))
 unfolding form word_form
 i_read digits w is = rw is refl
 
-io_read : (digits : List ℕ) (w : ℕ) → read6_of digits ≡ Some w → form (codes "io" ++ 32 ∷ digits) ≡ Some (Words Io (w ∷ []))
+io_read : (digits : List ℕ) (w : ℕ) → hex6_value digits ≡ Some w → form (codes "io" ++ 32 ∷ digits) ≡ Some (Words Io (w ∷ []))
 unfolding form word_form
 io_read digits w is = rw is refl
 
@@ -112,12 +112,12 @@ stack_line_read field count name reads text numbers ws parts counted some most s
     let (rest, space) = spaced numbers ws (omega arith) lower in
     ap form (parts ∙ ap (λ xs. name ++ xs) space) ∙ reads rest ∙ ap (stack_form field count) (sym space) ∙ stack_read field count numbers ws counted some most six lower
 
-data_line_read : (text : List ℕ) (k : ℕ) (ws : List ℕ) → SpellsWords text (Data k) ws → form text ≡ Some (Words (Data k) ws)
+data_line_read : (text : List ℕ) (k : ℕ) (ws : List ℕ) → IsTextOfWords text (Data k) ws → form text ≡ Some (Words (Data k) ws)
 data_line_read text k ws is =
     stack_line_read (Data 0) 10 (codes "d") data_form text is.numbers ws is.parts is.count.1 (omega arith) (omega arith) is.six_digits is.digits
     ∙ ap (λ (n : ℕ). Some (Words (Data n) ws)) (sym is.count.0)
 
-return_line_read : (text : List ℕ) (k : ℕ) (ws : List ℕ) → SpellsWords text (Return k) ws → form text ≡ Some (Words (Return k) ws)
+return_line_read : (text : List ℕ) (k : ℕ) (ws : List ℕ) → IsTextOfWords text (Return k) ws → form text ≡ Some (Words (Return k) ws)
 return_line_read text k ws is =
     stack_line_read (Return 0) 9 (codes "r") return_form text is.numbers ws is.parts is.count.1 (omega arith) (omega arith) is.six_digits is.digits
     ∙ ap (λ (n : ℕ). Some (Words (Return n) ws)) (sym is.count.0)
@@ -153,15 +153,15 @@ wait_line_form : (text : List ℕ) → form (codes "wait " ++ text) ≡ wait_for
 unfolding form state_form
 wait_line_form text = refl
 
-fetch_read : (sides : ℕ) → 0 < sides → sides < 16 → wait_form (codes "fetch " ++ set_text sides) ≡ Some (Words Wait ((16 + sides) ∷ []))
+fetch_read : (sides : ℕ) → 0 < sides → sides < 16 → wait_form (codes "fetch " ++ side_set_text sides) ≡ Some (Words Wait ((16 + sides) ∷ []))
 unfolding wait_form set_form
 fetch_read sides some small = let other : (sides == 0) ≡ false = grind (arith, nat_tests) in rw (set_read sides small, other) refl
 
-read_read : (sides : ℕ) → 0 < sides → sides < 16 → wait_form (codes "read " ++ set_text sides) ≡ Some (Words Wait ((32 + sides) ∷ []))
+read_read : (sides : ℕ) → 0 < sides → sides < 16 → wait_form (codes "read " ++ side_set_text sides) ≡ Some (Words Wait ((32 + sides) ∷ []))
 unfolding wait_form set_form
 read_read sides some small = let other : (sides == 0) ≡ false = grind (arith, nat_tests) in rw (set_read sides small, other) refl
 
-write_read : (sides : ℕ) → is_single sides ≡ true → sides < 16 → wait_form (codes "write " ++ set_text sides) ≡ Some (Words Wait ((48 + sides) ∷ []))
+write_read : (sides : ℕ) → is_single_side sides ≡ true → sides < 16 → wait_form (codes "write " ++ side_set_text sides) ≡ Some (Words Wait ((48 + sides) ∷ []))
 unfolding wait_form side_form
 write_read sides single small = rw (set_read sides small, single) refl
 
@@ -176,14 +176,14 @@ wait_read code (inr (inr (inl (low, high)))) some =
     ap (λ (n : ℕ). wait_form (wait_text n)) whole ∙ ap wait_form (read_text (code - 32) (omega arith)) ∙ read_read (code - 32) (omega arith) (omega arith) ∙ ap (λ (n : ℕ). Some (Words Wait (n ∷ []))) (sym whole)
 wait_read code (inr (inr (inr one))) some =
     let whole : code ≡ 48 + (code - 48) = grind (arith, one) in
-    let single : is_single (code - 48) ≡ true = grind (arith, nat_tests, one) in
+    let single : is_single_side (code - 48) ≡ true = grind (arith, nat_tests, one) in
     let small : code - 48 < 16 = grind (arith, one) in
     ap (λ (n : ℕ). wait_form (wait_text n)) whole ∙ ap wait_form (write_text (code - 48)) ∙ write_read (code - 48) single small ∙ ap (λ (n : ℕ). Some (Words Wait (n ∷ []))) (sym whole)
 
-code_line_read : (text : List ℕ) (field : Field) (ws : List ℕ) (is : SpellsCode text field ws) → form (field_name field ++ code_text field is.code) ≡ Some (Words field (is.code ∷ [])) → form text ≡ Some (Words field ws)
+code_line_read : (text : List ℕ) (field : Field) (ws : List ℕ) (is : IsTextOfCode text field ws) → form (field_name field ++ code_text field is.code) ≡ Some (Words field (is.code ∷ [])) → form text ≡ Some (Words field ws)
 code_line_read text field ws is reads = ap form is.parts ∙ reads ∙ ap (λ xs. Some (Words field xs)) (sym is.one)
 
-words_line_read : (text : List ℕ) (field : Field) (ws : List ℕ) → SpellsField text field ws → form text ≡ Some (Words field ws)
+words_line_read : (text : List ℕ) (field : Field) (ws : List ℕ) → IsTextOfField text field ws → form text ≡ Some (Words field ws)
 words_line_read text A ws is = register_read A (codes "a") a_read text is.numbers ws is.parts is.count is.six_digits is.digits
 words_line_read text B ws is = register_read B (codes "b") b_read text is.numbers ws is.parts is.count is.six_digits is.digits
 words_line_read text P ws is = register_read P (codes "p") p_read text is.numbers ws is.parts is.count is.six_digits is.digits
@@ -207,12 +207,12 @@ unfolding form state_form wide_form
 end_line_read = refl
 
 -- a text of a form parses as the form
-pub form_read : (text : List ℕ) (f : Form) → Spells text f → form text ≡ Some f
+pub form_read : (text : List ℕ) (f : Form) → IsTextOfForm text f → form text ≡ Some f
 form_read text (Node yxx) is = node_line_read text yxx is.0 is.1
 form_read text (Words field ws) is = words_line_read text field ws is
 form_read text End is = ap form is ∙ end_line_read
 
-kept_parts : (format : Format) (found : Option Form) (f : Form) → kept_in format found ≡ Some f → (found ≡ Some f) × IsFormOf format f
+kept_parts : (format : Format) (found : Option Form) (f : Form) → allowed_form format found ≡ Some f → (found ≡ Some f) × IsFormOf format f
 kept_parts format None f e = cc
 kept_parts format (Some (Node yxx)) f e = (e, let same : Node yxx ≡ f = cc in subst (IsFormOf format) same tt)
 kept_parts format (Some End) f e = (e, let same : End ≡ f = cc in subst (IsFormOf format) same tt)
@@ -221,24 +221,24 @@ kept_parts format (Some (Words field ws)) f e =
     (ap (λ g. Some g) same, subst (IsFormOf format) same test)
 
 -- a line that parses as a form in a format is a text of it in the format
-pub kept_spelled : (format : Format) (text : List ℕ) (f : Form) → form_in format text ≡ Some f → SpellsIn format text f
+pub kept_spelled : (format : Format) (text : List ℕ) (f : Form) → form_in_format format text ≡ Some f → IsTextInFormat format text f
 kept_spelled format text f e = let (found, has) = kept_parts format (form text) f e in (form_spelled text f found, has)
 
-kept : (format : Format) (f : Form) → IsFormOf format f → kept_in format (Some f) ≡ Some f
+kept : (format : Format) (f : Form) → IsFormOf format f → allowed_form format (Some f) ≡ Some f
 kept format (Node yxx) has = refl
 kept format (Words field ws) has = rw has refl
 kept format End has = refl
 
 -- and the other way
-pub kept_read : (format : Format) (text : List ℕ) (f : Form) → SpellsIn format text f → form_in format text ≡ Some f
-kept_read format text f is = ap (kept_in format) (form_read text f is.0) ∙ kept format f is.1
+pub kept_read : (format : Format) (text : List ℕ) (f : Form) → IsTextInFormat format text f → form_in_format format text ≡ Some f
+kept_read format text f is = ap (allowed_form format) (form_read text f is.0) ∙ kept format f is.1
 
 each_code : (field : Field) (ws : List ℕ) → ((w : ℕ) → HoldsCode field w) → AreCodes field ws
 each_code field [] holds = tt
 each_code field (w ∷ ws) holds = (holds w, each_code field ws holds)
 
 -- the waits of a field line are numbers of waits
-pub codes_spelled : (text : List ℕ) (field : Field) (ws : List ℕ) → SpellsField text field ws → AreCodes field ws
+pub codes_spelled : (text : List ℕ) (field : Field) (ws : List ℕ) → IsTextOfField text field ws → AreCodes field ws
 codes_spelled text Wait ws is = subst (AreCodes Wait) (sym is.one) (is.valid.0, tt)
 codes_spelled text A ws is = each_code A ws (λ w. tt)
 codes_spelled text B ws is = each_code B ws (λ w. tt)
@@ -254,17 +254,17 @@ codes_spelled text (Ram cell) ws is = each_code (Ram cell) ws (λ w. tt)
 codes_spelled text (Rom cell) ws is = each_code (Rom cell) ws (λ w. tt)
 
 -- lines that parse as forms are texts of them
-pub forms_spelled : (format : Format) (texts : List (List ℕ)) (forms : List Form) → map (form_in format) texts ≡ map (λ f. Some f) forms → Spell format texts forms
+pub forms_spelled : (format : Format) (texts : List (List ℕ)) (forms : List Form) → map (form_in_format format) texts ≡ map (λ f. Some f) forms → AreLinesOfForms format texts forms
 forms_spelled format [] [] e = tt
 forms_spelled format [] (f ∷ forms) e = cc
 forms_spelled format (text ∷ texts) [] e = cc
 forms_spelled format (text ∷ texts) (f ∷ forms) e =
-    let first : form_in format text ≡ Some f = cc in
-    let others : map (form_in format) texts ≡ map (λ f. Some f) forms = cc in
+    let first : form_in_format format text ≡ Some f = cc in
+    let others : map (form_in_format format) texts ≡ map (λ f. Some f) forms = cc in
     (kept_spelled format text f first, forms_spelled format texts forms others)
 
 -- and the other way
-pub forms_read : (format : Format) (texts : List (List ℕ)) (forms : List Form) → Spell format texts forms → map (form_in format) texts ≡ map (λ f. Some f) forms
+pub forms_read : (format : Format) (texts : List (List ℕ)) (forms : List Form) → AreLinesOfForms format texts forms → map (form_in_format format) texts ≡ map (λ f. Some f) forms
 forms_read format [] [] is = refl
 forms_read format [] (f ∷ forms) is = absurd is
 forms_read format (text ∷ texts) [] is = absurd is

@@ -2,19 +2,19 @@
 use Rattle.std.specs.Bool.{Decides}
 use Rattle.std.proofs.Common.{◌≡◌, ◌≢◌, ℕ, ◌⊎◌, inl, inr, Bool, true, false, cond, List, [], ◌∷◌, get_or, Option, Some, None, refl, sym, ◌∙◌, ap, subst}
 use Rattle.std.proofs.lemmas.Bool.Decides.{not_from_Decides}
-use Rattle.ga_grid.specs.Grid.{node_of}
+use Rattle.ga_grid.specs.Grid.{number_of_yxx}
 use Rattle.ga_image.specs.declared.fault.ImageCause.{ImageCause}
 use Rattle.ga_image.specs.declared.fault.ImageCause.TheVariants as cause
 use Rattle.ga_image.specs.declared.field.Field.{Field}
 use Rattle.ga_image.specs.declared.field.Format.{Format}
 use Rattle.ga_image.specs.declared.field.Format.TheVariants.{One, Two}
 use Rattle.ga_image.specs.inner.{HasCell}
-use Rattle.ga_image.specs.Fields.{number_of, held_at_load, held_after, is_unsteady}
-use Rattle.ga_image.specs.Spelling.{Form, Node, Words, End, Spells, form, state_form, wide_form}
-use Rattle.ga_image.specs.Grammar.{header, all_writes}
-use Rattle.ga_image.specs.Reading.{Progress, Stage, is_misplaced, ends_unsteady, form_in}
+use Rattle.ga_image.specs.Fields.{field_number, load_run_state, run_state_after, is_inconsistent_state}
+use Rattle.ga_image.specs.Spelling.{Form, Node, Words, End, IsTextOfForm, form, state_form, wide_form}
+use Rattle.ga_image.specs.Grammar.{header, field_line_writes}
+use Rattle.ga_image.specs.Reading.{Progress, Stage, is_misplaced, ends_inconsistent_block, form_in_format}
 use Rattle.ga_image.specs.Reading as stage
-use Rattle.ga_image.specs.FirstFault.{SpellFields, GivesLines, format_in, EndsUnsteady, OneOf, IsEnd, BeginsBlockOf, BeginsBlock, WasGiven, HasNoForm, IsNoLine, HasCause, IsFirstCause, HasNone}
+use Rattle.ga_image.specs.FirstFault.{AreTextsOfFieldLines, HasLastFieldLines, format_in, IsInconsistentBlockEnd, HoldsForOne, IsEndLine, IsNodeLineOf, IsNodeLine, IsFieldGiven, HasNoForm, IsInvalidLine, HasCause, IsFirstCause, HasNoneOfCauses}
 use Rattle.ga_image.proofs.Spellings.{form_read, kept_spelled, kept_read}
 use Rattle.ga_image.proofs.Room.{IsSized}
 
@@ -22,7 +22,7 @@ use Rattle.ga_image.proofs.Room.{IsSized}
 
 -- what was found among these causes
 abbrev pub Tells : List (List ℕ) → List ℕ → List ImageCause → Option ImageCause → Type 0
-Tells before line left None = HasNone before line left
+Tells before line left None = HasNoneOfCauses before line left
 Tells before line left (Some first) = IsFirstCause before line left first
 
 -- the causes after the first, after the second and so on
@@ -62,19 +62,19 @@ passed_over before line c left (Some d) never rest = inr (never, rest)
 
 -- ---- a line has one form
 
-pub one_form : (line : List ℕ) (f g : Form) → Spells line f → Spells line g → f ≡ g
+pub one_form : (line : List ℕ) (f g : Form) → IsTextOfForm line f → IsTextOfForm line g → f ≡ g
 one_form line f g first second = let same : Some f ≡ Some g = sym (form_read line f first) ∙ form_read line g second in cc
 
-pub node_no_words : (line : List ℕ) (y : ℕ) (field : Field) (words : List ℕ) → Spells line (Node y) → ¬ Spells line (Words field words)
+pub node_no_words : (line : List ℕ) (y : ℕ) (field : Field) (words : List ℕ) → IsTextOfForm line (Node y) → ¬ IsTextOfForm line (Words field words)
 node_no_words line y field words node = λ is. let same : Node y ≡ Words field words = one_form line _ _ node is in let never : true ≡ false = cc in cc
 
-pub end_no_words : (line : List ℕ) (field : Field) (words : List ℕ) → Spells line End → ¬ Spells line (Words field words)
+pub end_no_words : (line : List ℕ) (field : Field) (words : List ℕ) → IsTextOfForm line End → ¬ IsTextOfForm line (Words field words)
 end_no_words line field words end = λ is. let same : End ≡ Words field words = one_form line _ _ end is in let never : true ≡ false = cc in cc
 
-pub node_no_end : (line : List ℕ) (y : ℕ) → Spells line (Node y) → ¬ Spells line End
+pub node_no_end : (line : List ℕ) (y : ℕ) → IsTextOfForm line (Node y) → ¬ IsTextOfForm line End
 node_no_end line y node = λ is. let same : Node y ≡ End = one_form line _ _ node is in let never : true ≡ false = cc in cc
 
-no_form : (format : Format) (line : List ℕ) → form_in format line ≡ None → HasNoForm format line
+no_form : (format : Format) (line : List ℕ) → form_in_format format line ≡ None → HasNoForm format line
 no_form format line none = λ f is. absurd (let clash : Some f ≡ None = sym (kept_read format line f is) ∙ none in let never : true ≡ false = cc in cc)
 
 header_form : (format : Format) → form (header format) ≡ None
@@ -83,7 +83,7 @@ header_form One = refl
 header_form Two = refl
 
 -- a header has none of the forms
-pub header_formless : (line : List ℕ) (format : Format) → line ≡ header format → (f : Form) → ¬ Spells line f
+pub header_formless : (line : List ℕ) (format : Format) → line ≡ header format → (f : Form) → ¬ IsTextOfForm line f
 header_formless line format is = λ f spelled. absurd (let clash : Some f ≡ None = sym (form_read line f spelled) ∙ ap form is ∙ header_form format in let never : true ≡ false = cc in cc)
 
 -- ---- the state after lines
@@ -91,18 +91,18 @@ header_formless line format is = λ f spelled. absurd (let clash : Some f ≡ No
 -- what may come next, by the lines so far
 abbrev pub StandsAt : Stage → List (List ℕ) → Type 0
 StandsAt stage.Header before = before ≡ []
-StandsAt stage.Open before = (before ≢ []) × (¬ OneOf IsEnd before) × (¬ OneOf BeginsBlock before)
-StandsAt (stage.Block node) before = (before ≢ []) × (¬ OneOf IsEnd before) × OneOf BeginsBlock before
-StandsAt stage.Ended before = (before ≢ []) × OneOf IsEnd before
+StandsAt stage.Open before = (before ≢ []) × (¬ HoldsForOne IsEndLine before) × (¬ HoldsForOne IsNodeLine before)
+StandsAt (stage.Block node) before = (before ≢ []) × (¬ HoldsForOne IsEndLine before) × HoldsForOne IsNodeLine before
+StandsAt stage.Ended before = (before ≢ []) × HoldsForOne IsEndLine before
 
 -- the state is that after the lines so far
 pub record IsAfter (progress : Progress) (before : List (List ℕ)) : Type 0 where
   pub stands : StandsAt progress.stage before
   pub sized : IsSized progress
   pub format : before ≢ [] → progress.format ≡ format_in before
-  pub held : (node : ℕ) → progress.stage ≡ stage.Block node → (field_lines : List (Field × List ℕ)) × GivesLines before field_lines × (progress.held ≡ held_after held_at_load (all_writes field_lines))
-  pub blocks : (yxx n : ℕ) → node_of yxx ≡ Some n → Decides (get_or progress.blocks n false) (OneOf (BeginsBlockOf yxx) before)
-  pub given : (node : ℕ) → progress.stage ≡ stage.Block node → (field : Field) → HasCell field → Decides (get_or progress.given (number_of field) false) (WasGiven before field)
+  pub held : (node : ℕ) → progress.stage ≡ stage.Block node → (field_lines : List (Field × List ℕ)) × HasLastFieldLines before field_lines × (progress.held ≡ run_state_after load_run_state (field_line_writes field_lines))
+  pub blocks : (yxx n : ℕ) → number_of_yxx yxx ≡ Some n → Decides (get_or progress.blocks n false) (HoldsForOne (IsNodeLineOf yxx) before)
+  pub given : (node : ℕ) → progress.stage ≡ stage.Block node → (field : Field) → HasCell field → Decides (get_or progress.given (field_number field) false) (IsFieldGiven before field)
 
 -- ---- a line after the header that is not allowed there
 
@@ -112,7 +112,7 @@ later stage.Open before behind stands = stands.0
 later (stage.Block node) before behind stands = stands.0
 later stage.Ended before behind stands = stands.0
 
-pub misplaced : (st : Stage) (format : Format) (found : Option Form) (before : List (List ℕ)) (line : List ℕ) → format ≡ format_in before → form_in format line ≡ found → st ≢ stage.Header → StandsAt st before → Decides (is_misplaced st found) (IsNoLine before line)
+pub misplaced : (st : Stage) (format : Format) (found : Option Form) (before : List (List ℕ)) (line : List ℕ) → format ≡ format_in before → form_in_format format line ≡ found → st ≢ stage.Header → StandsAt st before → Decides (is_misplaced st found) (IsInvalidLine before line)
 misplaced stage.Header format found before line same is behind stands = absurd (behind refl)
 misplaced stage.Open format None before line same is behind stands =
     (λ e. (stands.0, inl (subst (λ (g : Format). HasNoForm g line) same (no_form format line is))), λ no. refl)
@@ -151,13 +151,13 @@ misplaced stage.Ended format found before line same is behind stands = (λ e. (s
 -- ---- a line that ends a block
 
 -- where lines give field lines of a block, one of them begins it
-lines_begin : (before : List (List ℕ)) (field_lines : List (Field × List ℕ)) → GivesLines before field_lines → OneOf BeginsBlock before
+lines_begin : (before : List (List ℕ)) (field_lines : List (Field × List ℕ)) → HasLastFieldLines before field_lines → HoldsForOne IsNodeLine before
 lines_begin [] field_lines none = absurd none
 lines_begin (line ∷ before) field_lines (inl later) = inr (lines_begin before field_lines later)
 lines_begin (line ∷ before) field_lines (inr here) = inl here.0
 
 -- field lines begin no block
-fields_begin_none : (lines : List (List ℕ)) (fs gs : List (Field × List ℕ)) → SpellFields lines fs → ¬ GivesLines lines gs
+fields_begin_none : (lines : List (List ℕ)) (fs gs : List (Field × List ℕ)) → AreTextsOfFieldLines lines fs → ¬ HasLastFieldLines lines gs
 fields_begin_none [] fs gs spelled = λ none. none
 fields_begin_none (line ∷ lines) [] gs spelled = absurd spelled
 fields_begin_none (line ∷ lines) (f ∷ fs) gs spelled = λ gives. elim gives [
@@ -169,7 +169,7 @@ joined : (f g : Field) (ws vs : List ℕ) (fs gs : List (Field × List ℕ)) →
 joined f g ws vs fs gs p q r = rw (p, q, r) refl
 
 -- lines are texts of one list of field lines only
-fields_same : (lines : List (List ℕ)) (fs gs : List (Field × List ℕ)) → SpellFields lines fs → SpellFields lines gs → fs ≡ gs
+fields_same : (lines : List (List ℕ)) (fs gs : List (Field × List ℕ)) → AreTextsOfFieldLines lines fs → AreTextsOfFieldLines lines gs → fs ≡ gs
 fields_same [] [] [] first second = refl
 fields_same [] [] (g ∷ gs) first second = absurd second
 fields_same [] (f ∷ fs) gs first second = absurd first
@@ -182,37 +182,37 @@ fields_same (line ∷ lines) (f ∷ fs) (g ∷ gs) first second =
     let word_lists : f.1 ≡ g.1 = cc in
     joined f.0 g.0 f.1 g.1 fs gs fields word_lists rest
 
-lines_same : (before : List (List ℕ)) (fs gs : List (Field × List ℕ)) → GivesLines before fs → GivesLines before gs → fs ≡ gs
+lines_same : (before : List (List ℕ)) (fs gs : List (Field × List ℕ)) → HasLastFieldLines before fs → HasLastFieldLines before gs → fs ≡ gs
 lines_same [] fs gs first second = absurd first
 lines_same (line ∷ before) fs gs (inl first) (inl second) = lines_same before fs gs first second
 lines_same (line ∷ before) fs gs (inl first) (inr second) = absurd (fields_begin_none before gs fs second.1 first)
 lines_same (line ∷ before) fs gs (inr first) (inl second) = absurd (fields_begin_none before fs gs first.1 second)
 lines_same (line ∷ before) fs gs (inr first) (inr second) = fields_same before fs gs first.1 second.1
 
-block_unsteady : (progress : Progress) (before : List (List ℕ)) (line : List ℕ) (node : ℕ) → IsAfter progress before → progress.stage ≡ stage.Block node → BeginsBlock line ⊎ IsEnd line
-    → Decides (is_unsteady progress.held) (EndsUnsteady before line)
+block_unsteady : (progress : Progress) (before : List (List ℕ)) (line : List ℕ) (node : ℕ) → IsAfter progress before → progress.stage ≡ stage.Block node → IsNodeLine line ⊎ IsEndLine line
+    → Decides (is_inconsistent_state progress.held) (IsInconsistentBlockEnd before line)
 block_unsteady progress before line node after is ends =
     let held = after.held node is in (
-      λ e. (ends, (held.0, held.1, ap is_unsteady (sym held.2) ∙ e)),
+      λ e. (ends, (held.0, held.1, ap is_inconsistent_state (sym held.2) ∙ e)),
       λ unsteady.
           let same : unsteady.1.0 ≡ held.0 = lines_same before unsteady.1.0 held.0 unsteady.1.1 held.1 in
-          ap is_unsteady held.2 ∙ ap (λ fs. is_unsteady (held_after held_at_load (all_writes fs))) (sym same) ∙ unsteady.1.2,
+          ap is_inconsistent_state held.2 ∙ ap (λ fs. is_inconsistent_state (run_state_after load_run_state (field_line_writes fs))) (sym same) ∙ unsteady.1.2,
     )
 
 -- before the first block
-open_steady : (before : List (List ℕ)) (line : List ℕ) → ¬ OneOf BeginsBlock before → Decides false (EndsUnsteady before line)
+open_steady : (before : List (List ℕ)) (line : List ℕ) → ¬ HoldsForOne IsNodeLine before → Decides false (IsInconsistentBlockEnd before line)
 open_steady before line none = (λ e. cc, λ unsteady. absurd (none (lines_begin before unsteady.1.0 unsteady.1.1)))
 
-pub end_unsteady : (st : Stage) (progress : Progress) (before : List (List ℕ)) (line : List ℕ) → IsAfter progress before → progress.stage ≡ st → StandsAt st before → is_misplaced st (Some End) ≡ false → IsEnd line
-    → Decides (ends_unsteady st progress.held (Some End)) (EndsUnsteady before line)
+pub end_unsteady : (st : Stage) (progress : Progress) (before : List (List ℕ)) (line : List ℕ) → IsAfter progress before → progress.stage ≡ st → StandsAt st before → is_misplaced st (Some End) ≡ false → IsEndLine line
+    → Decides (ends_inconsistent_block st progress.held (Some End)) (IsInconsistentBlockEnd before line)
 end_unsteady stage.Header progress before line after is stands placed end = cc
 end_unsteady stage.Open progress before line after is stands placed end = open_steady before line stands.2
 end_unsteady (stage.Block node) progress before line after is stands placed end = block_unsteady progress before line node after is (inr end)
 end_unsteady stage.Ended progress before line after is stands placed end = cc
 
-pub node_unsteady : (st : Stage) (progress : Progress) (before : List (List ℕ)) (line : List ℕ) (y : ℕ) → IsAfter progress before → progress.stage ≡ st → StandsAt st before → is_misplaced st (Some (Node y)) ≡ false → Spells line (Node y)
-    → Decides (ends_unsteady st progress.held (Some (Node y))) (EndsUnsteady before line)
-node_unsteady stage.Header progress before line y after is stands placed begins = cc
-node_unsteady stage.Open progress before line y after is stands placed begins = open_steady before line stands.2
-node_unsteady (stage.Block node) progress before line y after is stands placed begins = block_unsteady progress before line node after is (inl (y, begins))
-node_unsteady stage.Ended progress before line y after is stands placed begins = cc
+pub node_unsteady : (st : Stage) (progress : Progress) (before : List (List ℕ)) (line : List ℕ) (y : ℕ) → IsAfter progress before → progress.stage ≡ st → StandsAt st before → is_misplaced st (Some (Node y)) ≡ false → IsTextOfForm line (Node y)
+    → Decides (ends_inconsistent_block st progress.held (Some (Node y))) (IsInconsistentBlockEnd before line)
+node_unsteady stage.Header progress before line y after is stands placed begins_with_text = cc
+node_unsteady stage.Open progress before line y after is stands placed begins_with_text = open_steady before line stands.2
+node_unsteady (stage.Block node) progress before line y after is stands placed begins_with_text = block_unsteady progress before line node after is (inl (y, begins_with_text))
+node_unsteady stage.Ended progress before line y after is stands placed begins_with_text = cc

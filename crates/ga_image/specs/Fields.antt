@@ -4,12 +4,12 @@ use Rattle.std.specs.Prelude.{ℕ, ◌+◌, ◌-◌, ◌==◌, ◌||◌, nat_lt,
 use Rattle.std.specs.List.{list_any}
 use Rattle.ga_node.specs.declared.place.Place.{Place}
 use Rattle.ga_node.specs.declared.place.Place.TheVariants as place
-use Rattle.ga_node.specs.Places.{greatest_of}
+use Rattle.ga_node.specs.Places.{greatest_value}
 use Rattle.ga_image.specs.declared.field.Field.{Field}
 use Rattle.ga_image.specs.declared.field.Field.TheVariants.{A, B, P, I, Io, Carry, Slot, Wait, Stop, Data, Return, Ram, Rom}
 use Rattle.ga_image.specs.declared.field.Format.{Format}
 use Rattle.ga_image.specs.declared.field.Format.TheVariants.{One, Two}
-use Rattle.ga_image.specs.declared.field.Held.{Held}
+use Rattle.ga_image.specs.declared.field.RunState.{RunState}
 
 -- a format has a field: format 1 has the registers A, B and P and the memories, format 2 has all
 abbrev pub has_field : Format → Field → Bool
@@ -43,20 +43,20 @@ abbrev pub field_count : ℕ
 field_count = 156
 
 -- the number of a field among those that a block can give
-abbrev pub number_of : Field → ℕ
-number_of A = 0
-number_of B = 1
-number_of P = 2
-number_of I = 3
-number_of Io = 4
-number_of Carry = 5
-number_of Slot = 6
-number_of Wait = 7
-number_of Stop = 8
-number_of (Data k) = 9 + k
-number_of (Return k) = 19 + k
-number_of (Ram cell) = 28 + cell
-number_of (Rom cell) = 92 + cell
+abbrev pub field_number : Field → ℕ
+field_number A = 0
+field_number B = 1
+field_number P = 2
+field_number I = 3
+field_number Io = 4
+field_number Carry = 5
+field_number Slot = 6
+field_number Wait = 7
+field_number Stop = 8
+field_number (Data k) = 9 + k
+field_number (Return k) = 19 + k
+field_number (Ram cell) = 28 + cell
+field_number (Rom cell) = 92 + cell
 
 -- the field of the next word of a line
 abbrev pub next_field : Field → Field
@@ -67,57 +67,57 @@ next_field (Rom cell) = Rom (cell + 1)
 next_field register = register
 
 -- words for a field and for those after it
-abbrev pub writes : Field → List ℕ → List (Field × ℕ)
-writes field [] = []
-writes field (word ∷ words) = (field, word) ∷ writes (next_field field) words
+abbrev pub field_writes : Field → List ℕ → List (Field × ℕ)
+field_writes field [] = []
+field_writes field (word ∷ words) = (field, word) ∷ field_writes (next_field field) words
 
 -- whether `count` words exceed the last word of a stack or the last cell of a memory
-abbrev pub goes_past : Field → ℕ → Bool
-goes_past (Data k) count = nat_lt 10 (k + count)
-goes_past (Return k) count = nat_lt 9 (k + count)
-goes_past (Ram cell) count = nat_lt 64 (cell + count)
-goes_past (Rom cell) count = nat_lt 64 (cell + count)
-goes_past register count = false
+abbrev pub exceeds_field : Field → ℕ → Bool
+exceeds_field (Data k) count = nat_lt 10 (k + count)
+exceeds_field (Return k) count = nat_lt 9 (k + count)
+exceeds_field (Ram cell) count = nat_lt 64 (cell + count)
+exceeds_field (Rom cell) count = nat_lt 64 (cell + count)
+exceeds_field register count = false
 
 -- the greatest word that a field holds
 abbrev pub greatest : Field → ℕ
-greatest field = greatest_of (field_place field)
+greatest field = greatest_value (field_place field)
 
 -- one of the words is past the greatest of the field
-abbrev pub is_too_great : Field → List ℕ → Bool
-is_too_great field words = list_any (λ word. nat_lt (greatest field) word) words
+abbrev pub has_too_great_word : Field → List ℕ → Bool
+has_too_great_word field words = list_any (λ word. nat_lt (greatest field) word) words
 
 -- one of the fields was given before, or is among them twice
-abbrev pub repeats : List Bool → List (Field × ℕ) → Bool
-repeats given [] = false
-repeats given (w ∷ ws) = slice_index_or given (number_of w.0) false || repeats (slice_set given (number_of w.0) true) ws
+abbrev pub has_repeated_field : List Bool → List (Field × ℕ) → Bool
+has_repeated_field given [] = false
+has_repeated_field given (w ∷ ws) = slice_index_or given (field_number w.0) false || has_repeated_field (slice_set given (field_number w.0) true) ws
 
 -- ---- a block's wait, stop and slot, and which of these are consistent
 
 -- at load a node neither waits nor is stopped, and a fetch is due
-abbrev pub held_at_load : Held
-held_at_load = record { wait = 0; stop = 0; slot = 4 }
+abbrev pub load_run_state : RunState
+load_run_state = record { wait = 0; stop = 0; slot = 4 }
 
 -- a block's wait, stop and slot, with a word for a field
-abbrev pub with_code : Held → Field → ℕ → Held
-with_code held Wait word = record held { wait = word }
-with_code held Stop word = record held { stop = word }
-with_code held Slot word = record held { slot = word }
-with_code held _ word = held
+abbrev pub with_run_state_code : RunState → Field → ℕ → RunState
+with_run_state_code held Wait word = record held { wait = word }
+with_run_state_code held Stop word = record held { stop = word }
+with_run_state_code held Slot word = record held { slot = word }
+with_run_state_code held _ word = held
 
 -- a block's wait, stop and slot, with one word more
-abbrev pub with_held : Held → Field × ℕ → Held
-with_held held w = with_code held w.0 w.1
+abbrev pub with_run_state_write : RunState → Field × ℕ → RunState
+with_run_state_write held w = with_run_state_code held w.0 w.1
 
 -- a block's wait, stop and slot after words, one after the other
-abbrev pub held_after : Held → List (Field × ℕ) → Held
-held_after held [] = held
-held_after held (w ∷ ws) = held_after (with_held held w) ws
+abbrev pub run_state_after : RunState → List (Field × ℕ) → RunState
+run_state_after held [] = held
+run_state_after held (w ∷ ws) = run_state_after (with_run_state_write held w) ws
 
 -- Whether a block's wait, stop and slot are inconsistent: the node waits and is stopped, or it waits for an instruction word
 -- where none is due, or for another word where an instruction word is due. The numbers of waits for an instruction word are
 -- below 32.
-abbrev pub is_unsteady : Held → Bool
-is_unsteady held =
+abbrev pub is_inconsistent_state : RunState → Bool
+is_inconsistent_state held =
     not (held.wait == 0)
     && (not (held.stop == 0) || (if nat_lt held.wait 32 then not (held.slot == 4) else held.slot == 4))

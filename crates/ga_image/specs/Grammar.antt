@@ -12,8 +12,8 @@ use Rattle.ga_image.specs.declared.field.Field.TheVariants.{Wait, Stop, Data, Re
 use Rattle.ga_image.specs.declared.field.Format.{Format}
 use Rattle.ga_image.specs.declared.field.Format.TheVariants.{One, Two}
 use Rattle.ga_node.specs.declared.wait.Wait.TheVariants.{Nothing}
-use Rattle.ga_image.specs.Fields.{field_place, writes, greatest, number_of, held_at_load, held_after, is_unsteady}
-use Rattle.ga_image.specs.Spelling.{Form, Node, Words, End, SpellsIn}
+use Rattle.ga_image.specs.Fields.{field_place, field_writes, greatest, field_number, load_run_state, run_state_after, is_inconsistent_state}
+use Rattle.ga_image.specs.Spelling.{Form, Node, Words, End, IsTextInFormat}
 
 -- the first line, which names the format
 abbrev pub header : Format → Line
@@ -42,39 +42,39 @@ abbrev pub block_forms : Block → List Form
 block_forms block = Node (yxx_of block.node) ∷ map field_line_form block.field_lines
 
 -- the fields that lines give, each with its word
-abbrev pub all_writes : List (Field × List ℕ) → List (Field × ℕ)
-all_writes field_lines = flat_map (λ line. writes line.0 line.1) field_lines
+abbrev pub field_line_writes : List (Field × List ℕ) → List (Field × ℕ)
+field_line_writes field_lines = flat_map (λ line. field_writes line.0 line.1) field_lines
 
 -- whether `count` words from a field on stay within its stack or memory
-abbrev pub Fits : Field → ℕ → Type 0
-Fits (Data k) count = k + count ≤ 10
-Fits (Return k) count = k + count ≤ 9
-Fits (Ram cell) count = cell + count ≤ 64
-Fits (Rom cell) count = cell + count ≤ 64
-Fits _ count = Unit {0}
+abbrev pub IsWithinField : Field → ℕ → Type 0
+IsWithinField (Data k) count = k + count ≤ 10
+IsWithinField (Return k) count = k + count ≤ 9
+IsWithinField (Ram cell) count = cell + count ≤ 64
+IsWithinField (Rom cell) count = cell + count ≤ 64
+IsWithinField _ count = Unit {0}
 
 -- a field line: no cell is past the last, and no word past the greatest of its field
 abbrev pub IsFieldLine : Field × List ℕ → Type 0
-IsFieldLine field_line = Fits field_line.0 (length field_line.1) × AllByRecursion (λ word. word ≤ greatest field_line.0) field_line.1
+IsFieldLine field_line = IsWithinField field_line.0 (length field_line.1) × AllByRecursion (λ word. word ≤ greatest field_line.0) field_line.1
 
 -- a block of a node of the grid
 pub record IsBlock (block : Block) : Type 0 where
   pub node : block.node < 144
   pub field_lines : AllByRecursion IsFieldLine block.field_lines
   -- no field is given twice
-  pub apart : IsDistinct nat_eq (map (λ w. number_of w.0) (all_writes block.field_lines))
+  pub apart : IsDistinct nat_eq (map (λ w. field_number w.0) (field_line_writes block.field_lines))
   -- the wait, stop and slot that the block gives are consistent
-  pub steady : is_unsteady (held_after held_at_load (all_writes block.field_lines)) ≡ false
+  pub steady : is_inconsistent_state (run_state_after load_run_state (field_line_writes block.field_lines)) ≡ false
 
 -- A node with another word in a field. A node that waits isn't stopped, and one that is stopped doesn't wait.
-abbrev pub with_field : NodeState → Field → ℕ → NodeState
-with_field node Wait code = record node { wait = wait_of code; stop = 0 }
-with_field node Stop number = record node { stop = number; wait = Nothing }
-with_field node field word = with_value node (field_place field) word
+abbrev pub with_field_word : NodeState → Field → ℕ → NodeState
+with_field_word node Wait code = record node { wait = wait_of code; stop = 0 }
+with_field_word node Stop number = record node { stop = number; wait = Nothing }
+with_field_word node field word = with_value node (field_place field) word
 
 -- a chip with another word in a field of a node
 unfoldable pub with_word : List NodeState → ℕ → Field × ℕ → List NodeState
-with_word chip node w = with_node chip node (with_field (node_at chip node) w.0 w.1)
+with_word chip node w = with_node chip node (with_field_word (node_at chip node) w.0 w.1)
 
 -- a chip with what a block gives, one word after the other
 abbrev pub chip_with_words : ℕ → List NodeState → List (Field × ℕ) → List NodeState
@@ -82,16 +82,16 @@ chip_with_words node chip [] = chip
 chip_with_words node chip (w ∷ ws) = chip_with_words node (with_word chip node w) ws
 
 -- a chip with what blocks give, one block after the other
-abbrev pub loaded : List NodeState → List Block → List NodeState
-loaded chip [] = chip
-loaded chip (block ∷ blocks) = loaded (chip_with_words block.node chip (all_writes block.field_lines)) blocks
+abbrev pub chip_with_blocks : List NodeState → List Block → List NodeState
+chip_with_blocks chip [] = chip
+chip_with_blocks chip (block ∷ blocks) = chip_with_blocks (chip_with_words block.node chip (field_line_writes block.field_lines)) blocks
 
 -- whether the lines are texts of these forms in the format, one each
-abbrev pub Spell : Format → List Line → List Form → Type 0
-Spell format [] [] = Unit {0}
-Spell format (text ∷ texts) (form ∷ forms) = SpellsIn format text form × Spell format texts forms
-Spell format [] (form ∷ forms) = ⊥
-Spell format (text ∷ texts) [] = ⊥
+abbrev pub AreLinesOfForms : Format → List Line → List Form → Type 0
+AreLinesOfForms format [] [] = Unit {0}
+AreLinesOfForms format (text ∷ texts) (form ∷ forms) = IsTextInFormat format text form × AreLinesOfForms format texts forms
+AreLinesOfForms format [] (form ∷ forms) = ⊥
+AreLinesOfForms format (text ∷ texts) [] = ⊥
 
 -- The lines are the header, blocks and `end`; the chip has what the blocks give, and else its defaults.
 pub record IsImage (texts : List Line) (chip : List NodeState) : Type 0 where
@@ -99,8 +99,8 @@ pub record IsImage (texts : List Line) (chip : List NodeState) : Type 0 where
   pub lines : List Line
   pub blocks : List Block
   pub starts : texts ≡ header format ∷ lines
-  pub spelled : Spell format lines (flat_map block_forms blocks ++ End ∷ [])
+  pub spelled : AreLinesOfForms format lines (flat_map block_forms blocks ++ End ∷ [])
   pub each : AllByRecursion IsBlock blocks
   -- no node has two blocks
   pub apart : IsDistinct nat_eq (map (λ block. block.node) blocks)
-  pub describes : chip ≡ loaded default_chip blocks
+  pub describes : chip ≡ chip_with_blocks default_chip blocks

@@ -11,7 +11,7 @@ use Rattle.ga_grid.specs.Grid.{load_p_of}
 use Rattle.ga_image.specs.declared.field.Field.{Field}
 use Rattle.ga_image.specs.declared.field.Field.TheVariants.{A, B, P, I, Io, Carry, Slot, Wait, Stop, Data, Return, Ram, Rom}
 use Rattle.ga_image.specs.declared.field.Format.TheVariants.{Two}
-use Rattle.ga_image.specs.Spelling.{Form, Node, Words, End, field_name, numbers_of, code_text}
+use Rattle.ga_image.specs.Spelling.{Form, Node, Words, End, field_name, field_numbers_text, code_text}
 use Rattle.ga_text.specs.Digits.{decimal3_of}
 use Rattle.ga_image.specs.Grammar.{header, Block, block_forms, IsImage}
 use Rattle.ga_node.specs.declared.wait.Wait.{Wait as NodeWait}
@@ -26,7 +26,7 @@ field_text Carry words = field_name Carry ++ code_text Carry (slice_index words 
 field_text Slot words = field_name Slot ++ code_text Slot (slice_index words 0)
 field_text Wait words = field_name Wait ++ code_text Wait (slice_index words 0)
 field_text Stop words = field_name Stop ++ code_text Stop (slice_index words 0)
-field_text field words = field_name field ++ numbers_of field words
+field_text field words = field_name field ++ field_numbers_text field words
 
 -- the text of a line after the header
 abbrev pub line_text : Form → Line
@@ -45,46 +45,46 @@ AreWords words = AllByRecursion (λ word. word < 2 ^ 18) words
 -- ---- what is written of a node
 
 -- the line of words for a field, unless each of them is the one at load
-abbrev pub line_unless : ℕ → Field → List ℕ → List (Field × List ℕ)
-line_unless at_load field words = if list_all (λ word. word == at_load) words then [] else (field, words) ∷ []
+abbrev pub line_unless_default : ℕ → Field → List ℕ → List (Field × List ℕ)
+line_unless_default at_load field words = if list_all (λ word. word == at_load) words then [] else (field, words) ∷ []
 
 -- the line of one word
-abbrev pub word_unless : ℕ → Field → ℕ → List (Field × List ℕ)
-word_unless at_load field word = line_unless at_load field (word ∷ [])
+abbrev pub word_line_unless_default : ℕ → Field → ℕ → List (Field × List ℕ)
+word_line_unless_default at_load field word = line_unless_default at_load field (word ∷ [])
 
 -- A memory is written in rows of eight words, from each of these cells on.
-abbrev pub row_cells : List ℕ
-row_cells = 0 ∷ 8 ∷ 16 ∷ 24 ∷ 32 ∷ 40 ∷ 48 ∷ 56 ∷ []
+abbrev pub row_start_cells : List ℕ
+row_start_cells = 0 ∷ 8 ∷ 16 ∷ 24 ∷ 32 ∷ 40 ∷ 48 ∷ 56 ∷ []
 
 abbrev pub row_of_words : List ℕ → ℕ → List ℕ
 row_of_words memory cell = take 8 (drop cell memory)
 
 -- the lines of the rows of a memory, whose cells are these fields and hold 0 at load
 abbrev pub memory_lines : (ℕ → Field) → List ℕ → List (Field × List ℕ)
-memory_lines field memory = flat_map (λ cell. line_unless 0 (field cell) (row_of_words memory cell)) row_cells
+memory_lines field memory = flat_map (λ cell. line_unless_default 0 (field cell) (row_of_words memory cell)) row_start_cells
 
 -- the lines of the registers that hold words
 abbrev pub register_lines : NodeRecord → NodeRecord → List (Field × List ℕ)
 register_lines fresh node =
-    word_unless fresh.a A node.a
-    ++ (word_unless fresh.b B node.b
-    ++ (word_unless fresh.p P node.p
-    ++ (word_unless fresh.i I node.i
-    ++ word_unless fresh.io Io node.io)))
+    word_line_unless_default fresh.a A node.a
+    ++ (word_line_unless_default fresh.b B node.b
+    ++ (word_line_unless_default fresh.p P node.p
+    ++ (word_line_unless_default fresh.i I node.i
+    ++ word_line_unless_default fresh.io Io node.io)))
 
 -- the lines of the carry and the slot, of the stacks, and of the wait and the stop
 abbrev pub state_lines : NodeRecord → NodeRecord → List (Field × List ℕ)
 state_lines fresh node =
-    word_unless (from_bool fresh.carry) Carry (from_bool node.carry)
-    ++ (word_unless fresh.slot Slot node.slot
-    ++ (line_unless fresh_word (Data 0) node.d
-    ++ (line_unless fresh_word (Return 0) node.r
-    ++ (word_unless (wait_code fresh.wait) Wait (wait_code node.wait)
-    ++ word_unless fresh.stop Stop node.stop))))
+    word_line_unless_default (from_bool fresh.carry) Carry (from_bool node.carry)
+    ++ (word_line_unless_default fresh.slot Slot node.slot
+    ++ (line_unless_default fresh_word (Data 0) node.d
+    ++ (line_unless_default fresh_word (Return 0) node.r
+    ++ (word_line_unless_default (wait_code fresh.wait) Wait (wait_code node.wait)
+    ++ word_line_unless_default fresh.stop Stop node.stop))))
 
 -- the lines of a node, which at load would be fresh
-abbrev pub lines_beside : NodeRecord → NodeRecord → List (Field × List ℕ)
-lines_beside fresh node =
+abbrev pub changed_lines : NodeRecord → NodeRecord → List (Field × List ℕ)
+changed_lines fresh node =
     register_lines fresh node
     ++ (state_lines fresh node
     ++ (memory_lines Ram node.ram
@@ -92,40 +92,40 @@ lines_beside fresh node =
 
 -- the lines of a node by its number
 unfoldable pub lines_at : ℕ → NodeRecord → List (Field × List ℕ)
-lines_at number node = lines_beside (fresh_record (load_p_of number)) node
+lines_at number node = changed_lines (fresh_record (load_p_of number)) node
 
 -- ---- the text of a chip
 
 -- the block of a node, unless it has no lines
-abbrev pub block_unless : ℕ → List (Field × List ℕ) → List Block
-block_unless number [] = []
-block_unless number (line ∷ lines) = record { node = number; field_lines = line ∷ lines } ∷ []
+abbrev pub block_unless_empty : ℕ → List (Field × List ℕ) → List Block
+block_unless_empty number [] = []
+block_unless_empty number (line ∷ lines) = record { node = number; field_lines = line ∷ lines } ∷ []
 
 -- the blocks of nodes from a number on
 unfoldable pub blocks_from : ℕ → List NodeRecord → List Block
 blocks_from number [] = []
-blocks_from number (node ∷ nodes) = block_unless number (lines_at number node) ++ blocks_from (number + 1) nodes
+blocks_from number (node ∷ nodes) = block_unless_empty number (lines_at number node) ++ blocks_from (number + 1) nodes
 
 -- the forms of the lines after the header
 abbrev pub forms_of : List NodeRecord → List Form
 forms_of nodes = flat_map block_forms (blocks_from 0 nodes) ++ End ∷ []
 
 -- the whole text
-unfoldable pub printed : List NodeRecord → Text
-printed nodes = lines_text (header Two ∷ map line_text (forms_of nodes))
+unfoldable pub printed_image : List NodeRecord → Text
+printed_image nodes = lines_text (header Two ∷ map line_text (forms_of nodes))
 
 -- ---- a text that describes a chip, and the chips that it can describe
 
 -- a set of sides that names one at least, where the node waits for one of a set
-abbrev pub HasSides : NodeWait → Type 0
-HasSides Nothing = Unit {0}
-HasSides (Fetch sides) = (0 < sides) × (sides < 16)
-HasSides (Read sides) = (0 < sides) × (sides < 16)
-HasSides (Write side) = Unit {0}
+abbrev pub HasWaitSides : NodeWait → Type 0
+HasWaitSides Nothing = Unit {0}
+HasWaitSides (Fetch sides) = (0 < sides) × (sides < 16)
+HasWaitSides (Read sides) = (0 < sides) × (sides < 16)
+HasWaitSides (Write side) = Unit {0}
 
 -- whether these are the words of a stack or a memory of this size
-abbrev pub HoldsWords : ℕ → List ℕ → Type 0
-HoldsWords size words = AreWords words × (length words ≡ size)
+abbrev pub AreBankWords : ℕ → List ℕ → Type 0
+AreBankWords size words = AreWords words × (length words ≡ size)
 
 -- the ranges of the registers that hold words
 pub record HasSoundRegisters (node : NodeRecord) : Type 0 where
@@ -138,23 +138,23 @@ pub record HasSoundRegisters (node : NodeRecord) : Type 0 where
 -- the sizes and ranges of the slot, of the stacks, and of the wait and the stop
 pub record HasSoundState (node : NodeRecord) : Type 0 where
   pub slot : node.slot ≤ 4
-  pub d : HoldsWords 10 node.d
-  pub r : HoldsWords 9 node.r
-  pub wait : HasSides node.wait
+  pub d : AreBankWords 10 node.d
+  pub r : AreBankWords 9 node.r
+  pub wait : HasWaitSides node.wait
   pub stop : node.stop ≤ 3
 
 -- sizes and ranges of all that a node holds
 pub record IsSoundRecord (node : NodeRecord) : Type 0 where
   pub registers : HasSoundRegisters node
   pub state : HasSoundState node
-  pub ram : HoldsWords 64 node.ram
-  pub rom : HoldsWords 64 node.rom
+  pub ram : AreBankWords 64 node.ram
+  pub rom : AreBankWords 64 node.rom
 
 -- each of 144 nodes is sound
-pub record AreSound (nodes : List NodeRecord) : Type 0 where
+pub record AreSoundRecords (nodes : List NodeRecord) : Type 0 where
   pub size : length nodes ≡ 144
   pub each : AllByRecursion IsSoundRecord nodes
 
 -- the lines are an image of a chip with these records
-abbrev pub Describes : List Line → List NodeRecord → Type 0
-Describes texts nodes = (chip : List NodeState) × IsImage texts chip × (records_of chip ≡ nodes)
+abbrev pub IsImageOfRecords : List Line → List NodeRecord → Type 0
+IsImageOfRecords texts nodes = (chip : List NodeState) × IsImage texts chip × (records_of chip ≡ nodes)

@@ -3,17 +3,17 @@ use Rattle.ga_image.specs.declared.fault.ImageCause.TheVariants as cause
 use Rattle.std.specs.Prelude.{ℕ, Bool, List, ◌≡◌, ◌+◌, ◌⊎◌, nat_lt, true, false, ◌||◌, if◌then◌else◌, [], ◌∷◌, length, replicate, slice_index_or, slice_set, is_none, Option, Some, None, Result, Ok, Err}
 use Rattle.ga_node.specs.Record.{NodeState}
 use Rattle.ga_image.specs.declared.field.Format.{Format}
-use Rattle.ga_image.specs.declared.field.Held.{Held}
-use Rattle.ga_grid.specs.Grid.{default_chip, node_of}
+use Rattle.ga_image.specs.declared.field.RunState.{RunState}
+use Rattle.ga_grid.specs.Grid.{default_chip, number_of_yxx}
 use Rattle.ga_image.specs.declared.fault.ImageCause.{ImageCause}
 use Rattle.ga_image.specs.declared.fault.ImageFault.{ImageFault}
 use Rattle.ga_image.specs.declared.field.Field.{Field}
 use Rattle.ga_image.specs.declared.field.Format.TheVariants.{One, Two}
-use Rattle.ga_image.specs.Fields.{held_at_load, with_held, is_unsteady, field_count, has_field, number_of, writes, goes_past, is_too_great, repeats}
+use Rattle.ga_image.specs.Fields.{load_run_state, with_run_state_write, is_inconsistent_state, field_count, has_field, field_number, field_writes, exceeds_field, has_too_great_word, has_repeated_field}
 use Rattle.ga_image.specs.Spelling.{Form, Node, Words, End, form}
-use Rattle.ga_text.specs.Lines.{Line, longest}
+use Rattle.ga_text.specs.Lines.{Line, max_input_line}
 use Rattle.ga_image.specs.Grammar.{is_header_of, format_of, with_word}
-use Rattle.ga_image.specs.FirstFault.{no_memory}
+use Rattle.ga_image.specs.FirstFault.{memory_fault}
 
 -- ---- the state after the lines of an image, one after the other
 
@@ -34,12 +34,12 @@ pub record Progress : Type 0 where
   -- for each field by its number, whether the last block gave it
   pub given : List Bool
   -- the wait, stop and slot of the last block's node
-  pub held : Held
+  pub held : RunState
   pub chip : List NodeState
 
 -- no field
-abbrev pub nothing_given : List Bool
-nothing_given = replicate field_count false
+abbrev pub no_fields_given : List Bool
+no_fields_given = replicate field_count false
 
 -- what is known before the first line
 unfoldable pub start : Progress
@@ -47,8 +47,8 @@ start = record {
   format = One;
   stage = Header;
   blocks = replicate 144 false;
-  given = nothing_given;
-  held = held_at_load;
+  given = no_fields_given;
+  held = load_run_state;
   chip = default_chip;
 }
 
@@ -57,12 +57,12 @@ abbrev pub is_header : Line → Bool
 is_header text = is_header_of text One || is_header_of text Two
 
 -- the form of a line, if the format has it
-abbrev pub kept_in : Format → Option Form → Option Form
-kept_in format (Some (Words field words)) = if has_field format field then Some (Words field words) else None
-kept_in format other = other
+abbrev pub allowed_form : Format → Option Form → Option Form
+allowed_form format (Some (Words field words)) = if has_field format field then Some (Words field words) else None
+allowed_form format other = other
 
-abbrev pub form_in : Format → Line → Option Form
-form_in format text = kept_in format (form text)
+abbrev pub form_in_format : Format → Line → Option Form
+form_in_format format text = allowed_form format (form text)
 
 -- whether the line has no form, is a field line before the first block, or comes after the end
 abbrev pub is_misplaced : Stage → Option Form → Bool
@@ -77,30 +77,30 @@ has_block progress (Some node) = slice_index_or progress.blocks node false
 has_block progress None = false
 
 -- the first of these tests that holds
-abbrev pub first_of : List (ImageCause × Bool) → Option ImageCause
-first_of [] = None
-first_of (test ∷ tests) = if test.1 then Some test.0 else first_of tests
+abbrev pub first_true_cause : List (ImageCause × Bool) → Option ImageCause
+first_true_cause [] = None
+first_true_cause (test ∷ tests) = if test.1 then Some test.0 else first_true_cause tests
 
 -- what may be wrong with a line that begins the block of a node, in the order in which it is answered
 unfoldable pub node_fault : Progress → ℕ → Option ImageCause
-node_fault progress yxx = first_of (
-    (cause.Node, is_none (node_of yxx))
-    ∷ (cause.Repeated, has_block progress (node_of yxx))
+node_fault progress yxx = first_true_cause (
+    (cause.Node, is_none (number_of_yxx yxx))
+    ∷ (cause.Repeated, has_block progress (number_of_yxx yxx))
     ∷ [])
 
 -- what may be wrong with a field line, in the order in which it is answered
 unfoldable pub words_fault : Progress → Field → List ℕ → Option ImageCause
-words_fault progress field words = first_of (
-    (cause.Place, goes_past field (length words))
-    ∷ (cause.Word, is_too_great field words)
-    ∷ (cause.Repeated, repeats progress.given (writes field words))
+words_fault progress field words = first_true_cause (
+    (cause.Place, exceeds_field field (length words))
+    ∷ (cause.Word, has_too_great_word field words)
+    ∷ (cause.Repeated, has_repeated_field progress.given (field_writes field words))
     ∷ [])
 
 -- Whether the line ends a block whose wait, stop and slot are inconsistent.
-abbrev pub ends_unsteady : Stage → Held → Option Form → Bool
-ends_unsteady (Block node) held (Some (Node yxx)) = is_unsteady held
-ends_unsteady (Block node) held (Some End) = is_unsteady held
-ends_unsteady _ held _ = false
+abbrev pub ends_inconsistent_block : Stage → RunState → Option Form → Bool
+ends_inconsistent_block (Block node) held (Some (Node yxx)) = is_inconsistent_state held
+ends_inconsistent_block (Block node) held (Some End) = is_inconsistent_state held
+ends_inconsistent_block _ held _ = false
 
 -- the fault of a line that is allowed there, by its form
 abbrev pub form_fault : Progress → Option Form → Option ImageCause
@@ -112,17 +112,17 @@ form_fault progress _ = None
 abbrev pub later_fault : Progress → Option Form → Option ImageCause
 later_fault progress form =
     if is_misplaced progress.stage form then Some cause.Line
-    else if ends_unsteady progress.stage progress.held form then Some cause.State
+    else if ends_inconsistent_block progress.stage progress.held form then Some cause.State
     else form_fault progress form
 
 -- what may be wrong with a line that isn't too long, by what may come next
 abbrev pub line_fault : Stage → Progress → Line → Option ImageCause
 line_fault Header progress text = if is_header text then None else Some cause.Header
-line_fault _ progress text = later_fault progress (form_in progress.format text)
+line_fault _ progress text = later_fault progress (form_in_format progress.format text)
 
 -- The first fault of a line; that it is too long comes before all others.
 unfoldable pub fault_of : Progress → Line → Option ImageCause
-fault_of progress text = if nat_lt longest (length text) then Some cause.Long else line_fault progress.stage progress text
+fault_of progress text = if nat_lt max_input_line (length text) then Some cause.Long else line_fault progress.stage progress text
 
 -- the node whose block the next line may continue, or else 0
 abbrev pub node_of_stage : Stage → ℕ
@@ -130,43 +130,43 @@ node_of_stage (Block node) = node
 node_of_stage _ = 0
 
 -- a word of the block is written
-abbrev pub with_write : Progress → Field × ℕ → Progress
-with_write progress w = record progress {
-  given = slice_set progress.given (number_of w.0) true;
-  held = with_held progress.held w;
+abbrev pub with_field_write : Progress → Field × ℕ → Progress
+with_field_write progress w = record progress {
+  given = slice_set progress.given (field_number w.0) true;
+  held = with_run_state_write progress.held w;
   chip = with_word progress.chip (node_of_stage progress.stage) w;
 }
 
 -- words of the block are written, one after the other
-abbrev pub with_writes : Progress → List (Field × ℕ) → Progress
-with_writes progress [] = progress
-with_writes progress (w ∷ ws) = with_writes (with_write progress w) ws
+abbrev pub with_field_writes : Progress → List (Field × ℕ) → Progress
+with_field_writes progress [] = progress
+with_field_writes progress (w ∷ ws) = with_field_writes (with_field_write progress w) ws
 
 -- a block of the node begins
 abbrev pub with_block : Progress → Option ℕ → Progress
 with_block progress (Some node) = record progress {
   stage = Block node;
   blocks = slice_set progress.blocks node true;
-  given = nothing_given;
-  held = held_at_load;
+  given = no_fields_given;
+  held = load_run_state;
 }
 with_block progress None = progress
 
 -- the state after a line of a form that is allowed there
-abbrev pub after_form : Progress → Option Form → Progress
-after_form progress (Some (Node yxx)) = with_block progress (node_of yxx)
-after_form progress (Some (Words field words)) = with_writes progress (writes field words)
-after_form progress (Some End) = record progress { stage = Ended }
-after_form progress None = progress
+abbrev pub progress_after_form : Progress → Option Form → Progress
+progress_after_form progress (Some (Node yxx)) = with_block progress (number_of_yxx yxx)
+progress_after_form progress (Some (Words field words)) = with_field_writes progress (field_writes field words)
+progress_after_form progress (Some End) = record progress { stage = Ended }
+progress_after_form progress None = progress
 
 -- what is known after a line at this stage
-abbrev pub after_stage : Stage → Progress → Line → Progress
-after_stage Header progress text = record progress { format = format_of text; stage = Open }
-after_stage _ progress text = after_form progress (form_in progress.format text)
+abbrev pub progress_after_stage : Stage → Progress → Line → Progress
+progress_after_stage Header progress text = record progress { format = format_of text; stage = Open }
+progress_after_stage _ progress text = progress_after_form progress (form_in_format progress.format text)
 
 -- what is known after a line with no fault
 unfoldable pub after_line : Progress → Line → Progress
-after_line progress text = after_stage progress.stage progress text
+after_line progress text = progress_after_stage progress.stage progress text
 
 -- a line's fault, or what the lines after it give
 abbrev pub refused : Option ImageCause → ℕ → Result (List NodeState) ImageFault → Result (List NodeState) ImageFault
@@ -174,16 +174,16 @@ refused (Some cause) line others = Err (record { line = line; cause = cause })
 refused None line others = others
 
 -- what the end of the text gives
-abbrev pub at_end : Stage → List NodeState → ℕ → Result (List NodeState) ImageFault
-at_end Ended chip line = Ok chip
-at_end _ chip line = Err (record { line = line; cause = cause.Truncated })
+abbrev pub result_at_end : Stage → List NodeState → ℕ → Result (List NodeState) ImageFault
+result_at_end Ended chip line = Ok chip
+result_at_end _ chip line = Err (record { line = line; cause = cause.Truncated })
 
 -- the chip, or the first fault with its line
 unfoldable pub reading : Progress → ℕ → List Line → Result (List NodeState) ImageFault
-reading progress line [] = at_end progress.stage progress.chip line
+reading progress line [] = result_at_end progress.stage progress.chip line
 reading progress line (text ∷ lines) = refused (fault_of progress text) line (reading (after_line progress text) (line + 1) lines)
 
 -- What a call returned is what reading gives, unless memory was refused.
 abbrev pub Gives : Result (List NodeState) ImageFault → Result (List NodeState) ImageFault → Type 0
 Gives (Ok chip) read = read ≡ Ok chip
-Gives (Err fault) read = (fault ≡ no_memory) ⊎ (read ≡ Err fault)
+Gives (Err fault) read = (fault ≡ memory_fault) ⊎ (read ≡ Err fault)

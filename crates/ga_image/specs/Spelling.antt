@@ -4,17 +4,17 @@ use Rattle.std.specs.Prelude.{◌≡◌, ◌≢◌, ℕ, ◌+◌, ◌-◌, ◌/�
 use Rattle.std.specs.List.{AllByRecursion}
 use Rattle.std.specs.Str.{str_to_ascii_lowercase}
 use Rattle.ga_text.specs.Lines.{Text, Line}
-use Rattle.ga_word.specs.Word.{read6_of}
+use Rattle.ga_word.specs.Word.{hex6_value}
 use Rattle.ga_node.specs.State.{IsWaitCode}
 use Rattle.ga_image.specs.declared.field.Field.{Field}
 use Rattle.ga_image.specs.declared.field.Format.{Format}
 use Rattle.ga_image.specs.Fields.{has_field}
 use Rattle.ga_image.specs.declared.field.Field.TheVariants.{A, B, P, I, Io, Carry, Slot, Wait, Stop, Data, Return, Ram, Rom}
-use Rattle.ga_text.specs.Digits.{decimal3_of, hex2_of, words_text, byte_in}
+use Rattle.ga_text.specs.Digits.{decimal3_of, hex2_of, words_text, hex_byte_value}
 use Rattle.std.specs.Cmp.Lexicographic.{pointwise}
-use Rattle.ga_ports.specs.Address.{is_single, set_number}
+use Rattle.ga_ports.specs.Address.{is_single_side, parse_side_set}
 use Rattle.ga_ports.specs.Steps.{◌>>=◌}
-use Rattle.ga_grid.specs.Grid.{node_number}
+use Rattle.ga_grid.specs.Grid.{parse_node_name}
 
 -- A line after the header: a block of the node with this row and column begins; words for a field and for those after it; or
 -- the end.
@@ -24,19 +24,19 @@ pub data Form : Type 0 where
   End : Form
 
 -- the letter of a side in a set, or a hyphen where the set lacks it
-abbrev pub letter : ℕ → ℕ → ℕ
-letter name bit = if bit == 1 then name else 45
+abbrev pub side_letter_or_hyphen : ℕ → ℕ → ℕ
+side_letter_or_hyphen name bit = if bit == 1 then name else 45
 
 -- a set of sides: r for right, d for down, l for left and u for up
-abbrev pub set_text : ℕ → Text
-set_text sides = letter 114 (sides / 8 % 2) ∷ letter 100 (sides / 4 % 2) ∷ letter 108 (sides / 2 % 2) ∷ letter 117 (sides % 2) ∷ []
+abbrev pub side_set_text : ℕ → Text
+side_set_text sides = side_letter_or_hyphen 114 (sides / 8 % 2) ∷ side_letter_or_hyphen 100 (sides / 4 % 2) ∷ side_letter_or_hyphen 108 (sides / 2 % 2) ∷ side_letter_or_hyphen 117 (sides % 2) ∷ []
 
 -- what a node waits for, by the number of the wait
 abbrev pub wait_text : ℕ → Text
 wait_text code =
-    if nat_lt code 32 then codes "fetch " ++ set_text (code - 16)
-    else if nat_lt code 48 then codes "read " ++ set_text (code - 32)
-    else codes "write " ++ set_text (code - 48)
+    if nat_lt code 32 then codes "fetch " ++ side_set_text (code - 16)
+    else if nat_lt code 48 then codes "read " ++ side_set_text (code - 32)
+    else codes "write " ++ side_set_text (code - 48)
 
 -- what a field line begins with
 abbrev pub field_name : Field → Text
@@ -55,35 +55,35 @@ field_name (Ram cell) = codes "ram "
 field_name (Rom cell) = codes "rom "
 
 -- the numbers of a field line after its name
-abbrev pub numbers_of : Field → List ℕ → List ℕ
-numbers_of (Ram cell) words = hex2_of cell ++ words_text words
-numbers_of (Rom cell) words = hex2_of cell ++ words_text words
-numbers_of _ words = words_text words
+abbrev pub field_numbers_text : Field → List ℕ → List ℕ
+field_numbers_text (Ram cell) words = hex2_of cell ++ words_text words
+field_numbers_text (Rom cell) words = hex2_of cell ++ words_text words
+field_numbers_text _ words = words_text words
 
 -- A register is given one word, a stack all its words from the top on; from a cell on 1 to 16 are given, and the cell has two
 -- digits.
-abbrev pub HasCount : Field → ℕ → Type 0
-HasCount (Data k) count = (k ≡ 0) × (count ≡ 10)
-HasCount (Return k) count = (k ≡ 0) × (count ≡ 9)
-HasCount (Ram cell) count = (cell < 256) × (1 ≤ count) × (count ≤ 16)
-HasCount (Rom cell) count = (cell < 256) × (1 ≤ count) × (count ≤ 16)
-HasCount _ count = count ≡ 1
+abbrev pub HasWordCount : Field → ℕ → Type 0
+HasWordCount (Data k) count = (k ≡ 0) × (count ≡ 10)
+HasWordCount (Return k) count = (k ≡ 0) × (count ≡ 9)
+HasWordCount (Ram cell) count = (cell < 256) × (1 ≤ count) × (count ≤ 16)
+HasWordCount (Rom cell) count = (cell < 256) × (1 ≤ count) × (count ≤ 16)
+HasWordCount _ count = count ≡ 1
 
 -- a field line of words, whose digits may be of either case
-pub record SpellsWords (text : Text) (field : Field) (words : List ℕ) : Type 0 where
-  pub count : HasCount field (length words)
+pub record IsTextOfWords (text : Text) (field : Field) (words : List ℕ) : Type 0 where
+  pub count : HasWordCount field (length words)
   pub six_digits : AllByRecursion (λ word. word < 2 ^ 24) words
   pub numbers : List ℕ
   pub parts : text ≡ field_name field ++ numbers
-  pub digits : str_to_ascii_lowercase numbers ≡ numbers_of field words
+  pub digits : str_to_ascii_lowercase numbers ≡ field_numbers_text field words
 
 -- the numbers that a carry, a slot, a wait or a stop may have in a line
-abbrev pub IsCode : Field → ℕ → Type 0
-IsCode Carry code = code ≤ 1
-IsCode Slot code = code ≤ 4
-IsCode Wait code = IsWaitCode code × (code ≢ 0)
-IsCode Stop code = (1 ≤ code) × (code ≤ 3)
-IsCode _ code = ⊥
+abbrev pub IsFieldCode : Field → ℕ → Type 0
+IsFieldCode Carry code = code ≤ 1
+IsFieldCode Slot code = code ≤ 4
+IsFieldCode Wait code = IsWaitCode code × (code ≢ 0)
+IsFieldCode Stop code = (1 ≤ code) × (code ≤ 3)
+IsFieldCode _ code = ⊥
 
 -- the text of the number of a carry, a slot, a wait or a stop: one decimal digit, or what the node waits for
 abbrev pub code_text : Field → ℕ → Text
@@ -91,25 +91,25 @@ code_text Wait code = wait_text code
 code_text _ code = (48 + code) ∷ []
 
 -- a line of a carry, a slot, a wait or a stop
-pub record SpellsCode (text : Text) (field : Field) (words : List ℕ) : Type 0 where
+pub record IsTextOfCode (text : Text) (field : Field) (words : List ℕ) : Type 0 where
   pub code : ℕ
   pub one : words ≡ code ∷ []
-  pub valid : IsCode field code
+  pub valid : IsFieldCode field code
   pub parts : text ≡ field_name field ++ code_text field code
 
 -- any field line
-abbrev pub SpellsField : Text → Field → List ℕ → Type 0
-SpellsField text Carry words = SpellsCode text Carry words
-SpellsField text Slot words = SpellsCode text Slot words
-SpellsField text Wait words = SpellsCode text Wait words
-SpellsField text Stop words = SpellsCode text Stop words
-SpellsField text field words = SpellsWords text field words
+abbrev pub IsTextOfField : Text → Field → List ℕ → Type 0
+IsTextOfField text Carry words = IsTextOfCode text Carry words
+IsTextOfField text Slot words = IsTextOfCode text Slot words
+IsTextOfField text Wait words = IsTextOfCode text Wait words
+IsTextOfField text Stop words = IsTextOfCode text Stop words
+IsTextOfField text field words = IsTextOfWords text field words
 
 -- whether the text is that of a line of this form after the header
-abbrev pub Spells : Line → Form → Type 0
-Spells text (Node yxx) = (yxx < 1000) × (text ≡ codes "node " ++ decimal3_of yxx)
-Spells text (Words field words) = SpellsField text field words
-Spells text End = text ≡ codes "end"
+abbrev pub IsTextOfForm : Line → Form → Type 0
+IsTextOfForm text (Node yxx) = (yxx < 1000) × (text ≡ codes "node " ++ decimal3_of yxx)
+IsTextOfForm text (Words field words) = IsTextOfField text field words
+IsTextOfForm text End = text ≡ codes "end"
 
 -- a form that lines of the format may have
 abbrev pub IsFormOf : Format → Form → Type 0
@@ -117,8 +117,8 @@ IsFormOf format (Words field words) = has_field format field ≡ true
 IsFormOf format _ = Unit {0}
 
 -- the text of a line of the format
-abbrev pub SpellsIn : Format → Line → Form → Type 0
-SpellsIn format text form = Spells text form × IsFormOf format form
+abbrev pub IsTextInFormat : Format → Line → Form → Type 0
+IsTextInFormat format text form = IsTextOfForm text form × IsFormOf format form
 
 -- ---- reading a line: the form that it parses as
 
@@ -127,7 +127,7 @@ unfoldable pub spaced_words : Text → Option (List ℕ)
 spaced_words [] = Some []
 spaced_words (space ∷ a ∷ b ∷ c ∷ d ∷ e ∷ f ∷ text) =
     if space == 32 then (do
-      word ← read6_of (a ∷ b ∷ c ∷ d ∷ e ∷ f ∷ [])
+      word ← hex6_value (a ∷ b ∷ c ∷ d ∷ e ∷ f ∷ [])
       words ← spaced_words text
       Some (word ∷ words))
     else None
@@ -146,13 +146,13 @@ words_in_row text = do
 -- a register and its word
 unfoldable pub word_form : Field → Text → Option Form
 word_form field text = do
-  word ← read6_of text
+  word ← hex6_value text
   Some (Words field (word ∷ []))
 
 -- a cell, and the words from it on
 unfoldable pub cells_form : (ℕ → Field) → Text → Option Form
 cells_form field (x ∷ y ∷ text) = do
-  cell ← byte_in (x ∷ y ∷ [])
+  cell ← hex_byte_value (x ∷ y ∷ [])
   found ← words_in_row text
   Some (Words (field cell) found)
 cells_form field _ = None
@@ -171,59 +171,59 @@ digit_form field least most _ = None
 -- a wait of this kind for a set of sides, of which it needs one
 unfoldable pub set_form : ℕ → Text → Option Form
 set_form kind text = do
-  sides ← set_number text
+  sides ← parse_side_set text
   if sides == 0 then None else Some (Words Wait ((kind + sides) ∷ []))
 
 -- a wait that writes to one side
 unfoldable pub side_form : Text → Option Form
 side_form text = do
-  sides ← set_number text
-  if is_single sides then Some (Words Wait ((48 + sides) ∷ [])) else None
+  sides ← parse_side_set text
+  if is_single_side sides then Some (Words Wait ((48 + sides) ∷ [])) else None
 
 -- the row and the column of a node
 unfoldable pub node_form : Text → Option Form
 node_form text = do
-  number ← node_number text
+  number ← parse_node_name text
   Some (Node number)
 
 -- the text begins with this front
-abbrev pub begins : Text → Text → Bool
-begins text front = pointwise nat_eq (take (length front) text) front
+abbrev pub begins_with_text : Text → Text → Bool
+begins_with_text text front = pointwise nat_eq (take (length front) text) front
 
 -- what a node waits for
 unfoldable pub wait_form : Text → Option Form
 wait_form text =
-    if begins text (codes "fetch ") then set_form 16 (drop 6 text)
-    else if begins text (codes "read ") then set_form 32 (drop 5 text)
-    else if begins text (codes "write ") then side_form (drop 6 text)
+    if begins_with_text text (codes "fetch ") then set_form 16 (drop 6 text)
+    else if begins_with_text text (codes "read ") then set_form 32 (drop 5 text)
+    else if begins_with_text text (codes "write ") then side_form (drop 6 text)
     else None
 
 -- a line of a stack, of a memory or of a node, or the end
 unfoldable pub wide_form : Text → Option Form
 wide_form text =
-    if begins text (codes "d") then stack_form (Data 0) 10 (drop 1 text)
-    else if begins text (codes "ram ") then cells_form Ram (drop 4 text)
-    else if begins text (codes "rom ") then cells_form Rom (drop 4 text)
-    else if begins text (codes "r") then stack_form (Return 0) 9 (drop 1 text)
-    else if begins text (codes "node ") then node_form (drop 5 text)
+    if begins_with_text text (codes "d") then stack_form (Data 0) 10 (drop 1 text)
+    else if begins_with_text text (codes "ram ") then cells_form Ram (drop 4 text)
+    else if begins_with_text text (codes "rom ") then cells_form Rom (drop 4 text)
+    else if begins_with_text text (codes "r") then stack_form (Return 0) 9 (drop 1 text)
+    else if begins_with_text text (codes "node ") then node_form (drop 5 text)
     else if pointwise nat_eq text (codes "end") then Some End
     else None
 
 -- a line of a carry, a slot, a wait or a stop, of a stack, of a memory or of a node, or the end
 unfoldable pub state_form : Text → Option Form
 state_form text =
-    if begins text (codes "carry ") then digit_form Carry 0 1 (drop 6 text)
-    else if begins text (codes "slot ") then digit_form Slot 0 4 (drop 5 text)
-    else if begins text (codes "wait ") then wait_form (drop 5 text)
-    else if begins text (codes "stop ") then digit_form Stop 1 3 (drop 5 text)
+    if begins_with_text text (codes "carry ") then digit_form Carry 0 1 (drop 6 text)
+    else if begins_with_text text (codes "slot ") then digit_form Slot 0 4 (drop 5 text)
+    else if begins_with_text text (codes "wait ") then wait_form (drop 5 text)
+    else if begins_with_text text (codes "stop ") then digit_form Stop 1 3 (drop 5 text)
     else wide_form text
 
 -- the form of a line, if it has one
 unfoldable pub form : Line → Option Form
 form text =
-    if begins text (codes "a ") then word_form A (drop 2 text)
-    else if begins text (codes "b ") then word_form B (drop 2 text)
-    else if begins text (codes "p ") then word_form P (drop 2 text)
-    else if begins text (codes "i ") then word_form I (drop 2 text)
-    else if begins text (codes "io ") then word_form Io (drop 3 text)
+    if begins_with_text text (codes "a ") then word_form A (drop 2 text)
+    else if begins_with_text text (codes "b ") then word_form B (drop 2 text)
+    else if begins_with_text text (codes "p ") then word_form P (drop 2 text)
+    else if begins_with_text text (codes "i ") then word_form I (drop 2 text)
+    else if begins_with_text text (codes "io ") then word_form Io (drop 3 text)
     else state_form text

@@ -73,10 +73,10 @@ progress_of parser = record {
 }
 
 -- the header was read, and no end
-abbrev pub IsBehindHeader : Stage → Type 0
-IsBehindHeader Open = Unit {0}
-IsBehindHeader (stage.Block node) = Unit {0}
-IsBehindHeader _ = ⊥
+abbrev pub IsAfterHeader : Stage → Type 0
+IsAfterHeader Open = Unit {0}
+IsAfterHeader (stage.Block node) = Unit {0}
+IsAfterHeader _ = ⊥
 
 -- ---- the text of fields and blocks as it is put together
 
@@ -110,8 +110,8 @@ words_in bank.Ram node = node.ram
 words_in bank.Rom node = node.rom
 
 -- how many words a stack or a memory has
-abbrev pub size_in : Bank → ℕ
-size_in bank.Data = 10
-size_in bank.Return = 9
-size_in bank.Ram = 64
-size_in bank.Rom = 64
+abbrev pub bank_size : Bank → ℕ
+bank_size bank.Data = 10
+bank_size bank.Return = 9
+bank_size bank.Ram = 64
+bank_size bank.Rom = 64

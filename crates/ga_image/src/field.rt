@@ -3,7 +3,7 @@
 ghost use Rattle.std.specs.Prelude.{◌≡◌, ◌<◌, ◌≤◌, length};
 ghost use Rattle.ga_image.specs.Spelling.{field_name};
 ghost use Rattle.ga_image.specs.inner.{field_in, HasCell};
-ghost use Rattle.ga_image.specs.Fields.{has_field, field_place, number_of, next_field, goes_past, is_too_great, held_at_load, with_code, is_unsteady};
+ghost use Rattle.ga_image.specs.Fields.{has_field, field_place, field_number, next_field, exceeds_field, has_too_great_word, load_run_state, with_run_state_code, is_inconsistent_state};
 
 use ga_node::Place;
 
@@ -125,7 +125,7 @@ impl Field {
     /// The number of the field among those of a node.
     pub(crate) fn number(self) -> usize
         requires { HasCell self }
-        ensures value { result ≡ number_of self }
+        ensures value { result ≡ field_number self }
         ensures in_range { result < FIELDS }
     {
         match self {
@@ -160,9 +160,9 @@ impl Field {
     }
 
     /// Whether `count` words exceed the last word of the stack or the last cell of the memory.
-    pub(crate) fn goes_past(self, count: usize) -> bool
+    pub(crate) fn exceeds_field(self, count: usize) -> bool
         requires { count ≤ 16 }
-        ensures { result ≡ goes_past self count }
+        ensures { result ≡ exceeds_field self count }
     {
         match self {
             Field::Data(word) => word as usize + count > 10,
@@ -174,7 +174,7 @@ impl Field {
 
     /// Whether one of the words is past the greatest that a place of this field holds.
     pub(crate) fn is_exceeded_by(self, words: &[u32]) -> bool
-        ensures { result ≡ is_too_great self words.now }
+        ensures { result ≡ has_too_great_word self words.now }
     {
         let greatest = self.place().greatest();
         words.iter().any(|word| *word > greatest)
@@ -183,7 +183,7 @@ impl Field {
 
 /// A block's wait, stop and slot of its node.
 #[derive(Clone, Copy)]
-pub(crate) struct Held {
+pub(crate) struct RunState {
     /// The number of the wait, or 0.
     pub wait: u32,
     /// The number of the stop, or 0.
@@ -192,12 +192,12 @@ pub(crate) struct Held {
     pub slot: u32,
 }
 
-impl Held {
+impl RunState {
     /// A node at load neither waits nor is stopped, and a fetch is due.
-    pub(crate) fn runs() -> Held
-        ensures { result ≡ held_at_load }
+    pub(crate) fn runs() -> RunState
+        ensures { result ≡ load_run_state }
     {
-        Held {
+        RunState {
             wait: 0,
             stop: 0,
             slot: 4,
@@ -205,21 +205,21 @@ impl Held {
     }
 
     /// The wait, stop and slot with a word for a field.
-    pub(crate) fn with(self, field: Field, word: u32) -> Held
-        ensures { result ≡ with_code self field word }
+    pub(crate) fn with(self, field: Field, word: u32) -> RunState
+        ensures { result ≡ with_run_state_code self field word }
     {
         match field {
-            Field::Wait => Held { wait: word, ..self },
-            Field::Stop => Held { stop: word, ..self },
-            Field::Slot => Held { slot: word, ..self },
+            Field::Wait => RunState { wait: word, ..self },
+            Field::Stop => RunState { stop: word, ..self },
+            Field::Slot => RunState { slot: word, ..self },
             _ => self,
         }
     }
 
     /// Whether the block's wait, stop and slot are inconsistent: its node both waits and is stopped, or waits to fetch where no
     /// fetch is due, or for another word where a fetch is due.
-    pub(crate) fn is_unsteady(self) -> bool
-        ensures { result ≡ is_unsteady self }
+    pub(crate) fn is_inconsistent_state(self) -> bool
+        ensures { result ≡ is_inconsistent_state self }
     {
         let is_fetch_due = self.slot == 4;
         let waits_to_fetch = self.wait < 32;

@@ -5,8 +5,8 @@ ghost use Rattle.std.specs.List.{list_all};
 ghost use Rattle.ga_grid.specs.Grid.{yxx_of};
 ghost use Rattle.ga_node.specs.State.{IsWaitCode};
 ghost use Rattle.ga_text.specs.Digits.{decimal3_of, hex2_of, words_text};
-ghost use Rattle.ga_image.specs.Spelling.{set_text, wait_text};
-ghost use Rattle.ga_image.specs.Printing.{field_text, line_unless, word_unless, AreWords};
+ghost use Rattle.ga_image.specs.Spelling.{side_set_text, wait_text};
+ghost use Rattle.ga_image.specs.Printing.{field_text, line_unless_default, word_line_unless_default, AreWords};
 ghost use Rattle.ga_image.specs.inner.{fields_text, HasWords, HasDigit};
 
 use super::field::Field;
@@ -21,7 +21,7 @@ fn push_words(text: &mut Vec<u8>, words: &[u32]) -> Result<(), AllocError>
 {
     for word in words {
         text.extend_from_slice(b" ")?;
-        text.extend_from_slice(&Word18::truncated(*word).hex6())?;
+        text.extend_from_slice(&Word18::from_low_bits(*word).hex6())?;
     }
     Ok(())
 }
@@ -30,7 +30,7 @@ fn push_words(text: &mut Vec<u8>, words: &[u32]) -> Result<(), AllocError>
 fn push_cell(text: &mut Vec<u8>, cell: u8) -> Result<(), AllocError>
     ensures { OnOk result (text.new.items ≡ text.old.items ++ hex2_of cell) }
 {
-    let [_, _, _, _, high, low] = Word18::truncated(u32::from(cell)).hex6();
+    let [_, _, _, _, high, low] = Word18::from_low_bits(u32::from(cell)).hex6();
     text.extend_from_slice(&[high, low])
 }
 
@@ -47,7 +47,7 @@ pub(crate) fn push_node(text: &mut Vec<u8>, node: NodeId) -> Result<(), AllocErr
 }
 
 /// The letter of a side, or a hyphen.
-fn letter(name: u8, is_named: bool) -> u8
+fn side_letter_or_hyphen(name: u8, is_named: bool) -> u8
     ensures { result ≡ (if is_named then name else 45) }
 {
     if is_named { name } else { b'-' }
@@ -55,13 +55,13 @@ fn letter(name: u8, is_named: bool) -> u8
 
 /// Adds a set of sides, given by its number.
 fn push_set(text: &mut Vec<u8>, sides: u32) -> Result<(), AllocError>
-    ensures { OnOk result (text.new.items ≡ text.old.items ++ set_text sides) }
+    ensures { OnOk result (text.new.items ≡ text.old.items ++ side_set_text sides) }
 {
     text.extend_from_slice(&[
-        letter(b'r', sides / 8 % 2 == 1),
-        letter(b'd', sides / 4 % 2 == 1),
-        letter(b'l', sides / 2 % 2 == 1),
-        letter(b'u', sides % 2 == 1),
+        side_letter_or_hyphen(b'r', sides / 8 % 2 == 1),
+        side_letter_or_hyphen(b'd', sides / 4 % 2 == 1),
+        side_letter_or_hyphen(b'l', sides / 2 % 2 == 1),
+        side_letter_or_hyphen(b'u', sides % 2 == 1),
     ])
 }
 
@@ -113,7 +113,7 @@ pub(crate) fn push_words_unless(
 ) -> Result<(), AllocError>
     requires field { HasWords field }
     requires words { AreWords words.now }
-    ensures { OnOk result (text.new.items ≡ text.old.items ++ fields_text (line_unless at_load field words.now)) }
+    ensures { OnOk result (text.new.items ≡ text.old.items ++ fields_text (line_unless_default at_load field words.now)) }
 {
     if are_at_load(words, at_load) {
         Ok(())
@@ -131,7 +131,7 @@ pub(crate) fn push_digit_unless(
 ) -> Result<(), AllocError>
     requires digit { digit < 10 }
     requires field { HasDigit field }
-    ensures { OnOk result (text.new.items ≡ text.old.items ++ fields_text (word_unless at_load field digit)) }
+    ensures { OnOk result (text.new.items ≡ text.old.items ++ fields_text (word_line_unless_default at_load field digit)) }
 {
     if digit == at_load {
         return Ok(());
@@ -143,7 +143,7 @@ pub(crate) fn push_digit_unless(
 /// Adds the line of what a node waits for, given by its number, unless it waits for nothing.
 pub(crate) fn push_wait_unless(text: &mut Vec<u8>, code: u32) -> Result<(), AllocError>
     requires { IsWaitCode code }
-    ensures { OnOk result (text.new.items ≡ text.old.items ++ fields_text (word_unless 0 Field.Wait code)) }
+    ensures { OnOk result (text.new.items ≡ text.old.items ++ fields_text (word_line_unless_default 0 Field.Wait code)) }
 {
     if code == 0 {
         return Ok(());

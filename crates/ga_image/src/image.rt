@@ -3,7 +3,7 @@
 ghost use Rattle.std.specs.Prelude.{◌≡◌, ◌⊎◌, List, IfOk, IfErr};
 ghost use Rattle.ga_node.specs.Record.{NodeState};
 ghost use Rattle.ga_grid.specs.Grid.{default_chip};
-ghost use Rattle.ga_image.specs.FirstFault.{IsFirstFault, no_memory};
+ghost use Rattle.ga_image.specs.FirstFault.{IsFirstFault, memory_fault};
 ghost use Rattle.ga_image.specs.Grammar.{IsImage};
 ghost use Rattle.ga_text.specs.Lines.{lines_of};
 ghost use Rattle.ga_image.specs.Reading.{start, reading, Gives};
@@ -26,7 +26,7 @@ pub fn parse(alloc: Global, text: &[u8]) -> Result<Chip, ImageFault>
     ensures only { (chip : List NodeState) → IsImage (lines_of text.now) chip → Gives result (Ok chip) }
 
     // A text that is no image is refused with the first fault of its lines, unless an allocation fails.
-    ensures refused { IfErr result (λ fault. (fault ≡ no_memory) ⊎ IsFirstFault (lines_of text.now) fault) }
+    ensures refused { IfErr result (λ fault. (fault ≡ memory_fault) ⊎ IsFirstFault (lines_of text.now) fault) }
 {
     match Chip::new(alloc) {
         Ok(chip) => read(chip, text),

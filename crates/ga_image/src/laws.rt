@@ -2,12 +2,12 @@
 
 ghost use Rattle.std.specs.Prelude.{ℕ, ◌≡◌, ◌<◌, ◌↔◌, List, length, Ok, Err};
 ghost use Rattle.ga_node.specs.Record.{NodeState, NodeRecord};
-ghost use Rattle.ga_grid.specs.Chip.{records_of, AreSteady};
+ghost use Rattle.ga_grid.specs.Chip.{records_of, HaveConsistentWaits};
 ghost use Rattle.ga_image.specs.declared.fault.ImageFault.{ImageFault};
 ghost use Rattle.ga_image.specs.FirstFault.{IsFirstFault};
 ghost use Rattle.ga_image.specs.Grammar.{IsImage};
 ghost use Rattle.ga_text.specs.Lines.{lines_of};
-ghost use Rattle.ga_image.specs.Printing.{printed, AreSound, Describes};
+ghost use Rattle.ga_image.specs.Printing.{printed_image, AreSoundRecords, IsImageOfRecords};
 ghost use Rattle.ga_image.specs.Reading.{start, reading};
 
 /// An image is shorter than 2 ^ 24 bytes: a block has at most one line for each field, and a line at most 200 bytes.
@@ -28,10 +28,10 @@ pub fn reader_agrees_with_grammar()
 /// consistent. Reading it gives the chip back, unless an allocation fails.
 #[tactic(auto, using(crate::proofs::PrintedBack::print_parse_round_trips))]
 pub fn print_parse_round_trips()
-    ensures { (nodes : List NodeRecord) → AreSound nodes → AreSteady nodes → Describes (lines_of (printed nodes)) nodes }
+    ensures { (nodes : List NodeRecord) → AreSoundRecords nodes → HaveConsistentWaits nodes → IsImageOfRecords (lines_of (printed_image nodes)) nodes }
 {}
 
 /// The wait, the slot and the stop are consistent in each node of a chip that an image describes.
-pub fn images_are_steady()
-    ensures { (texts : List (List ℕ)) (chip : List NodeState) → IsImage texts chip → AreSteady (records_of chip) }
+pub fn images_are_consistent()
+    ensures { (texts : List (List ℕ)) (chip : List NodeState) → IsImage texts chip → HaveConsistentWaits (records_of chip) }
 {}

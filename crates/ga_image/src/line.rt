@@ -7,8 +7,8 @@ ghost use Rattle.ga_image.specs.inner.{form_of, field_in};
 
 use super::field::{Bank, Field};
 use arrayvec::ArrayVec;
-use ga_grid::node_number;
-use ga_ports::set_number;
+use ga_grid::parse_node_name;
+use ga_ports::parse_side_set;
 use ga_text::parse_hex_byte;
 use ga_word::Word18;
 
@@ -34,7 +34,7 @@ fn read_words(text: &[u8]) -> Option<ArrayVec<u32, 16>>
         }
         let (first, after) = rest.split_at(7);
         let digits = first.strip_prefix(b" ")?;
-        words.push(Word18::read6(digits)?);
+        words.push(Word18::parse_hex6(digits)?);
         rest = after;
     }
     if words.is_empty() { None } else { Some(words) }
@@ -45,7 +45,7 @@ fn word_line(field: Field, text: &[u8]) -> Option<Line>
     ensures { option_map form_of result ≡ word_form field text.now }
 {
     let mut words = ArrayVec::new();
-    words.push(Word18::read6(text)?);
+    words.push(Word18::parse_hex6(text)?);
     Some(Line::Words(field, words))
 }
 
@@ -105,7 +105,7 @@ fn set_line(kind: u32, text: &[u8]) -> Option<Line>
     requires { kind ≤ 48 }
     ensures { option_map form_of result ≡ set_form kind text.now }
 {
-    let sides = set_number(text)?;
+    let sides = parse_side_set(text)?;
     if sides == 0 {
         None
     } else {
@@ -117,7 +117,7 @@ fn set_line(kind: u32, text: &[u8]) -> Option<Line>
 fn side_line(text: &[u8]) -> Option<Line>
     ensures { option_map form_of result ≡ side_form text.now }
 {
-    let sides = set_number(text)?;
+    let sides = parse_side_set(text)?;
     if sides == 8 || sides == 4 || sides == 2 || sides == 1 {
         Some(one_word(Field::Wait, 48 + sides))
     } else {
@@ -144,7 +144,7 @@ fn wait_line(text: &[u8]) -> Option<Line>
 fn node_line(text: &[u8]) -> Option<Line>
     ensures { option_map form_of result ≡ node_form text.now }
 {
-    Some(Line::Node(node_number(text)?))
+    Some(Line::Node(parse_node_name(text)?))
 }
 
 #[tactic(auto, unfolding(crate::specs::Spelling::wide_form))]

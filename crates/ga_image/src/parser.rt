@@ -2,9 +2,9 @@
 
 ghost use Rattle.std.specs.Prelude.{◌≡◌, ◌≤◌, length, OnOk, Some};
 ghost use Rattle.std.specs.Result.{result_err};
-ghost use Rattle.ga_grid.specs.Grid.{default_chip, node_of};
-ghost use Rattle.ga_image.specs.Fields.{writes, greatest};
-ghost use Rattle.ga_image.specs.inner.{HasCell, progress_of, stage_of, IsBehindHeader, HoldsCode, AreCodes};
+ghost use Rattle.ga_grid.specs.Grid.{default_chip, number_of_yxx};
+ghost use Rattle.ga_image.specs.Fields.{field_writes, greatest};
+ghost use Rattle.ga_image.specs.inner.{HasCell, progress_of, stage_of, IsAfterHeader, HoldsCode, AreCodes};
 ghost use Rattle.ga_image.specs.Reading.{Header};
 ghost use Rattle.ga_image.specs.Spelling.{Node, Words, End};
 ghost use Rattle.ga_image.specs.Grammar.{with_word};
@@ -12,22 +12,22 @@ ghost use Rattle.ga_image.specs.Reading.{
   start,
   words_fault,
   node_fault,
-  ends_unsteady,
-  kept_in,
+  ends_inconsistent_block,
+  allowed_form,
   later_fault,
   line_fault,
   fault_of,
   with_block,
-  with_writes,
-  after_form,
-  after_stage,
+  with_field_writes,
+  progress_after_form,
+  progress_after_stage,
   after_line,
 };
 
 use super::fault::ImageCause;
-use super::field::{FIELDS, Field, Format, Held};
+use super::field::{FIELDS, Field, Format, RunState};
 use super::line::Line;
-use ga_grid::{Chip, NODES, NodeId};
+use ga_grid::{CHIP_NODES, Chip, NodeId};
 use ga_node::Place;
 
 /// The most bytes that a line has before its line feed.
@@ -52,11 +52,11 @@ pub(crate) struct Parser {
     pub format: Format,
     pub stage: Stage,
     /// For each node by its number, whether it has a block.
-    pub blocks: [bool; NODES],
+    pub blocks: [bool; CHIP_NODES],
     /// For each field by its number, whether the last block gave it.
     pub given: [bool; FIELDS],
     /// The wait, stop and slot of the last block's node.
-    pub held: Held,
+    pub held: RunState,
     pub chip: Chip,
 }
 
@@ -70,9 +70,9 @@ impl Parser {
         Parser {
             format: Format::One,
             stage: Stage::Header,
-            blocks: [false; NODES],
+            blocks: [false; CHIP_NODES],
             given: [false; FIELDS],
-            held: Held::runs(),
+            held: RunState::runs(),
             chip,
         }
     }
@@ -106,7 +106,7 @@ impl Parser {
     fn read_header(&mut self, text: &[u8]) -> Result<(), ImageCause>
         requires { self.old.stage ≡ Stage.Header }
         ensures fault { result_err result ≡ line_fault Header (progress_of self.old) text.now }
-        ensures read { OnOk result (progress_of self.new ≡ after_stage Header (progress_of self.old) text.now) }
+        ensures read { OnOk result (progress_of self.new ≡ progress_after_stage Header (progress_of self.old) text.now) }
     {
         self.format = if text == b"ga144 1".as_slice() {
             Format::One
@@ -120,11 +120,11 @@ impl Parser {
     }
 
     /// Whether the wait, the stop and the slot of the block that ends here are inconsistent.
-    fn is_unsteady(&self) -> bool
-        ensures { result ≡ ends_unsteady (stage_of self.now.stage) self.now.held (Some End) }
+    fn is_inconsistent_state(&self) -> bool
+        ensures { result ≡ ends_inconsistent_block (stage_of self.now.stage) self.now.held (Some End) }
     {
         match self.stage {
-            Stage::Block(_) => self.held.is_unsteady(),
+            Stage::Block(_) => self.held.is_inconsistent_state(),
             _ => false,
         }
     }
@@ -132,11 +132,11 @@ impl Parser {
     /// Begins the block of a node, and ends the one before.
     #[tactic(auto, unfolding(crate::specs::Reading::node_fault))]
     fn begin_block(&mut self, yxx: u32) -> Result<(), ImageCause>
-        requires { IsBehindHeader (stage_of self.old.stage) }
+        requires { IsAfterHeader (stage_of self.old.stage) }
         ensures fault { result_err result ≡ later_fault (progress_of self.old) (Some (Node yxx)) }
-        ensures begun { OnOk result (progress_of self.new ≡ with_block (progress_of self.old) (node_of yxx)) }
+        ensures begun { OnOk result (progress_of self.new ≡ with_block (progress_of self.old) (number_of_yxx yxx)) }
     {
-        if self.is_unsteady() {
+        if self.is_inconsistent_state() {
             return Err(ImageCause::State);
         }
         let Some(node) = NodeId::from_yxx(yxx) else {
@@ -148,17 +148,17 @@ impl Parser {
         self.stage = Stage::Block(node);
         self.blocks[node.index()] = true;
         self.given = [false; FIELDS];
-        self.held = Held::runs();
+        self.held = RunState::runs();
         Ok(())
     }
 
     /// Ends the image, and the last block.
     fn end(&mut self) -> Result<(), ImageCause>
-        requires { IsBehindHeader (stage_of self.old.stage) }
+        requires { IsAfterHeader (stage_of self.old.stage) }
         ensures fault { result_err result ≡ later_fault (progress_of self.old) (Some End) }
-        ensures ended { OnOk result (progress_of self.new ≡ after_form (progress_of self.old) (Some End)) }
+        ensures ended { OnOk result (progress_of self.new ≡ progress_after_form (progress_of self.old) (Some End)) }
     {
-        if self.is_unsteady() {
+        if self.is_inconsistent_state() {
             return Err(ImageCause::State);
         }
         self.stage = Stage::Ended;
@@ -169,9 +169,9 @@ impl Parser {
     fn read_field(&mut self, field: Field, words: &[u32]) -> Result<(), ImageCause>
         requires few { length words.now ≤ 16 }
         requires codes { AreCodes field words.now }
-        requires open { IsBehindHeader (stage_of self.old.stage) }
-        ensures fault { result_err result ≡ later_fault (progress_of self.old) (kept_in self.old.format (Some (Words field words.now))) }
-        ensures read { OnOk result (progress_of self.new ≡ after_form (progress_of self.old) (kept_in self.old.format (Some (Words field words.now)))) }
+        requires open { IsAfterHeader (stage_of self.old.stage) }
+        ensures fault { result_err result ≡ later_fault (progress_of self.old) (allowed_form self.old.format (Some (Words field words.now))) }
+        ensures read { OnOk result (progress_of self.new ≡ progress_after_form (progress_of self.old) (allowed_form self.old.format (Some (Words field words.now)))) }
     {
         if !self.format.has(field) {
             return Err(ImageCause::Line);
@@ -189,9 +189,9 @@ impl Parser {
         requires codes { AreCodes field words.now }
         requires block { self.old.stage ≡ Stage.Block node }
         ensures fault { result_err result ≡ words_fault (progress_of self.old) field words.now }
-        ensures written { OnOk result (progress_of self.new ≡ with_writes (progress_of self.old) (writes field words.now)) }
+        ensures written { OnOk result (progress_of self.new ≡ with_field_writes (progress_of self.old) (field_writes field words.now)) }
     {
-        if field.goes_past(words.len()) {
+        if field.exceeds_field(words.len()) {
             return Err(ImageCause::Place);
         }
         if field.is_exceeded_by(words) {

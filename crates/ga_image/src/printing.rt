@@ -2,18 +2,18 @@
 
 ghost use Rattle.std.specs.Prelude.{◌≡◌, ◌<◌, ◌≤◌, ◌+◌, ◌++◌, length, take, drop, OnOk, IfOk, IfErr, ◌^◌, slice_index};
 ghost use Rattle.ga_node.specs.Record.{record_of, fresh_record};
-ghost use Rattle.ga_grid.specs.Chip.{records_of, AreSteady};
+ghost use Rattle.ga_grid.specs.Chip.{records_of, HaveConsistentWaits};
 ghost use Rattle.ga_grid.specs.Grid.{load_p_of};
-ghost use Rattle.ga_image.specs.inner.{fields_text, blocks_text, words_in, size_in, field_in};
-ghost use Rattle.ga_image.specs.Printing.{register_lines, state_lines, memory_lines, lines_beside, block_unless, lines_at, printed, AreWords, HasSoundRegisters, HasSoundState, HoldsWords, IsSoundRecord, AreSound, Describes};
+ghost use Rattle.ga_image.specs.inner.{fields_text, blocks_text, words_in, bank_size, field_in};
+ghost use Rattle.ga_image.specs.Printing.{register_lines, state_lines, memory_lines, changed_lines, block_unless_empty, lines_at, printed_image, AreWords, HasSoundRegisters, HasSoundState, AreBankWords, IsSoundRecord, AreSoundRecords, IsImageOfRecords};
 ghost use Rattle.ga_text.specs.Lines.{lines_of};
-ghost use Rattle.ga_image.specs.FirstFault.{no_memory};
+ghost use Rattle.ga_image.specs.FirstFault.{memory_fault};
 
 use super::fault::{ImageCause, ImageFault};
 use super::field::{Bank, Field};
 use super::field_text::{push_digit_unless, push_node, push_wait_unless, push_words_unless};
 use arrayvec::ArrayVec;
-use ga_grid::{Chip, NODES, NodeId, load_p};
+use ga_grid::{CHIP_NODES, Chip, NodeId, load_p};
 use ga_node::{Node, Place};
 use ga_stacks::FRESH_WORD;
 use std::alloc::{AllocError, Global};
@@ -32,7 +32,7 @@ const BLOCK_ROOM: usize = b"node 717\n".len()
     + 16 * (b"ram 38\n".len() + 8 * b" 03ffff".len());
 
 /// The most bytes of an image.
-const ROOM: usize = b"ga144 2\n".len() + NODES * BLOCK_ROOM + b"end\n".len();
+const ROOM: usize = b"ga144 2\n".len() + CHIP_NODES * BLOCK_ROOM + b"end\n".len();
 
 /// How many rows a memory is written in.
 const ROWS: u8 = 8;
@@ -55,13 +55,13 @@ const RETURN_WORDS: u8 = 9;
 #[tactic(auto, using(crate::proofs::PrintedBack::print_parse_round_trips))]
 pub fn print(alloc: Global, chip: &Chip) -> Result<Vec<u8>, ImageFault>
     // The text is the one that the records determine.
-    ensures text { IfOk result (λ text. text.items ≡ printed (records_of chip.now)) }
+    ensures text { IfOk result (λ text. text.items ≡ printed_image (records_of chip.now)) }
 
     // It is an image of a chip with the same records, where in each node the wait, the slot and the stop are consistent.
-    ensures back { IfOk result (λ text. AreSteady (records_of chip.now) → Describes (lines_of text.items) (records_of chip.now)) }
+    ensures back { IfOk result (λ text. HaveConsistentWaits (records_of chip.now) → IsImageOfRecords (lines_of text.items) (records_of chip.now)) }
 
     // Nothing is refused but memory.
-    ensures refused { IfErr result (λ fault. fault ≡ no_memory) }
+    ensures refused { IfErr result (λ fault. fault ≡ memory_fault) }
 {
     match whole_text(alloc, chip) {
         Ok(text) => Ok(text),
@@ -73,12 +73,12 @@ pub fn print(alloc: Global, chip: &Chip) -> Result<Vec<u8>, ImageFault>
 }
 
 fn whole_text(alloc: Global, chip: &Chip) -> Result<Vec<u8>, AllocError>
-    ensures text { IfOk result (λ text. text.items ≡ printed (records_of chip.now)) }
-    ensures sound { OnOk result (AreSound (records_of chip.now)) }
+    ensures text { IfOk result (λ text. text.items ≡ printed_image (records_of chip.now)) }
+    ensures sound { OnOk result (AreSoundRecords (records_of chip.now)) }
 {
     let mut text = Vec::with_capacity(alloc, ROOM)?;
     text.extend_from_slice(b"ga144 2\n")?;
-    for number in 0..NODES as u8 {
+    for number in 0..CHIP_NODES as u8 {
         let node = NodeId::new(number);
         push_block(&mut text, node, chip.node(node))?;
     }
@@ -88,7 +88,7 @@ fn whole_text(alloc: Global, chip: &Chip) -> Result<Vec<u8>, AllocError>
 
 /// Adds the block of a node, unless all that it holds is as at load.
 fn push_block(text: &mut Vec<u8>, node: NodeId, at: &Node) -> Result<(), AllocError>
-    ensures text { OnOk result (text.new.items ≡ text.old.items ++ blocks_text (block_unless node.number (lines_at node.number (record_of at.now)))) }
+    ensures text { OnOk result (text.new.items ≡ text.old.items ++ blocks_text (block_unless_empty node.number (lines_at node.number (record_of at.now)))) }
     ensures sound { OnOk result (IsSoundRecord (record_of at.now)) }
 {
     let before = text.as_slice().len();
@@ -152,9 +152,9 @@ fn push_state(text: &mut Vec<u8>, at: &Node) -> Result<(), AllocError>
 
 /// Adds the lines of a memory.
 fn push_memory(text: &mut Vec<u8>, at: &Node, bank: Bank) -> Result<(), AllocError>
-    requires { size_in bank ≡ 64 }
+    requires { bank_size bank ≡ 64 }
     ensures text { OnOk result (text.new.items ≡ text.old.items ++ fields_text (memory_lines (field_in bank) (words_in bank (record_of at.now)))) }
-    ensures sound { OnOk result (HoldsWords 64 (words_in bank (record_of at.now))) }
+    ensures sound { OnOk result (AreBankWords 64 (words_in bank (record_of at.now))) }
 {
     'rows: for number in 0..ROWS {
         let cell = ROW_WORDS * number;
@@ -171,9 +171,9 @@ fn push_memory(text: &mut Vec<u8>, at: &Node, bank: Bank) -> Result<(), AllocErr
 /// A word of a stack or a memory.
 #[tactic(auto, unfolding(ga_node::specs::Record::record_of))]
 fn word_at(at: &Node, bank: Bank, place: u8) -> u32
-    requires { place < size_in bank }
+    requires { place < bank_size bank }
     ensures value { result ≡ slice_index (words_in bank (record_of at.now)) place }
-    ensures size { 2 ≤ place → length (words_in bank (record_of at.now)) ≡ size_in bank }
+    ensures size { 2 ≤ place → length (words_in bank (record_of at.now)) ≡ bank_size bank }
     ensures in_range { result < 2 ^ 18 }
 {
     match bank {
@@ -189,9 +189,9 @@ fn row(at: &Node, bank: Bank, first: u8, count: u8) -> ArrayVec<u32, 16>
     requires first { first ≤ 56 }
     requires some { 2 < count }
     requires few { count ≤ 16 }
-    requires within { first + count ≤ size_in bank }
+    requires within { first + count ≤ bank_size bank }
     ensures items { result.items ≡ take count (drop first (words_in bank (record_of at.now))) }
-    ensures size { length (words_in bank (record_of at.now)) ≡ size_in bank }
+    ensures size { length (words_in bank (record_of at.now)) ≡ bank_size bank }
     ensures words { AreWords result.items }
 {
     let mut words = ArrayVec::new();

@@ -8,98 +8,98 @@ use Rattle.ga_event.specs.declared.event.Cause.{Cause}
 use Rattle.ga_event.specs.Touches.{touches}
 use Rattle.ga_event.specs.Apply.{EventOutcome}
 use Rattle.ga_journal.specs.declared.fault.JournalFault.{JournalFault}
-use Rattle.ga_journal.specs.declared.since.Since.{Since}
+use Rattle.ga_journal.specs.declared.since.EventsSince.{EventsSince}
 use Rattle.ga_journal.specs.Histories.{EntryRecord, history, JournalState}
 use Rattle.ga_journal.specs.inner.Histories.{Held, lists_of, Keeps, cut, older_causes, older_events, WalksBack, IsFirst, IsWalked, pasts_of, IsUntold, IsToldAt, AreTold}
-use Rattle.ga_event.specs.Told.{steps_of, events_in, events_told, made_in}
-use Rattle.ga_journal.specs.Logs.{Stamped, Records, IsSince, IsWhole}
+use Rattle.ga_event.specs.Told.{count_steps, events_of_causes, events_without_outcomes, made_event_in}
+use Rattle.ga_journal.specs.Logs.{StampedEvent, AreHistoriesOfLog, AreEventsSince, AreConsistentHistories}
 use Rattle.ga_event.specs.declared.made.Made.{Made}
 use Rattle.ga_journal.proofs.Cutting.{history-cut}
 use Rattle.ga_journal.proofs.Logs.{length-tellings, tellings, kept_log, length-built}
 use Rattle.ga_journal.proofs.Recalling.{older_are, older_causes_are, steps_older, walk_whole, cause_at, walked_drop, first_drop, log_lower, at_place, WalkOf}
-use Rattle.ga_journal.specs.Events.{kept_of, events_of, kept_before}
+use Rattle.ga_journal.specs.Events.{kept_outcomes, journal_events, kept_outcomes_before}
 use Rattle.std.proofs.Math.Seq.{drop-cons}
 use Rattle.std.proofs.lemmas.List.Elements.{All-head, All-tail}
 
 -- how many steps of a node are left is what is not walked of its history
-pub left_steps : (hs : List (List EntryRecord)) (lengths : List ℕ) (top n : ℕ) (log : List Stamped) → length hs ≡ 144 → length lengths ≡ 144 → n < 144 → WalksBack hs lengths top log
-    → slice_index lengths n ≡ steps_of n (older_events log)
+pub left_steps : (hs : List (List EntryRecord)) (lengths : List ℕ) (top n : ℕ) (log : List StampedEvent) → length hs ≡ 144 → length lengths ≡ 144 → n < 144 → WalksBack hs lengths top log
+    → slice_index lengths n ≡ count_steps n (older_events log)
 left_steps hs lengths top n log size all at w =
     sym (ap length (history-cut hs lengths n (omega (arith, size, at)) (omega (arith, all, at))) ∙ length-take-le (slice_index lengths n) (history hs n) (w.fits n))
     ∙ steps_older log top n (cut hs lengths) w.records.order w.records.histories
 
 -- i events are walked back, and the step was within the list before the last of them
-pub record IsDown (hs : List (List EntryRecord)) (lengths : List ℕ) (top : ℕ) (log : List Stamped) (n k : ℕ) (items : List Cause) (i : ℕ) : Type 0 where
+pub record IsDown (hs : List (List EntryRecord)) (lengths : List ℕ) (top : ℕ) (log : List StampedEvent) (n k : ℕ) (items : List Cause) (i : ℕ) : Type 0 where
   pub walk : WalksBack hs lengths top (drop i log)
   pub list : items ≡ map cause_at (take i log)
-  pub stood : k ≤ steps_of n (older_events (drop (i - 1) log))
+  pub stood : k ≤ count_steps n (older_events (drop (i - 1) log))
 
-some_left : (log : List Stamped) (i n k : ℕ) → 0 < k → k ≤ steps_of n (older_events (drop i log)) → i < length log
+some_left : (log : List StampedEvent) (i n k : ℕ) → 0 < k → k ≤ count_steps n (older_events (drop i log)) → i < length log
 some_left [] i n k some l = absurd (none (drop i []) (nothing i) l)
   where
-    nothing : (j : ℕ) → drop {A = Stamped} j [] ≡ []
+    nothing : (j : ℕ) → drop {A = StampedEvent} j [] ≡ []
     nothing zero = refl
     nothing (suc j) = refl
 
-    none : (xs : List Stamped) → xs ≡ [] → k ≤ steps_of n (older_events xs) → ⊥
-    none xs is l = let h : k ≤ steps_of n (older_events []) = subst (λ z. k ≤ steps_of n (older_events z)) is l in absurd (omega (arith, some, h))
+    none : (xs : List StampedEvent) → xs ≡ [] → k ≤ count_steps n (older_events xs) → ⊥
+    none xs is l = let h : k ≤ count_steps n (older_events []) = subst (λ z. k ≤ count_steps n (older_events z)) is l in absurd (omega (arith, some, h))
 some_left (x ∷ older) zero n k some l = omega arith
 some_left (x ∷ older) (suc i) n k some l = let h = some_left older i n k some l in omega (arith, h)
 
 -- how many steps are left, by the walk
-down_steps : (hs : List (List EntryRecord)) (lengths : List ℕ) (top : ℕ) (log : List Stamped) (n k : ℕ) (items : List Cause) (i : ℕ) → length hs ≡ 144 → length lengths ≡ 144 → n < 144 → k ≤ slice_index lengths n → IsDown hs lengths top log n k items i
-    → k ≤ steps_of n (older_events (drop i log))
+down_steps : (hs : List (List EntryRecord)) (lengths : List ℕ) (top : ℕ) (log : List StampedEvent) (n k : ℕ) (items : List Cause) (i : ℕ) → length hs ≡ 144 → length lengths ≡ 144 → n < 144 → k ≤ slice_index lengths n → IsDown hs lengths top log n k items i
+    → k ≤ count_steps n (older_events (drop i log))
 down_steps hs lengths top log n k items i size all at l d = subst (λ (z : ℕ). k ≤ z) (left_steps hs lengths top n (drop i log) size all at d.walk) l
 
-pub down_within : (hs : List (List EntryRecord)) (lengths : List ℕ) (top : ℕ) (log : List Stamped) (n k : ℕ) (items : List Cause) (i : ℕ) → length hs ≡ 144 → length lengths ≡ 144 → n < 144 → 0 < k → k ≤ slice_index lengths n → IsDown hs lengths top log n k items i
+pub down_within : (hs : List (List EntryRecord)) (lengths : List ℕ) (top : ℕ) (log : List StampedEvent) (n k : ℕ) (items : List Cause) (i : ℕ) → length hs ≡ 144 → length lengths ≡ 144 → n < 144 → 0 < k → k ≤ slice_index lengths n → IsDown hs lengths top log n k items i
     → i < length log
 down_within hs lengths top log n k items i size all at some l d = some_left log i n k some (down_steps hs lengths top log n k items i size all at l d)
 
 -- so one is left to be walked
-pub down_some : (hs : List (List EntryRecord)) (lengths : List ℕ) (top : ℕ) (log : List Stamped) (n k kept before : ℕ) (items : List Cause) → length hs ≡ 144 → length lengths ≡ 144 → n < 144 → 0 < k → k ≤ slice_index lengths n → kept ≡ length log
+pub down_some : (hs : List (List EntryRecord)) (lengths : List ℕ) (top : ℕ) (log : List StampedEvent) (n k kept before : ℕ) (items : List Cause) → length hs ≡ 144 → length lengths ≡ 144 → n < 144 → 0 < k → k ≤ slice_index lengths n → kept ≡ length log
     → before + length items ≡ kept → IsDown hs lengths top log n k items (kept - before) → 0 < before
 down_some hs lengths top log n k kept before items size all at some l long count d =
     let within : kept - before < length log = down_within hs lengths top log n k items (kept - before) size all at some l d in
     omega (arith, within, long, count)
 
 -- at first
-pub down_first : (hs : List (List EntryRecord)) (lengths : List ℕ) (top : ℕ) (log : List Stamped) (n k : ℕ) (items : List Cause) → length hs ≡ 144 → length lengths ≡ 144 → ((m : ℕ) → m < 144 → slice_index lengths m ≡ length (history hs m))
-    → Records log hs top → k ≤ length (history hs n) → items ≡ [] → IsDown hs lengths top log n k items 0
+pub down_first : (hs : List (List EntryRecord)) (lengths : List ℕ) (top : ℕ) (log : List StampedEvent) (n k : ℕ) (items : List Cause) → length hs ≡ 144 → length lengths ≡ 144 → ((m : ℕ) → m < 144 → slice_index lengths m ≡ length (history hs m))
+    → AreHistoriesOfLog log hs top → k ≤ length (history hs n) → items ≡ [] → IsDown hs lengths top log n k items 0
 down_first hs lengths top log n k items size all same r l none = record {
   walk = walk_whole hs lengths top log size all same r;
   list = none;
-  stood = subst (λ (i : ℕ). k ≤ steps_of n (older_events (drop i log))) (let y : 0 ≡ 0 - 1 = omega arith in y) (subst (λ (z : ℕ). k ≤ z) (steps_older log top n hs r.order r.histories) l);
+  stood = subst (λ (i : ℕ). k ≤ count_steps n (older_events (drop i log))) (let y : 0 ≡ 0 - 1 = omega arith in y) (subst (λ (z : ℕ). k ≤ z) (steps_older log top n hs r.order r.histories) l);
 }
 
 -- an event more is walked
-pub down_more : (hs : List (List EntryRecord)) (lengths more : List ℕ) (top now : ℕ) (log : List Stamped) (n k : ℕ) (items all : List Cause) (i : ℕ) (e : Cause) (told : Made) → length hs ≡ 144 → length lengths ≡ 144 → n < 144
+pub down_more : (hs : List (List EntryRecord)) (lengths more : List ℕ) (top now : ℕ) (log : List StampedEvent) (n k : ℕ) (items all : List Cause) (i : ℕ) (e : Cause) (told : Made) → length hs ≡ 144 → length lengths ≡ 144 → n < 144
     → 0 < k → k ≤ slice_index lengths n → IsDown hs lengths top log n k items i → IsFirst (drop i log) e told → IsWalked hs more now (drop i log) → all ≡ items ++ e ∷ [] → IsDown hs more now log n k all (suc i)
 down_more hs lengths more top now log n k items all i e told size whole at some l d first walked is = record {
   walk = walked_drop hs more now log i (down_within hs lengths top log n k items i size whole at some l d) walked;
   list = is ∙ ap (λ z. z ++ e ∷ []) d.list ∙ sym (first_drop log i e told first);
-  stood = subst (λ (j : ℕ). k ≤ steps_of n (older_events (drop j log))) (let y : i ≡ suc i - 1 = omega arith in y) (down_steps hs lengths top log n k items i size whole at l d);
+  stood = subst (λ (j : ℕ). k ≤ count_steps n (older_events (drop j log))) (let y : i ≡ suc i - 1 = omega arith in y) (down_steps hs lengths top log n k items i size whole at l d);
 }
 
 -- the events of a log
-events_older : (log : List Stamped) → events_in (older_causes log) ≡ older_events log
-events_older log = ap events_in (older_causes_are log) ∙ sym (older_are log)
+events_older : (log : List StampedEvent) → events_of_causes (older_causes log) ≡ older_events log
+events_older log = ap events_of_causes (older_causes_are log) ∙ sym (older_are log)
 
-length-older : (log : List Stamped) → length (older_causes log) ≡ length log
+length-older : (log : List StampedEvent) → length (older_causes log) ≡ length log
 length-older log = ap length (older_causes_are log) ∙ length-map (tellings log) (λ (y : Cause × EventOutcome). y.0) ∙ length-tellings log
 
-step_more : (n : ℕ) (xs : List Event) (e : Event) → steps_of n (xs ++ e ∷ []) ≡ steps_of n xs + cond (touches e n) 1 0
-step_more n xs e = sum_by-append (λ (y : Event). cond (touches y n) 1 0) xs (e ∷ []) ∙ ap (λ (z : ℕ). steps_of n xs + z) (let h : 0 + cond (touches e n) 1 0 ≡ cond (touches e n) 1 0 = omega arith in h)
+step_more : (n : ℕ) (xs : List Event) (e : Event) → count_steps n (xs ++ e ∷ []) ≡ count_steps n xs + cond (touches e n) 1 0
+step_more n xs e = sum_by-append (λ (y : Event). cond (touches y n) 1 0) xs (e ∷ []) ∙ ap (λ (z : ℕ). count_steps n xs + z) (let h : 0 + cond (touches e n) 1 0 ≡ cond (touches e n) 1 0 = omega arith in h)
 
-one_step : (n k : ℕ) (xs : List Event) (e : Event) → k ≤ steps_of n (xs ++ e ∷ []) → steps_of n xs < k → (touches e n ≡ true) × (steps_of n xs + 1 ≡ k)
+one_step : (n k : ℕ) (xs : List Event) (e : Event) → k ≤ count_steps n (xs ++ e ∷ []) → count_steps n xs < k → (touches e n ≡ true) × (count_steps n xs + 1 ≡ k)
 one_step n k xs e l m = go (touches e n) refl
   where
-    go : (b : Bool) → touches e n ≡ b → (touches e n ≡ true) × (steps_of n xs + 1 ≡ k)
-    go true is = (is, let h : steps_of n (xs ++ e ∷ []) ≡ steps_of n xs + 1 = step_more n xs e ∙ ap (λ (z : Bool). steps_of n xs + cond {A = ℕ} z 1 0) is in omega (arith, h, l, m))
-    go false is = let h : steps_of n (xs ++ e ∷ []) ≡ steps_of n xs + 0 = step_more n xs e ∙ ap (λ (z : Bool). steps_of n xs + cond {A = ℕ} z 1 0) is in absurd (omega (arith, h, l, m))
+    go : (b : Bool) → touches e n ≡ b → (touches e n ≡ true) × (count_steps n xs + 1 ≡ k)
+    go true is = (is, let h : count_steps n (xs ++ e ∷ []) ≡ count_steps n xs + 1 = step_more n xs e ∙ ap (λ (z : Bool). count_steps n xs + cond {A = ℕ} z 1 0) is in omega (arith, h, l, m))
+    go false is = let h : count_steps n (xs ++ e ∷ []) ≡ count_steps n xs + 0 = step_more n xs e ∙ ap (λ (z : Bool). count_steps n xs + cond {A = ℕ} z 1 0) is in absurd (omega (arith, h, l, m))
 
 -- what was walked is what came since
-since_of : (log : List Stamped) (i n k m steps : ℕ) → suc i ≤ length log → k ≤ steps_of n (older_events (drop i log)) → steps_of n (older_events (drop (suc i) log)) < k → steps ≡ steps_of m (older_events (drop (suc i) log))
-    → IsSince (older_causes log) n k m (reverse (map cause_at (take (suc i) log))) (length log - suc i) steps
+since_of : (log : List StampedEvent) (i n k m steps : ℕ) → suc i ≤ length log → k ≤ count_steps n (older_events (drop i log)) → count_steps n (older_events (drop (suc i) log)) < k → steps ≡ count_steps m (older_events (drop (suc i) log))
+    → AreEventsSince (older_causes log) n k m (reverse (map cause_at (take (suc i) log))) (length log - suc i) steps
 since_of [] i n k m steps within l below is = absurd (omega (arith, within))
 since_of (x ∷ older) zero n k m steps within l below is =
     let s = one_step n k (older_events older) x.event l below in
@@ -111,11 +111,11 @@ since_of (x ∷ older) zero n k m steps within l below is =
       later = [];
       begins = refl;
       is_step = s.0;
-      number = ap (λ z. steps_of n z + 1) (events_older older) ∙ s.1;
-      others = ap (steps_of m) (events_older older) ∙ sym is;
+      number = ap (λ z. count_steps n z + 1) (events_older older) ∙ s.1;
+      others = ap (count_steps m) (events_older older) ∙ sym is;
     }
 since_of (x ∷ older) (suc i) n k m steps within l below is =
-    let r : IsSince (older_causes older) n k m (reverse (map cause_at (take (suc i) older))) (length older - suc i) steps = since_of older i n k m steps (omega (arith, within)) l below is in
+    let r : AreEventsSince (older_causes older) n k m (reverse (map cause_at (take (suc i) older))) (length older - suc i) steps = since_of older i n k m steps (omega (arith, within)) l below is in
     let turned : reverse (cause_at x ∷ map cause_at (take (suc i) older)) ≡ reverse (map cause_at (take (suc i) older)) ++ cause_at x ∷ [] = reverse-append (cause_at x ∷ []) (map cause_at (take (suc i) older)) in
     record {
       earlier = r.earlier;
@@ -130,34 +130,34 @@ since_of (x ∷ older) (suc i) n k m steps within l below is =
     }
 
 -- the step is no longer within the list
-stopped : (log : List Stamped) (n k m steps : ℕ) (i : ℕ) → i ≤ length log → k ≤ steps_of n (older_events (drop (i - 1) log)) → steps_of n (older_events (drop i log)) < k → steps ≡ steps_of m (older_events (drop i log))
-    → IsSince (older_causes log) n k m (reverse (map cause_at (take i log))) (length log - i) steps
+stopped : (log : List StampedEvent) (n k m steps : ℕ) (i : ℕ) → i ≤ length log → k ≤ count_steps n (older_events (drop (i - 1) log)) → count_steps n (older_events (drop i log)) < k → steps ≡ count_steps m (older_events (drop i log))
+    → AreEventsSince (older_causes log) n k m (reverse (map cause_at (take i log))) (length log - i) steps
 stopped log n k m steps zero within l below is =
-    let h : k ≤ steps_of n (older_events log) = subst (λ (j : ℕ). k ≤ steps_of n (older_events (drop j log))) (let y : 0 - 1 ≡ 0 = omega arith in y) l in
-    absurd (both k (steps_of n (older_events log)) h below)
+    let h : k ≤ count_steps n (older_events log) = subst (λ (j : ℕ). k ≤ count_steps n (older_events (drop j log))) (let y : 0 - 1 ≡ 0 = omega arith in y) l in
+    absurd (both k (count_steps n (older_events log)) h below)
   where
     both : (a b : ℕ) → a ≤ b → b < a → ⊥
     both a b p q = omega arith
 stopped log n k m steps (suc i) within l below is =
-    since_of log i n k m steps within (subst (λ (j : ℕ). k ≤ steps_of n (older_events (drop j log))) (let y : suc i - 1 ≡ i = omega arith in y) l) below is
+    since_of log i n k m steps within (subst (λ (j : ℕ). k ≤ count_steps n (older_events (drop j log))) (let y : suc i - 1 ≡ i = omega arith in y) l) below is
 
-pub down_last : (hs : List (List EntryRecord)) (lengths : List ℕ) (top : ℕ) (log : List Stamped) (n k m before steps : ℕ) (items all : List Cause) (i : ℕ) → length hs ≡ 144 → length lengths ≡ 144 → n < 144 → m < 144 → i ≤ length log → length log - i ≡ before
-    → slice_index lengths n < k → IsDown hs lengths top log n k items i → all ≡ reverse items → steps ≡ slice_index lengths m → IsSince (older_causes log) n k m all before steps
+pub down_last : (hs : List (List EntryRecord)) (lengths : List ℕ) (top : ℕ) (log : List StampedEvent) (n k m before steps : ℕ) (items all : List Cause) (i : ℕ) → length hs ≡ 144 → length lengths ≡ 144 → n < 144 → m < 144 → i ≤ length log → length log - i ≡ before
+    → slice_index lengths n < k → IsDown hs lengths top log n k items i → all ≡ reverse items → steps ≡ slice_index lengths m → AreEventsSince (older_causes log) n k m all before steps
 down_last hs lengths top log n k m before steps items all i size whole at there within count l d is other =
-    subst (λ z. IsSince (older_causes log) n k m z before steps) (sym (is ∙ ap reverse d.list))
-    (subst (λ (j : ℕ). IsSince (older_causes log) n k m (reverse (map cause_at (take i log))) j steps) count
+    subst (λ z. AreEventsSince (older_causes log) n k m z before steps) (sym (is ∙ ap reverse d.list))
+    (subst (λ (j : ℕ). AreEventsSince (older_causes log) n k m (reverse (map cause_at (take i log))) j steps) count
     (stopped log n k m steps i within d.stood
     (subst (λ (z : ℕ). z < k) (left_steps hs lengths top n (drop i log) size whole at d.walk) l)
     (other ∙ left_steps hs lengths top m (drop i log) size whole there d.walk)))
 
 -- the result of a journal's walk
-pub since_kept : (r : Result Since JournalFault) (vecs : List Held) (top kept n k m : ℕ) (log : List Stamped) (all : List Cause)
-    → IfOk r (λ since. (l : List Stamped) → kept ≡ length l → Records l (lists_of vecs) top → IsSince (older_causes l) n k m since.causes.items since.before since.steps) → kept ≡ length log → Records log (lists_of vecs) top → older_causes log ≡ all
-    → IfOk r (λ since. IsSince all n k m since.causes.items since.before since.steps)
-since_kept (Ok since) vecs top kept n k m log all f long below same = subst (λ z. IsSince z n k m since.causes.items since.before since.steps) same (f log long below)
+pub since_kept : (r : Result EventsSince JournalFault) (vecs : List Held) (top kept n k m : ℕ) (log : List StampedEvent) (all : List Cause)
+    → IfOk r (λ since. (l : List StampedEvent) → kept ≡ length l → AreHistoriesOfLog l (lists_of vecs) top → AreEventsSince (older_causes l) n k m since.causes.items since.before since.steps) → kept ≡ length log → AreHistoriesOfLog log (lists_of vecs) top → older_causes log ≡ all
+    → IfOk r (λ since. AreEventsSince all n k m since.causes.items since.before since.steps)
+since_kept (Ok since) vecs top kept n k m log all f long below same = subst (λ z. AreEventsSince z n k m since.causes.items since.before since.steps) same (f log long below)
 since_kept (Err why) vecs top kept n k m log all f long below same = tt
 
-pub since_short : (r : Result Since JournalFault) (vecs : List Held) (top made kept limit : ℕ) → Keeps vecs top made kept limit → IfOk r (λ since. since.before + length since.causes.items ≡ kept)
+pub since_short : (r : Result EventsSince JournalFault) (vecs : List Held) (top made kept limit : ℕ) → Keeps vecs top made kept limit → IfOk r (λ since. since.before + length since.causes.items ≡ kept)
     → IfOk r (λ since. since.before + length since.causes.items < 2 ^ 32)
 since_short (Ok since) vecs top made kept limit k f = omega (arith, f, k.count, k.within, k.fits)
 since_short (Err why) vecs top made kept limit k f = tt
@@ -169,17 +169,17 @@ tested lengths at n k is l = subst (λ (z : ℕ). k ≤ slice_index lengths z) i
 pub tested_not : (lengths : List ℕ) (at n k : ℕ) → at ≡ n → slice_index lengths at < k → slice_index lengths n < k
 tested_not lengths at n k is l = subst (λ (z : ℕ). slice_index lengths z < k) is l
 
-pub some_of : (log : List Stamped) (i : ℕ) → i < length log → 0 < length (drop i log)
+pub some_of : (log : List StampedEvent) (i : ℕ) → i < length log → 0 < length (drop i log)
 some_of log i l = let n : length (drop i log) ≡ length log - i = length-drop i log in omega (arith, n, l)
 
 -- ---- Reading the events of the history one by one from the newest back.
 
-length-older_events : (log : List Stamped) → length (older_events log) ≡ length log
+length-older_events : (log : List StampedEvent) → length (older_events log) ≡ length log
 length-older_events [] = refl
 length-older_events (x ∷ older) = length_push (older_events older) x.event ∙ (let h = length-older_events older in omega (arith, h))
 
 -- the events before a place
-older_dropped : (log : List Stamped) (j place : ℕ) → j + place ≡ length log → older_events (drop j log) ≡ take place (older_events log)
+older_dropped : (log : List StampedEvent) (j place : ℕ) → j + place ≡ length log → older_events (drop j log) ≡ take place (older_events log)
 older_dropped [] zero zero q = refl
 older_dropped [] zero (suc place) q = absurd (omega (arith, q))
 older_dropped [] (suc j) place q = absurd (omega (arith, q))
@@ -191,10 +191,10 @@ older_dropped (x ∷ older) (suc j) place q =
     older_dropped older j place (omega (arith, q)) ∙ sym (take-append-le place (older_events older) (x.event ∷ []) (omega (arith, n, q)))
 
 -- at first no event was read
-pub none_told : (vecs : List Held) (lengths : List ℕ) (top kept : ℕ) (book : JournalState) → book.histories ≡ lists_of vecs → (kept_is : kept ≡ length (kept_of book)) → Keeps vecs top book.made kept book.limit → IsWhole book.histories book.made
+pub none_told : (vecs : List Held) (lengths : List ℕ) (top kept : ℕ) (book : JournalState) → book.histories ≡ lists_of vecs → (kept_is : kept ≡ length (kept_outcomes book)) → Keeps vecs top book.made kept book.limit → AreConsistentHistories book.histories book.made
     → length vecs ≡ 144 → length lengths ≡ 144 → ((n : ℕ) → n < 144 → slice_index lengths n ≡ length (history (lists_of vecs) n)) → IsUntold book lengths top kept
 none_told vecs lengths top kept book is kept_is k whole size all same =
-    let log : List Stamped = whole.log in
+    let log : List StampedEvent = whole.log in
     let many : kept ≡ length log = kept_is ∙ ap length (kept_log log book whole.records) ∙ length-tellings log in
     let none : 0 ≡ length log - kept = omega (arith, many) in
     record {
@@ -204,21 +204,21 @@ none_told vecs lengths top kept book is kept_is k whole size all same =
       walks = subst (λ (n : ℕ). WalksBack book.histories lengths top (drop n log)) none
           (subst (λ hs. WalksBack hs lengths top log) (sym is)
           (walk_whole (lists_of vecs) lengths top log (length-map vecs pasts_of ∙ size) all same
-          (log_lower log (lists_of vecs) book.made top (subst (λ hs. Records log hs book.made) is whole.records) k.rise)));
+          (log_lower log (lists_of vecs) book.made top (subst (λ hs. AreHistoriesOfLog log hs book.made) is whole.records) k.rise)));
       size = all;
     }
 
 -- the event that is read, and the place reached then
 pub told_next : (book : JournalState) (lengths : List ℕ) (top place : ℕ) (cause : Cause) (made : Made) → 0 < place → (u : IsUntold book lengths top place)
-    → ((log : List Stamped) → WalksBack book.histories lengths top log → IsFirst log cause made) → made_in (kept_of book) (place - 1) ≡ Some made
+    → ((log : List StampedEvent) → WalksBack book.histories lengths top log → IsFirst log cause made) → made_event_in (kept_outcomes book) (place - 1) ≡ Some made
 told_next book lengths top place cause made some u first =
     let w = u.within in
     let q : length u.log - place + (place - 1) + 1 ≡ length u.log = omega (arith, w, some) in
-    ap (λ kept. made_in kept (place - 1)) (kept_log u.log book u.records)
+    ap (λ kept. made_event_in kept (place - 1)) (kept_log u.log book u.records)
     ∙ (at_place u.log (length u.log - place) (place - 1) cause made q (first (drop (length u.log - place) u.log) u.walks)).made
 
 pub left_next : (book : JournalState) (lengths more : List ℕ) (top now place : ℕ) → 0 < place → length more ≡ 144 → (u : IsUntold book lengths top place)
-    → ((log : List Stamped) → WalksBack book.histories lengths top log → IsWalked book.histories more now log) → IsUntold book more now (place - 1)
+    → ((log : List StampedEvent) → WalksBack book.histories lengths top log → IsWalked book.histories more now log) → IsUntold book more now (place - 1)
 left_next book lengths more top now place some all u left =
     let w = u.within in
     let next : suc (length u.log - place) ≡ length u.log - (place - 1) = omega (arith, w, some) in
@@ -232,32 +232,32 @@ left_next book lengths more top now place some all u left =
     }
 
 -- how many steps of a node are left
-pub steps_left : (book : JournalState) (lengths : List ℕ) (top place n : ℕ) → n < 144 → (u : IsUntold book lengths top place) → slice_index lengths n ≡ steps_of n (take place (events_of book))
+pub steps_left : (book : JournalState) (lengths : List ℕ) (top place n : ℕ) → n < 144 → (u : IsUntold book lengths top place) → slice_index lengths n ≡ count_steps n (take place (journal_events book))
 steps_left book lengths top place n at u =
     let w = u.within in
     left_steps book.histories lengths top n (drop (length u.log - place) u.log) (ap length u.records.histories ∙ length-built u.log) u.size at u.walks
-    ∙ ap (steps_of n) (older_dropped u.log (length u.log - place) place (omega (arith, w)))
-    ∙ ap (λ events. steps_of n (take place events)) (older_are u.log ∙ ap events_told (sym (kept_log u.log book u.records)))
+    ∙ ap (count_steps n) (older_dropped u.log (length u.log - place) place (omega (arith, w)))
+    ∙ ap (λ events. count_steps n (take place events)) (older_are u.log ∙ ap events_without_outcomes (sym (kept_log u.log book u.records)))
 
-pub place_within : (book : JournalState) (lengths : List ℕ) (top place : ℕ) → (u : IsUntold book lengths top place) → place ≤ length (kept_of book)
+pub place_within : (book : JournalState) (lengths : List ℕ) (top place : ℕ) → (u : IsUntold book lengths top place) → place ≤ length (kept_outcomes book)
 place_within book lengths top place u =
     let w = u.within in
-    let n : length (kept_of book) ≡ length u.log = ap length (kept_log u.log book u.records) ∙ length-tellings u.log in
+    let n : length (kept_outcomes book) ≡ length u.log = ap length (kept_log u.log book u.records) ∙ length-tellings u.log in
     omega (arith, w, n)
 
 -- ---- The events at several places, read in one walk back.
 
 -- walking on from the place that the walk has reached
-pub left_long : (log : List Stamped) (kept left place : ℕ) → kept ≡ length log → left ≤ kept → left - place ≤ length (drop (kept - left) log)
+pub left_long : (log : List StampedEvent) (kept left place : ℕ) → kept ≡ length log → left ≤ kept → left - place ≤ length (drop (kept - left) log)
 left_long log kept left place long within = let n : length (drop (kept - left) log) ≡ length log - (kept - left) = length-drop (kept - left) log in omega (arith, n)
 
-pub walked_on : (hs : List (List EntryRecord)) (lengths : List ℕ) (top : ℕ) (log : List Stamped) (kept left place : ℕ) → left ≤ kept → place < left
+pub walked_on : (hs : List (List EntryRecord)) (lengths : List ℕ) (top : ℕ) (log : List StampedEvent) (kept left place : ℕ) → left ≤ kept → place < left
     → WalksBack hs lengths top (drop (left - place) (drop (kept - left) log)) → WalksBack hs lengths top (drop (kept - place) log)
 walked_on hs lengths top log kept left place within l w =
     subst (λ n. WalksBack hs lengths top (drop n log)) (let q : kept - left + (left - place) ≡ kept - place = omega arith in q)
     (subst (λ z. WalksBack hs lengths top z) (drop-drop (left - place) (kept - left) log) w)
 
-pub told_on : (log : List Stamped) (kept left place : ℕ) (cause : Cause) (told : Made) → kept ≡ length log → left ≤ kept → place < left
+pub told_on : (log : List StampedEvent) (kept left place : ℕ) (cause : Cause) (told : Made) → kept ≡ length log → left ≤ kept → place < left
     → IsFirst (drop (left - place - 1) (drop (kept - left) log)) cause told → IsToldAt log place told
 told_on log kept left place cause told long within l f = (
   cause,
@@ -266,12 +266,12 @@ told_on log kept left place cause told long within l f = (
 )
 
 -- no place yet, and one more
-pub told_none : (log : List Stamped) (places : List ℕ) (items : List Made) → items ≡ [] → AreTold log (drop (length places) places) (reverse items)
+pub told_none : (log : List StampedEvent) (places : List ℕ) (items : List Made) → items ≡ [] → AreTold log (drop (length places) places) (reverse items)
 told_none log places items none =
     subst (λ z. AreTold log (drop (length places) places) (reverse z)) (sym none)
     (subst (λ z. AreTold log z []) (sym (drop_all (length places) places (omega arith))) tt)
 
-pub told_more : (log : List Stamped) (places : List ℕ) (at place : ℕ) (told : Made) (items : List Made) → at < length places → place ≡ get_or places at 0
+pub told_more : (log : List StampedEvent) (places : List ℕ) (at place : ℕ) (told : Made) (items : List Made) → at < length places → place ≡ get_or places at 0
     → IsToldAt log place told → AreTold log (drop (suc at) places) (reverse items) → AreTold log (drop at places) (reverse (items ++ told ∷ []))
 told_more log places at place told items l is t rest =
     subst (λ z. AreTold log z (reverse (items ++ told ∷ []))) (sym (drop-cons places at 0 l))
@@ -279,20 +279,20 @@ told_more log places at place told items l is t rest =
     (subst (λ (z : ℕ). IsToldAt log z told) is t, rest))
 
 -- the events that a journal returns for the places
-mades_told : (log : List Stamped) (places : List ℕ) (mades : List Made) → All (λ (place : ℕ). place < length log) places → AreTold log places mades
-    → map Some mades ≡ map (made_in (tellings log)) places
+mades_told : (log : List StampedEvent) (places : List ℕ) (mades : List Made) → All (λ (place : ℕ). place < length log) places → AreTold log places mades
+    → map Some mades ≡ map (made_event_in (tellings log)) places
 mades_told log [] [] a t = refl
 mades_told log [] (told ∷ more) a t = absurd t
 mades_told log (place ∷ places) [] a t = absurd t
 mades_told log (place ∷ places) (told ∷ more) a t =
     let l : place < length log = All-head (λ (z : ℕ). z < length log) place places a in
     let at = at_place log (length log - place - 1) place t.0.0 told (omega arith) t.0.1 in
-    ap (λ z. z ∷ map Some more) (sym at.made) ∙ ap (λ z. made_in (tellings log) place ∷ z) (mades_told log places more (All-tail (λ (z : ℕ). z < length log) place places a) t.1)
+    ap (λ z. z ∷ map Some more) (sym at.made) ∙ ap (λ z. made_event_in (tellings log) place ∷ z) (mades_told log places more (All-tail (λ (z : ℕ). z < length log) place places a) t.1)
 
 pub placed : (r : Result (Vec Made Global) JournalFault) (vecs : List Held) (top made kept : ℕ) (places : List ℕ) (w : WalkOf vecs top made kept) → All (λ (place : ℕ). place < kept) places
-    → IfOk r (λ list. (log : List Stamped) → kept ≡ length log → Records log (lists_of vecs) top → AreTold log places list.items)
-    → IfOk r (λ list. map Some list.items ≡ map (made_in (kept_before (lists_of vecs) made)) places)
+    → IfOk r (λ list. (log : List StampedEvent) → kept ≡ length log → AreHistoriesOfLog log (lists_of vecs) top → AreTold log places list.items)
+    → IfOk r (λ list. map Some list.items ≡ map (made_event_in (kept_outcomes_before (lists_of vecs) made)) places)
 placed (Ok list) vecs top made kept places w a f =
     mades_told w.log places list.items (subst (λ (n : ℕ). All (λ (place : ℕ). place < n) places) w.long a) (f w.log w.long w.below)
-    ∙ ap (λ z. map (made_in z) places) (sym w.kept_is)
+    ∙ ap (λ z. map (made_event_in z) places) (sym w.kept_is)
 placed (Err why) vecs top made kept places w a f = tt

@@ -6,7 +6,7 @@ use Rattle.std.proofs.Math.ListN.{get_or-append}
 use Rattle.std.proofs.Math.Seq.{get_or-append_seam}
 use Rattle.std.proofs.lemmas.Bool.{cases_eq, cases_lt, both_ways, ne_eqb}
 use Rattle.std.proofs.lemmas.Option.{same_Some, slice_get_within}
-use Rattle.ga_node.specs.declared.kind.Kind.{Kind}
+use Rattle.ga_node.specs.declared.kind.OwnEventKind.{OwnEventKind}
 use Rattle.ga_journal.specs.declared.entry.Role.{Role}
 use Rattle.ga_journal.specs.declared.entry.Role.TheVariants.{Writer, Reader}
 use Rattle.ga_journal.specs.declared.entry.Part.{Part}
@@ -15,7 +15,7 @@ use Rattle.ga_journal.specs.declared.entry.Pass.{Pass}
 use Rattle.ga_journal.specs.declared.entry.Entry.{Entry}
 use Rattle.ga_journal.specs.Histories.{EntryRecord, own_outcome}
 use Rattle.ga_journal.specs.inner.Histories.{Rises, IsPastNewest}
-use Rattle.ga_journal.specs.Events.{has_looked_in}
+use Rattle.ga_journal.specs.Events.{act_has_looked}
 use Rattle.ga_journal.specs.Looks.{HasLook, IsNewestLook, HasNoLook, IsLookAfter, HasNoLookAfter}
 use Rattle.ga_journal.specs.inner.Stored.{own_part, no_pass, act_in, past_in, passes_in, IsBelow, IsDropped, AreNumbered, looked_in, looked_after, KeepLooks, IsHistory}
 use Rattle.ga_journal.proofs.Matches.{entries_ordered}
@@ -49,11 +49,11 @@ keep_other ps qs at n m a b (e ∷ es) f num h = (
 )
 
 -- an own event more
-own_looked : (ps : List Pass) (kind : Kind) (look : Bool) (place : ℕ) → looked_in ps (own_part (own_outcome kind look)) place ≡ place
+own_looked : (ps : List Pass) (kind : OwnEventKind) (look : Bool) (place : ℕ) → looked_in ps (own_part (own_outcome kind look)) place ≡ place
 own_looked ps kind true place = refl
 own_looked ps kind false place = refl
 
-pub own_more : (es : List Entry) (ps : List Pass) (looked : ℕ) (e : Entry) (kind : Kind) (look : Bool) → IsHistory es ps looked → e.part ≡ own_part (own_outcome kind look) → e.place ≡ looked
+pub own_more : (es : List Entry) (ps : List Pass) (looked : ℕ) (e : Entry) (kind : OwnEventKind) (look : Bool) → IsHistory es ps looked → e.part ≡ own_part (own_outcome kind look) → e.place ≡ looked
     → IsHistory (es ++ e ∷ []) ps (looked_after looked (length es) (own_part (own_outcome kind look)))
 own_more es ps looked e kind look h part place = record {
   numbered = own_numbered es (length ps) e kind look h.numbered part;
@@ -92,17 +92,17 @@ part_looks (Own kind) = false
 part_looks (Look kind) = true
 part_looks (Passed role) = false
 
-act_looks : (ps : List Pass) (part : Part) (place : ℕ) → has_looked_in (act_in ps part place) ≡ part_looks part
+act_looks : (ps : List Pass) (part : Part) (place : ℕ) → act_has_looked (act_in ps part place) ≡ part_looks part
 act_looks ps (Own kind) place = refl
 act_looks ps (Look kind) place = refl
 act_looks ps (Passed Writer) place = refl
 act_looks ps (Passed Reader) place = refl
 
 -- no look more
-past_blind : (h : List EntryRecord) (at n : ℕ) (e : EntryRecord) → IsPastNewest h at n → slice_get h at ≡ Some e → has_looked_in e.act ≡ false → IsPastNewest h (at + 1) n
+past_blind : (h : List EntryRecord) (at n : ℕ) (e : EntryRecord) → IsPastNewest h at n → slice_get h at ≡ Some e → act_has_looked e.act ≡ false → IsPastNewest h (at + 1) n
 past_blind h at zero e t found blind = λ p f l g. ⊎_elim
     (λ k. t p f k g)
-    (λ k. ap (λ (z : EntryRecord). has_looked_in z.act) (same_Some f e (sym g ∙ ap (slice_get h) (let q : p ≡ at = omega (arith, l, k) in q) ∙ found)) ∙ blind)
+    (λ k. ap (λ (z : EntryRecord). act_has_looked z.act) (same_Some f e (sym g ∙ ap (slice_get h) (let q : p ≡ at = omega (arith, l, k) in q) ∙ found)) ∙ blind)
     (cases_lt p at)
 past_blind h at (suc n) e t found blind = record {
   entry = t.entry;
@@ -111,12 +111,12 @@ past_blind h at (suc n) e t found blind = record {
   looked = t.looked;
   newest = λ p f above l g. ⊎_elim
       (λ k. t.newest p f above k g)
-      (λ k. ap (λ (z : EntryRecord). has_looked_in z.act) (same_Some f e (sym g ∙ ap (slice_get h) (let q : p ≡ at = omega (arith, l, k) in q) ∙ found)) ∙ blind)
+      (λ k. ap (λ (z : EntryRecord). act_has_looked z.act) (same_Some f e (sym g ∙ ap (slice_get h) (let q : p ≡ at = omega (arith, l, k) in q) ∙ found)) ∙ blind)
       (cases_lt p at);
 }
 
 -- an entry on
-past_next : (h : List EntryRecord) (at n : ℕ) (e : EntryRecord) (part : Part) → IsPastNewest h at n → slice_get h at ≡ Some e → has_looked_in e.act ≡ part_looks part → IsPastNewest h (at + 1) (looked_after n at part)
+past_next : (h : List EntryRecord) (at n : ℕ) (e : EntryRecord) (part : Part) → IsPastNewest h at n → slice_get h at ≡ Some e → act_has_looked e.act ≡ part_looks part → IsPastNewest h (at + 1) (looked_after n at part)
 past_next h at n e (Own kind) t found is = past_blind h at n e t found is
 past_next h at n e (Look kind) t found is =
     subst (λ z. IsPastNewest h (at + 1) z) (sym (add-one at))
@@ -192,4 +192,4 @@ none_looked items (suc at) h = subst (λ b. OnFalse (not b) (HasNoLook items (le
 
 -- where there is none, none came after anything
 pub none_after : (items : List EntryRecord) (mark : ℕ) (others : List EntryRecord) (place : ℕ) → HasNoLook items (length items) → HasNoLookAfter items mark others place
-none_after items mark others place none p e f below found looked first = absurd (both_ways (has_looked_in e.act) (none p e (slice_get_within items p e found) found) looked)
+none_after items mark others place none p e f below found looked first = absurd (both_ways (act_has_looked e.act) (none p e (slice_get_within items p e found) found) looked)

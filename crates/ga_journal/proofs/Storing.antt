@@ -5,7 +5,7 @@ use Rattle.std.specs.Prelude.{Some, slice_get}
 use Rattle.std.proofs.Math.ListN.{get_or-append}
 use Rattle.std.proofs.Math.Seq.{get_or-append_seam}
 use Rattle.std.proofs.lemmas.List.{length-map, map-append, take_all, take_more, length-drop, length-take-le, take-take, take_at, get_or-take, get_or-drop, get_or_push}
-use Rattle.ga_node.specs.declared.kind.Kind.{Kind}
+use Rattle.ga_node.specs.declared.kind.OwnEventKind.{OwnEventKind}
 use Rattle.ga_journal.specs.declared.entry.Role.{Role}
 use Rattle.ga_journal.specs.declared.entry.Role.TheVariants.{Writer, Reader}
 use Rattle.ga_journal.specs.declared.entry.Part.{Part}
@@ -123,11 +123,11 @@ none_bound ps [] h = refl
 none_bound ps (x ∷ xs) h = absurd (omega (arith, h))
 
 -- an own event more
-act_own : (ps : List Pass) (kind : Kind) (look : Bool) (place : ℕ) → act_in ps (own_part (own_outcome kind look)) place ≡ act.Own (own_outcome kind look)
+act_own : (ps : List Pass) (kind : OwnEventKind) (look : Bool) (place : ℕ) → act_in ps (own_part (own_outcome kind look)) place ≡ act.Own (own_outcome kind look)
 act_own ps kind true place = refl
 act_own ps kind false place = refl
 
-pub pasts_deed : (ps : List Pass) (es : List Entry) (e : Entry) (kind : Kind) (look : Bool) → e.part ≡ own_part (own_outcome kind look) → map (past_in ps) (es ++ e ∷ []) ≡ map (past_in ps) es ++ past e.stamp (act.Own (own_outcome kind look)) e.saved ∷ []
+pub pasts_deed : (ps : List Pass) (es : List Entry) (e : Entry) (kind : OwnEventKind) (look : Bool) → e.part ≡ own_part (own_outcome kind look) → map (past_in ps) (es ++ e ∷ []) ≡ map (past_in ps) es ++ past e.stamp (act.Own (own_outcome kind look)) e.saved ∷ []
 pasts_deed ps es e kind look part =
     pasts_own ps es e ∙ ap (λ z. map (past_in ps) es ++ past e.stamp z e.saved ∷ []) (ap (λ z. act_in ps z e.place) part ∙ act_own ps kind look e.place)
 
@@ -186,7 +186,7 @@ set_last es all first e k is long =
     ap (λ z. set z k e) is ∙ ap (λ z. set (es ++ first ∷ []) z e) q ∙ set_end es first e
 
 -- an own event more is numbered
-pub own_numbered : (es : List Entry) (m : ℕ) (e : Entry) (kind : Kind) (look : Bool) → AreNumbered 0 es m → e.part ≡ own_part (own_outcome kind look) → AreNumbered 0 (es ++ e ∷ []) m
+pub own_numbered : (es : List Entry) (m : ℕ) (e : Entry) (kind : OwnEventKind) (look : Bool) → AreNumbered 0 es m → e.part ≡ own_part (own_outcome kind look) → AreNumbered 0 (es ++ e ∷ []) m
 own_numbered es m e kind true h part =
     subst (λ z. AreNumbered 0 (es ++ e ∷ []) z) (ap (λ (p : Part). m + passes_in p) part ∙ add-zero m)
     (numbered_push 0 m es e h (subst (λ (p : Part). Names p e.place m) (sym part) tt))

@@ -2,7 +2,7 @@
 
 use crate::fault::JournalFault;
 use crate::journal::{BackwardEvents, Journal};
-use crate::since::Since;
+use crate::since::EventsSince;
 use ga_event::{Cause, Event, Made};
 use ga_grid::NodeId;
 use ga_node::{Node, Place};
@@ -18,38 +18,38 @@ impl OrderedJournal {
     ghost use Rattle.std.specs.Prelude.{◌≡◌, ◌<◌, ◌≤◌, ◌+◌, ◌^◌, ◌↔◌, length, map, take, drop, Some, IfOk, IfErr, IsNone};
     ghost use Rattle.std.specs.List.{slice_get, All};
     ghost use Rattle.std.specs.List.Sorted.{IsStrictlyIncreasing};
-    ghost use Rattle.ga_journal.specs.Histories.{no_work, history, backward_of};
-    ghost use Rattle.ga_journal.specs.Walked.{walked_back, CanWalk, overwritten};
-    ghost use Rattle.ga_journal.specs.Events.{kept_of, causes_in_book, events_of};
-    ghost use Rattle.ga_event.specs.Told.{steps_of, mades_of, made_in};
-    ghost use Rattle.ga_journal.specs.Logs.{IsSince, IsWhole};
+    ghost use Rattle.ga_journal.specs.Histories.{no_work, history, backward_model_at};
+    ghost use Rattle.ga_journal.specs.Walked.{node_before_entries, CanRestoreEntries, overwritten_value};
+    ghost use Rattle.ga_journal.specs.Events.{kept_outcomes, journal_causes, journal_events};
+    ghost use Rattle.ga_event.specs.Told.{count_steps, made_events_of, made_event_in};
+    ghost use Rattle.ga_journal.specs.Logs.{AreEventsSince, AreConsistentHistories};
 
     /// The events of the history that touch a node, in order, each with its step numbers and outcome.
     ///
     /// # Errors
     /// `Memory` alone.
     pub fn history(&self, node: NodeId) -> Result<Vec<Made>, JournalFault>
-        requires { IsWhole self.now.journal.histories self.now.journal.made }
-        ensures ok { IfOk result (λ list. list.items ≡ mades_of (kept_of self.now.journal) node.number) }
+        requires { AreConsistentHistories self.now.journal.histories self.now.journal.made }
+        ensures ok { IfOk result (λ list. list.items ≡ made_events_of (kept_outcomes self.now.journal) node.number) }
         ensures err { IfErr result (λ fault. fault ≡ JournalFault.Memory) }
     {
         self.journal.history(node)
     }
 
     /// The event at a place of those of the history that touch a node, from 0 on; none past their end.
-    pub fn made_by_step(&self, node: NodeId, place: u32) -> Option<Made>
-        requires { IsWhole self.now.journal.histories self.now.journal.made }
-        ensures { result ≡ slice_get (mades_of (kept_of self.now.journal) node.number) place }
+    pub fn made_event_of_step(&self, node: NodeId, place: u32) -> Option<Made>
+        requires { AreConsistentHistories self.now.journal.histories self.now.journal.made }
+        ensures { result ≡ slice_get (made_events_of (kept_outcomes self.now.journal) node.number) place }
     {
-        self.journal.made_by_step(node, place)
+        self.journal.made_event_of_step(node, place)
     }
 
     /// What a place of a node held before its step, the one at a position from 0 on: P, A, B, the wait or a cell of RAM. None where the
     /// step left it, past the node's steps, and for each other place. It reads one entry.
-    pub fn overwritten(&self, node: NodeId, at: u32, what: Place) -> Option<u32>
-        ensures { result ≡ overwritten (history self.now.journal.histories node.number) at what }
+    pub fn overwritten_value(&self, node: NodeId, at: u32, what: Place) -> Option<u32>
+        ensures { result ≡ overwritten_value (history self.now.journal.histories node.number) at what }
     {
-        self.journal.overwritten(node, at, what)
+        self.journal.overwritten_value(node, at, what)
     }
 
     /// Writes back to a node what its entries from the position `to` on and below `from` overwrote, those of the last entry
@@ -57,29 +57,29 @@ impl OrderedJournal {
     pub fn walk_back(&self, node: NodeId, now: &mut Node, from: u32, to: u32)
         requires order { to ≤ from }
         requires within { from ≤ length (history self.now.journal.histories node.number) }
-        requires can { CanWalk now.old (drop to (take from (history self.now.journal.histories node.number))) }
-        ensures { now.new ≡ walked_back now.old (drop to (take from (history self.now.journal.histories node.number))) }
+        requires can { CanRestoreEntries now.old (drop to (take from (history self.now.journal.histories node.number))) }
+        ensures { now.new ≡ node_before_entries now.old (drop to (take from (history self.now.journal.histories node.number))) }
     {
         self.journal.walk_back(node, now, from, to);
     }
 
     /// The event at a place of the history, from 0 on; none past the end. Walks back from the newest.
     pub fn event_at(&self, place: u32) -> Option<Event>
-        requires { IsWhole self.now.journal.histories self.now.journal.made }
-        ensures value { result ≡ slice_get (events_of self.now.journal) place }
-        ensures past { IsNone result ↔ (length (kept_of self.now.journal) ≤ place) }
+        requires { AreConsistentHistories self.now.journal.histories self.now.journal.made }
+        ensures value { result ≡ slice_get (journal_events self.now.journal) place }
+        ensures past { IsNone result ↔ (length (kept_outcomes self.now.journal) ≤ place) }
     {
         self.journal.event_at(place)
     }
 
     /// The event at a place of the history, from 0 on, with its step numbers and outcome; none past the end. Walks back from
     /// the newest.
-    pub fn made_at(&self, place: u32) -> Option<Made>
-        requires { IsWhole self.now.journal.histories self.now.journal.made }
-        ensures value { result ≡ made_in (kept_of self.now.journal) place }
-        ensures past { IsNone result ↔ (length (kept_of self.now.journal) ≤ place) }
+    pub fn made_event_at(&self, place: u32) -> Option<Made>
+        requires { AreConsistentHistories self.now.journal.histories self.now.journal.made }
+        ensures value { result ≡ made_event_in (kept_outcomes self.now.journal) place }
+        ensures past { IsNone result ↔ (length (kept_outcomes self.now.journal) ≤ place) }
     {
-        self.journal.made_at(place)
+        self.journal.made_event_at(place)
     }
 
     /// The events at these places of the history, each above the one before, with their step numbers and outcomes. Walks back
@@ -87,20 +87,20 @@ impl OrderedJournal {
     ///
     /// # Errors
     /// `Memory` alone.
-    pub fn mades_at(&self, places: &[u32]) -> Result<Vec<Made>, JournalFault>
-        requires whole { IsWhole self.now.journal.histories self.now.journal.made }
+    pub fn made_events_at(&self, places: &[u32]) -> Result<Vec<Made>, JournalFault>
+        requires whole { AreConsistentHistories self.now.journal.histories self.now.journal.made }
         requires rise { IsStrictlyIncreasing places.now }
-        requires within { All (λ place. place < length (kept_of self.now.journal)) places.now }
-        ensures ok { IfOk result (λ list. map Some list.items ≡ map (made_in (kept_of self.now.journal)) places.now) }
+        requires within { All (λ place. place < length (kept_outcomes self.now.journal)) places.now }
+        ensures ok { IfOk result (λ list. map Some list.items ≡ map (made_event_in (kept_outcomes self.now.journal)) places.now) }
         ensures err { IfErr result (λ fault. fault ≡ JournalFault.Memory) }
     {
-        self.journal.mades_at(places)
+        self.journal.made_events_at(places)
     }
 
     /// A reader of the history from the newest event back, which has read none yet.
     pub fn backward(&self) -> BackwardEvents<'_>
-        requires { IsWhole self.now.journal.histories self.now.journal.made }
-        ensures { result ≡ backward_of self.now.journal (length (kept_of self.now.journal)) }
+        requires { AreConsistentHistories self.now.journal.histories self.now.journal.made }
+        ensures { result ≡ backward_model_at self.now.journal (length (kept_outcomes self.now.journal)) }
     {
         self.journal.backward()
     }
@@ -110,8 +110,8 @@ impl OrderedJournal {
     /// # Errors
     /// `Memory` alone.
     pub fn causes(&self) -> Result<Vec<Cause>, JournalFault>
-        requires { IsWhole self.now.journal.histories self.now.journal.made }
-        ensures ok { IfOk result (λ list. list.items ≡ causes_in_book self.now.journal) }
+        requires { AreConsistentHistories self.now.journal.histories self.now.journal.made }
+        ensures ok { IfOk result (λ list. list.items ≡ journal_causes self.now.journal) }
         ensures err { IfErr result (λ fault. fault ≡ JournalFault.Memory) }
     {
         self.journal.causes()
@@ -122,11 +122,15 @@ impl OrderedJournal {
     ///
     /// # Errors
     /// `Memory` alone.
-    pub fn causes_since(&self, from: (NodeId, u32), other: NodeId) -> Result<Since, JournalFault>
-        requires whole { IsWhole self.now.journal.histories self.now.journal.made }
+    pub fn causes_since(
+        &self,
+        from: (NodeId, u32),
+        other: NodeId,
+    ) -> Result<EventsSince, JournalFault>
+        requires whole { AreConsistentHistories self.now.journal.histories self.now.journal.made }
         requires counted { 0 < from.1 }
-        requires stands { from.1 ≤ steps_of from.0.number (events_of self.now.journal) }
-        ensures ok { IfOk result (λ since. IsSince (causes_in_book self.now.journal) from.0.number from.1 other.number
+        requires stands { from.1 ≤ count_steps from.0.number (journal_events self.now.journal) }
+        ensures ok { IfOk result (λ since. AreEventsSince (journal_causes self.now.journal) from.0.number from.1 other.number
             since.causes.items since.before since.steps) }
         ensures short { IfOk result (λ since. since.before + length since.causes.items < 2 ^ 32) }
         ensures err { IfErr result (λ fault. fault ≡ JournalFault.Memory) }
@@ -135,9 +139,9 @@ impl OrderedJournal {
     }
 
     /// Counts ticks from 0 on again.
-    pub fn count_anew(&mut self)
+    pub fn reset_ticks(&mut self)
         ensures { self.new.journal ≡ record self.old.journal { ticks = no_work } }
     {
-        self.journal.count_anew();
+        self.journal.reset_ticks();
     }
 }

@@ -7,11 +7,11 @@ use crate::entry::{Act, Entry, Head, Part, Pass, Role, Taken};
 use crate::fault::JournalFault;
 use ga_event::{OwnOutcome, apply_own, undo_node};
 use ga_grid::{Chip, NodeId};
-use ga_node::{Kind, Node, Saved};
+use ga_node::{Node, OwnEventKind, Saved};
 use std::alloc::Global;
 use std::marker::Model;
 
-mod overwritten;
+mod overwritten_value;
 mod walking;
 
 /// This number of entries takes more than 128 KiB: C's memory gives a list of that size pages of its own, which grow without a
@@ -142,7 +142,7 @@ fn drop_pass(passes: &mut Vec<Pass>, part: Part)
 impl History {
     ghost use Rattle.std.specs.Prelude.{◌≡◌, ◌+◌, ◌<◌, ◌^◌, ◌++◌, ◌∷◌, [], length, IsTrue, OnOk, OnErr, IfErr, IfSome, IfNone, None, take, drop};
     ghost use Rattle.std.specs.Bool.{OnTrue, OnFalse};
-    ghost use Rattle.ga_journal.specs.Walked.{walked_back, CanWalk};
+    ghost use Rattle.ga_journal.specs.Walked.{node_before_entries, CanRestoreEntries};
     ghost use Rattle.ga_node.specs.Record.{record_of};
     ghost use Rattle.ga_node.specs.Table.{refusal};
     ghost use Rattle.ga_grid.specs.Chip.{node_at};
@@ -234,7 +234,7 @@ impl History {
 
     /// Makes the growth for an own event.
     #[inline(always)]
-    pub fn grow(&mut self) -> Result<(), JournalFault>
+    pub fn reserve_own(&mut self) -> Result<(), JournalFault>
         ensures same { self.new.items ≡ self.old.items }
         ensures room { OnOk result (IsTrue self.new.room.entry) }
         ensures full { OnErr result (¬ IsTrue self.old.room.entry) }
@@ -267,7 +267,7 @@ impl History {
     }
 
     /// Makes the growths for an end of a pass.
-    pub fn grow_for_pass(&mut self) -> Result<(), JournalFault>
+    pub fn reserve_pass(&mut self) -> Result<(), JournalFault>
         ensures same { self.new.items ≡ self.old.items }
         ensures room { OnOk result (IsTrue self.new.room.entry) }
         ensures pass { OnOk result (IsTrue self.new.room.pass) }
@@ -337,7 +337,7 @@ impl History {
         self.entries.push_reserved(Entry {
             stamp,
             place: self.looked,
-            part: Part::Own(Kind::Fetch),
+            part: Part::Own(OwnEventKind::Fetch),
             before,
             saved: Saved::new(),
         });
@@ -376,7 +376,7 @@ impl History {
 
     /// Writes the values of the last entry back to its node, and takes the entry out.
     #[inline(always)]
-    pub fn go_back(&mut self, chip: &mut Chip, node: NodeId) -> Act
+    pub fn undo_last_entry(&mut self, chip: &mut Chip, node: NodeId) -> Act
         requires some { 0 < bound_of self.old.items }
         requires can { CanGoBack self.old.items chip.old node.number }
         ensures { IsGoneBack self.old.items chip.old node.number self.new.items chip.new result }

@@ -5,7 +5,7 @@ use ga_event::Cause;
 /// The events of the history from a node's step on, in order, each with whether it looked; how many events come before them;
 /// and how many of those are steps of another node.
 #[derive(Debug, Drop)]
-pub struct Since {
+pub struct EventsSince {
     pub causes: Vec<Cause>,
     pub before: u32,
     pub steps: u32,

@@ -11,12 +11,12 @@ use Rattle.ga_word.specs.Word.{hex_digit}
 use Rattle.ga_ports.specs.Steps.{◌>>=◌}
 use Rattle.ga_text.specs.Lines.{Text}
 use Rattle.ga_text.specs.Digits.{hex2_of}
-use Rattle.ga_json.specs.Grammar.{JsonChar, unescaped, letter, coded, char_text, char_bytes, chars_bytes, code_bytes, four_digits_code, is_unescaped, is_high, is_low, IsString}
-use Rattle.ga_json.specs.Compact.{control_text, escape_text, escaped, quoted}
+use Rattle.ga_json.specs.Grammar.{JsonChar, unescaped, letter, unicode_escape, char_text, char_bytes, chars_bytes, code_point_bytes, hex_escape_code, is_unescaped, is_high_surrogate, is_low_surrogate, IsJsonString}
+use Rattle.ga_json.specs.Compact.{control_text, escape_text, escaped_text, quoted_text}
 
 control_char : ℕ → JsonChar
 control_char b =
-    cond (b == 8) (letter 98) (cond (b == 9) (letter 116) (cond (b == 10) (letter 110) (cond (b == 12) (letter 102) (cond (b == 13) (letter 114) (coded (48 ∷ 48 ∷ hex2_of b))))))
+    cond (b == 8) (letter 98) (cond (b == 9) (letter 116) (cond (b == 10) (letter 110) (cond (b == 12) (letter 102) (cond (b == 13) (letter 114) (unicode_escape (48 ∷ 48 ∷ hex2_of b))))))
 
 char_of : ℕ → JsonChar
 char_of b = cond (b == 34) (letter 34) (cond (b == 92) (letter 92) (cond (nat_le 32 b) (unescaped b) (control_char b)))
@@ -52,22 +52,22 @@ two_more o p x y e f =
     ap (λ (z : Option ℕ). z >>= λ third. p >>= λ last. Some (((0 * 16 + 0) * 16 + third) * 16 + last)) e
     ∙ ap (λ (z : Option ℕ). z >>= λ last. Some (((0 * 16 + 0) * 16 + x) * 16 + last)) f
 
-digits_denote : (b : ℕ) → b < 32 → four_digits_code (48 ∷ 48 ∷ hex2_of b) ≡ Some b
+digits_denote : (b : ℕ) → b < 32 → hex_escape_code (48 ∷ 48 ∷ hex2_of b) ≡ Some b
 digits_denote b low =
     let high_small : b / 16 ^ 1 % 16 < 16 = omega arith in
     let low_small : b / 16 ^ 0 % 16 < 16 = omega arith in
     two_more (hex_digit_value (hex_digit b 1)) (hex_digit_value (hex_digit b 0)) _ _ (IsDigits-lower_digits (b / 16 ^ 1 % 16) high_small) (IsDigits-lower_digits (b / 16 ^ 0 % 16) low_small)
     ∙ ap (λ (n : ℕ). Some n) (let e : ((0 * 16 + 0) * 16 + b / 16 ^ 1 % 16) * 16 + b / 16 ^ 0 % 16 ≡ b = omega arith in e)
 
-no_half : (b : ℕ) → b < 32 → is_high b || is_low b ≡ false
-no_half b low = or_from (is_high b) (is_low b) (and_left (nat_le 55296 b) _ (lt-leb 55296 b (omega arith))) (and_left (nat_le 56320 b) _ (lt-leb 56320 b (omega arith)))
+no_half : (b : ℕ) → b < 32 → is_high_surrogate b || is_low_surrogate b ≡ false
+no_half b low = or_from (is_high_surrogate b) (is_low_surrogate b) (and_left (nat_le 55296 b) _ (lt-leb 55296 b (omega arith))) (and_left (nat_le 56320 b) _ (lt-leb 56320 b (omega arith)))
 
-code_denotes : (b : ℕ) → b < 32 → code_bytes b ≡ Some (b ∷ [])
+code_denotes : (b : ℕ) → b < 32 → code_point_bytes b ≡ Some (b ∷ [])
 code_denotes b low =
     ap (λ (t : Bool). cond t None (Some (encode_utf8 b))) (no_half b low) ∙ ap (λ (t : Text). Some t) (encode_ascii b (omega arith))
 
-coded_denotes : (b : ℕ) → b < 32 → Denotes b (coded (48 ∷ 48 ∷ hex2_of b))
-coded_denotes b low = ap (λ (o : Option ℕ). o >>= λ code. code_bytes code) (digits_denote b low) ∙ code_denotes b low
+coded_denotes : (b : ℕ) → b < 32 → Denotes b (unicode_escape (48 ∷ 48 ∷ hex2_of b))
+coded_denotes b low = ap (λ (o : Option ℕ). o >>= λ code. code_point_bytes code) (digits_denote b low) ∙ code_denotes b low
 
 control_denotes : (b : ℕ) → b < 32 → Denotes b (control_char b)
 unfolding control_char
@@ -96,7 +96,7 @@ chars_of : Text → List JsonChar
 chars_of [] = []
 chars_of (b ∷ bs) = char_of b ∷ chars_of bs
 
-texts_are : (bytes : Text) → flat_map char_text (chars_of bytes) ≡ escaped bytes
+texts_are : (bytes : Text) → flat_map char_text (chars_of bytes) ≡ escaped_text bytes
 unfolding chars_of
 texts_are [] = refl
 texts_are (b ∷ bs) = ap (λ (z : Text). z ++ flat_map char_text (chars_of bs)) (char_is b) ∙ ap (λ (z : Text). escape_text b ++ z) (texts_are bs)
@@ -108,5 +108,5 @@ all_denote (b ∷ bs) =
     ap (λ (o : Option Text). o >>= λ first. chars_bytes (chars_of bs) >>= λ more. Some (first ++ more)) (char_denotes b)
     ∙ ap (λ (o : Option Text). o >>= λ more. Some ((b ∷ []) ++ more)) (all_denote bs)
 
-pub string_is : (bytes : Text) → IsString (quoted bytes) bytes
+pub string_is : (bytes : Text) → IsJsonString (quoted_text bytes) bytes
 string_is bytes = (chars_of bytes, ap (λ (z : Text). 34 ∷ (z ++ 34 ∷ [])) (sym (texts_are bytes)), all_denote bytes)

@@ -13,7 +13,7 @@ use Rattle.hex.specs.Hex.{hex_digit_value}
 use Rattle.ga_ports.specs.Steps.{◌>>=◌}
 use Rattle.ga_text.specs.Lines.{Text}
 use Rattle.ga_json.specs.Values.{JsonValue, array, item, no_items, number, string, boolean}
-use Rattle.ga_json.specs.Grammar.{JsonChar, unescaped, letter, coded, halves, char_text, char_bytes, chars_bytes, code_bytes, pair_bytes, letter_code, four_digits_code, is_unescaped, IsStructural, IsString, IsInt, IsValue, IsMoreItems, IsJsonText}
+use Rattle.ga_json.specs.Grammar.{JsonChar, unescaped, letter, unicode_escape, surrogate_pair, char_text, char_bytes, chars_bytes, code_point_bytes, surrogate_pair_bytes, escape_letter_code, hex_escape_code, is_unescaped, IsStructural, IsJsonString, IsJsonInt, IsValue, IsMoreItems, IsJsonText}
 use Rattle.ga_json.proofs.Characters.{string_is}
 use Rattle.ga_json.proofs.Written.{all_append, is_plain, plain_text, mark_is}
 
@@ -22,7 +22,7 @@ use Rattle.ga_json.proofs.Written.{all_append, is_plain, plain_text, mark_is}
 numerals : IsNumeralModel (AllDigits 10) (digits_value 10)
 numerals = record { to = λ ds d. d; from = λ ds d. d; same = λ ds d. refl }
 
-pub int_is_decimal : (text : Text) (n : ℕ) → IsInt text n → n < 2 ^ 64 → text ≡ decimal n
+pub int_is_decimal : (text : Text) (n : ℕ) → IsJsonInt text n → n < 2 ^ 64 → text ≡ decimal n
 int_is_decimal text n h fits =
     let small : digits_value 10 text < 2 ^ 64 = omega (arith, h.1) in
     sym (decimal-digits_value numerals text h.0.1 h.0.0 (λ e. ap length (h.2 e)) small) ∙ ap decimal h.1
@@ -43,7 +43,7 @@ first_some (Some a) f b e = (a, refl, e)
 unescaped_visible : (b : ℕ) → is_unescaped b ≡ true → 32 ≤ b
 unescaped_visible b is = grind (arith, nat_tests)
 
-letter_visible : (b code : ℕ) → letter_code b ≡ Some code → 32 ≤ b
+letter_visible : (b code : ℕ) → escape_letter_code b ≡ Some code → 32 ≤ b
 letter_visible b code =
     let P : Option ℕ → Type 0 = λ o. o ≡ Some code → 32 ≤ b in
     cond_both (b == 34) _ _ P (λ e h. let f = eqb-true b 34 e in omega (arith, f))
@@ -62,7 +62,7 @@ digit_visible c v =
     (λ _. cond_both (nat_le 97 c && nat_le c 102) _ _ P (λ e h. grind (arith, nat_tests))
     (λ _. cond_both (nat_le 48 c && nat_le c 57) _ _ P (λ e h. grind (arith, nat_tests)) (λ _ h. absurd (cc))))
 
-digits_visible : (digits : Text) (code : ℕ) → four_digits_code digits ≡ Some code → AreVisible digits
+digits_visible : (digits : Text) (code : ℕ) → hex_escape_code digits ≡ Some code → AreVisible digits
 digits_visible (a ∷ b ∷ c ∷ d ∷ []) code e =
     let (v, va, e) = first_some (hex_digit_value a) _ code e in
     let (w, wb, e) = first_some (hex_digit_value b) _ code e in
@@ -77,12 +77,12 @@ digits_visible (a ∷ b ∷ c ∷ d ∷ more ∷ rest) code e = absurd (cc)
 
 char_visible : (char : JsonChar) (bytes : Text) → char_bytes char ≡ Some bytes → AreVisible (char_text char)
 char_visible (unescaped b) bytes e = (unescaped_visible b (test_holds (is_unescaped b) _ bytes e), tt)
-char_visible (letter b) bytes e = let (code, is, _) = first_some (letter_code b) _ bytes e in (omega arith, (letter_visible b code is, tt))
-char_visible (coded digits) bytes e =
-    let (code, is, _) = first_some (four_digits_code digits) _ bytes e in (omega arith, (omega arith, digits_visible digits code is))
-char_visible (halves high low) bytes e =
-    let (first, is, rest) = first_some (four_digits_code high) _ bytes e in
-    let (second, too, _) = first_some (four_digits_code low) _ bytes rest in
+char_visible (letter b) bytes e = let (code, is, _) = first_some (escape_letter_code b) _ bytes e in (omega arith, (letter_visible b code is, tt))
+char_visible (unicode_escape digits) bytes e =
+    let (code, is, _) = first_some (hex_escape_code digits) _ bytes e in (omega arith, (omega arith, digits_visible digits code is))
+char_visible (surrogate_pair high low) bytes e =
+    let (first, is, rest) = first_some (hex_escape_code high) _ bytes e in
+    let (second, too, _) = first_some (hex_escape_code low) _ bytes rest in
     (omega arith, (omega arith, all_append high (92 ∷ 117 ∷ low) (digits_visible high first is) (omega arith, (omega arith, digits_visible low second too))))
 
 chars_visible : (chars : List JsonChar) (bytes : Text) → chars_bytes chars ≡ Some bytes → AreVisible (flat_map char_text chars)
@@ -92,7 +92,7 @@ chars_visible (char ∷ chars) bytes e =
     let (more, are, _) = first_some (chars_bytes chars) _ bytes rest in
     all_append (char_text char) (flat_map char_text chars) (char_visible char first is) (chars_visible chars more are)
 
-pub string_has_no_control : (text bytes : Text) → IsString text bytes → All (λ b. 32 ≤ b) text
+pub string_has_no_control : (text bytes : Text) → IsJsonString text bytes → All (λ b. 32 ≤ b) text
 string_has_no_control text bytes h =
     let visible : AreVisible (34 ∷ (flat_map char_text h.0 ++ 34 ∷ [])) =
     (omega arith, all_append (flat_map char_text h.0) (34 ∷ []) (chars_visible h.0 bytes h.2) (omega arith, tt)) in
@@ -100,13 +100,13 @@ string_has_no_control text bytes h =
 
 -- ---- the examples of RFC 8259
 
-pub clef : IsString (codes "\"\\uD834\\uDD1E\"") (240 ∷ 157 ∷ 132 ∷ 158 ∷ [])
+pub clef : IsJsonString (codes "\"\\uD834\\uDD1E\"") (240 ∷ 157 ∷ 132 ∷ 158 ∷ [])
 unfolding encode
-clef = (halves (codes "D834") (codes "DD1E") ∷ [], refl, refl)
+clef = (surrogate_pair (codes "D834") (codes "DD1E") ∷ [], refl, refl)
 
-pub reverse_solidus : IsString (codes "\"\\u005C\"") (92 ∷ [])
+pub reverse_solidus : IsJsonString (codes "\"\\u005C\"") (92 ∷ [])
 unfolding encode
-reverse_solidus = (coded (codes "005C") ∷ [], refl, refl)
+reverse_solidus = (unicode_escape (codes "005C") ∷ [], refl, refl)
 
 text_is : (text : Text) (value : JsonValue) → is_plain text ≡ true → text ≡ text ++ [] → IsValue text value → IsJsonText text value
 text_is text value plain same is = record {
@@ -120,7 +120,7 @@ text_is text value plain same is = record {
   is_utf8 = (plain_text text plain).0;
 }
 
-three : (a b c n : ℕ) → AllDigits 10 (a ∷ b ∷ c ∷ []) → digits_value 10 (a ∷ b ∷ c ∷ []) ≡ n → (a ≡ 48 → ⊥) → IsInt (a ∷ b ∷ c ∷ []) n
+three : (a b c n : ℕ) → AllDigits 10 (a ∷ b ∷ c ∷ []) → digits_value 10 (a ∷ b ∷ c ∷ []) ≡ n → (a ≡ 48 → ⊥) → IsJsonInt (a ∷ b ∷ c ∷ []) n
 three a b c n digits is some = ((omega arith, digits), is, λ e. absurd (some e))
 
 comma_is : IsStructural 44 (codes ", ")
@@ -129,10 +129,10 @@ comma_is = ([], codes " ", tt, (refl, tt), refl)
 pub ids : IsJsonText (codes "[116, 943, 234, 38793]") (array (item (number (pos 116)) (item (number (pos 943)) (item (number (pos 234)) (item (number (pos 38793)) no_items)))))
 unfolding is_plain
 ids =
-    let first : IsInt (codes "116") 116 = three 49 49 54 116 (omega arith, (omega arith, (omega arith, tt))) refl (λ e. omega (arith, e)) in
-    let second : IsInt (codes "943") 943 = three 57 52 51 943 (omega arith, (omega arith, (omega arith, tt))) refl (λ e. omega (arith, e)) in
-    let third : IsInt (codes "234") 234 = three 50 51 52 234 (omega arith, (omega arith, (omega arith, tt))) refl (λ e. omega (arith, e)) in
-    let last : IsInt (codes "38793") 38793 =
+    let first : IsJsonInt (codes "116") 116 = three 49 49 54 116 (omega arith, (omega arith, (omega arith, tt))) refl (λ e. omega (arith, e)) in
+    let second : IsJsonInt (codes "943") 943 = three 57 52 51 943 (omega arith, (omega arith, (omega arith, tt))) refl (λ e. omega (arith, e)) in
+    let third : IsJsonInt (codes "234") 234 = three 50 51 52 234 (omega arith, (omega arith, (omega arith, tt))) refl (λ e. omega (arith, e)) in
+    let last : IsJsonInt (codes "38793") 38793 =
     ((omega arith, (omega arith, (omega arith, (omega arith, (omega arith, (omega arith, tt)))))), refl, λ e. absurd (omega (arith, e))) in
     let end : IsMoreItems (codes ", 38793") (item (number (pos 38793)) no_items) = (codes ", ", codes "38793", [], comma_is, inl (38793, last, refl), refl, refl) in
     let more : IsMoreItems (codes ", 234, 38793") (item (number (pos 234)) (item (number (pos 38793)) no_items)) =

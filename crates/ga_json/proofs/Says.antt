@@ -17,7 +17,7 @@ abbrev pub SaysFront : {W : Type 0} → (W → Option Bytes) → Writer W → Wr
 SaysFront contents old new text = IsSameStream old new
     × ((before said : Text) → IsWritten (contents old.stream.now) before said old.pending.items → IsTruncated (contents new.stream.now) before (said ++ text))
 
--- what `SaysNothing` says of a call that succeeded, and of one that failed
+-- what `WritesNothing` says of a call that succeeded, and of one that failed
 abbrev pub KeepsSaid : {W : Type 0} → (W → Option Bytes) → Writer W → Writer W → Type 0
 KeepsSaid contents old new = IsSameStream old new
     × ((before said : Text) → IsWritten (contents old.stream.now) before said old.pending.items → IsWritten (contents new.stream.now) before said new.pending.items)

@@ -6,10 +6,10 @@ use Rattle.std.proofs.lemmas.Bool.{and_parts}
 use Rattle.std.proofs.lemmas.Bool.Decides.{nat_tests}
 use Rattle.ga_text.specs.Lines.{Text}
 use Rattle.ga_json.specs.Values.{JsonItems, no_items, item, array, JsonMembers, no_members, member}
-use Rattle.ga_json.specs.Names.{is_name, is_name_byte, are_name_bytes}
-use Rattle.ga_json.specs.Compact.{escape_text, escaped, quoted, comma_if, compact, items_text, members_text, json_line}
+use Rattle.ga_json.specs.Names.{is_field_name, is_field_name_byte, are_field_name_bytes}
+use Rattle.ga_json.specs.Compact.{escape_text, escaped_text, quoted_text, optional_comma, compact, items_text, members_text, json_line}
 use Rattle.ga_json.specs.FieldValues.{value_json}
-use Rattle.ga_json.specs.Fields.{named, with_members, row_json, report_json}
+use Rattle.ga_json.specs.Fields.{named_field_value, with_members, row_json, report_json}
 use Rattle.ga_json.specs.inner.{fields_text, rows_lead, row_lead}
 use Rattle.ga_json.specs.declared.field.Field.{Field}
 
@@ -22,21 +22,21 @@ escape_plain b low not_quote not_solidus =
     let g : nat_le 32 b ≡ true = grind (arith, nat_tests) in
     rw (e, f, g) refl
 
-pub name_byte : (b : ℕ) → is_name_byte b ≡ true → (32 ≤ b) × (b < 128) × (b ≢ 34) × (b ≢ 92)
+pub name_byte : (b : ℕ) → is_field_name_byte b ≡ true → (32 ≤ b) × (b < 128) × (b ≢ 34) × (b ≢ 92)
 name_byte b is = (grind (arith, nat_tests), grind (arith, nat_tests), grind (arith, nat_tests), grind (arith, nat_tests))
 
-escaped_name : (name : Text) → are_name_bytes name ≡ true → escaped name ≡ name
+escaped_name : (name : Text) → are_field_name_bytes name ≡ true → escaped_text name ≡ name
 escaped_name [] is = refl
 escaped_name (b ∷ bs) is =
-    let parts = and_parts (is_name_byte b) (are_name_bytes bs) is in
+    let parts = and_parts (is_field_name_byte b) (are_field_name_bytes bs) is in
     let (low, high, not_quote, not_solidus) = name_byte b parts.0 in
-    ap (λ (z : Text). z ++ escaped bs) (escape_plain b low not_quote not_solidus) ∙ ap (λ (z : Text). b ∷ z) (escaped_name bs parts.1)
+    ap (λ (z : Text). z ++ escaped_text bs) (escape_plain b low not_quote not_solidus) ∙ ap (λ (z : Text). b ∷ z) (escaped_name bs parts.1)
 
 -- a field, after its name
-pub field_splits : (later : Bool) (name value : Text) → is_name name ≡ true
-    → comma_if later ++ (quoted name ++ 58 ∷ value) ≡ (comma_if later ++ (34 ∷ (name ++ 34 ∷ 58 ∷ []))) ++ value
+pub field_splits : (later : Bool) (name value : Text) → is_field_name name ≡ true
+    → optional_comma later ++ (quoted_text name ++ 58 ∷ value) ≡ (optional_comma later ++ (34 ∷ (name ++ 34 ∷ 58 ∷ []))) ++ value
 field_splits later name value is =
-    ap (λ (z : Text). comma_if later ++ ((34 ∷ (z ++ 34 ∷ [])) ++ 58 ∷ value)) (escaped_name name (and_parts (nat_le _ 24) (are_name_bytes name) is).1)
+    ap (λ (z : Text). optional_comma later ++ ((34 ∷ (z ++ 34 ∷ [])) ++ 58 ∷ value)) (escaped_name name (and_parts (nat_le _ 24) (are_field_name_bytes name) is).1)
     ∙ simp append_assoc
 
 -- ---- fields and what comes after them
@@ -51,15 +51,15 @@ ends_true [] = refl
 ends_true (field ∷ fields) = refl
 
 members_fields : (later : Bool) (fields : List Field) (more : JsonMembers)
-    → members_text later (with_members (map named fields) more) ≡ fields_text later fields ++ members_text (ends_later later fields) more
+    → members_text later (with_members (map named_field_value fields) more) ≡ fields_text later fields ++ members_text (ends_later later fields) more
 unfolding ends_later
 members_fields later [] more = refl
 members_fields later (field ∷ fields) more =
-    ap (λ (z : Text). comma_if later ++ (quoted field.name.now ++ 58 ∷ (compact (value_json field.value) ++ z)))
+    ap (λ (z : Text). optional_comma later ++ (quoted_text field.name.now ++ 58 ∷ (compact (value_json field.value) ++ z)))
     (members_fields true fields more ∙ ap (λ (b : Bool). fields_text true fields ++ members_text b more) (ends_true fields))
     ∙ simp append_assoc
 
-members_all : (fields : List Field) → members_text false (with_members (map named fields) no_members) ≡ fields_text false fields
+members_all : (fields : List Field) → members_text false (with_members (map named_field_value fields) no_members) ≡ fields_text false fields
 members_all fields = members_fields false fields no_members ∙ append-nil (fields_text false fields)
 
 pub object_splits : (fields : List Field) → json_line (row_json fields) ≡ codes "{" ++ (fields_text false fields ++ codes "}\n")
@@ -68,7 +68,7 @@ object_splits fields = ap (λ (z : Text). (123 ∷ (z ++ 125 ∷ [])) ++ 10 ∷ 
 -- ---- the rows of an answer
 
 rows_member : Bool → Text
-rows_member later = comma_if later ++ codes "\"rows\":["
+rows_member later = optional_comma later ++ codes "\"rows\":["
 
 lead_is : (head : List Field) → rows_member (ends_later false head) ≡ rows_lead head
 unfolding ends_later rows_member
@@ -87,7 +87,7 @@ report_splits head rows =
     (rows_text (ends_later false head) rows ∙ ap (λ (z : Text). z ++ (items_text false rows ++ codes "]")) (lead_is head)))
     ∙ simp append_assoc
 
-row_splits : (later : Bool) (fields : List Field) → comma_if later ++ compact (row_json fields) ≡ row_lead later ++ (fields_text false fields ++ codes "}")
+row_splits : (later : Bool) (fields : List Field) → optional_comma later ++ compact (row_json fields) ≡ row_lead later ++ (fields_text false fields ++ codes "}")
 row_splits true fields = ap (λ (z : Text). 44 ∷ 123 ∷ (z ++ 125 ∷ [])) (members_all fields)
 row_splits false fields = ap (λ (z : Text). 123 ∷ (z ++ 125 ∷ [])) (members_all fields)
 
@@ -97,7 +97,7 @@ regroup a b c d = simp append_assoc
 pub next_row : (later : Bool) (fields : List Field) (rows : JsonItems) (end : Text)
     → items_text later (item (row_json fields) rows) ++ end ≡ (row_lead later ++ (fields_text false fields ++ codes "}")) ++ (items_text true rows ++ end)
 next_row later fields rows end =
-    regroup (comma_if later) (compact (row_json fields)) (items_text true rows) end
+    regroup (optional_comma later) (compact (row_json fields)) (items_text true rows) end
     ∙ ap (λ (z : Text). z ++ (items_text true rows ++ end)) (row_splits later fields)
 
 -- how many rows

@@ -15,18 +15,18 @@ use Rattle.ga_word.specs.Word.{hex_digit}
 use Rattle.ga_text.specs.Lines.{Text}
 use Rattle.ga_text.specs.Digits.{hex2_of}
 use Rattle.ga_json.specs.Values.{JsonValue, null, boolean, number, string, array, object, JsonItems, no_items, item, JsonMembers, no_members, member}
-use Rattle.ga_json.specs.Grammar.{IsStructural, IsInt, IsValue, IsItems, IsMoreItems, IsMembers, IsMoreMembers, IsJsonText}
-use Rattle.ga_json.specs.Compact.{control_text, escape_text, escaped, quoted, comma_if, compact, items_text, members_text, json_line, IsWritable, AreWritableItems, AreWritableMembers}
-use Rattle.ga_json.specs.Names.{is_name_byte, are_name_bytes}
+use Rattle.ga_json.specs.Grammar.{IsStructural, IsJsonInt, IsValue, IsItems, IsMoreItems, IsMembers, IsMoreMembers, IsJsonText}
+use Rattle.ga_json.specs.Compact.{control_text, escape_text, escaped_text, quoted_text, optional_comma, compact, items_text, members_text, json_line, IsWritable, AreWritableItems, AreWritableMembers}
+use Rattle.ga_json.specs.Names.{is_field_name_byte, are_field_name_bytes}
 use Rattle.ga_json.specs.FieldValues.{value_json}
-use Rattle.ga_json.specs.Fields.{named, with_members}
+use Rattle.ga_json.specs.Fields.{named_field_value, with_members}
 use Rattle.ga_json.specs.declared.field.Field.{Field}
 use Rattle.ga_json.proofs.Texts.{escape_plain, name_byte}
 use Rattle.ga_json.proofs.Characters.{string_is}
 
 -- ---- the text is one of the value
 
-int_is : (n : ℕ) → n < 2 ^ 64 → IsInt (decimal n) n
+int_is : (n : ℕ) → n < 2 ^ 64 → IsJsonInt (decimal n) n
 int_is n fits = ((decimal_is_IsNumeral n fits).0, (decimal_is_IsNumeral n fits).1, first n fits) where
   first : (m : ℕ) → m < 2 ^ 64 → get_or (decimal m) 0 0 ≡ 48 → decimal m ≡ 48 ∷ []
   first zero small e = decimal_digit 0 (omega arith)
@@ -56,12 +56,12 @@ mutual
   members_are : (members : JsonMembers) → AreWritableMembers members → IsMembers (members_text false members) members
   members_are no_members h = refl
   members_are (member name value members) h =
-      (quoted name, 58 ∷ [], compact value, members_text true members, string_is name, mark_is 58, value_is value h.1, more_members_are members h.2, refl)
+      (quoted_text name, 58 ∷ [], compact value, members_text true members, string_is name, mark_is 58, value_is value h.1, more_members_are members h.2, refl)
 
   more_members_are : (members : JsonMembers) → AreWritableMembers members → IsMoreMembers (members_text true members) members
   more_members_are no_members h = refl
   more_members_are (member name value members) h =
-      (44 ∷ [], quoted name, 58 ∷ [], compact value, members_text true members, mark_is 44, string_is name, mark_is 58, value_is value h.1, more_members_are members h.2, refl)
+      (44 ∷ [], quoted_text name, 58 ∷ [], compact value, members_text true members, mark_is 44, string_is name, mark_is 58, value_is value h.1, more_members_are members h.2, refl)
 
 -- ---- UTF-8 without a control character
 
@@ -138,42 +138,42 @@ high_bytes c high =
     (λ _. cond_both (nat_lt c 2048) _ _ AreHigh (λ _. (omega arith, (omega arith, tt)))
     (λ _. cond_both (nat_lt c 65536) _ _ AreHigh (λ _. (omega arith, (omega arith, (omega arith, tt)))) (λ _. (omega arith, (omega arith, (omega arith, (omega arith, tt)))))))
 
-high_escaped : (text : Text) → AreHigh text → escaped text ≡ text
+high_escaped : (text : Text) → AreHigh text → escaped_text text ≡ text
 high_escaped [] h = refl
 high_escaped (b ∷ bs) h =
-    ap (λ (z : Text). z ++ escaped bs) (escape_plain b (omega (arith, h.0)) (λ e. omega (arith, h.0, e)) (λ e. omega (arith, h.0, e)))
+    ap (λ (z : Text). z ++ escaped_text bs) (escape_plain b (omega (arith, h.0)) (λ e. omega (arith, h.0, e)) (λ e. omega (arith, h.0, e)))
     ∙ ap (λ (z : Text). b ∷ z) (high_escaped bs h.1)
 
 high_plain : (text : Text) → AreHigh text → AllByRecursion (λ b. 32 ≤ b) text
 high_plain [] h = tt
 high_plain (b ∷ bs) h = (omega (arith, h.0), high_plain bs h.1)
 
-char_plain : (c : ℕ) → scalar c ≡ true → IsPlain (escaped (encode c))
+char_plain : (c : ℕ) → scalar c ≡ true → IsPlain (escaped_text (encode c))
 char_plain c is =
     ⊎_elim
-    (λ low. let P : Text → Type 0 = λ z. IsPlain (escaped z) in
+    (λ low. let P : Text → Type 0 = λ z. IsPlain (escaped_text z) in
     subst P (sym (encode_ascii c low)) (plain_append (escape_text c) [] (escape_is_plain c low) plain_nil))
     (λ high. let bytes = high_bytes c high in
     subst IsPlain (sym (high_escaped (encode c) bytes)) ((c ∷ [], (and_from (scalar c) true is refl, append-nil (encode c))), high_plain (encode c) bytes))
     (cases_lt c 128)
 
-chars_plain : (cs : List ℕ) → scalars cs ≡ true → IsPlain (escaped (encodes cs))
+chars_plain : (cs : List ℕ) → scalars cs ≡ true → IsPlain (escaped_text (encodes cs))
 chars_plain [] h = plain_nil
 chars_plain (c ∷ cs) h =
     let parts = and_parts (scalar c) (scalars cs) h in
     subst IsPlain (sym (flat_map-append escape_text (encode c) (encodes cs)))
-    (plain_append (escaped (encode c)) (escaped (encodes cs)) (char_plain c parts.0) (chars_plain cs parts.1))
+    (plain_append (escaped_text (encode c)) (escaped_text (encodes cs)) (char_plain c parts.0) (chars_plain cs parts.1))
 
-escaped_plain : (bytes : Text) → IsUtf8 bytes → IsPlain (escaped bytes)
-escaped_plain bytes h = let P : Text → Type 0 = λ z. IsPlain (escaped z) in subst P h.1.1 (chars_plain h.0 h.1.0)
+escaped_plain : (bytes : Text) → IsUtf8 bytes → IsPlain (escaped_text bytes)
+escaped_plain bytes h = let P : Text → Type 0 = λ z. IsPlain (escaped_text z) in subst P h.1.1 (chars_plain h.0 h.1.0)
 
-quoted_plain : (bytes : Text) → IsUtf8 bytes → IsPlain (quoted bytes)
+quoted_plain : (bytes : Text) → IsUtf8 bytes → IsPlain (quoted_text bytes)
 unfolding is_plain
-quoted_plain bytes h = plain_append (34 ∷ []) (escaped bytes ++ 34 ∷ []) (plain_text (34 ∷ []) refl) (plain_append (escaped bytes) (34 ∷ []) (escaped_plain bytes h) (plain_text (34 ∷ []) refl))
+quoted_plain bytes h = plain_append (34 ∷ []) (escaped_text bytes ++ 34 ∷ []) (plain_text (34 ∷ []) refl) (plain_append (escaped_text bytes) (34 ∷ []) (escaped_plain bytes h) (plain_text (34 ∷ []) refl))
 
 -- ---- values
 
-comma_plain : (later : Bool) → IsPlain (comma_if later)
+comma_plain : (later : Bool) → IsPlain (optional_comma later)
 unfolding is_plain
 comma_plain true = plain_text (44 ∷ []) refl
 comma_plain false = plain_nil
@@ -197,14 +197,14 @@ mutual
   items_plain : (later : Bool) (items : JsonItems) → AreWritableItems items → IsPlain (items_text later items)
   items_plain later no_items h = plain_nil
   items_plain later (item value items) h =
-      plain_append (comma_if later) (compact value ++ items_text true items) (comma_plain later)
+      plain_append (optional_comma later) (compact value ++ items_text true items) (comma_plain later)
       (plain_append (compact value) (items_text true items) (value_plain value h.0) (items_plain true items h.1))
 
   members_plain : (later : Bool) (members : JsonMembers) → AreWritableMembers members → IsPlain (members_text later members)
   members_plain later no_members h = plain_nil
   members_plain later (member name value members) h =
-      plain_append (comma_if later) (quoted name ++ 58 ∷ (compact value ++ members_text true members)) (comma_plain later)
-      (plain_append (quoted name) (58 ∷ (compact value ++ members_text true members)) (quoted_plain name h.0)
+      plain_append (optional_comma later) (quoted_text name ++ 58 ∷ (compact value ++ members_text true members)) (comma_plain later)
+      (plain_append (quoted_text name) (58 ∷ (compact value ++ members_text true members)) (quoted_plain name h.0)
       (plain_append (58 ∷ []) (compact value ++ members_text true members) (plain_text (58 ∷ []) refl)
       (plain_append (compact value) (members_text true members) (value_plain value h.1) (members_plain true members h.2))))
 
@@ -228,18 +228,18 @@ line_is_json value h = record {
 
 -- ---- rows and answers
 
-name_utf8 : (name : Text) → are_name_bytes name ≡ true → IsUtf8 name
+name_utf8 : (name : Text) → are_field_name_bytes name ≡ true → IsUtf8 name
 name_utf8 [] h = IsUtf8-nil
 name_utf8 (b ∷ bs) h =
-    let parts = and_parts (is_name_byte b) (are_name_bytes bs) h in
+    let parts = and_parts (is_field_name_byte b) (are_field_name_bytes bs) h in
     let byte = name_byte b parts.0 in
     IsUtf8-append (b ∷ []) bs (plain_byte b byte.0 byte.1).0 (name_utf8 bs parts.1)
 
 pub fields_writable : (fields : List Field) (more : JsonMembers) → AllByRecursion (λ field. IsWritable (value_json field.value)) fields → AreWritableMembers more
-    → AreWritableMembers (with_members (map named fields) more)
+    → AreWritableMembers (with_members (map named_field_value fields) more)
 fields_writable [] more h k = k
 fields_writable (field ∷ fields) more h k =
-    (name_utf8 field.name.now (and_parts (nat_le _ 24) (are_name_bytes field.name.now) field.named).1, h.0, fields_writable fields more h.1 k)
+    (name_utf8 field.name.now (and_parts (nat_le _ 24) (are_field_name_bytes field.name.now) field.named_field_value).1, h.0, fields_writable fields more h.1 k)
 
 pub rows_name : IsUtf8 (codes "rows")
 unfolding is_plain

@@ -24,32 +24,32 @@ escape_text b =
     else if nat_le 32 b then b ∷ []
     else control_text b
 
-abbrev pub escaped : Text → Text
-escaped bytes = flat_map escape_text bytes
+abbrev pub escaped_text : Text → Text
+escaped_text bytes = flat_map escape_text bytes
 
-abbrev pub quoted : Text → Text
-quoted bytes = 34 ∷ (escaped bytes ++ 34 ∷ [])
+abbrev pub quoted_text : Text → Text
+quoted_text bytes = 34 ∷ (escaped_text bytes ++ 34 ∷ [])
 
 -- a comma, where something is before
-abbrev pub comma_if : Bool → Text
-comma_if later = if later then 44 ∷ [] else []
+abbrev pub optional_comma : Bool → Text
+optional_comma later = if later then 44 ∷ [] else []
 
 abbrev mutual
   pub compact : JsonValue → Text
   compact null = codes "null"
   compact (boolean b) = if b then codes "true" else codes "false"
   compact (number z) = signed_decimal z
-  compact (string bytes) = quoted bytes
+  compact (string bytes) = quoted_text bytes
   compact (array items) = 91 ∷ (items_text false items ++ 93 ∷ [])
   compact (object members) = 123 ∷ (members_text false members ++ 125 ∷ [])
 
   pub items_text : Bool → JsonItems → Text
   items_text later no_items = []
-  items_text later (item value items) = comma_if later ++ (compact value ++ items_text true items)
+  items_text later (item value items) = optional_comma later ++ (compact value ++ items_text true items)
 
   pub members_text : Bool → JsonMembers → Text
   members_text later no_members = []
-  members_text later (member name value members) = comma_if later ++ (quoted name ++ 58 ∷ (compact value ++ members_text true members))
+  members_text later (member name value members) = optional_comma later ++ (quoted_text name ++ 58 ∷ (compact value ++ members_text true members))
 
 -- a line of JSON Lines: a value and a line feed
 abbrev pub json_line : JsonValue → Text

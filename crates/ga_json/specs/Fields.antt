@@ -9,8 +9,8 @@ use Rattle.ga_json.specs.declared.field.Field.{Field}
 abbrev pub NamedValue : Type 0
 NamedValue = Text × JsonValue
 
-abbrev pub named : Field → NamedValue
-named field = (field.name.now, value_json field.value)
+abbrev pub named_field_value : Field → NamedValue
+named_field_value field = (field.name.now, value_json field.value)
 
 -- these as members, and more after them
 abbrev pub with_members : List NamedValue → JsonMembers → JsonMembers
@@ -25,7 +25,7 @@ abbrev pub json_report : List NamedValue → JsonItems → JsonValue
 json_report head rows = object (with_members head (member (codes "rows") (array rows) no_members))
 
 abbrev pub row_json : List Field → JsonValue
-row_json fields = json_object (map named fields)
+row_json fields = json_object (map named_field_value fields)
 
 abbrev pub report_json : List Field → JsonItems → JsonValue
-report_json head rows = json_report (map named head) rows
+report_json head rows = json_report (map named_field_value head) rows

@@ -11,30 +11,30 @@ use Rattle.ga_json.specs.Values.{JsonValue, null, boolean, number, string, array
 
 -- ---- section 2: white space, and structural characters between white space
 
-abbrev pub is_space : ℕ → Bool
-is_space b = b == 32 || (b == 9 || (b == 10 || b == 13))
+abbrev pub is_json_space : ℕ → Bool
+is_json_space b = b == 32 || (b == 9 || (b == 10 || b == 13))
 
-abbrev pub IsSpace : Text → Type 0
-IsSpace text = AllByRecursion (λ b. IsTrue (is_space b)) text
+abbrev pub IsJsonSpace : Text → Type 0
+IsJsonSpace text = AllByRecursion (λ b. IsTrue (is_json_space b)) text
 
 abbrev pub IsStructural : ℕ → Text → Type 0
-IsStructural mark text = (before after : Text) × IsSpace before × IsSpace after × (text ≡ before ++ mark ∷ after)
+IsStructural mark text = (before after : Text) × IsJsonSpace before × IsJsonSpace after × (text ≡ before ++ mark ∷ after)
 
 -- ---- section 6: numbers
 
 -- `0`, or digits of which the first is not `0`
-abbrev pub IsInt : Text → ℕ → Type 0
-IsInt text n = IsNumeral 10 text × (digits_value 10 text ≡ n) × (slice_index text 0 ≡ 48 → text ≡ 48 ∷ [])
+abbrev pub IsJsonInt : Text → ℕ → Type 0
+IsJsonInt text n = IsNumeral 10 text × (digits_value 10 text ≡ n) × (slice_index text 0 ≡ 48 → text ≡ 48 ∷ [])
 
-abbrev pub negative : ℕ → ℤ
-negative zero = pos zero
-negative (suc n) = negsuc n
+abbrev pub negated_integer : ℕ → ℤ
+negated_integer zero = pos zero
+negated_integer (suc n) = negsuc n
 
 -- an int, or a minus and an int
 abbrev pub IsJsonNumber : Text → ℤ → Type 0
 IsJsonNumber text z =
-    ((n : ℕ) × IsInt text n × (z ≡ pos n))
-    ⊎ ((digits : Text) × (n : ℕ) × (text ≡ 45 ∷ digits) × IsInt digits n × (z ≡ negative n))
+    ((n : ℕ) × IsJsonInt text n × (z ≡ pos n))
+    ⊎ ((digits : Text) × (n : ℕ) × (text ≡ 45 ∷ digits) × IsJsonInt digits n × (z ≡ negated_integer n))
 
 -- ---- section 7: strings
 
@@ -43,8 +43,8 @@ abbrev pub is_unescaped : ℕ → Bool
 is_unescaped b = (nat_le 32 b && nat_le b 33) || ((nat_le 35 b && nat_le b 91) || nat_le 93 b)
 
 -- the character that a letter denotes after a reverse solidus: `"` `\` `/` `b` `f` `n` `r` `t`
-abbrev pub letter_code : ℕ → Option ℕ
-letter_code b =
+abbrev pub escape_letter_code : ℕ → Option ℕ
+escape_letter_code b =
     if b == 34 then Some 34
     else if b == 92 then Some 92
     else if b == 47 then Some 47
@@ -56,57 +56,57 @@ letter_code b =
     else None
 
 -- the number of exactly four hexadecimal digits, in either case
-abbrev pub four_digits_code : Text → Option ℕ
-four_digits_code (a ∷ b ∷ c ∷ d ∷ []) = do
+abbrev pub hex_escape_code : Text → Option ℕ
+hex_escape_code (a ∷ b ∷ c ∷ d ∷ []) = do
   first ← hex_digit_value a
   second ← hex_digit_value b
   third ← hex_digit_value c
   last ← hex_digit_value d
   Some (((first * 16 + second) * 16 + third) * 16 + last)
-four_digits_code _ = None
+hex_escape_code _ = None
 
 -- the first and the second half of a character above 65535, as UTF-16 has them
-abbrev pub is_high : ℕ → Bool
-is_high code = nat_le 55296 code && nat_le code 56319
+abbrev pub is_high_surrogate : ℕ → Bool
+is_high_surrogate code = nat_le 55296 code && nat_le code 56319
 
-abbrev pub is_low : ℕ → Bool
-is_low code = nat_le 56320 code && nat_le code 57343
+abbrev pub is_low_surrogate : ℕ → Bool
+is_low_surrogate code = nat_le 56320 code && nat_le code 57343
 
-abbrev pub pair_code : ℕ → ℕ → ℕ
-pair_code high low = 65536 + (high - 55296) * 1024 + (low - 56320)
+abbrev pub surrogate_pair_code : ℕ → ℕ → ℕ
+surrogate_pair_code high low = 65536 + (high - 55296) * 1024 + (low - 56320)
 
 -- A character of a string: a byte of one that is not escaped, a letter or four digits after a reverse solidus, or two halves of one.
 pub data JsonChar : Type 0 where
   unescaped : ℕ → JsonChar
   letter : ℕ → JsonChar
-  coded : Text → JsonChar
-  halves : Text → Text → JsonChar
+  unicode_escape : Text → JsonChar
+  surrogate_pair : Text → Text → JsonChar
 
 abbrev pub char_text : JsonChar → Text
 char_text (unescaped b) = b ∷ []
 char_text (letter b) = 92 ∷ b ∷ []
-char_text (coded digits) = 92 ∷ 117 ∷ digits
-char_text (halves high low) = 92 ∷ 117 ∷ (high ++ 92 ∷ 117 ∷ low)
+char_text (unicode_escape digits) = 92 ∷ 117 ∷ digits
+char_text (surrogate_pair high low) = 92 ∷ 117 ∷ (high ++ 92 ∷ 117 ∷ low)
 
 -- the bytes that a character denotes; half a character alone denotes none (section 8.2)
-abbrev pub code_bytes : ℕ → Option Text
-code_bytes code = if is_high code || is_low code then None else Some (encode_utf8 code)
+abbrev pub code_point_bytes : ℕ → Option Text
+code_point_bytes code = if is_high_surrogate code || is_low_surrogate code then None else Some (encode_utf8 code)
 
-abbrev pub pair_bytes : ℕ → ℕ → Option Text
-pair_bytes high low = if is_high high && is_low low then Some (encode_utf8 (pair_code high low)) else None
+abbrev pub surrogate_pair_bytes : ℕ → ℕ → Option Text
+surrogate_pair_bytes high low = if is_high_surrogate high && is_low_surrogate low then Some (encode_utf8 (surrogate_pair_code high low)) else None
 
 abbrev pub char_bytes : JsonChar → Option Text
 char_bytes (unescaped b) = if is_unescaped b then Some (b ∷ []) else None
 char_bytes (letter b) = do
-  code ← letter_code b
+  code ← escape_letter_code b
   Some (code ∷ [])
-char_bytes (coded digits) = do
-  code ← four_digits_code digits
-  code_bytes code
-char_bytes (halves high low) = do
-  first ← four_digits_code high
-  second ← four_digits_code low
-  pair_bytes first second
+char_bytes (unicode_escape digits) = do
+  code ← hex_escape_code digits
+  code_point_bytes code
+char_bytes (surrogate_pair high low) = do
+  first ← hex_escape_code high
+  second ← hex_escape_code low
+  surrogate_pair_bytes first second
 
 abbrev pub chars_bytes : List JsonChar → Option Text
 chars_bytes [] = Some []
@@ -116,8 +116,8 @@ chars_bytes (char ∷ chars) = do
   Some (first ++ more)
 
 -- a text between quotation marks, that denotes these bytes
-abbrev pub IsString : Text → Text → Type 0
-IsString text bytes = (chars : List JsonChar) × (text ≡ 34 ∷ (flat_map char_text chars ++ 34 ∷ [])) × (chars_bytes chars ≡ Some bytes)
+abbrev pub IsJsonString : Text → Text → Type 0
+IsJsonString text bytes = (chars : List JsonChar) × (text ≡ 34 ∷ (flat_map char_text chars ++ 34 ∷ [])) × (chars_bytes chars ≡ Some bytes)
 
 -- ---- sections 3 to 5: values, objects, arrays
 
@@ -126,7 +126,7 @@ abbrev mutual
   IsValue text null = text ≡ codes "null"
   IsValue text (boolean b) = text ≡ (if b then codes "true" else codes "false")
   IsValue text (number z) = IsJsonNumber text z
-  IsValue text (string bytes) = IsString text bytes
+  IsValue text (string bytes) = IsJsonString text bytes
   IsValue text (array items) =
       (begin values end : Text) × IsStructural 91 begin × IsItems values items × IsStructural 93 end × (text ≡ begin ++ (values ++ end))
   IsValue text (object members) =
@@ -146,14 +146,14 @@ abbrev mutual
   pub IsMembers : Text → JsonMembers → Type 0
   IsMembers text no_members = text ≡ []
   IsMembers text (member name value members) =
-      (quoted colon first more : Text) × IsString quoted name × IsStructural 58 colon × IsValue first value × IsMoreMembers more members
-      × (text ≡ quoted ++ (colon ++ (first ++ more)))
+      (quoted_text colon first more : Text) × IsJsonString quoted_text name × IsStructural 58 colon × IsValue first value × IsMoreMembers more members
+      × (text ≡ quoted_text ++ (colon ++ (first ++ more)))
 
   pub IsMoreMembers : Text → JsonMembers → Type 0
   IsMoreMembers text no_members = text ≡ []
   IsMoreMembers text (member name value members) =
-      (comma quoted colon first more : Text) × IsStructural 44 comma × IsString quoted name × IsStructural 58 colon × IsValue first value
-      × IsMoreMembers more members × (text ≡ comma ++ (quoted ++ (colon ++ (first ++ more))))
+      (comma quoted_text colon first more : Text) × IsStructural 44 comma × IsJsonString quoted_text name × IsStructural 58 colon × IsValue first value
+      × IsMoreMembers more members × (text ≡ comma ++ (quoted_text ++ (colon ++ (first ++ more))))
 
 -- ---- sections 2 and 8.1: a value between white space, in UTF-8
 
@@ -162,7 +162,7 @@ pub record IsJsonText (text : Text) (value : JsonValue) : Type 0 where
   pub inner : Text
   pub after : Text
   pub parts : text ≡ before ++ (inner ++ after)
-  pub space_before : IsSpace before
-  pub space_after : IsSpace after
+  pub space_before : IsJsonSpace before
+  pub space_after : IsJsonSpace after
   pub is_value : IsValue inner value
   pub is_utf8 : IsUtf8 text

@@ -7,7 +7,7 @@ ghost use Rattle.ga_json.specs.inner.{rows_from};
 use crate::field::RowFields;
 
 /// The rows of an answer, one after another.
-pub trait Cursor<'a> {
+pub trait RowCursor<'a> {
     // The rows that were not taken yet.
     ghost left: { Self → JsonItems };
 

@@ -1,7 +1,7 @@
 //! A named value of an answer.
 
 ghost use Rattle.std.specs.Prelude.{◌≡◌, ◌≤◌, length, IsTrue};
-ghost use Rattle.ga_json.specs.Names.{is_name};
+ghost use Rattle.ga_json.specs.Names.{is_field_name};
 
 use arrayvec::ArrayVec;
 use ga_grid::NodeId;
@@ -35,7 +35,7 @@ pub struct Field<'a> {
     pub name: &'a [u8],
     /// The value.
     pub value: FieldValue<'a>,
-    pub ghost named: { IsTrue (is_name name.now) },
+    pub ghost named_field_value: { IsTrue (is_field_name name.now) },
 }
 
 impl<'a> Field<'a> {
@@ -43,12 +43,12 @@ impl<'a> Field<'a> {
     ghost use Rattle.ga_text.specs.Digits.{name_of_node};
     ghost use Rattle.ga_json.specs.Values.{null, boolean, number, string};
     ghost use Rattle.ga_json.specs.FieldValues.{value_json};
-    ghost use Rattle.ga_json.specs.Names.{is_name};
+    ghost use Rattle.ga_json.specs.Names.{is_field_name};
 
     /// A number with its name.
     #[inline(always)]
     pub fn number(name: &'a [u8], value: u64) -> Self
-        requires { IsTrue (is_name name.now) }
+        requires { IsTrue (is_field_name name.now) }
         ensures name { result.name.now ≡ name.now }
         ensures value { value_json result.value ≡ number (pos value) }
     {
@@ -61,7 +61,7 @@ impl<'a> Field<'a> {
     /// A word with its name.
     #[inline(always)]
     pub fn word(name: &'a [u8], word: Word18) -> Self
-        requires { IsTrue (is_name name.now) }
+        requires { IsTrue (is_field_name name.now) }
         ensures name { result.name.now ≡ name.now }
         ensures value { value_json result.value ≡ number (pos word) }
     {
@@ -74,7 +74,7 @@ impl<'a> Field<'a> {
     /// A node with its name.
     #[inline(always)]
     pub fn node(name: &'a [u8], node: NodeId) -> Self
-        requires { IsTrue (is_name name.now) }
+        requires { IsTrue (is_field_name name.now) }
         ensures name { result.name.now ≡ name.now }
         ensures value { value_json result.value ≡ string (name_of_node node) }
     {
@@ -87,7 +87,7 @@ impl<'a> Field<'a> {
     /// A text with its name.
     #[inline(always)]
     pub fn text(name: &'a [u8], text: &'a [u8]) -> Self
-        requires { IsTrue (is_name name.now) }
+        requires { IsTrue (is_field_name name.now) }
         ensures name { result.name.now ≡ name.now }
         ensures value { value_json result.value ≡ string text.now }
     {
@@ -100,7 +100,7 @@ impl<'a> Field<'a> {
     /// A truth value with its name.
     #[inline(always)]
     pub fn flag(name: &'a [u8], flag: bool) -> Self
-        requires { IsTrue (is_name name.now) }
+        requires { IsTrue (is_field_name name.now) }
         ensures name { result.name.now ≡ name.now }
         ensures value { value_json result.value ≡ boolean flag }
     {
@@ -113,7 +113,7 @@ impl<'a> Field<'a> {
     /// A name without a value.
     #[inline(always)]
     pub fn absent(name: &'a [u8]) -> Self
-        requires { IsTrue (is_name name.now) }
+        requires { IsTrue (is_field_name name.now) }
         ensures name { result.name.now ≡ name.now }
         ensures value { value_json result.value ≡ null }
     {

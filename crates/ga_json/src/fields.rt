@@ -4,7 +4,7 @@ ghost use Rattle.std.specs.Prelude.{◌≡◌, ◌≤◌, ◌+◌, ◌++◌, ◌
 ghost use Rattle.arrayvec.specs.ArrayVec.{array_vec_len};
 ghost use Rattle.ga_text.specs.Output.{WritesExactly};
 ghost use Rattle.ga_text.specs.Digits.{name_of_node};
-ghost use Rattle.ga_json.specs.Compact.{compact, comma_if};
+ghost use Rattle.ga_json.specs.Compact.{compact, optional_comma};
 ghost use Rattle.ga_json.specs.FieldValues.{value_json};
 ghost use Rattle.ga_json.specs.inner.{field_text, fields_text};
 
@@ -51,7 +51,7 @@ fn write_field<W: Write>(later: bool, field: &Field<'_>, writer: &mut Writer<'_,
 /// Adds a name between quotation marks and a colon, after a comma if another field is before it.
 fn push_key(out: &mut ArrayVec<u8, OUTPUT_CAPACITY>, later: bool, field: &Field<'_>)
     requires { array_vec_len out.old + KEY_ROOM ≤ OUTPUT_CAPACITY }
-    ensures text { out.new.items ≡ out.old.items ++ (comma_if later ++ (34 ∷ (field.now.name.now ++ 34 ∷ 58 ∷ []))) }
+    ensures text { out.new.items ≡ out.old.items ++ (optional_comma later ++ (34 ∷ (field.now.name.now ++ 34 ∷ 58 ∷ []))) }
     ensures len { array_vec_len out.new ≤ array_vec_len out.old + KEY_ROOM }
 {
     push_text(out, if later { b",\"" } else { b"\"" });

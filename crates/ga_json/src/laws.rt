@@ -3,7 +3,7 @@
 ghost use Rattle.std.specs.Prelude.{◌≡◌, ◌≤◌, ◌<◌, ◌^◌, ℕ, pos, true, All, List, [], ◌∷◌, codes, decimal};
 ghost use Rattle.ga_text.specs.Lines.{Text};
 ghost use Rattle.ga_json.specs.Values.{JsonValue, JsonItems, array, item, no_items, number, string, boolean};
-ghost use Rattle.ga_json.specs.Grammar.{IsJsonText, IsString, IsInt};
+ghost use Rattle.ga_json.specs.Grammar.{IsJsonText, IsJsonString, IsJsonInt};
 ghost use Rattle.ga_json.specs.Compact.{IsWritable, AreWritableItems, compact, json_line};
 ghost use Rattle.ga_json.specs.FieldValues.{value_json};
 ghost use Rattle.ga_json.specs.Fields.{row_json, report_json};
@@ -17,12 +17,12 @@ pub fn lines_are_json()
 
 /// The text of a value has no control character, so the line ends at its only line feed.
 #[tactic(auto, using(crate::proofs::Written::no_control))]
-pub fn texts_are_lines()
+pub fn json_text_is_one_line()
     ensures { (value : JsonValue) → IsWritable value → All (λ b. 32 ≤ b) (compact value) }
 {}
 
 /// Rows and answers can be written if the values of their fields can.
-pub fn answers_are_writable()
+pub fn reports_are_writable()
     ensures rows { (fields : List Field) → All (λ field. IsWritable (value_json field.value)) fields → IsWritable (row_json fields) }
     ensures reports { (head : List Field) (rows : JsonItems) → All (λ field. IsWritable (value_json field.value)) head →
         AreWritableItems rows → IsWritable (report_json head rows) }
@@ -30,19 +30,19 @@ pub fn answers_are_writable()
 
 /// The text of a string has no bare control character.
 pub fn strings_have_no_control()
-    ensures { (text bytes : Text) → IsString text bytes → All (λ b. 32 ≤ b) text }
+    ensures { (text bytes : Text) → IsJsonString text bytes → All (λ b. 32 ≤ b) text }
 {}
 
 /// An integer of 64 bits has one text.
 #[tactic(auto, using(crate::proofs::Grammar::int_is_decimal))]
 pub fn integers_have_one_text()
-    ensures { (text : Text) (n : ℕ) → IsInt text n → n < 2 ^ 64 → text ≡ decimal n }
+    ensures { (text : Text) (n : ℕ) → IsJsonInt text n → n < 2 ^ 64 → text ≡ decimal n }
 {}
 
 /// Texts with what they denote: in RFC 8259 those of section 7, the array of the first object of section 13, and its three small texts.
-pub fn examples()
-    ensures clef { IsString (codes "\"\\uD834\\uDD1E\"") (240 ∷ 157 ∷ 132 ∷ 158 ∷ []) }
-    ensures reverse_solidus { IsString (codes "\"\\u005C\"") (92 ∷ []) }
+pub fn rfc_8259_examples()
+    ensures clef { IsJsonString (codes "\"\\uD834\\uDD1E\"") (240 ∷ 157 ∷ 132 ∷ 158 ∷ []) }
+    ensures reverse_solidus { IsJsonString (codes "\"\\u005C\"") (92 ∷ []) }
     ensures ids { IsJsonText (codes "[116, 943, 234, 38793]")
         (array (item (number (pos 116)) (item (number (pos 943)) (item (number (pos 234)) (item (number (pos 38793)) no_items))))) }
     ensures hello { IsJsonText (codes "\"Hello world!\"") (string (codes "Hello world!")) }

@@ -8,6 +8,6 @@ pub mod laws;
 mod report;
 mod strings;
 
-pub use cursor::Cursor;
+pub use cursor::RowCursor;
 pub use field::{Field, FieldValue, MAX_FIELDS, RowFields, row_fields};
 pub use report::{write_object, write_report};

@@ -6,7 +6,7 @@ ghost use Rattle.ga_json.specs.Compact.{json_line};
 ghost use Rattle.ga_json.specs.Fields.{row_json, report_json};
 ghost use Rattle.ga_json.specs.inner.{fields_text, rows_lead, row_lead};
 
-use crate::cursor::Cursor;
+use crate::cursor::RowCursor;
 use crate::field::Field;
 use crate::fields::write_fields;
 use ga_text::{WriteResult, Writer};
@@ -26,7 +26,7 @@ pub fn write_object<W: Write>(fields: &[Field<'_>], writer: &mut Writer<'_, W>) 
 ///
 /// # Errors
 /// A write failed.
-pub fn write_report<'a, R: Cursor<'a>, W: Write>(
+pub fn write_report<'a, R: RowCursor<'a>, W: Write>(
     head: &[Field<'_>],
     rows: &mut R,
     writer: &mut Writer<'_, W>,

@@ -3,10 +3,10 @@
 ghost use Rattle.std.specs.Prelude.{◌≡◌, ◌≤◌, ◌<◌, ◌+◌, ◌++◌};
 ghost use Rattle.arrayvec.specs.ArrayVec.{array_vec_len};
 ghost use Rattle.ga_text.specs.Output.{WritesExactly};
-ghost use Rattle.ga_json.specs.Compact.{control_text, escape_text, escaped, quoted};
+ghost use Rattle.ga_json.specs.Compact.{control_text, escape_text, escaped_text, quoted_text};
 
 use arrayvec::ArrayVec;
-use ga_text::{WriteResult, Writer, push_byte, push_text};
+use ga_text::{WriteResult, Writer, push_hex_byte, push_text};
 use std::io::Write;
 
 /// The most bytes of an escaped byte, as in `\u0000`.
@@ -17,7 +17,7 @@ const ESCAPE_ROOM: usize = 6;
 /// # Errors
 /// A write failed.
 pub fn write_string<W: Write>(text: &[u8], writer: &mut Writer<'_, W>) -> WriteResult
-    ensures { WritesExactly result (quoted text.now) W.contents writer.old writer.new }
+    ensures { WritesExactly result (quoted_text text.now) W.contents writer.old writer.new }
 {
     writer.write_text(b"\"")?;
     write_escaped(text, writer)?;
@@ -26,7 +26,7 @@ pub fn write_string<W: Write>(text: &[u8], writer: &mut Writer<'_, W>) -> WriteR
 
 /// Writes a text with escapes.
 fn write_escaped<W: Write>(text: &[u8], writer: &mut Writer<'_, W>) -> WriteResult
-    ensures { WritesExactly result (escaped text.now) W.contents writer.old writer.new }
+    ensures { WritesExactly result (escaped_text text.now) W.contents writer.old writer.new }
 {
     'bytes: for byte in text {
         writer.make_room(ESCAPE_ROOM)?;
@@ -61,7 +61,7 @@ fn push_control<const ROOM: usize>(out: &mut ArrayVec<u8, ROOM>, byte: u8)
         13 => push_text(out, b"\\r"),
         _ => {
             push_text(out, b"\\u00");
-            push_byte(out, byte);
+            push_hex_byte(out, byte);
         }
     }
 }

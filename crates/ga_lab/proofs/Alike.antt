@@ -14,8 +14,8 @@ use Rattle.ga_event.specs.declared.event.Cause.{Cause}
 use Rattle.ga_event.specs.Touches.{touches as event_touches}
 use Rattle.ga_event.specs.Apply.{neighbour_states, run, replay}
 use Rattle.ga_event.specs.Next.{next}
-use Rattle.ga_causal.specs.Dependence.{rest, position_of_step, rest_from, rewound_list}
-use Rattle.ga_event.specs.Told.{events_in}
+use Rattle.ga_causal.specs.Dependence.{rest, position_of_step, rest_or_all, events_after_rewind}
+use Rattle.ga_event.specs.Told.{events_of_causes}
 use Rattle.ga_causal.specs.Equivalence.{AreEquivalent, same, swapped, later, joined, local_history}
 use Rattle.ga_causal.proofs.Runs.{causes, replay_equivalent}
 use Rattle.ga_causal.proofs.Equivalences.{IsSwapOf}
@@ -23,10 +23,10 @@ use Rattle.ga_causal.proofs.Consistent.{kept_alike, same_accounts, shuffled_by, 
 use Rattle.ga_causal.proofs.Moved.{rolled_back, rewound_shuffled, length_shuffled, place_shuffled}
 use Rattle.ga_event.specs.declared.made.Made.{Made}
 use Rattle.ga_event.specs.declared.made.Made.TheVariants as made
-use Rattle.ga_event.specs.Told.{steps_of, mades_of}
+use Rattle.ga_event.specs.Told.{count_steps, made_events_of}
 use Rattle.ga_lab.specs.declared.fault.LabFault.{LabFault}
 use Rattle.ga_lab.specs.declared.fault.LabFault.TheVariants.{Full, Spent}
-use Rattle.ga_lab.specs.Machine.{State, initial_state, chip_of, told_by, causes_of, made_next, answer_to, with_event, step_answer, unless_refused, stepped, rest_answer, rewind_answer, rewound, history_of}
+use Rattle.ga_lab.specs.Machine.{State, initial_state, chip_of, outcomes_of_run, causes_of, made_next_event, answer_to_event, with_event, step_answer, unless_refused, state_after_step, removed_count, rewind_answer, state_after_rewind, history_of}
 use Rattle.ga_lab.specs.Calls.{MachineCall, after_calls, AreEquivalentStates}
 use Rattle.ga_lab.proofs.Stepping.{same_state}
 use Rattle.ga_lab.proofs.Told.{made_of, history_accounted}
@@ -39,10 +39,10 @@ equivalent_length c xs ys (swapped {e} {f} {xs = zs} h) = refl
 equivalent_length c xs ys (later {now} {e} {xs = us} {ys = vs} h k) = ap suc (equivalent_length now us vs k)
 equivalent_length c xs ys (joined {ys = zs} h k) = equivalent_length c xs zs h ∙ equivalent_length c zs ys k
 
-steps-cons : (n : ℕ) (e : Event) (es : List Event) → steps_of n (e ∷ es) ≡ cond (event_touches e n) 1 0 + steps_of n es
+steps-cons : (n : ℕ) (e : Event) (es : List Event) → count_steps n (e ∷ es) ≡ cond (event_touches e n) 1 0 + count_steps n es
 steps-cons n e es = sum_by-cons (λ (x : Event). cond (event_touches x n) 1 0) e es
 
-pub equivalent_steps : (n : ℕ) (c : List NodeRecord) (xs ys : List Event) → AreEquivalent c xs ys → steps_of n xs ≡ steps_of n ys
+pub equivalent_steps : (n : ℕ) (c : List NodeRecord) (xs ys : List Event) → AreEquivalent c xs ys → count_steps n xs ≡ count_steps n ys
 equivalent_steps n c xs ys same = refl
 equivalent_steps n c xs ys (swapped {e} {f} {xs = zs} h) = two _ _ _ _ _ _ _ (steps-cons n e (f ∷ zs)) (steps-cons n f zs) (steps-cons n f (e ∷ zs)) (steps-cons n e zs)
   where
@@ -61,26 +61,26 @@ alike_history : (s : State) (ys : List Event) → IsSome (replay s.load s.kept) 
 alike_history s ys some h n =
     let r = runs_of s some in
     let k = kept_alike s.load r.last s.kept ys r.told r.run_is h in
-    ap (λ z. mades_of z n) (told_is s r) ∙ history_accounted r.told n ∙ ap (flat_map made_of) (k.3 n) ∙ sym (history_accounted k.0 n) ∙ sym (ap (λ o. mades_of (told_by o) n) k.1)
+    ap (λ z. made_events_of z n) (told_is s r) ∙ history_accounted r.told n ∙ ap (flat_map made_of) (k.3 n) ∙ sym (history_accounted k.0 n) ∙ sym (ap (λ o. made_events_of (outcomes_of_run o) n) k.1)
 
 -- what a step answers
-told_alike : (s : State) (ys : List Event) → AreEquivalent s.load s.kept ys → (e : Event) → made_next s e ≡ made_next (with_kept s ys) e
+told_alike : (s : State) (ys : List Event) → AreEquivalent s.load s.kept ys → (e : Event) → made_next_event s e ≡ made_next_event (with_kept s ys) e
 told_alike s ys h (event.Own n) =
     ap (λ (z : ℕ). made.Own n (z + 1) ((own (neighbour_states (chip_of s) n.number) (record_at (chip_of s) n.number)).0)) (equivalent_steps n.number s.load s.kept ys h)
-    ∙ ap (λ z. made.Own n (steps_of n.number ys + 1) ((own (neighbour_states z n.number) (record_at z n.number)).0)) (alike_chip s ys h)
+    ∙ ap (λ z. made.Own n (count_steps n.number ys + 1) ((own (neighbour_states z n.number) (record_at z n.number)).0)) (alike_chip s ys h)
 told_alike s ys h (event.Pass w r side) =
-    ap (λ (z : ℕ). made.Pass w (z + 1) r (steps_of r.number s.kept + 1) (t (record_at (chip_of s) w.number))) (equivalent_steps w.number s.load s.kept ys h)
-    ∙ ap (λ (z : ℕ). made.Pass w (steps_of w.number ys + 1) r (z + 1) (t (record_at (chip_of s) w.number))) (equivalent_steps r.number s.load s.kept ys h)
-    ∙ ap (λ z. made.Pass w (steps_of w.number ys + 1) r (steps_of r.number ys + 1) (t (record_at z w.number))) (alike_chip s ys h)
+    ap (λ (z : ℕ). made.Pass w (z + 1) r (count_steps r.number s.kept + 1) (t (record_at (chip_of s) w.number))) (equivalent_steps w.number s.load s.kept ys h)
+    ∙ ap (λ (z : ℕ). made.Pass w (count_steps w.number ys + 1) r (z + 1) (t (record_at (chip_of s) w.number))) (equivalent_steps r.number s.load s.kept ys h)
+    ∙ ap (λ z. made.Pass w (count_steps w.number ys + 1) r (count_steps r.number ys + 1) (t (record_at z w.number))) (alike_chip s ys h)
 
-answer_alike : (s : State) (ys : List Event) → AreEquivalent s.load s.kept ys → (o : Result Event NotReady) → answer_to s o ≡ answer_to (with_kept s ys) o
+answer_alike : (s : State) (ys : List Event) → AreEquivalent s.load s.kept ys → (o : Result Event NotReady) → answer_to_event s o ≡ answer_to_event (with_kept s ys) o
 answer_alike s ys h (Err why) = refl
 answer_alike s ys h (Ok e) =
-    ap (λ (z : ℕ). cond (nat_le s.limit z) (Err Full) (cond (nat_le (2 ^ 64 - 1) s.made) (Err Spent) (Ok (made_next s e)))) (equivalent_length s.load s.kept ys h)
+    ap (λ (z : ℕ). cond (nat_le s.limit z) (Err Full) (cond (nat_le (2 ^ 64 - 1) s.made) (Err Spent) (Ok (made_next_event s e)))) (equivalent_length s.load s.kept ys h)
     ∙ ap (λ z. cond (nat_le s.limit (length ys)) (Err Full) (cond (nat_le (2 ^ 64 - 1) s.made) (Err Spent) (Ok z))) (told_alike s ys h e)
 
 step_alike : (s : State) (ys : List Event) (n : NodeId) → AreEquivalent s.load s.kept ys → step_answer s n ≡ step_answer (with_kept s ys) n
-step_alike s ys n h = ap (λ c. answer_to s (next c n)) (alike_chip s ys h) ∙ answer_alike s ys h (next (chip_of (with_kept s ys)) n)
+step_alike s ys n h = ap (λ c. answer_to_event s (next c n)) (alike_chip s ys h) ∙ answer_alike s ys h (next (chip_of (with_kept s ys)) n)
 
 -- and leaves
 left_alike : (s : State) (ys : List Event) → AreEquivalent s.load s.kept ys → (o : Result Event NotReady) (a : Result Made LabFault) → AreEquivalentStates (unless_refused s a (with_event s o)) (unless_refused (with_kept s ys) a (with_event (with_kept s ys) o))
@@ -89,18 +89,18 @@ left_alike s ys h (Err why) (Err fault) = record { load = refl; limit = refl; ma
 left_alike s ys h (Ok e) (Err fault) = record { load = refl; limit = refl; made = refl; kept = h }
 left_alike s ys h (Ok e) (Ok told) = record { load = refl; limit = refl; made = refl; kept = equivalent-append s.load s.kept ys (e ∷ []) h }
 
-stepped_alike : (s : State) (ys : List Event) (n : NodeId) → AreEquivalent s.load s.kept ys → AreEquivalentStates (stepped s n) (stepped (with_kept s ys) n)
+stepped_alike : (s : State) (ys : List Event) (n : NodeId) → AreEquivalent s.load s.kept ys → AreEquivalentStates (state_after_step s n) (state_after_step (with_kept s ys) n)
 stepped_alike s ys n h =
     let z = with_kept s ys in
-    subst (λ a. AreEquivalentStates (stepped s n) (unless_refused z a (with_event z (next (chip_of z) n)))) (step_alike s ys n h)
-    (subst (λ c. AreEquivalentStates (stepped s n) (unless_refused z (step_answer s n) (with_event z (next c n)))) (alike_chip s ys h)
+    subst (λ a. AreEquivalentStates (state_after_step s n) (unless_refused z a (with_event z (next (chip_of z) n)))) (step_alike s ys n h)
+    (subst (λ c. AreEquivalentStates (state_after_step s n) (unless_refused z (step_answer s n) (with_event z (next c n)))) (alike_chip s ys h)
     (left_alike s ys h (next (chip_of s) n) (step_answer s n)))
 
 -- what a rollback answers, and leaves
-rest_alike : (xs ys : List Cause) (n k : ℕ) → IsSwapOf xs ys → rest_answer xs (position_of_step xs n k) ≡ rest_answer ys (position_of_step ys n k)
-rest_alike xs ys n k h = go (position_of_step xs n k) (position_of_step ys n k) (place_shuffled n k xs ys h) (length_shuffled (rewound_list xs n k) (rewound_list ys n k) (rewound_shuffled xs ys n k h))
+rest_alike : (xs ys : List Cause) (n k : ℕ) → IsSwapOf xs ys → removed_count xs (position_of_step xs n k) ≡ removed_count ys (position_of_step ys n k)
+rest_alike xs ys n k h = go (position_of_step xs n k) (position_of_step ys n k) (place_shuffled n k xs ys h) (length_shuffled (events_after_rewind xs n k) (events_after_rewind ys n k) (rewound_shuffled xs ys n k h))
   where
-    go : (o p : Option ℕ) → is_some o ≡ is_some p → length (rest_from xs o) ≡ length (rest_from ys p) → rest_answer xs o ≡ rest_answer ys p
+    go : (o p : Option ℕ) → is_some o ≡ is_some p → length (rest_or_all xs o) ≡ length (rest_or_all ys p) → removed_count xs o ≡ removed_count ys p
     go None None q l = refl
     go None (Some j) q l = absurd (cc)
     go (Some i) None q l = absurd (cc)
@@ -119,21 +119,21 @@ both_run s ys some h =
 rewind_alike : (s : State) (ys : List Event) (n k : ℕ) → IsSome (replay s.load s.kept) → AreEquivalent s.load s.kept ys → rewind_answer s n k ≡ rewind_answer (with_kept s ys) n k
 rewind_alike s ys n k some h =
     let b = both_run s ys some h in
-    ap (λ z. rest_answer z (position_of_step z n k)) (causes_is s b.here)
+    ap (λ z. removed_count z (position_of_step z n k)) (causes_is s b.here)
     ∙ rest_alike (causes b.here.told) (causes b.there.told) n k (shuffled_by s.load b.here.last b.there.last s.kept ys b.here.told b.there.told b.here.run_is b.there.run_is h)
-    ∙ sym (ap (λ z. rest_answer z (position_of_step z n k)) (causes_is (with_kept s ys) b.there))
+    ∙ sym (ap (λ z. removed_count z (position_of_step z n k)) (causes_is (with_kept s ys) b.there))
 
-rewound_alike : (s : State) (ys : List Event) (n k : ℕ) → IsSome (replay s.load s.kept) → AreEquivalent s.load s.kept ys → AreEquivalentStates (rewound s n k) (rewound (with_kept s ys) n k)
+rewound_alike : (s : State) (ys : List Event) (n k : ℕ) → IsSome (replay s.load s.kept) → AreEquivalent s.load s.kept ys → AreEquivalentStates (state_after_rewind s n k) (state_after_rewind (with_kept s ys) n k)
 rewound_alike s ys n k some h =
     let b = both_run s ys some h in
-    let e : AreEquivalent s.load (events_in (rewound_list (causes b.here.told) n k)) (events_in (rewound_list (causes b.there.told) n k)) =
+    let e : AreEquivalent s.load (events_of_causes (events_after_rewind (causes b.here.told) n k)) (events_of_causes (events_after_rewind (causes b.there.told) n k)) =
     rolled_back s.load b.here.last b.there.last s.kept ys b.here.told b.there.told b.here.run_is b.there.run_is h ((n, k) ∷ []) in
     record {
       load = refl;
       limit = refl;
       made = refl;
-      kept = subst (λ z. AreEquivalent s.load (events_in (rewound_list z n k)) (rewound (with_kept s ys) n k).kept) (sym (causes_is s b.here))
-          (subst (λ z. AreEquivalent s.load (events_in (rewound_list (causes b.here.told) n k)) (events_in (rewound_list z n k))) (sym (causes_is (with_kept s ys) b.there)) e);
+      kept = subst (λ z. AreEquivalent s.load (events_of_causes (events_after_rewind z n k)) (state_after_rewind (with_kept s ys) n k).kept) (sym (causes_is s b.here))
+          (subst (λ z. AreEquivalent s.load (events_of_causes (events_after_rewind (causes b.here.told) n k)) (events_of_causes (events_after_rewind z n k))) (sym (causes_is (with_kept s ys) b.there)) e);
     }
 
 -- one machine is the other with an equivalent list
@@ -156,12 +156,12 @@ alike_account s ys some h n =
 pub same_account : (s z : State) (n : ℕ) → IsSome (replay s.load s.kept) → AreEquivalentStates s z → local_history n (causes_of s) ≡ local_history n (causes_of z)
 same_account s z n some a = subst (λ x. local_history n (causes_of s) ≡ local_history n (causes_of x)) (alike_is s z a) (alike_account s z.kept some a.kept n)
 
-pub same_step : (s z : State) (n : NodeId) → AreEquivalentStates s z → (step_answer s n ≡ step_answer z n) × AreEquivalentStates (stepped s n) (stepped z n)
-same_step s z n a = subst (λ x. (step_answer s n ≡ step_answer x n) × AreEquivalentStates (stepped s n) (stepped x n)) (alike_is s z a) (step_alike s z.kept n a.kept, stepped_alike s z.kept n a.kept)
+pub same_step : (s z : State) (n : NodeId) → AreEquivalentStates s z → (step_answer s n ≡ step_answer z n) × AreEquivalentStates (state_after_step s n) (state_after_step z n)
+same_step s z n a = subst (λ x. (step_answer s n ≡ step_answer x n) × AreEquivalentStates (state_after_step s n) (state_after_step x n)) (alike_is s z a) (step_alike s z.kept n a.kept, stepped_alike s z.kept n a.kept)
 
-pub same_rewind : (s z : State) (n k : ℕ) → IsSome (replay s.load s.kept) → AreEquivalentStates s z → (rewind_answer s n k ≡ rewind_answer z n k) × AreEquivalentStates (rewound s n k) (rewound z n k)
+pub same_rewind : (s z : State) (n k : ℕ) → IsSome (replay s.load s.kept) → AreEquivalentStates s z → (rewind_answer s n k ≡ rewind_answer z n k) × AreEquivalentStates (state_after_rewind s n k) (state_after_rewind z n k)
 same_rewind s z n k some a =
-    subst (λ x. (rewind_answer s n k ≡ rewind_answer x n k) × AreEquivalentStates (rewound s n k) (rewound x n k)) (alike_is s z a)
+    subst (λ x. (rewind_answer s n k ≡ rewind_answer x n k) × AreEquivalentStates (state_after_rewind s n k) (state_after_rewind x n k)) (alike_is s z a)
     (rewind_alike s z.kept n k some a.kept, rewound_alike s z.kept n k some a.kept)
 
 -- Whatever led to two machines with one load, if each node has the same local history, they keep the same events except for the
@@ -177,8 +177,8 @@ kept_same s z load r q h =
     let k = kept_alike s.load r.last s.kept z.kept r.told r.run_is e in (
       e,
       alike_chip s z.kept e ∙ ap (λ c. unwrap_or (replay c z.kept) []) load,
-      λ n. ap (λ x. mades_of x n) (told_is s r) ∙ history_accounted r.told n ∙ ap (flat_map made_of) (k.3 n) ∙ sym (history_accounted k.0 n)
-          ∙ sym (ap (λ o. mades_of (told_by o) n) k.1) ∙ ap (λ c. mades_of (told_by (run c z.kept)) n) load,
+      λ n. ap (λ x. made_events_of x n) (told_is s r) ∙ history_accounted r.told n ∙ ap (flat_map made_of) (k.3 n) ∙ sym (history_accounted k.0 n)
+          ∙ sym (ap (λ o. made_events_of (outcomes_of_run o) n) k.1) ∙ ap (λ c. made_events_of (outcomes_of_run (run c z.kept)) n) load,
     )
 
 pub consistent : (load : List NodeRecord) (limit bound : ℕ) (calls others : List MachineCall)

@@ -10,12 +10,12 @@ use Rattle.ga_grid.specs.declared.node_id.NodeId.{NodeId}
 use Rattle.ga_event.specs.declared.event.Event.{Event}
 use Rattle.ga_event.specs.declared.event.Cause.{Cause}
 use Rattle.ga_event.specs.Touches.{touches as event_touches}
-use Rattle.ga_event.specs.Apply.{EventOutcome, apply, after, when_allowed, cause_of, run, replay}
+use Rattle.ga_event.specs.Apply.{EventOutcome, apply, after, some_if_allowed, cause_of, run, replay}
 use Rattle.ga_event.specs.Next.{next}
 use Rattle.ga_event.proofs.Nexts.{next_can}
-use Rattle.ga_causal.specs.Dependence.{cause_touches, rest, rest_from, rewound_list}
-use Rattle.ga_event.specs.Told.{events_in, steps_of, mades_of}
-use Rattle.ga_causal.specs.Steps.{touching}
+use Rattle.ga_causal.specs.Dependence.{cause_touches, rest, rest_or_all, events_after_rewind}
+use Rattle.ga_event.specs.Told.{events_of_causes, count_steps, made_events_of}
+use Rattle.ga_causal.specs.Steps.{count_touching_events}
 use Rattle.ga_causal.proofs.Runs.{causes, run_more, first_of_run}
 use Rattle.ga_causal.proofs.Consistent.{made_of}
 use Rattle.ga_causal.proofs.Places.{place_split, touching_in}
@@ -24,7 +24,7 @@ use Rattle.ga_lab.proofs.Told.{history_begins}
 use Rattle.ga_event.specs.declared.made.Made.{Made}
 use Rattle.ga_rollback.proofs.Rewinding.{run_snoc}
 use Rattle.ga_lab.specs.declared.fault.LabFault.{LabFault}
-use Rattle.ga_lab.specs.Machine.{State, initial_state, chip_of, told_by, outcomes_of_kept, causes_of, answer_to, with_event, unless_refused, stepped, undone, rewound, history_of}
+use Rattle.ga_lab.specs.Machine.{State, initial_state, chip_of, outcomes_of_run, outcomes_of_kept, causes_of, answer_to_event, with_event, unless_refused, state_after_step, state_after_undo, state_after_rewind, history_of}
 use Rattle.ga_lab.specs.Calls.{MachineCall, step, undo, rewind, after_call, after_calls}
 
 -- a machine whose list runs
@@ -48,7 +48,7 @@ pub runs_some : (s : State) → Runs s → IsSome (replay s.load s.kept)
 runs_some s r = ap (λ (o : Option (List NodeRecord × List (Cause × EventOutcome))). is_some (option_map {U = List NodeRecord} (λ x. x.0) o)) r.run_is
 
 pub told_is : (s : State) (r : Runs s) → outcomes_of_kept s ≡ r.told
-told_is s r = ap told_by r.run_is
+told_is s r = ap outcomes_of_run r.run_is
 
 pub causes_is : (s : State) (r : Runs s) → causes_of s ≡ causes r.told
 causes_is s r = ap causes (told_is s r)
@@ -58,15 +58,15 @@ chip_is s r = ap (λ (o : Option (List NodeRecord × List (Cause × EventOutcome
 
 -- Every call leaves a machine whose list runs.
 
-step_runs : (s : State) (n : NodeId) → Runs s → Runs (stepped s n)
-step_runs s n r = go (next (chip_of s) n) refl (answer_to s (next (chip_of s) n))
+step_runs : (s : State) (n : NodeId) → Runs s → Runs (state_after_step s n)
+step_runs s n r = go (next (chip_of s) n) refl (answer_to_event s (next (chip_of s) n))
   where
     go : (o : Result Event NotReady) → next (chip_of s) n ≡ o → (a : Result Made LabFault) → Runs (unless_refused s a (with_event s o))
     go (Err why) is (Ok told) = r
     go (Err why) is (Err fault) = r
     go (Ok e) is (Err fault) = r
     go (Ok e) is (Ok told) =
-        let made : apply r.last e ≡ Some ((after r.last e).0, (after r.last e).1) = ap (λ o. when_allowed o (after r.last e)) (next_can r.last n e (ap (λ z. next z n) (sym (chip_is s r)) ∙ is)) in
+        let made : apply r.last e ≡ Some ((after r.last e).0, (after r.last e).1) = ap (λ o. some_if_allowed o (after r.last e)) (next_can r.last n e (ap (λ z. next z n) (sym (chip_is s r)) ∙ is)) in
         record { last = (after r.last e).0; told = _; run_is = run_snoc s.load r.last (after r.last e).0 s.kept r.told e (after r.last e).1 r.run_is made }
 
 -- the first part of a list runs
@@ -77,16 +77,16 @@ front_runs c last (x ∷ xs) ys ts h =
     let r = front_runs m.mid last xs ys m.others m.then in
     (r.0, (cause_of c x, m.told) ∷ r.1, run_more c x xs m.mid r.0 m.told r.1 m.first r.2)
 
-undo_runs : (s : State) → Runs s → Runs (undone s)
+undo_runs : (s : State) → Runs s → Runs (state_after_undo s)
 undo_runs s r =
     let i : ℕ = length s.kept - 1 in
     let f = front_runs s.load r.last (take i s.kept) (drop i s.kept) r.told (ap (run s.load) (take-append-drop i s.kept) ∙ r.run_is) in
     record { last = f.0; told = f.1; run_is = f.2 }
 
-rewind_runs : (s : State) (n k : ℕ) → Runs s → Runs (rewound s n k)
+rewind_runs : (s : State) (n k : ℕ) → Runs s → Runs (state_after_rewind s n k)
 rewind_runs s n k r =
     let f = first_part_told s.load r.last s.kept r.told n k r.run_is in
-    record { last = f.0; told = f.1; run_is = ap (λ z. run s.load (events_in (rewound_list z n k))) (causes_is s r) ∙ f.2 }
+    record { last = f.0; told = f.1; run_is = ap (λ z. run s.load (events_of_causes (events_after_rewind z n k))) (causes_is s r) ∙ f.2 }
 
 pub call_runs : (s : State) (call : MachineCall) → Runs s → Runs (after_call s call)
 call_runs s (step n) r = step_runs s n r
@@ -100,7 +100,7 @@ step_load s (Ok e) (Ok told) = refl
 step_load s (Ok e) (Err fault) = refl
 
 pub call_load : (s : State) (call : MachineCall) → (after_call s call).load ≡ s.load
-call_load s (step n) = step_load s (next (chip_of s) n) (answer_to s (next (chip_of s) n))
+call_load s (step n) = step_load s (next (chip_of s) n) (answer_to_event s (next (chip_of s) n))
 call_load s undo = refl
 call_load s (rewind n k) = refl
 
@@ -115,20 +115,20 @@ calls_load s (call ∷ calls) = calls_load (after_call s call) calls ∙ call_lo
 pub first_runs : (load : List NodeRecord) (limit : ℕ) (calls : List MachineCall) → Runs (after_calls (initial_state load limit) calls)
 first_runs load limit calls = calls_run (initial_state load limit) calls (record { last = load; told = []; run_is = refl })
 
-pub reached : (load : List NodeRecord) (limit : ℕ) (calls : List MachineCall) → ((after_calls (initial_state load limit) calls).load ≡ load) × IsSome (replay (after_calls (initial_state load limit) calls).load (after_calls (initial_state load limit) calls).kept)
-reached load limit calls = (calls_load (initial_state load limit) calls, runs_some _ (first_runs load limit calls))
+pub history_is_replayable : (load : List NodeRecord) (limit : ℕ) (calls : List MachineCall) → ((after_calls (initial_state load limit) calls).load ≡ load) × IsSome (replay (after_calls (initial_state load limit) calls).load (after_calls (initial_state load limit) calls).kept)
+history_is_replayable load limit calls = (calls_load (initial_state load limit) calls, runs_some _ (first_runs load limit calls))
 
 -- After a rollback the history of each node is a prefix of the one before.
-pub history_kept : (s : State) (n k m : ℕ) → IsSome (replay s.load s.kept) → (later : List Made) × (history_of s m ≡ history_of (rewound s n k) m ++ later)
-history_kept s n k m some =
+pub rollback_keeps_prefix : (s : State) (n k m : ℕ) → IsSome (replay s.load s.kept) → (later : List Made) × (history_of s m ≡ history_of (state_after_rewind s n k) m ++ later)
+rollback_keeps_prefix s n k m some =
     let r = runs_of s some in
     let f = first_part_told s.load r.last s.kept r.told n k r.run_is in
-    let left : outcomes_of_kept (rewound s n k) ≡ f.1 = ap (λ z. told_by (run s.load (events_in (rewound_list z n k)))) (causes_is s r) ∙ ap told_by f.2 in
+    let left : outcomes_of_kept (state_after_rewind s n k) ≡ f.1 = ap (λ z. outcomes_of_run (run s.load (events_of_causes (events_after_rewind z n k)))) (causes_is s r) ∙ ap outcomes_of_run f.2 in
     let b = history_begins r.told f.1 m (f.3 m) in
-    (b.0, ap (λ z. mades_of z m) (told_is s r) ∙ b.1 ∙ ap (λ z. mades_of z m ++ b.0) (sym left))
+    (b.0, ap (λ z. made_events_of z m) (told_is s r) ∙ b.1 ∙ ap (λ z. made_events_of z m ++ b.0) (sym left))
 
 -- The newest event is a step of each of its nodes on which nothing depends: to undo it is to roll it back.
-pub events_run : (c last : List NodeRecord) (es : List Event) (ts : List (Cause × EventOutcome)) → run c es ≡ Some (last, ts) → events_in (causes ts) ≡ es
+pub events_run : (c last : List NodeRecord) (es : List Event) (ts : List (Cause × EventOutcome)) → run c es ≡ Some (last, ts) → events_of_causes (causes ts) ≡ es
 events_run c last es ts h = (made_of c last es ts h).1
 
 -- the last of a list of causes, of a list of events
@@ -136,44 +136,44 @@ record LastOf (cs : List Cause) (xs : List Event) (e : Event) : Type 0 where
   pub front : List Cause
   pub cause : Cause
   pub is : cs ≡ front ++ cause ∷ []
-  pub events : events_in front ≡ xs
+  pub events : events_of_causes front ≡ xs
   pub event : cause.event ≡ e
 
-last_of : (cs : List Cause) (xs : List Event) (e : Event) → events_in cs ≡ xs ++ e ∷ [] → LastOf cs xs e
+last_of : (cs : List Cause) (xs : List Event) (e : Event) → events_of_causes cs ≡ xs ++ e ∷ [] → LastOf cs xs e
 last_of [] [] e h = absurd (cc)
 last_of [] (x ∷ xs) e h = absurd (cc)
 last_of (c ∷ []) [] e h = record { front = []; cause = c; is = refl; events = refl; event = cc }
 last_of (c ∷ d ∷ cs) [] e h = absurd (cc)
 last_of (c ∷ cs) (x ∷ xs) e h =
-    let r = last_of cs xs e (let q : events_in cs ≡ xs ++ e ∷ [] = cc in q) in
+    let r = last_of cs xs e (let q : events_of_causes cs ≡ xs ++ e ∷ [] = cc in q) in
     let q : c.event ≡ x = cc in
-    record { front = c ∷ r.front; cause = r.cause; is = ap (λ z. c ∷ z) r.is; events = ap (λ z. z ∷ events_in r.front) q ∙ ap (λ z. x ∷ z) r.events; event = r.event }
+    record { front = c ∷ r.front; cause = r.cause; is = ap (λ z. c ∷ z) r.is; events = ap (λ z. z ∷ events_of_causes r.front) q ∙ ap (λ z. x ∷ z) r.events; event = r.event }
 
 rest_last : (xs : List Cause) (c : Cause) → rest (xs ++ c ∷ []) (length xs) ≡ xs
 rest_last [] c = refl
 rest_last (x ∷ xs) c = ap (λ z. x ∷ z) (rest_last xs c)
 
-rewound_last : (xs : List Cause) (c : Cause) (n : ℕ) → cause_touches c n ≡ true → rewound_list (xs ++ c ∷ []) n (touching n xs + 1) ≡ xs
+rewound_last : (xs : List Cause) (c : Cause) (n : ℕ) → cause_touches c n ≡ true → events_after_rewind (xs ++ c ∷ []) n (count_touching_events n xs + 1) ≡ xs
 rewound_last xs c n t =
-    let q : touching n xs + 1 ≡ suc (touching n xs) = omega arith in
-    ap (λ (z : ℕ). rewound_list (xs ++ c ∷ []) n z) q ∙ ap (rest_from (xs ++ c ∷ [])) (place_split n (touching n xs) xs c [] refl t) ∙ rest_last xs c
+    let q : count_touching_events n xs + 1 ≡ suc (count_touching_events n xs) = omega arith in
+    ap (λ (z : ℕ). events_after_rewind (xs ++ c ∷ []) n z) q ∙ ap (rest_or_all (xs ++ c ∷ [])) (place_split n (count_touching_events n xs) xs c [] refl t) ∙ rest_last xs c
 
-pub undone_rewound : (s : State) (xs : List Event) (e : Event) (n : ℕ) → IsSome (replay s.load s.kept) → s.kept ≡ xs ++ e ∷ [] → event_touches e n ≡ true → undone s ≡ rewound s n (steps_of n s.kept)
-undone_rewound s xs e n some is t =
+pub undo_is_rewind_of_last : (s : State) (xs : List Event) (e : Event) (n : ℕ) → IsSome (replay s.load s.kept) → s.kept ≡ xs ++ e ∷ [] → event_touches e n ≡ true → state_after_undo s ≡ state_after_rewind s n (count_steps n s.kept)
+undo_is_rewind_of_last s xs e n some is t =
     let r = runs_of s some in
     let l = last_of (causes r.told) xs e (events_run s.load r.last s.kept r.told r.run_is ∙ is) in
     let here : cause_touches l.cause n ≡ true = ap (λ z. event_touches z n) l.event ∙ t in
-    let steps : steps_of n s.kept ≡ touching n l.front + 1 =
-    ap (steps_of n) is ∙ sum_by-append (λ (z : Event). cond (event_touches z n) 1 0) xs (e ∷ []) ∙ one (event_touches e n) t ∙ ap (λ (z : ℕ). z + 1) (ap (steps_of n) (sym l.events) ∙ sym (touching_in n l.front)) in
+    let steps : count_steps n s.kept ≡ count_touching_events n l.front + 1 =
+    ap (count_steps n) is ∙ sum_by-append (λ (z : Event). cond (event_touches z n) 1 0) xs (e ∷ []) ∙ one (event_touches e n) t ∙ ap (λ (z : ℕ). z + 1) (ap (count_steps n) (sym l.events) ∙ sym (touching_in n l.front)) in
     let long : length (xs ++ e ∷ []) ≡ length xs + 1 = length_push xs e in
     let less : length s.kept - 1 ≡ length xs = let size : length s.kept ≡ length xs + 1 = ap length is ∙ long in omega arith in
     let front : take (length s.kept - 1) s.kept ≡ xs =
     ap (λ z. take z s.kept) less ∙ ap (take (length xs)) is ∙ take-append-le (length xs) xs (e ∷ []) (omega arith) ∙ take_all (length xs) xs (omega arith) in
     ap (λ z. with_kept s z)
-    (front ∙ sym (ap (λ z. events_in (rewound_list z n (steps_of n s.kept))) (causes_is s r ∙ l.is)
-    ∙ ap (λ z. events_in (rewound_list (l.front ++ l.cause ∷ []) n z)) steps
-    ∙ ap events_in (rewound_last l.front l.cause n here) ∙ l.events))
+    (front ∙ sym (ap (λ z. events_of_causes (events_after_rewind z n (count_steps n s.kept))) (causes_is s r ∙ l.is)
+    ∙ ap (λ z. events_of_causes (events_after_rewind (l.front ++ l.cause ∷ []) n z)) steps
+    ∙ ap events_of_causes (rewound_last l.front l.cause n here) ∙ l.events))
   where
-    one : (b : Bool) → b ≡ true → steps_of n xs + (0 + cond b 1 0) ≡ steps_of n xs + 1
+    one : (b : Bool) → b ≡ true → count_steps n xs + (0 + cond b 1 0) ≡ count_steps n xs + 1
     one true h = omega arith
     one false h = absurd (cc)

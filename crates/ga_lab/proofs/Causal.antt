@@ -11,15 +11,15 @@ use Rattle.ga_event.specs.declared.event.Cause.{Cause}
 use Rattle.ga_event.specs.Apply.{replay}
 use Rattle.ga_event.specs.Next.{next}
 use Rattle.ga_event.proofs.Nexts.{next_can}
-use Rattle.ga_causal.specs.Dependence.{dependents, unflagged, rest, position_of_step, rest_from}
-use Rattle.ga_event.specs.Told.{events_in}
+use Rattle.ga_causal.specs.Dependence.{dependent_flags, without_flagged, rest, position_of_step, rest_or_all}
+use Rattle.ga_event.specs.Told.{events_of_causes}
 use Rattle.ga_causal.specs.Equivalence.{AreEquivalent}
 use Rattle.ga_event.specs.declared.made.Made.{Made}
 use Rattle.ga_lab.specs.declared.fault.LabFault.{LabFault}
 use Rattle.ga_lab.specs.declared.fault.LabFault.TheVariants.{Full, Spent}
-use Rattle.ga_lab.specs.Machine.{State, initial_state, chip_of, causes_of, made_next, answer_to, with_event, unless_refused, stepped, undone, rewound, actor_of}
+use Rattle.ga_lab.specs.Machine.{State, initial_state, chip_of, causes_of, made_next_event, answer_to_event, with_event, unless_refused, state_after_step, state_after_undo, state_after_rewind, acting_node}
 use Rattle.ga_lab.specs.Calls.{MachineCall, step, undo, rewind, after_call, after_calls}
-use Rattle.ga_lab.specs.Sequences.{AreCausal, back, chained, onward, either, TakesNoLook}
+use Rattle.ga_lab.specs.Sequences.{AreCausallyEquivalent, back, chained, onward, either, RemovesNoLook}
 use Rattle.ga_lab.proofs.Called.{Runs, runs_of, with_kept, call_runs, runs_some, call_load, first_runs}
 use Rattle.ga_lab.proofs.Forward.{made_is_next}
 use Rattle.ga_lab.proofs.Reasoned.{replayed}
@@ -31,24 +31,24 @@ use Rattle.ga_lab.proofs.Normal.{steps_for, at, load_of, steps_length, steps_joi
 pub less_of : (x y : ℕ) → nat_le x y ≡ false → y < x
 less_of x y f = ⊎_elim (λ l. l) (λ l. absurd (both_ways (nat_le x y) f (le-leb x y l))) (cases_lt y x)
 
-one_step : (s : State) (n : NodeId) → Fits s → s.made < 2 ^ 64 - 1 → AreCausal (load_of s) (steps_for s.kept ++ step n ∷ []) (steps_for (stepped s n).kept)
+one_step : (s : State) (n : NodeId) → Fits s → s.made < 2 ^ 64 - 1 → AreCausallyEquivalent (load_of s) (steps_for s.kept ++ step n ∷ []) (steps_for (state_after_step s n).kept)
 one_step s n f count = go (next (chip_of s) n) refl
   where
-    stays : (o : Result Event NotReady) → next (chip_of s) n ≡ o → (unless_refused s (answer_to s o) (with_event s o)).kept ≡ s.kept → unless_refused (at s s.kept) (answer_to (at s s.kept) o) (with_event (at s s.kept) o) ≡ at s s.kept
-        → AreCausal (load_of s) (steps_for s.kept ++ step n ∷ []) (steps_for (stepped s n).kept)
+    stays : (o : Result Event NotReady) → next (chip_of s) n ≡ o → (unless_refused s (answer_to_event s o) (with_event s o)).kept ≡ s.kept → unless_refused (at s s.kept) (answer_to_event (at s s.kept) o) (with_event (at s s.kept) o) ≡ at s s.kept
+        → AreCausallyEquivalent (load_of s) (steps_for s.kept ++ step n ∷ []) (steps_for (state_after_step s n).kept)
     stays o is h k =
-        subst (λ z. AreCausal (load_of s) (steps_for s.kept ++ step n ∷ []) (steps_for z)) (sym (ap (λ o. (unless_refused s (answer_to s o) (with_event s o)).kept) is ∙ h))
-        (one_refused s (step n) f (ap (λ o. unless_refused (at s s.kept) (answer_to (at s s.kept) o) (with_event (at s s.kept) o)) is ∙ k))
+        subst (λ z. AreCausallyEquivalent (load_of s) (steps_for s.kept ++ step n ∷ []) (steps_for z)) (sym (ap (λ o. (unless_refused s (answer_to_event s o) (with_event s o)).kept) is ∙ h))
+        (one_refused s (step n) f (ap (λ o. unless_refused (at s s.kept) (answer_to_event (at s s.kept) o) (with_event (at s s.kept) o)) is ∙ k))
 
-    makes : (e : Event) → next (chip_of s) n ≡ Ok e → (unless_refused s (answer_to s (Ok e)) (with_event s (Ok e))).kept ≡ s.kept ++ e ∷ [] → AreCausal (load_of s) (steps_for s.kept ++ step n ∷ []) (steps_for (stepped s n).kept)
+    makes : (e : Event) → next (chip_of s) n ≡ Ok e → (unless_refused s (answer_to_event s (Ok e)) (with_event s (Ok e))).kept ≡ s.kept ++ e ∷ [] → AreCausallyEquivalent (load_of s) (steps_for s.kept ++ step n ∷ []) (steps_for (state_after_step s n).kept)
     makes e is h =
-        let other : next (chip_of s) (actor_of e) ≡ Ok e = made_is_next (chip_of s) e (next_can (chip_of s) n e is) in
-        let q : stepped (at s s.kept) n ≡ stepped (at s s.kept) (actor_of e) = ap (λ o. unless_refused (at s s.kept) (answer_to (at s s.kept) o) (with_event (at s s.kept) o)) (is ∙ sym other) in
-        subst (λ z. AreCausal (load_of s) (steps_for s.kept ++ step n ∷ []) (steps_for z)) (sym (ap (λ o. (unless_refused s (answer_to s o) (with_event s o)).kept) is ∙ h))
-        (subst (λ z. AreCausal (load_of s) (steps_for s.kept ++ step n ∷ []) z) (sym (steps_join s.kept (e ∷ [])))
-        (behind s (step n ∷ []) (step (actor_of e) ∷ []) f (either q)))
+        let other : next (chip_of s) (acting_node e) ≡ Ok e = made_is_next (chip_of s) e (next_can (chip_of s) n e is) in
+        let q : state_after_step (at s s.kept) n ≡ state_after_step (at s s.kept) (acting_node e) = ap (λ o. unless_refused (at s s.kept) (answer_to_event (at s s.kept) o) (with_event (at s s.kept) o)) (is ∙ sym other) in
+        subst (λ z. AreCausallyEquivalent (load_of s) (steps_for s.kept ++ step n ∷ []) (steps_for z)) (sym (ap (λ o. (unless_refused s (answer_to_event s o) (with_event s o)).kept) is ∙ h))
+        (subst (λ z. AreCausallyEquivalent (load_of s) (steps_for s.kept ++ step n ∷ []) z) (sym (steps_join s.kept (e ∷ [])))
+        (behind s (step n ∷ []) (step (acting_node e) ∷ []) f (either q)))
 
-    go : (o : Result Event NotReady) → next (chip_of s) n ≡ o → AreCausal (load_of s) (steps_for s.kept ++ step n ∷ []) (steps_for (stepped s n).kept)
+    go : (o : Result Event NotReady) → next (chip_of s) n ≡ o → AreCausallyEquivalent (load_of s) (steps_for s.kept ++ step n ∷ []) (steps_for (state_after_step s n).kept)
     go (Err why) is = stays (Err why) is refl refl
     go (Ok e) is = ⊎_elim
         (λ full. stays (Ok e) is
@@ -56,23 +56,23 @@ one_step s n f count = go (next (chip_of s) n) refl
         (ap (λ (z : Result Made LabFault). unless_refused (at s s.kept) z (with_event (at s s.kept) (Ok e))) (cond-true (nat_le s.limit (length s.kept)) (Err Full) _ full)))
         (λ room. makes e is
         (ap (λ (z : Result Made LabFault). (unless_refused s z (with_event s (Ok e))).kept)
-        (Rattle.ga_lab.proofs.Sequences.counted_answer s e count ∙ cond-false (nat_le s.limit (length s.kept)) (Err Full) (Ok (made_next s e)) room)))
+        (Rattle.ga_lab.proofs.Sequences.counted_answer s e count ∙ cond-false (nat_le s.limit (length s.kept)) (Err Full) (Ok (made_next_event s e)) room)))
         (cases_Bool (nat_le s.limit (length s.kept)))
 
-one_call : (s : State) (call : MachineCall) (calls : List MachineCall) → Fits s → s.made < 2 ^ 64 - 1 → length s.kept + length s.kept < 2 ^ 64 → TakesNoLook s (call ∷ calls) → AreCausal (load_of s) (steps_for s.kept ++ call ∷ []) (steps_for (after_call s call).kept)
+one_call : (s : State) (call : MachineCall) (calls : List MachineCall) → Fits s → s.made < 2 ^ 64 - 1 → length s.kept + length s.kept < 2 ^ 64 → RemovesNoLook s (call ∷ calls) → AreCausallyEquivalent (load_of s) (steps_for s.kept ++ call ∷ []) (steps_for (after_call s call).kept)
 one_call s (step n) calls f count l none = one_step s n f count
 one_call s (rewind n k) calls f count l none = one_rewind s n k f l none.0
 one_call s undo calls f count l none = go s.kept refl
   where
-    go : (ks : List Event) → s.kept ≡ ks → AreCausal (load_of s) (steps_for s.kept ++ undo ∷ []) (steps_for (undone s).kept)
+    go : (ks : List Event) → s.kept ≡ ks → AreCausallyEquivalent (load_of s) (steps_for s.kept ++ undo ∷ []) (steps_for (state_after_undo s).kept)
     go [] is =
-        let stays : (undone s).kept ≡ s.kept = ap (λ z. take (length z - 1) z) is ∙ sym is in
-        subst (λ z. AreCausal (load_of s) (steps_for s.kept ++ undo ∷ []) (steps_for z)) (sym stays) (one_refused s undo f (ap (with_kept (at s s.kept)) stays))
+        let stays : (state_after_undo s).kept ≡ s.kept = ap (λ z. take (length z - 1) z) is ∙ sym is in
+        subst (λ z. AreCausallyEquivalent (load_of s) (steps_for s.kept ++ undo ∷ []) (steps_for z)) (sym stays) (one_refused s undo f (ap (with_kept (at s s.kept)) stays))
     go (x ∷ xs) is =
         let l = Rattle.ga_lab.proofs.Normal.last_of x xs in
-        subst (λ z. AreCausal (load_of s) (steps_for s.kept ++ undo ∷ []) (steps_for z)) (ap (λ (z : State). z.kept) (sym (undone_last s l.front l.event (is ∙ l.is)))) (one_undo s l.front l.event (is ∙ l.is) f)
+        subst (λ z. AreCausallyEquivalent (load_of s) (steps_for s.kept ++ undo ∷ []) (steps_for z)) (ap (λ (z : State). z.kept) (sym (undone_last s l.front l.event (is ∙ l.is)))) (one_undo s l.front l.event (is ∙ l.is) f)
 
-none_later : (s : State) (call : MachineCall) (calls : List MachineCall) → TakesNoLook s (call ∷ calls) → TakesNoLook (after_call s call) calls
+none_later : (s : State) (call : MachineCall) (calls : List MachineCall) → RemovesNoLook s (call ∷ calls) → RemovesNoLook (after_call s call) calls
 none_later s (step n) calls h = h
 none_later s undo calls h = h
 none_later s (rewind n k) calls h = h.1
@@ -87,22 +87,22 @@ record Held (s : State) : Type 0 where
 abbrev Within : State → Type 0
 Within s = (length s.kept ≤ s.limit) × (length s.kept ≤ s.made)
 
-shorter : {A : Type 0} (flags : List Bool) (xs : List A) → length (unflagged flags xs) ≤ length xs
+shorter : {A : Type 0} (flags : List Bool) (xs : List A) → length (without_flagged flags xs) ≤ length xs
 shorter [] xs = omega arith
 shorter (true ∷ flags) [] = omega arith
 shorter (false ∷ flags) [] = omega arith
-shorter (true ∷ flags) (x ∷ xs) = let a : length (unflagged flags xs) ≤ length xs = shorter flags xs in let g : length (unflagged flags xs) ≤ suc (length xs) = omega (arith, a) in g
-shorter (false ∷ flags) (x ∷ xs) = let a : length (unflagged flags xs) ≤ length xs = shorter flags xs in let g : suc (length (unflagged flags xs)) ≤ suc (length xs) = omega (arith, a) in g
+shorter (true ∷ flags) (x ∷ xs) = let a : length (without_flagged flags xs) ≤ length xs = shorter flags xs in let g : length (without_flagged flags xs) ≤ suc (length xs) = omega (arith, a) in g
+shorter (false ∷ flags) (x ∷ xs) = let a : length (without_flagged flags xs) ≤ length xs = shorter flags xs in let g : suc (length (without_flagged flags xs)) ≤ suc (length xs) = omega (arith, a) in g
 
-pub events_length : (cs : List Cause) → length (events_in cs) ≡ length cs
+pub events_length : (cs : List Cause) → length (events_of_causes cs) ≡ length cs
 events_length [] = refl
 events_length (c ∷ cs) = ap suc (events_length cs)
 
-step_within : (s : State) (o : Result Event NotReady) → Within s → Within (unless_refused s (answer_to s o) (with_event s o))
+step_within : (s : State) (o : Result Event NotReady) → Within s → Within (unless_refused s (answer_to_event s o) (with_event s o))
 step_within s (Err why) w = w
 step_within s (Ok e) w = two (nat_le s.limit (length s.kept)) (nat_le (2 ^ 64 - 1) s.made) (λ f. less_of s.limit (length s.kept) f)
   where
-    two : (full spent : Bool) → (full ≡ false → length s.kept < s.limit) → Within (unless_refused s (cond full (Err Full) (cond spent (Err Spent) (Ok (made_next s e)))) (with_event s (Ok e)))
+    two : (full spent : Bool) → (full ≡ false → length s.kept < s.limit) → Within (unless_refused s (cond full (Err Full) (cond spent (Err Spent) (Ok (made_next_event s e)))) (with_event s (Ok e)))
     two true spent h = w
     two false true h = w
     two false false h =
@@ -111,18 +111,18 @@ step_within s (Ok e) w = two (nat_le s.limit (length s.kept)) (nat_le (2 ^ 64 - 
         let m : length s.kept ≤ s.made = w.1 in
         (omega (arith, n, l), omega (arith, n, m))
 
-rewound_within : (s : State) (n k : ℕ) → IsSome (replay s.load s.kept) → length (rewound s n k).kept ≤ length s.kept
+rewound_within : (s : State) (n k : ℕ) → IsSome (replay s.load s.kept) → length (state_after_rewind s n k).kept ≤ length s.kept
 rewound_within s n k some = go (position_of_step (causes_of s) n k)
   where
     size : length s.kept ≡ length (causes_of s)
     size = ap length (sym (replayed s some)) ∙ events_length (causes_of s)
 
-    go : (o : Option ℕ) → length (events_in (rest_from (causes_of s) o)) ≤ length s.kept
-    go None = let a = size in let b : length (events_in (causes_of s)) ≡ length (causes_of s) = events_length (causes_of s) in omega (arith, a, b)
+    go : (o : Option ℕ) → length (events_of_causes (rest_or_all (causes_of s) o)) ≤ length s.kept
+    go None = let a = size in let b : length (events_of_causes (causes_of s)) ≡ length (causes_of s) = events_length (causes_of s) in omega (arith, a, b)
     go (Some i) =
         let a = size in
-        let b : length (events_in (rest (causes_of s) i)) ≡ length (rest (causes_of s) i) = events_length (rest (causes_of s) i) in
-        let c : length (rest (causes_of s) i) ≤ length (causes_of s) = shorter (dependents (causes_of s) i) (causes_of s) in
+        let b : length (events_of_causes (rest (causes_of s) i)) ≡ length (rest (causes_of s) i) = events_length (rest (causes_of s) i) in
+        let c : length (rest (causes_of s) i) ≤ length (causes_of s) = shorter (dependent_flags (causes_of s) i) (causes_of s) in
         omega (arith, a, b, c)
 
 call_within : (s : State) (call : MachineCall) → IsSome (replay s.load s.kept) → Within s → Within (after_call s call)
@@ -136,7 +136,7 @@ call_within s undo some w =
     take_less : (i : ℕ) (xs : List Event) → length (take i xs) ≤ length xs
     take_less i xs = let a : length (take i xs ++ Rattle.std.proofs.Common.drop i xs) ≡ length xs = ap length (Rattle.std.proofs.Common.take-append-drop i xs) in let b = length-append (take i xs) (Rattle.std.proofs.Common.drop i xs) in omega (arith, a, b)
 call_within s (rewind n k) some w =
-    let a : length (rewound s n k).kept ≤ length s.kept = rewound_within s n k some in
+    let a : length (state_after_rewind s n k).kept ≤ length s.kept = rewound_within s n k some in
     let b : length s.kept ≤ s.limit = w.0 in
     let c : length s.kept ≤ s.made = w.1 in
     (omega (arith, a, b), omega (arith, a, c))
@@ -154,8 +154,8 @@ fits_of : (s : State) → Held s → s.made < 2 ^ 64 → Fits s
 fits_of s h l = let a : length s.kept ≤ s.made = h.made in record { some = h.some; room = h.room; count = omega (arith, a, l) }
 
 -- Calls from the load on are the steps for what they keep.
-normal : (s : State) (calls : List MachineCall) → Held s → (s.made + length calls) + (s.made + length calls) < 2 ^ 64 → TakesNoLook s calls → AreCausal (load_of s) (steps_for s.kept ++ calls) (steps_for (ended s calls))
-normal s [] h l none = subst (λ z. AreCausal (load_of s) z (steps_for s.kept)) (sym (append-nil (steps_for s.kept))) Rattle.ga_lab.specs.Sequences.itself
+normal : (s : State) (calls : List MachineCall) → Held s → (s.made + length calls) + (s.made + length calls) < 2 ^ 64 → RemovesNoLook s calls → AreCausallyEquivalent (load_of s) (steps_for s.kept ++ calls) (steps_for (ended s calls))
+normal s [] h l none = subst (λ z. AreCausallyEquivalent (load_of s) z (steps_for s.kept)) (sym (append-nil (steps_for s.kept))) Rattle.ga_lab.specs.Sequences.itself
 normal s (call ∷ calls) h l none =
     let l2 : (s.made + suc (length calls)) + (s.made + suc (length calls)) < 2 ^ 64 = l in
     let kept : length s.kept ≤ s.made = h.made in
@@ -173,9 +173,9 @@ normal s (call ∷ calls) h l none =
     let a : length ((steps_for s.kept ++ call ∷ []) ++ calls) ≡ length s.kept + 1 + length calls =
     length-append (steps_for s.kept ++ call ∷ []) calls ∙ ap (λ (z : ℕ). z + length calls) (length_push (steps_for s.kept) call ∙ ap (λ (z : ℕ). z + 1) (steps_length s.kept)) in
     let b : length (steps_for t.kept ++ calls) ≡ length t.kept + length calls = length-append (steps_for t.kept) calls ∙ ap (λ (z : ℕ). z + length calls) (steps_length t.kept) in
-    subst (λ z. AreCausal (load_of s) z (steps_for (ended t calls))) (append_assoc (steps_for s.kept) (call ∷ []) calls)
+    subst (λ z. AreCausallyEquivalent (load_of s) z (steps_for (ended t calls))) (append_assoc (steps_for s.kept) (call ∷ []) calls)
     (chained (onward (steps_for s.kept ++ call ∷ []) (steps_for t.kept) calls alike (omega (arith, l2, a, kept)) (omega (arith, l2, b, kept2, made)) one)
-    (subst (λ z. AreCausal z (steps_for t.kept ++ calls) (steps_for (ended t calls))) start
+    (subst (λ z. AreCausallyEquivalent z (steps_for t.kept ++ calls) (steps_for (ended t calls))) start
     (normal t calls ht (omega (arith, l2, made)) (none_later s call calls none))))
   where
     small : (m : ℕ) → (m + suc (length calls)) + (m + suc (length calls)) < 2 ^ 64 → m + 1 < 2 ^ 64
@@ -194,8 +194,8 @@ limit_is_respected load limit calls =
     (h.room, h.made)
 
 pub related : (load : List NodeRecord) (limit : ℕ) (calls others : List MachineCall) → length calls + length calls < 2 ^ 64 → length others + length others < 2 ^ 64
-    → TakesNoLook (initial_state load limit) calls → TakesNoLook (initial_state load limit) others
-    → AreEquivalent load (after_calls (initial_state load limit) calls).kept (after_calls (initial_state load limit) others).kept → AreCausal (initial_state load limit) calls others
+    → RemovesNoLook (initial_state load limit) calls → RemovesNoLook (initial_state load limit) others
+    → AreEquivalent load (after_calls (initial_state load limit) calls).kept (after_calls (initial_state load limit) others).kept → AreCausallyEquivalent (initial_state load limit) calls others
 related load limit calls others l k none blind e =
     let s : State = initial_state load limit in
     let h : Held (after_calls s calls) = calls_held s calls (first_held load limit) in

@@ -6,17 +6,17 @@ use Rattle.ga_event.specs.declared.event.Event.{Event}
 use Rattle.ga_event.specs.declared.event.Cause.{Cause}
 use Rattle.ga_event.specs.Apply.{replay}
 use Rattle.ga_causal.specs.declared.chain.Link.{Link}
-use Rattle.ga_causal.specs.Chains.{IsChain, IsFound, chain_of}
+use Rattle.ga_causal.specs.Chains.{IsChain, IsChainAnswer, chain_of}
 use Rattle.ga_causal.specs.Equivalence.{AreEquivalent}
 use Rattle.ga_causal.specs.Dependence.{position_of_step}
 use Rattle.ga_causal.proofs.ChainOf.{chain_chain, chain_found}
 use Rattle.ga_causal.proofs.Consistent.{shuffled_by}
 use Rattle.ga_causal.proofs.Moved.{Again, chain_again}
-use Rattle.ga_causal.proofs.LocalHistories.{touching}
+use Rattle.ga_causal.proofs.LocalHistories.{count_touching_events}
 use Rattle.ga_causal.proofs.Runs.{causes}
 use Rattle.ga_lab.specs.declared.fault.LabFault.{LabFault}
 use Rattle.ga_lab.specs.declared.fault.LabFault.TheVariants.{NoStep}
-use Rattle.ga_lab.specs.Machine.{State, causes_of, has_step, rewound, why_between, why_answer}
+use Rattle.ga_lab.specs.Machine.{State, causes_of, has_step, state_after_rewind, chain_between, why_answer}
 use Rattle.ga_lab.specs.Calls.{AreEquivalentStates}
 use Rattle.ga_lab.proofs.Alike.{Both, both_run, alike_is, equivalent_steps, same_rewind}
 use Rattle.ga_lab.proofs.Called.{with_kept, causes_is, runs_some}
@@ -65,20 +65,20 @@ same_none s z n k m j some a = ⊎_elim
     effect : has_step s m j ≡ has_step z m j
     effect = stands_alike s z m j a
 
-    left : has_step (rewound s n k) m j ≡ has_step (rewound z n k) m j
-    left = stands_alike (rewound s n k) (rewound z n k) m j ((same_rewind s z n k some a).1)
+    left : has_step (state_after_rewind s n k) m j ≡ has_step (state_after_rewind z n k) m j
+    left = stands_alike (state_after_rewind s n k) (state_after_rewind z n k) m j ((same_rewind s z n k some a).1)
 
 -- a chain that is returned is a chain
-chain_told : (es : List Cause) (n k m j : ℕ) (links : List Link) → why_between es (position_of_step es n k) (position_of_step es m j) ≡ Ok (Some links) → IsChain es links
-chain_told es n k m j links h = go (position_of_step es n k) (position_of_step es m j) (λ i is. (touching es n k i is).0) h
+chain_told : (es : List Cause) (n k m j : ℕ) (links : List Link) → chain_between es (position_of_step es n k) (position_of_step es m j) ≡ Ok (Some links) → IsChain es links
+chain_told es n k m j links h = go (position_of_step es n k) (position_of_step es m j) (λ i is. (count_touching_events es n k i is).0) h
   where
     go : (o p : Option ℕ) → ((i : ℕ) → o ≡ Some i → Rattle.std.specs.Prelude.◌<◌ i (Rattle.std.specs.Prelude.length es))
-        → why_between es o p ≡ Ok (Some links) → IsChain es links
+        → chain_between es o p ≡ Ok (Some links) → IsChain es links
     go None p x k = absurd (cc)
     go (Some i) None x k = absurd (cc)
     go (Some i) (Some q) x k =
         let is : chain_of es i q ≡ Some links = cc in
-        chain_chain es i q links (x i refl) (subst (IsFound es i q) is (chain_found es i q (x i refl)))
+        chain_chain es i q links (x i refl) (subst (IsChainAnswer es i q) is (chain_found es i q (x i refl)))
 
 chain_alike : (s : State) (ys : List Event) (n k m j : ℕ) (links : List Link) → IsSome (replay s.load s.kept) → AreEquivalent s.load s.kept ys
     → why_answer s n k m j ≡ Ok (Some links) → Again (causes_of s) (causes_of (with_kept s ys)) links

@@ -7,30 +7,30 @@ use Rattle.std.proofs.lemmas.List.Elements.{All-nil, All-cons}
 use Rattle.ga_event.specs.declared.event.Cause.{Cause}
 use Rattle.ga_node.specs.Record.{NodeState}
 use Rattle.ga_event.specs.Apply.{EventOutcome}
-use Rattle.ga_event.specs.Told.{made_in, steps_of}
+use Rattle.ga_event.specs.Told.{made_event_in, count_steps}
 use Rattle.ga_causal.specs.declared.chain.Link.{Link}
 use Rattle.ga_causal.specs.Dependence.{position_of_step}
-use Rattle.ga_causal.specs.Chains.{IsFound, IsLinked, IsChain, chain_of}
+use Rattle.ga_causal.specs.Chains.{IsChainAnswer, AreConsecutiveLinks, IsChain, chain_of}
 use Rattle.ga_causal.proofs.ChainOf.{chain_chain, chain_found, chain_is, place_later}
 use Rattle.ga_causal.proofs.Places.{place_step, place_stands, place-zero, touching_in, on_by, place_split, place_more}
 use Rattle.ga_journal.specs.Histories.{JournalState}
-use Rattle.ga_journal.specs.Events.{kept_of, events_of}
+use Rattle.ga_journal.specs.Events.{kept_outcomes, journal_events}
 use Rattle.ga_lab.specs.declared.fault.LabFault.TheVariants.{Memory, NoStep}
 use Rattle.ga_lab.specs.inner.LabInvariant.{MatchesLog, state_of}
 use Rattle.ga_lab.proofs.Replays.{told_tied, causes_tied, IsReplayed}
-use Rattle.ga_lab.specs.Machine.{State, outcomes_of_kept, causes_of, why_between, has_step, why_answer}
+use Rattle.ga_lab.specs.Machine.{State, outcomes_of_kept, causes_of, chain_between, has_step, why_answer}
 use Rattle.std.proofs.lemmas.Bool.{cases_lt, leb-true, le-leb, lt-leb, lt-ltb, le-ltb, cases_Bool, both_ways, and_from, and_right, and_parts, and_cases}
-use Rattle.ga_causal.specs.Steps.{touching}
+use Rattle.ga_causal.specs.Steps.{count_touching_events}
 use Rattle.ga_lab.specs.declared.fault.LabFault.{LabFault}
 use Rattle.std.proofs.Math.Seq.{drop-append_seam}
-use Rattle.ga_journal.specs.Logs.{IsSince}
+use Rattle.ga_journal.specs.Logs.{AreEventsSince}
 use Rattle.ga_causal.proofs.Oldest.{DependsOn-order}
 
 abbrev pub places : List Link → List ℕ
 places links = map (λ (link : Link). link.place) links
 
 -- the places of a chain rise
-linked_rise : (es : List Cause) (before : ℕ) (links : List Link) → IsLinked es before links → IsStrictlyIncreasing (before ∷ places links)
+linked_rise : (es : List Cause) (before : ℕ) (links : List Link) → AreConsecutiveLinks es before links → IsStrictlyIncreasing (before ∷ places links)
 linked_rise es before [] h k l = absurd (omega (arith, l))
 linked_rise es before (x ∷ xs) h zero l = h.0.0.before
 linked_rise es before (x ∷ xs) h (suc k) l =
@@ -42,7 +42,7 @@ chain_rises es [] h = absurd h
 chain_rises es (first ∷ links) h = linked_rise es first.place links h.2
 
 -- and are those of the list
-linked_within : (es : List Cause) (before : ℕ) (links : List Link) → IsLinked es before links → All (λ (place : ℕ). place < length es) (places links)
+linked_within : (es : List Cause) (before : ℕ) (links : List Link) → AreConsecutiveLinks es before links → All (λ (place : ℕ). place < length es) (places links)
 linked_within es before [] h = All-nil (λ (place : ℕ). place < length es)
 linked_within es before (x ∷ xs) h = All-cons (λ (place : ℕ). place < length es) x.place (places xs) h.0.0.within (linked_within es x.place xs h.1)
 
@@ -51,40 +51,40 @@ chain_within es [] h = absurd h
 chain_within es (first ∷ links) h = All-cons (λ (place : ℕ). place < length es) first.place (places links) h.0 (linked_within es first.place links h.2)
 
 -- the events at its places
-told_places : (told : List (Cause × EventOutcome)) (links : List Link) → map (made_in told) (places links) ≡ map (λ (link : Link). made_in told link.place) links
+told_places : (told : List (Cause × EventOutcome)) (links : List Link) → map (made_event_in told) (places links) ≡ map (λ (link : Link). made_event_in told link.place) links
 told_places told [] = refl
-told_places told (x ∷ xs) = ap (λ z. made_in told x.place ∷ z) (told_places told xs)
+told_places told (x ∷ xs) = ap (λ z. made_event_in told x.place ∷ z) (told_places told xs)
 
 -- a chain that is answered is one
 found_links : (es : List Cause) (i q : ℕ) (links : List Link) → i < length es → chain_of es i q ≡ Some links → IsChain es links
-found_links es i q links l is = chain_chain es i q links l (subst (λ z. IsFound es i q z) is (chain_found es i q l))
+found_links es i q links l is = chain_chain es i q links l (subst (λ z. IsChainAnswer es i q z) is (chain_found es i q l))
 
-same_found : (es : List Cause) (i q : ℕ) (links : List Link) → Ok (Some links) ≡ why_between es (Some i) (Some q) → chain_of es i q ≡ Some links
+same_found : (es : List Cause) (i q : ℕ) (links : List Link) → Ok (Some links) ≡ chain_between es (Some i) (Some q) → chain_of es i q ≡ Some links
 same_found es i q links h = cc
 
-answered_chain : (es : List Cause) (n k m j : ℕ) (links : List Link) → Ok (Some links) ≡ why_between es (position_of_step es n k) (position_of_step es m j) → IsChain es links
+answered_chain : (es : List Cause) (n k m j : ℕ) (links : List Link) → Ok (Some links) ≡ chain_between es (position_of_step es n k) (position_of_step es m j) → IsChain es links
 answered_chain es n k m j links h = go (position_of_step es n k) (position_of_step es m j) refl h
   where
-    go : (a b : Option ℕ) → position_of_step es n k ≡ a → Ok (Some links) ≡ why_between es a b → IsChain es links
+    go : (a b : Option ℕ) → position_of_step es n k ≡ a → Ok (Some links) ≡ chain_between es a b → IsChain es links
     go None b at h = absurd (cc)
     go (Some i) None at h = absurd (cc)
     go (Some i) (Some q) at h = found_links es i q links (place_step es n k i at).within (same_found es i q links h)
 
 pub answered : (es : List Cause) (n k m j : ℕ) (links : List Link)
-    → (Ok (Some links) ≡ why_between es (position_of_step es n k) (position_of_step es m j)) ⊎ ((Ok (Some links) ≡ Err Memory) × IsOk (why_between es (position_of_step es n k) (position_of_step es m j)))
+    → (Ok (Some links) ≡ chain_between es (position_of_step es n k) (position_of_step es m j)) ⊎ ((Ok (Some links) ≡ Err Memory) × IsOk (chain_between es (position_of_step es n k) (position_of_step es m j)))
     → IsChain es links
 answered es n k m j links (inl h) = answered_chain es n k m j links h
 answered es n k m j links (inr h) = absurd (let bad = h.0 in cc)
 
 -- there are as many causes as events of the history
-pub kept_long : (chip : List NodeState) (book : JournalState) (s : State) → MatchesLog chip book → state_of chip book ≡ s → length (causes_of s) ≡ length (kept_of book)
+pub kept_long : (chip : List NodeState) (book : JournalState) (s : State) → MatchesLog chip book → state_of chip book ≡ s → length (causes_of s) ≡ length (kept_outcomes book)
 kept_long chip book s tied is =
-    ap (λ (z : State). length (causes_of z)) (sym is) ∙ ap length (causes_tied chip book tied) ∙ length-map (kept_of book) (λ (x : Cause × EventOutcome). x.0)
+    ap (λ (z : State). length (causes_of z)) (sym is) ∙ ap length (causes_tied chip book tied) ∙ length-map (kept_outcomes book) (λ (x : Cause × EventOutcome). x.0)
 
 pub told_links : (chip : List NodeState) (book : JournalState) (s : State) (links : List Link) → MatchesLog chip book → state_of chip book ≡ s
-    → map (made_in (kept_of book)) (places links) ≡ map (λ (link : Link). made_in (outcomes_of_kept s) link.place) links
+    → map (made_event_in (kept_outcomes book)) (places links) ≡ map (λ (link : Link). made_event_in (outcomes_of_kept s) link.place) links
 told_links chip book s links tied is =
-    ap (λ t. map (made_in t) (places links)) (sym (told_tied chip book tied)) ∙ ap (λ (z : State). map (made_in (outcomes_of_kept z)) (places links)) is
+    ap (λ t. map (made_event_in t) (places links)) (sym (told_tied chip book tied)) ∙ ap (λ (z : State). map (made_event_in (outcomes_of_kept z)) (places links)) is
     ∙ told_places (outcomes_of_kept s) links
 
 -- ---- why a step came about
@@ -99,8 +99,8 @@ stands_suc n k steps = ⊎_elim
 pub step_has_position : (s : State) (n k : ℕ) → IsReplayed s → is_some (position_of_step (causes_of s) n k) ≡ has_step s n k
 step_has_position s n zero same = ap is_some (place-zero (causes_of s) n)
 step_has_position s n (suc k) same =
-    place_stands (causes_of s) n k ∙ stands_suc n k (touching n (causes_of s))
-    ∙ ap (λ z. nat_le 1 (suc k) && nat_le (suc k) z) (touching_in n (causes_of s) ∙ ap (steps_of n) same)
+    place_stands (causes_of s) n k ∙ stands_suc n k (count_touching_events n (causes_of s))
+    ∙ ap (λ z. nat_le 1 (suc k) && nat_le (suc k) z) (touching_in n (causes_of s) ∙ ap (count_steps n) same)
 
 no_place : (o : Option ℕ) → is_some o ≡ false → o ≡ None
 no_place None h = refl
@@ -110,25 +110,25 @@ pub place_none : (s : State) (n k : ℕ) → IsReplayed s → has_step s n k ≡
 place_none s n k same h = no_place (position_of_step (causes_of s) n k) (step_has_position s n k same ∙ h)
 
 -- what the journal counts
-pub stands_read : (chip : List NodeState) (book : JournalState) (n k steps : ℕ) → 1 ≤ k → steps ≡ steps_of n (events_of book) → nat_le k steps ≡ has_step (state_of chip book) n k
+pub stands_read : (chip : List NodeState) (book : JournalState) (n k steps : ℕ) → 1 ≤ k → steps ≡ count_steps n (journal_events book) → nat_le k steps ≡ has_step (state_of chip book) n k
 unfolding state_of
 stands_read chip book n k steps some is =
-    ap (nat_le k) is ∙ ap (λ z. z && nat_le k (steps_of n (events_of book))) (sym (le-leb 1 k some))
+    ap (nat_le k) is ∙ ap (λ z. z && nat_le k (count_steps n (journal_events book))) (sym (le-leb 1 k some))
 
 -- if one of the steps doesn't exist
 pub no_cause : (s : State) (n k m j : ℕ) → IsReplayed s → has_step s n k ≡ false → why_answer s n k m j ≡ Err NoStep
-no_cause s n k m j same h = ap (λ (o : Option ℕ). why_between (causes_of s) o (position_of_step (causes_of s) m j)) (place_none s n k same h)
+no_cause s n k m j same h = ap (λ (o : Option ℕ). chain_between (causes_of s) o (position_of_step (causes_of s) m j)) (place_none s n k same h)
 
-to_none : (causes : List Cause) (o : Option ℕ) → why_between causes o None ≡ Err NoStep
+to_none : (causes : List Cause) (o : Option ℕ) → chain_between causes o None ≡ Err NoStep
 to_none causes None = refl
 to_none causes (Some i) = refl
 
 pub no_effect : (s : State) (n k m j : ℕ) → IsReplayed s → has_step s m j ≡ false → why_answer s n k m j ≡ Err NoStep
 no_effect s n k m j same h =
-    ap (why_between (causes_of s) (position_of_step (causes_of s) n k)) (place_none s m j same h) ∙ to_none (causes_of s) (position_of_step (causes_of s) n k)
+    ap (chain_between (causes_of s) (position_of_step (causes_of s) n k)) (place_none s m j same h) ∙ to_none (causes_of s) (position_of_step (causes_of s) n k)
 
 -- if both exist
-ok_between : (causes : List Cause) (a b : Option ℕ) → is_some a ≡ true → is_some b ≡ true → IsOk (why_between causes a b)
+ok_between : (causes : List Cause) (a b : Option ℕ) → is_some a ≡ true → is_some b ≡ true → IsOk (chain_between causes a b)
 ok_between causes None b h k = absurd (cc)
 ok_between causes (Some i) None h k = absurd (cc)
 ok_between causes (Some i) (Some q) h k = refl
@@ -164,20 +164,20 @@ why_refused s n k m j result same h = (
 
 -- a step that exists is counted from 1 on, and its node has made at least this number of steps
 pub stands_counted : (s : State) (n k : ℕ) → has_step s n k ≡ true → 0 < k
-stands_counted s n k h = leb-true 1 k (and_parts (nat_le 1 k) (nat_le k (steps_of n s.kept)) h).0
+stands_counted s n k h = leb-true 1 k (and_parts (nat_le 1 k) (nat_le k (count_steps n s.kept)) h).0
 
-pub stands_kept : (chip : List NodeState) (book : JournalState) (n k : ℕ) → has_step (state_of chip book) n k ≡ true → k ≤ steps_of n (events_of book)
+pub stands_kept : (chip : List NodeState) (book : JournalState) (n k : ℕ) → has_step (state_of chip book) n k ≡ true → k ≤ count_steps n (journal_events book)
 unfolding state_of
-stands_kept chip book n k h = leb-true k (steps_of n (events_of book)) (and_parts (nat_le 1 k) (nat_le k (steps_of n (events_of book))) h).1
+stands_kept chip book n k h = leb-true k (count_steps n (journal_events book)) (and_parts (nat_le 1 k) (nat_le k (count_steps n (journal_events book))) h).1
 
 -- ---- the chain from a step, read off the events from there on
 
 -- the last events of the list, and how many there are of all
-pub tail_is : (all : List Cause) (n k m : ℕ) (causes : List Cause) (before steps : ℕ) → IsSince all n k m causes before steps → drop before all ≡ causes
+pub tail_is : (all : List Cause) (n k m : ℕ) (causes : List Cause) (before steps : ℕ) → AreEventsSince all n k m causes before steps → drop before all ≡ causes
 tail_is all n k m causes before steps s =
     ap (λ z. drop before z) (sym s.parts) ∙ ap (λ (z : ℕ). drop z (s.earlier ++ causes)) (sym s.count) ∙ drop-append_seam s.earlier causes
 
-some_more : (all : List Cause) (n k m : ℕ) (causes : List Cause) (before steps : ℕ) → IsSince all n k m causes before steps → before < length all
+some_more : (all : List Cause) (n k m : ℕ) (causes : List Cause) (before steps : ℕ) → AreEventsSince all n k m causes before steps → before < length all
 some_more all n k m causes before steps s =
     let a : length (s.earlier ++ causes) ≡ length all = ap length s.parts in
     let b : length (s.earlier ++ causes) ≡ length s.earlier + length causes = length-append s.earlier causes in
@@ -186,21 +186,21 @@ some_more all n k m causes before steps s =
     omega (arith, a, b, d, e)
 
 -- the place of the first
-cause_place : (all : List Cause) (n k m : ℕ) (causes : List Cause) (before steps : ℕ) → IsSince all n k m causes before steps → position_of_step all n k ≡ Some before
+cause_place : (all : List Cause) (n k m : ℕ) (causes : List Cause) (before steps : ℕ) → AreEventsSince all n k m causes before steps → position_of_step all n k ≡ Some before
 cause_place all n k m causes before steps s =
     let t = touching_in n s.earlier in
     let q = s.number in
     subst (λ z. position_of_step z n k ≡ Some before) (ap (λ z. s.earlier ++ z) (sym s.begins) ∙ s.parts)
-    (subst (λ (z : ℕ). position_of_step (s.earlier ++ s.first ∷ s.later) n z ≡ Some before) (numbered (touching n s.earlier) k (ap (λ (z : ℕ). z + 1) t ∙ q))
-    (place_split n (touching n s.earlier) s.earlier s.first s.later refl s.is_step ∙ ap Some s.count))
+    (subst (λ (z : ℕ). position_of_step (s.earlier ++ s.first ∷ s.later) n z ≡ Some before) (numbered (count_touching_events n s.earlier) k (ap (λ (z : ℕ). z + 1) t ∙ q))
+    (place_split n (count_touching_events n s.earlier) s.earlier s.first s.later refl s.is_step ∙ ap Some s.count))
   where
     numbered : (a b : ℕ) → a + 1 ≡ b → suc a ≡ b
     numbered a b h = omega arith
 
 -- a step that is among the last events
-effect_later : (all : List Cause) (n k m j : ℕ) (causes : List Cause) (before steps : ℕ) → IsSince all n k m causes before steps → steps < j → position_of_step all m j ≡ on_by before (position_of_step causes m (j - steps))
+effect_later : (all : List Cause) (n k m j : ℕ) (causes : List Cause) (before steps : ℕ) → AreEventsSince all n k m causes before steps → steps < j → position_of_step all m j ≡ on_by before (position_of_step causes m (j - steps))
 effect_later all n k m j causes before steps s l =
-    let t : touching m s.earlier ≡ steps = touching_in m s.earlier ∙ s.others in
+    let t : count_touching_events m s.earlier ≡ steps = touching_in m s.earlier ∙ s.others in
     ap (λ z. position_of_step z m j) (sym s.parts) ∙ place_later m j s.earlier causes (subst (λ (z : ℕ). z < j) (sym t) l)
     ∙ ap (λ (z : ℕ). on_by (length s.earlier) (position_of_step causes m (j - z))) t ∙ ap (λ (z : ℕ). on_by z (position_of_step causes m (j - steps))) s.count
 
@@ -214,47 +214,47 @@ found_at : (all earlier : List Cause) (m j : ℕ) (o : Option ℕ) → is_some o
 found_at all earlier m j None h p q = absurd (cc)
 found_at all earlier m j (Some i) h p q = record { place = i; is = q; early = (place_step earlier m j i p).within }
 
-effect_earlier : (all : List Cause) (n k m j : ℕ) (causes : List Cause) (before steps : ℕ) → IsSince all n k m causes before steps → 0 < j → j ≤ steps → IsEarlier all m j before
+effect_earlier : (all : List Cause) (n k m j : ℕ) (causes : List Cause) (before steps : ℕ) → AreEventsSince all n k m causes before steps → 0 < j → j ≤ steps → IsEarlier all m j before
 effect_earlier all n k m zero causes before steps s some l = absurd (omega (arith, some))
 effect_earlier all n k m (suc j) causes before steps s some l =
-    let t : touching m s.earlier ≡ steps = touching_in m s.earlier ∙ s.others in
-    let below : j < touching m s.earlier = subst (λ (z : ℕ). j < z) (sym t) (omega (arith, l)) in
+    let t : count_touching_events m s.earlier ≡ steps = touching_in m s.earlier ∙ s.others in
+    let below : j < count_touching_events m s.earlier = subst (λ (z : ℕ). j < z) (sym t) (omega (arith, l)) in
     subst (IsEarlier all m (suc j)) s.count
-    (found_at all s.earlier m (suc j) (position_of_step s.earlier m (suc j)) (place_stands s.earlier m j ∙ lt-ltb j (touching m s.earlier) below) refl
+    (found_at all s.earlier m (suc j) (position_of_step s.earlier m (suc j)) (place_stands s.earlier m j ∙ lt-ltb j (count_touching_events m s.earlier) below) refl
     (ap (λ z. position_of_step z m (suc j)) (sym s.parts) ∙ place_more m j s.earlier causes below))
 
 -- it does not depend on the first
-pub before_none : (all : List Cause) (n k m j : ℕ) (causes : List Cause) (before steps : ℕ) → IsSince all n k m causes before steps → 0 < j → j ≤ steps
-    → Ok None ≡ why_between all (position_of_step all n k) (position_of_step all m j)
+pub before_none : (all : List Cause) (n k m j : ℕ) (causes : List Cause) (before steps : ℕ) → AreEventsSince all n k m causes before steps → 0 < j → j ≤ steps
+    → Ok None ≡ chain_between all (position_of_step all n k) (position_of_step all m j)
 before_none all n k m j causes before steps s some l =
     let e : IsEarlier all m j before = effect_earlier all n k m j causes before steps s some l in
     let early : e.place < before = e.early in
     let more : before < length all = some_more all n k m causes before steps s in
     let none : None ≡ chain_of all before e.place = chain_is all before e.place None more (λ d. let o : before ≤ e.place = DependsOn-order all before e.place d in absurd (omega (arith, o, early))) in
-    sym (ap (λ (o : Option ℕ). why_between all o (position_of_step all m j)) (cause_place all n k m causes before steps s) ∙ ap (λ (o : Option ℕ). why_between all (Some before) o) e.is ∙ ap Ok (sym none))
+    sym (ap (λ (o : Option ℕ). chain_between all o (position_of_step all m j)) (cause_place all n k m causes before steps s) ∙ ap (λ (o : Option ℕ). chain_between all (Some before) o) e.is ∙ ap Ok (sym none))
 
 -- the answer where the second step has a place among the last events, and where it has none
-pub there : (all : List Cause) (n k m j : ℕ) (causes : List Cause) (before steps effect : ℕ) (result : Result (Option (List Link)) LabFault) → IsSince all n k m causes before steps → steps < j → Some effect ≡ position_of_step causes m (j - steps)
-    → (result ≡ why_between all (Some before) (Some (before + effect))) ⊎ (result ≡ Err Memory)
-    → (result ≡ why_between all (position_of_step all n k) (position_of_step all m j)) ⊎ ((result ≡ Err Memory) × IsOk (why_between all (position_of_step all n k) (position_of_step all m j)))
+pub there : (all : List Cause) (n k m j : ℕ) (causes : List Cause) (before steps effect : ℕ) (result : Result (Option (List Link)) LabFault) → AreEventsSince all n k m causes before steps → steps < j → Some effect ≡ position_of_step causes m (j - steps)
+    → (result ≡ chain_between all (Some before) (Some (before + effect))) ⊎ (result ≡ Err Memory)
+    → (result ≡ chain_between all (position_of_step all n k) (position_of_step all m j)) ⊎ ((result ≡ Err Memory) × IsOk (chain_between all (position_of_step all n k) (position_of_step all m j)))
 there all n k m j causes before steps effect result s l at h = ⊎_elim
     (λ w. inl (w ∙ sym is))
     (λ w. inr (w, subst IsOk (sym is) refl))
     h
   where
-    is : why_between all (position_of_step all n k) (position_of_step all m j) ≡ why_between all (Some before) (Some (before + effect))
-    is = ap (λ (o : Option ℕ). why_between all o (position_of_step all m j)) (cause_place all n k m causes before steps s)
-        ∙ ap (λ (o : Option ℕ). why_between all (Some before) o) (effect_later all n k m j causes before steps s l ∙ ap (on_by before) (sym at))
+    is : chain_between all (position_of_step all n k) (position_of_step all m j) ≡ chain_between all (Some before) (Some (before + effect))
+    is = ap (λ (o : Option ℕ). chain_between all o (position_of_step all m j)) (cause_place all n k m causes before steps s)
+        ∙ ap (λ (o : Option ℕ). chain_between all (Some before) o) (effect_later all n k m j causes before steps s l ∙ ap (on_by before) (sym at))
 
-pub nowhere : (all : List Cause) (n k m j : ℕ) (causes : List Cause) (before steps : ℕ) → IsSince all n k m causes before steps → steps < j → None ≡ position_of_step causes m (j - steps)
-    → Err NoStep ≡ why_between all (position_of_step all n k) (position_of_step all m j)
+pub nowhere : (all : List Cause) (n k m j : ℕ) (causes : List Cause) (before steps : ℕ) → AreEventsSince all n k m causes before steps → steps < j → None ≡ position_of_step causes m (j - steps)
+    → Err NoStep ≡ chain_between all (position_of_step all n k) (position_of_step all m j)
 nowhere all n k m j causes before steps s l at = sym (
-    ap (λ (o : Option ℕ). why_between all o (position_of_step all m j)) (cause_place all n k m causes before steps s)
-    ∙ ap (λ (o : Option ℕ). why_between all (Some before) o) (effect_later all n k m j causes before steps s l ∙ ap (on_by before) (sym at)))
+    ap (λ (o : Option ℕ). chain_between all o (position_of_step all m j)) (cause_place all n k m causes before steps s)
+    ∙ ap (λ (o : Option ℕ). chain_between all (Some before) o) (effect_later all n k m j causes before steps s l ∙ ap (on_by before) (sym at)))
 
 -- the chain that is found in the last events
-pub found_chain : (all causes : List Cause) (before effect : ℕ) (found : Option (List Link)) → drop before all ≡ causes → effect < length causes → IsFound all (before + 0) (before + effect) found
-    → Ok found ≡ why_between all (Some before) (Some (before + effect))
+pub found_chain : (all causes : List Cause) (before effect : ℕ) (found : Option (List Link)) → drop before all ≡ causes → effect < length causes → IsChainAnswer all (before + 0) (before + effect) found
+    → Ok found ≡ chain_between all (Some before) (Some (before + effect))
 found_chain all causes before effect found is l f =
     let n : length causes ≡ length all - before = ap length (sym is) ∙ length-drop before all in
-    ap Ok (chain_is all before (before + effect) found (omega (arith, n, l)) (subst (λ (z : ℕ). IsFound all z (before + effect) found) (let h : before + 0 ≡ before = omega arith in h) f))
+    ap Ok (chain_is all before (before + effect) found (omega (arith, n, l)) (subst (λ (z : ℕ). IsChainAnswer all z (before + effect) found) (let h : before + 0 ≡ before = omega arith in h) f))

@@ -5,13 +5,13 @@ use Rattle.std.proofs.lemmas.Bool.{cases_Bool, cond-true, cond-false, lt-leb, eq
 use Rattle.std.proofs.lemmas.List.{length_push, take_all, take-append-le}
 use Rattle.ga_ports.specs.declared.side.Side.{Side}
 use Rattle.ga_ports.specs.declared.side.Side.TheVariants.{Right, Down, Left, Up}
-use Rattle.ga_ports.specs.Address.{is_side}
+use Rattle.ga_ports.specs.Address.{are_same_side}
 use Rattle.ga_node.specs.declared.kind.NotReady.{NotReady}
 use Rattle.ga_node.specs.declared.kind.NotReady.TheVariants.{Stopped}
 use Rattle.ga_node.specs.declared.wait.Wait.{Wait}
 use Rattle.ga_node.specs.declared.wait.Wait.TheVariants.{Nothing, Fetch, Read, Write}
 use Rattle.ga_node.specs.Record.{NodeRecord}
-use Rattle.ga_node.specs.Table.{refused_by}
+use Rattle.ga_node.specs.Table.{wait_refusal}
 use Rattle.ga_grid.specs.declared.node_id.NodeId.{NodeId}
 use Rattle.ga_grid.specs.Grid.{node_id, neighbour_of}
 use Rattle.ga_grid.specs.Chip.{record_at}
@@ -19,17 +19,17 @@ use Rattle.ga_grid.proofs.NodeIds.{node_id-number}
 use Rattle.ga_event.specs.declared.event.Event.{Event}
 use Rattle.ga_event.specs.declared.event.Event.TheVariants as event
 use Rattle.ga_event.specs.declared.event.Cause.{Cause}
-use Rattle.ga_event.specs.Apply.{EventOutcome, writes_to, reads_from, is_number, is_open, unmatched, refusal_of, apply, after, when_allowed, run, replay, cause_of}
-use Rattle.ga_event.specs.Next.{next, next_by, pass_to, or_waiting}
+use Rattle.ga_event.specs.Apply.{EventOutcome, waits_to_write_side, waits_to_read_side, equals_some, is_transfer_ready, unmatched_unless, refusal_of, apply, after, some_if_allowed, run, replay, cause_of}
+use Rattle.ga_event.specs.Next.{next, next_event_by_wait, writer_pass, ok_or_waiting}
 use Rattle.ga_event.specs.declared.made.Made.{Made}
 use Rattle.ga_rollback.proofs.Rewinding.{run_snoc}
 use Rattle.ga_lab.specs.declared.fault.LabFault.TheVariants.{Full, Spent}
-use Rattle.ga_lab.specs.Machine.{State, initial_state, chip_of, made_next, answer_to, with_event, unless_refused, stepped, undone, actor_of, stepped_all}
+use Rattle.ga_lab.specs.Machine.{State, initial_state, chip_of, made_next_event, answer_to_event, with_event, unless_refused, state_after_step, state_after_undo, acting_node, state_after_steps}
 use Rattle.ga_causal.proofs.Runs.{run_more}
 
 -- An enabled event is the next of its node, a pass that of its writer.
 
-same_side : (a b : Side) → is_side a b ≡ true → a ≡ b
+same_side : (a b : Side) → are_same_side a b ≡ true → a ≡ b
 same_side Right Right h = refl
 same_side Down Down h = refl
 same_side Left Left h = refl
@@ -51,15 +51,15 @@ both : (x y : Bool) → (x && y) ≡ true → (x ≡ true) × (y ≡ true)
 both true y h = (refl, h)
 both false y h = absurd (cc)
 
-matched_is : (b : Bool) → unmatched b ≡ None → b ≡ true
+matched_is : (b : Bool) → unmatched_unless b ≡ None → b ≡ true
 matched_is true h = refl
 matched_is false h = absurd (cc)
 
-number_is : (o : Option ℕ) (m : ℕ) → is_number o m ≡ true → o ≡ Some m
+number_is : (o : Option ℕ) (m : ℕ) → equals_some o m ≡ true → o ≡ Some m
 number_is None m h = absurd (cc)
 number_is (Some k) m h = ap Some (eqb-true k m h)
 
-own_next : (chip : List NodeRecord) (n : NodeId) (stop : ℕ) (w : Wait) → refused_by w stop ≡ None → next_by chip n stop w ≡ Ok (event.Own n)
+own_next : (chip : List NodeRecord) (n : NodeId) (stop : ℕ) (w : Wait) → wait_refusal w stop ≡ None → next_event_by_wait chip n stop w ≡ Ok (event.Own n)
 own_next chip n stop Nothing h = ⊎_elim
     (λ t. cond-true (stop == 0) (Ok (event.Own n)) (Err Stopped) t)
     (λ f. let q : Some Stopped ≡ None = sym (cond-false (stop == 0) None (Some Stopped) f) ∙ h in absurd (cc))
@@ -68,30 +68,30 @@ own_next chip n stop (Fetch sides) h = absurd (cc)
 own_next chip n stop (Read sides) h = absurd (cc)
 own_next chip n stop (Write side) h = absurd (cc)
 
-to_it : (chip : List NodeRecord) (w r : NodeId) (side : Side) (o : Option ℕ) → o ≡ Some r.number → reads_from (record_at chip r.number).wait side ≡ true
-    → pass_to chip w side (option_map node_id o) ≡ Some (event.Pass w r side)
+to_it : (chip : List NodeRecord) (w r : NodeId) (side : Side) (o : Option ℕ) → o ≡ Some r.number → waits_to_read_side (record_at chip r.number).wait side ≡ true
+    → writer_pass chip w side (option_map node_id o) ≡ Some (event.Pass w r side)
 to_it chip w r side o near reads =
-    ap (λ z. pass_to chip w side (option_map node_id z)) near
-    ∙ ap (λ z. pass_to chip w side (Some z)) (node_id-number r)
-    ∙ cond-true (reads_from (record_at chip r.number).wait side) (Some (event.Pass w r side)) None reads
+    ap (λ z. writer_pass chip w side (option_map node_id z)) near
+    ∙ ap (λ z. writer_pass chip w side (Some z)) (node_id-number r)
+    ∙ cond-true (waits_to_read_side (record_at chip r.number).wait side) (Some (event.Pass w r side)) None reads
 
-pass_next : (chip : List NodeRecord) (w r : NodeId) (side : Side) (stop : ℕ) (p : Wait) → neighbour_of w.number side ≡ Some r.number → writes_to p side ≡ true
-    → reads_from (record_at chip r.number).wait side ≡ true → next_by chip w stop p ≡ Ok (event.Pass w r side)
+pass_next : (chip : List NodeRecord) (w r : NodeId) (side : Side) (stop : ℕ) (p : Wait) → neighbour_of w.number side ≡ Some r.number → waits_to_write_side p side ≡ true
+    → waits_to_read_side (record_at chip r.number).wait side ≡ true → next_event_by_wait chip w stop p ≡ Ok (event.Pass w r side)
 pass_next chip w r side stop Nothing near out in_ = absurd (cc)
 pass_next chip w r side stop (Fetch sides) near out in_ = absurd (cc)
 pass_next chip w r side stop (Read sides) near out in_ = absurd (cc)
 pass_next chip w r side stop (Write posted) near out in_ =
-    subst (λ z. next_by chip w stop (Write z) ≡ Ok (event.Pass w r side)) (sym (same_side posted side out))
-    (ap or_waiting (to_it chip w r side (neighbour_of w.number side) near in_))
+    subst (λ z. next_event_by_wait chip w stop (Write z) ≡ Ok (event.Pass w r side)) (sym (same_side posted side out))
+    (ap ok_or_waiting (to_it chip w r side (neighbour_of w.number side) near in_))
 
-pub made_is_next : (chip : List NodeRecord) (e : Event) → refusal_of chip e ≡ None → next chip (actor_of e) ≡ Ok e
+pub made_is_next : (chip : List NodeRecord) (e : Event) → refusal_of chip e ≡ None → next chip (acting_node e) ≡ Ok e
 made_is_next chip (event.Own n) h = own_next chip n (record_at chip n.number).stop (record_at chip n.number).wait h
 made_is_next chip (event.Pass w r side) h =
     let p : Wait = (record_at chip w.number).wait in
     let q : Wait = (record_at chip r.number).wait in
-    let opened : is_open w.number r.number side p q ≡ true = matched_is (is_open w.number r.number side p q) h in
-    let parts : ((is_number (neighbour_of w.number side) r.number && writes_to p side) ≡ true) × (reads_from q side ≡ true) = both _ _ opened in
-    let front : (is_number (neighbour_of w.number side) r.number ≡ true) × (writes_to p side ≡ true) = both _ _ parts.0 in
+    let opened : is_transfer_ready w.number r.number side p q ≡ true = matched_is (is_transfer_ready w.number r.number side p q) h in
+    let parts : ((equals_some (neighbour_of w.number side) r.number && waits_to_write_side p side) ≡ true) × (waits_to_read_side q side ≡ true) = both _ _ opened in
+    let front : (equals_some (neighbour_of w.number side) r.number ≡ true) × (waits_to_write_side p side ≡ true) = both _ _ parts.0 in
     pass_next chip w r side (record_at chip w.number).stop p (number_is _ _ front.0) front.1 parts.1
 
 -- The machine with a list that steps alone made.
@@ -112,37 +112,37 @@ applied chip e es h = go (refusal_of chip e) refl h
     go2 (Some r) c t g = refl
 
     go : (o : Option NotReady) → refusal_of chip e ≡ o
-        → IsSome (option_map {U = List NodeRecord} (λ done. done.0) (option_and_then {U = List NodeRecord × List (Cause × EventOutcome)} (λ first. option_map {U = List NodeRecord × List (Cause × EventOutcome)} (λ rest. (rest.0, (Rattle.ga_event.specs.Apply.cause_of chip e, first.1) ∷ rest.1)) (run first.0 es)) (when_allowed o (after chip e))))
+        → IsSome (option_map {U = List NodeRecord} (λ done. done.0) (option_and_then {U = List NodeRecord × List (Cause × EventOutcome)} (λ first. option_map {U = List NodeRecord × List (Cause × EventOutcome)} (λ rest. (rest.0, (Rattle.ga_event.specs.Apply.cause_of chip e, first.1) ∷ rest.1)) (run first.0 es)) (some_if_allowed o (after chip e))))
         → Applied chip e es
     go None is g = record { can = is; others = go2 (run (after chip e).0 es) (Rattle.ga_event.specs.Apply.cause_of chip e) (after chip e).1 g }
     go (Some why) is g = absurd (cc)
 
 steps_on : (load c : List NodeRecord) (limit : ℕ) (xs : List Event) (ts : List (Cause × EventOutcome)) (e : Event) → run load xs ≡ Some (c, ts) → refusal_of c e ≡ None
-    → length xs < limit → length xs < 2 ^ 64 - 1 → stepped (at load limit xs) (actor_of e) ≡ at load limit (xs ++ e ∷ [])
+    → length xs < limit → length xs < 2 ^ 64 - 1 → state_after_step (at load limit xs) (acting_node e) ≡ at load limit (xs ++ e ∷ [])
 steps_on load c limit xs ts e ran can room count =
     let s : State = at load limit xs in
     let chip : chip_of s ≡ c = ap (λ (o : Option (List NodeRecord × List (Cause × EventOutcome))). unwrap_or (option_map (λ (x : List NodeRecord × List (Cause × EventOutcome)). x.0) o) []) ran in
-    let is : next (chip_of s) (actor_of e) ≡ Ok e = ap (λ z. next z (actor_of e)) chip ∙ made_is_next c e can in
-    let answer : answer_to s (Ok e) ≡ Ok (made_next s e) =
+    let is : next (chip_of s) (acting_node e) ≡ Ok e = ap (λ z. next z (acting_node e)) chip ∙ made_is_next c e can in
+    let answer : answer_to_event s (Ok e) ≡ Ok (made_next_event s e) =
     cond-false (nat_le limit (length xs)) (Err Full) _ (lt-leb limit (length xs) room)
     ∙ cond-false (nat_le (2 ^ 64 - 1) (length xs)) (Err Spent) _ (lt-leb (2 ^ 64 - 1) (length xs) count) in
-    ap (λ z. unless_refused s (answer_to s z) (with_event s z)) is
+    ap (λ z. unless_refused s (answer_to_event s z) (with_event s z)) is
     ∙ ap (λ (z : Result Made Rattle.ga_lab.specs.declared.fault.LabFault.LabFault). unless_refused s z (with_event s (Ok e))) answer
     ∙ ap (λ z. let a : State = record { load = load; limit = limit; kept = xs ++ e ∷ []; made = z } in a) (sym (length_push xs e))
 
 reach : (load c : List NodeRecord) (limit : ℕ) (xs : List Event) (ts : List (Cause × EventOutcome)) (ys : List Event) → run load xs ≡ Some (c, ts) → IsSome (replay c ys)
-    → length xs + length ys ≤ limit → length xs + length ys < 2 ^ 64 → stepped_all (at load limit xs) (map actor_of ys) ≡ at load limit (xs ++ ys)
+    → length xs + length ys ≤ limit → length xs + length ys < 2 ^ 64 → state_after_steps (at load limit xs) (map acting_node ys) ≡ at load limit (xs ++ ys)
 reach load c limit xs ts [] ran some room count = ap (at load limit) (sym (append-nil xs))
 reach load c limit xs ts (y ∷ ys) ran some room count =
     let a : Applied c y ys = applied c y ys some in
-    let made : apply c y ≡ Some ((after c y).0, (after c y).1) = ap (λ o. when_allowed o (after c y)) a.can in
+    let made : apply c y ≡ Some ((after c y).0, (after c y).1) = ap (λ o. some_if_allowed o (after c y)) a.can in
     let more : length (xs ++ y ∷ []) ≡ length xs + 1 = length_push xs y in
-    ap (λ z. stepped_all z (map actor_of ys)) (steps_on load c limit xs ts y ran a.can (omega arith) (omega arith))
+    ap (λ z. state_after_steps z (map acting_node ys)) (steps_on load c limit xs ts y ran a.can (omega arith) (omega arith))
     ∙ reach load (after c y).0 limit (xs ++ y ∷ []) _ ys (run_snoc load c (after c y).0 xs ts y (after c y).1 ran made) a.others (omega arith) (omega arith)
     ∙ ap (at load limit) (append_assoc xs (y ∷ []) ys)
 
 pub reachable_by_steps : (s : State) → IsSome (replay s.load s.kept) → length s.kept ≤ s.limit → length s.kept < 2 ^ 64
-    → stepped_all (initial_state s.load s.limit) (map actor_of s.kept) ≡ record s { made = length s.kept }
+    → state_after_steps (initial_state s.load s.limit) (map acting_node s.kept) ≡ record s { made = length s.kept }
 reachable_by_steps s some room count = reach s.load s.load s.limit [] [] s.kept refl some (omega arith) (omega arith)
 
 -- A step of the newest event's node makes it again, where it was undone.
@@ -161,7 +161,7 @@ before load (x ∷ xs) e h =
     record {
       last = b.last;
       told = (cause_of load x, (after load x).1) ∷ b.told;
-      ran = run_more load x xs (after load x).0 b.last (after load x).1 b.told (ap (λ o. when_allowed o (after load x)) a.can) b.ran;
+      ran = run_more load x xs (after load x).0 b.last (after load x).1 b.told (ap (λ o. some_if_allowed o (after load x)) a.can) b.ran;
       can = b.can;
     }
 
@@ -170,19 +170,19 @@ abbrev pub keeping : State → List Event → ℕ → State
 keeping s xs made = record s { kept = xs; made = made }
 
 pub steps_at : (s : State) (c : List NodeRecord) (xs : List Event) (ts : List (Cause × EventOutcome)) (e : Event) → run s.load xs ≡ Some (c, ts) → refusal_of c e ≡ None
-    → length xs < s.limit → s.made < 2 ^ 64 - 1 → stepped (keeping s xs s.made) (actor_of e) ≡ keeping s (xs ++ e ∷ []) (s.made + 1)
+    → length xs < s.limit → s.made < 2 ^ 64 - 1 → state_after_step (keeping s xs s.made) (acting_node e) ≡ keeping s (xs ++ e ∷ []) (s.made + 1)
 steps_at s c xs ts e ran can room count =
     let t : State = record s { kept = xs; made = s.made } in
     let chip : chip_of t ≡ c = ap (λ (o : Option (List NodeRecord × List (Cause × EventOutcome))). unwrap_or (option_map (λ (x : List NodeRecord × List (Cause × EventOutcome)). x.0) o) []) ran in
-    let is : next (chip_of t) (actor_of e) ≡ Ok e = ap (λ z. next z (actor_of e)) chip ∙ made_is_next c e can in
-    let answer : answer_to t (Ok e) ≡ Ok (made_next t e) =
+    let is : next (chip_of t) (acting_node e) ≡ Ok e = ap (λ z. next z (acting_node e)) chip ∙ made_is_next c e can in
+    let answer : answer_to_event t (Ok e) ≡ Ok (made_next_event t e) =
     cond-false (nat_le s.limit (length xs)) (Err Full) _ (lt-leb s.limit (length xs) room)
     ∙ cond-false (nat_le (2 ^ 64 - 1) s.made) (Err Spent) _ (lt-leb (2 ^ 64 - 1) s.made count) in
-    ap (λ z. unless_refused t (answer_to t z) (with_event t z)) is
+    ap (λ z. unless_refused t (answer_to_event t z) (with_event t z)) is
     ∙ ap (λ (z : Result Made Rattle.ga_lab.specs.declared.fault.LabFault.LabFault). unless_refused t z (with_event t (Ok e))) answer
 
 pub undo_is_redone_by_step : (s : State) (xs : List Event) (e : Event) → IsSome (replay s.load s.kept) → s.kept ≡ xs ++ e ∷ [] → length s.kept ≤ s.limit → s.made < 2 ^ 64 - 1
-    → stepped (undone s) (actor_of e) ≡ record s { made = s.made + 1 }
+    → state_after_step (state_after_undo s) (acting_node e) ≡ record s { made = s.made + 1 }
 undo_is_redone_by_step s xs e some is room count =
     let b : Before s.load xs e = before s.load xs e (subst (λ z. IsSome (replay s.load z)) is some) in
     let long : length (xs ++ e ∷ []) ≡ length xs + 1 = length_push xs e in
@@ -190,6 +190,6 @@ undo_is_redone_by_step s xs e some is room count =
     let less : length s.kept - 1 ≡ length xs = omega arith in
     let front : take (length s.kept - 1) s.kept ≡ xs =
     ap (λ z. take z s.kept) less ∙ ap (take (length xs)) is ∙ take-append-le (length xs) xs (e ∷ []) (omega arith) ∙ take_all (length xs) xs (omega arith) in
-    ap (λ z. stepped (keeping s z s.made) (actor_of e)) front
+    ap (λ z. state_after_step (keeping s z s.made) (acting_node e)) front
     ∙ steps_at s b.last xs b.told e b.ran b.can (omega arith) count
     ∙ ap (λ z. keeping s z (s.made + 1)) (sym is)

@@ -14,11 +14,11 @@ use Rattle.ga_event.specs.declared.event.Event.{Event}
 use Rattle.ga_event.specs.declared.event.Cause.{Cause}
 use Rattle.ga_event.specs.Touches.{touches}
 use Rattle.ga_event.specs.Apply.{EventOutcome, after, apply, cause_of, run, neighbour_states, is_look}
-use Rattle.ga_causal.specs.Words.{word_of, local_history_with_reads, look_word, words_read}
+use Rattle.ga_causal.specs.Words.{received_word, local_history_with_reads, look_word, io_words_read}
 use Rattle.ga_causal.proofs.Runs.{first_of_run, keeps_of, causes}
 use Rattle.ga_causal.proofs.Words.{Becomes, becomes_one, becomes_of, after_is, same_size}
 use Rattle.ga_event.specs.declared.made.Made.{Made}
-use Rattle.ga_event.specs.Told.{made_after, mades_after, mades_of}
+use Rattle.ga_event.specs.Told.{made_event_after, made_events_after, made_events_of}
 use Rattle.ga_lab.specs.Machine.{State, initial_state, chip_of, history_of, causes_of}
 use Rattle.ga_lab.specs.Calls.{MachineCall, after_calls}
 use Rattle.ga_lab.proofs.Called.{Runs, told_is, chip_is, first_runs, calls_load, causes_is}
@@ -73,47 +73,47 @@ traced_one n x (m ∷ ms) ws y z (u, word, vs, b, t, l) (v, other, us, c, w, k) 
 
 -- an event as made, with its word
 made_traced : (n : ℕ) (c mid : List NodeRecord) (e : Event) (before : List Event) (y : NodeRecord) (ms : List Made) (ws : List ℕ)
-    → Becomes n (record_at c n) e (word_of c e) (record_at mid n) → Traced n (record_at mid n) ms ws y
-    → Traced n (record_at c n) (option_to_list (made_after before e (after c e).1) ++ ms) (look_word e (word_of c e) ++ ws) y
-made_traced n c mid (event.Own node) before y ms ws b later = (record_at mid n, word_of c (event.Own node), ws, b, refl, later)
-made_traced n c mid (event.Pass w r side) before y ms ws b later = (record_at mid n, word_of c (event.Pass w r side), ws, b, (refl, refl), later)
+    → Becomes n (record_at c n) e (received_word c e) (record_at mid n) → Traced n (record_at mid n) ms ws y
+    → Traced n (record_at c n) (option_to_list (made_event_after before e (after c e).1) ++ ms) (look_word e (received_word c e) ++ ws) y
+made_traced n c mid (event.Own node) before y ms ws b later = (record_at mid n, received_word c (event.Own node), ws, b, refl, later)
+made_traced n c mid (event.Pass w r side) before y ms ws b later = (record_at mid n, received_word c (event.Pass w r side), ws, b, (refl, refl), later)
 
 traced_more : (n : ℕ) (c mid : List NodeRecord) (e : Event) (told : EventOutcome) (before : List Event) (y : NodeRecord) (ms : List Made) (rest : List (Event × Option ℕ)) → n < length c
     → apply c e ≡ Some (mid, told) → Traced n (record_at mid n) ms (flat_map (λ x. look_word x.0 x.1) rest) y → (b : Bool) → touches e n ≡ b
-    → Traced n (record_at c n) (cond b (option_to_list (made_after before e told)) [] ++ ms) (flat_map (λ x. look_word x.0 x.1) (cond b ((e, word_of c e) ∷ rest) rest)) y
+    → Traced n (record_at c n) (cond b (option_to_list (made_event_after before e told)) [] ++ ms) (flat_map (λ x. look_word x.0 x.1) (cond b ((e, received_word c e) ∷ rest) rest)) y
 traced_more n c mid e told before y ms rest l h later true is =
-    subst (λ z. Traced n (record_at c n) (option_to_list (made_after before e z) ++ ms) (look_word e (word_of c e) ++ flat_map (λ x. look_word x.0 x.1) rest) y) (ap (λ z. z.1) (after_is c mid e told h))
+    subst (λ z. Traced n (record_at c n) (option_to_list (made_event_after before e z) ++ ms) (look_word e (received_word c e) ++ flat_map (λ x. look_word x.0 x.1) rest) y) (ap (λ z. z.1) (after_is c mid e told h))
     (made_traced n c mid e before y ms (flat_map (λ x. look_word x.0 x.1) rest) (becomes_of n c mid e told l h is) later)
 traced_more n c mid e told before y ms rest l h later false is =
     subst (λ z. Traced n z ms (flat_map (λ x. look_word x.0 x.1) rest) y) (sym ((keeps_of c e mid told h).same n is)) later
 
 pub traced : (n : ℕ) (c last : List NodeRecord) (es : List Event) (ts : List (Cause × EventOutcome)) (before : List Event) → n < length c → run c es ≡ Some (last, ts)
-    → Traced n (record_at c n) (mades_after before ts n) (words_read n c es) (record_at last n)
+    → Traced n (record_at c n) (made_events_after before ts n) (io_words_read n c es) (record_at last n)
 traced n c last [] ts before l h =
-    subst (λ (z : List NodeRecord × List (Cause × EventOutcome)). Traced n (record_at c n) (mades_after before z.1 n) [] (record_at z.0 n)) (same_Some (c, []) (last, ts) h) (refl, refl)
+    subst (λ (z : List NodeRecord × List (Cause × EventOutcome)). Traced n (record_at c n) (made_events_after before z.1 n) [] (record_at z.0 n)) (same_Some (c, []) (last, ts) h) (refl, refl)
 traced n c last (e ∷ es) ts before l h =
     let m = first_of_run c e es last ts h in
     let size : length c ≡ length m.mid = (keeps_of c e m.mid m.told m.first).size in
     let later = traced n m.mid last es m.others (before ++ e ∷ []) (omega (arith, l, size)) m.then in
-    subst (λ (z : List (Cause × EventOutcome)). Traced n (record_at c n) (mades_after before z n) (words_read n c (e ∷ es)) (record_at last n)) (sym m.all)
-    (subst (λ d. Traced n (record_at c n) (mades_after before ((cause_of c e, m.told) ∷ m.others) n) (flat_map (λ x. look_word x.0 x.1) (cond (touches e n) ((e, word_of c e) ∷ local_history_with_reads n d es) (local_history_with_reads n d es))) (record_at last n))
+    subst (λ (z : List (Cause × EventOutcome)). Traced n (record_at c n) (made_events_after before z n) (io_words_read n c (e ∷ es)) (record_at last n)) (sym m.all)
+    (subst (λ d. Traced n (record_at c n) (made_events_after before ((cause_of c e, m.told) ∷ m.others) n) (flat_map (λ x. look_word x.0 x.1) (cond (touches e n) ((e, received_word c e) ∷ local_history_with_reads n d es) (local_history_with_reads n d es))) (record_at last n))
     (sym (ap (λ z. z.0) (after_is c m.mid e m.told m.first)))
-    (traced_more n c m.mid e m.told before (record_at last n) (mades_after (before ++ e ∷ []) m.others n) (local_history_with_reads n m.mid es) l m.first later (touches e n) refl))
+    (traced_more n c m.mid e m.told before (record_at last n) (made_events_after (before ++ e ∷ []) m.others n) (local_history_with_reads n m.mid es) l m.first later (touches e n) refl))
 
 -- machines with one load, in which a node has the same history and its looks read the same words
-node_alike : (s z : State) (n : ℕ) → Runs s → Runs z → s.load ≡ z.load → history_of s n ≡ history_of z n → words_read n s.load s.kept ≡ words_read n z.load z.kept
+node_alike : (s z : State) (n : ℕ) → Runs s → Runs z → s.load ≡ z.load → history_of s n ≡ history_of z n → io_words_read n s.load s.kept ≡ io_words_read n z.load z.kept
     → record_at (chip_of s) n ≡ record_at (chip_of z) n
 node_alike s z n r q load told words =
     let here : length s.load ≡ length r.last = same_size s.load r.last s.kept r.told r.run_is in
     let there : length z.load ≡ length q.last = same_size z.load q.last z.kept q.told q.run_is in
     let size : length s.load ≡ length z.load = ap length load in
-    let same : mades_of r.told n ≡ mades_of q.told n = ap (λ x. mades_of x n) (sym (told_is s r)) ∙ told ∙ ap (λ x. mades_of x n) (told_is z q) in
+    let same : made_events_of r.told n ≡ made_events_of q.told n = ap (λ x. made_events_of x n) (sym (told_is s r)) ∙ told ∙ ap (λ x. made_events_of x n) (told_is z q) in
     let last : record_at r.last n ≡ record_at q.last n = elim (cases_lt n (length s.load)) [
-      | inl l ↦ traced_one n (record_at s.load n) (mades_of r.told n) (words_read n s.load s.kept) (record_at r.last n) (record_at q.last n)
+      | inl l ↦ traced_one n (record_at s.load n) (made_events_of r.told n) (io_words_read n s.load s.kept) (record_at r.last n) (record_at q.last n)
           (traced n s.load r.last s.kept r.told [] l r.run_is)
-          (subst (λ x. Traced n (record_at s.load n) (mades_of r.told n) x (record_at q.last n)) (sym words)
-          (subst (λ x. Traced n (record_at s.load n) x (words_read n z.load z.kept) (record_at q.last n)) (sym same)
-          (subst (λ c. Traced n (record_at c n) (mades_of q.told n) (words_read n z.load z.kept) (record_at q.last n)) (sym load)
+          (subst (λ x. Traced n (record_at s.load n) (made_events_of r.told n) x (record_at q.last n)) (sym words)
+          (subst (λ x. Traced n (record_at s.load n) x (io_words_read n z.load z.kept) (record_at q.last n)) (sym same)
+          (subst (λ c. Traced n (record_at c n) (made_events_of q.told n) (io_words_read n z.load z.kept) (record_at q.last n)) (sym load)
           (traced n z.load q.last z.kept q.told [] (omega (arith, l, size)) q.run_is))))
       | inr l ↦ get_or_past r.last n (record_of nowhere) (omega (arith, l, here)) ∙ sym (get_or_past q.last n (record_of nowhere) (omega (arith, l, size, there)))
     ] in
@@ -121,7 +121,7 @@ node_alike s z n r q load told words =
 
 pub same_node : (load : List NodeRecord) (limit bound : ℕ) (calls others : List MachineCall) (n : ℕ)
     → history_of (after_calls (initial_state load limit) calls) n ≡ history_of (after_calls (initial_state load bound) others) n
-    → words_read n load (after_calls (initial_state load limit) calls).kept ≡ words_read n load (after_calls (initial_state load bound) others).kept
+    → io_words_read n load (after_calls (initial_state load limit) calls).kept ≡ io_words_read n load (after_calls (initial_state load bound) others).kept
     → record_at (chip_of (after_calls (initial_state load limit) calls)) n ≡ record_at (chip_of (after_calls (initial_state load bound) others)) n
 same_node load limit bound calls others n told words =
     let s = after_calls (initial_state load limit) calls in
@@ -129,11 +129,11 @@ same_node load limit bound calls others n told words =
     let at : s.load ≡ load = calls_load (initial_state load limit) calls in
     let to : z.load ≡ load = calls_load (initial_state load bound) others in
     node_alike s z n (first_runs load limit calls) (first_runs load bound others) (at ∙ sym to) told
-    (ap (λ c. words_read n c s.kept) at ∙ words ∙ sym (ap (λ c. words_read n c z.kept) to))
+    (ap (λ c. io_words_read n c s.kept) at ∙ words ∙ sym (ap (λ c. io_words_read n c z.kept) to))
 
 pub same_chip : (load : List NodeRecord) (limit bound : ℕ) (calls others : List MachineCall)
     → ((n : ℕ) → history_of (after_calls (initial_state load limit) calls) n ≡ history_of (after_calls (initial_state load bound) others) n)
-    → ((n : ℕ) → words_read n load (after_calls (initial_state load limit) calls).kept ≡ words_read n load (after_calls (initial_state load bound) others).kept)
+    → ((n : ℕ) → io_words_read n load (after_calls (initial_state load limit) calls).kept ≡ io_words_read n load (after_calls (initial_state load bound) others).kept)
     → chip_of (after_calls (initial_state load limit) calls) ≡ chip_of (after_calls (initial_state load bound) others)
 same_chip load limit bound calls others told words =
     let s = after_calls (initial_state load limit) calls in
@@ -181,11 +181,11 @@ blind_nowhere = refl
 blind_past : (c : List NodeRecord) (n : ℕ) → length c ≤ n → looks (record_at c n) ≡ false
 blind_past c n l = ap (λ z. looks z) (get_or_past c n (record_of nowhere) l) ∙ blind_nowhere
 
-no_word : (c : List NodeRecord) (e : Event) → is_look c e ≡ false → look_word e (word_of c e) ≡ []
+no_word : (c : List NodeRecord) (e : Event) → is_look c e ≡ false → look_word e (received_word c e) ≡ []
 no_word c (event.Own node) h = ap option_to_list (cond-false (looks (record_at c node.number)) (Some (io_word (neighbour_states c node.number))) None h)
 no_word c (event.Pass w r side) h = refl
 
-no_look : (c : List NodeRecord) (e : Event) → look_word e (word_of c e) ≡ [] → is_look c e ≡ false
+no_look : (c : List NodeRecord) (e : Event) → look_word e (received_word c e) ≡ [] → is_look c e ≡ false
 no_look c (event.Own node) h = go (looks (record_at c node.number)) h
   where
     go : (b : Bool) → option_to_list (cond b (Some (io_word (neighbour_states c node.number))) None) ≡ [] → b ≡ false
@@ -201,27 +201,27 @@ one_less true x xs h k = ap (λ z. z ++ read xs) (h refl) ∙ k
 one_less false x xs h k = k
 
 -- no words where nobody looks
-words_blind : (n : ℕ) (c last : List NodeRecord) (es : List Event) (ts : List (Cause × EventOutcome)) → run c es ≡ Some (last, ts) → HasNoLooks (causes ts) → words_read n c es ≡ []
+words_blind : (n : ℕ) (c last : List NodeRecord) (es : List Event) (ts : List (Cause × EventOutcome)) → run c es ≡ Some (last, ts) → HasNoLooks (causes ts) → io_words_read n c es ≡ []
 words_blind n c last [] ts h none = refl
 words_blind n c last (e ∷ es) ts h none =
     let m = first_of_run c e es last ts h in
     let look : HasNoLooks (cause_of c e ∷ causes m.others) = subst (λ (z : List (Cause × EventOutcome)). HasNoLooks (causes z)) m.all none in
-    one_less (touches e n) (e, word_of c e) (local_history_with_reads n (after c e).0 es) (λ t. no_word c e look.0)
-    (ap (λ (q : List NodeRecord × EventOutcome). words_read n q.0 es) (after_is c m.mid e m.told m.first) ∙ words_blind n m.mid last es m.others m.then look.1)
+    one_less (touches e n) (e, received_word c e) (local_history_with_reads n (after c e).0 es) (λ t. no_word c e look.0)
+    (ap (λ (q : List NodeRecord × EventOutcome). io_words_read n q.0 es) (after_is c m.mid e m.told m.first) ∙ words_blind n m.mid last es m.others m.then look.1)
 
-past_word : (c : List NodeRecord) (e : Event) (n : ℕ) → length c ≤ n → touches e n ≡ true → look_word e (word_of c e) ≡ []
+past_word : (c : List NodeRecord) (e : Event) (n : ℕ) → length c ≤ n → touches e n ≡ true → look_word e (received_word c e) ≡ []
 past_word c (event.Own node) n l t =
     let at : node.number ≡ n = elim (or_cases (node.number == n) false t) [ inl q ↦ eqb-true node.number n q | inr q ↦ absurd (both_ways false refl q) ] in
     no_word c (event.Own node) (blind_past c node.number (omega (arith, l, at)))
 past_word c (event.Pass w r side) n l t = refl
 
-words_past : (n : ℕ) (c last : List NodeRecord) (es : List Event) (ts : List (Cause × EventOutcome)) → length c ≤ n → run c es ≡ Some (last, ts) → words_read n c es ≡ []
+words_past : (n : ℕ) (c last : List NodeRecord) (es : List Event) (ts : List (Cause × EventOutcome)) → length c ≤ n → run c es ≡ Some (last, ts) → io_words_read n c es ≡ []
 words_past n c last [] ts l h = refl
 words_past n c last (e ∷ es) ts l h =
     let m = first_of_run c e es last ts h in
     let size : length c ≡ length m.mid = (keeps_of c e m.mid m.told m.first).size in
-    one_less (touches e n) (e, word_of c e) (local_history_with_reads n (after c e).0 es) (λ t. past_word c e n l t)
-    (ap (λ (q : List NodeRecord × EventOutcome). words_read n q.0 es) (after_is c m.mid e m.told m.first) ∙ words_past n m.mid last es m.others (omega (arith, l, size)) m.then)
+    one_less (touches e n) (e, received_word c e) (local_history_with_reads n (after c e).0 es) (λ t. past_word c e n l t)
+    (ap (λ (q : List NodeRecord × EventOutcome). io_words_read n q.0 es) (after_is c m.mid e m.told m.first) ∙ words_past n m.mid last es m.others (omega (arith, l, size)) m.then)
 
 first_none : (b : Bool) (x : Event × Option ℕ) (xs : List (Event × Option ℕ)) → b ≡ true → read (cond b (x ∷ xs) xs) ≡ [] → look_word x.0 x.1 ≡ []
 first_none true x xs t h = go (look_word x.0 x.1) h
@@ -240,27 +240,27 @@ rest_none true x xs h = go (look_word x.0 x.1) h
 rest_none false x xs h = h
 
 -- nobody looks where there are no words
-blind_words : (c last : List NodeRecord) (es : List Event) (ts : List (Cause × EventOutcome)) → run c es ≡ Some (last, ts) → ((n : ℕ) → words_read n c es ≡ []) → HasNoLooks (causes ts)
+blind_words : (c last : List NodeRecord) (es : List Event) (ts : List (Cause × EventOutcome)) → run c es ≡ Some (last, ts) → ((n : ℕ) → io_words_read n c es ≡ []) → HasNoLooks (causes ts)
 blind_words c last [] ts h none = subst (λ (z : List NodeRecord × List (Cause × EventOutcome)). HasNoLooks (causes z.1)) (same_Some (c, []) (last, ts) h) tt
 blind_words c last (e ∷ es) ts h none =
     let m = first_of_run c e es last ts h in
     let t = touched_of e in
     subst (λ (z : List (Cause × EventOutcome)). HasNoLooks (causes z)) (sym m.all) (
-      no_look c e (first_none (touches e t.node) (e, word_of c e) (local_history_with_reads t.node (after c e).0 es) t.is (none t.node)),
-      blind_words m.mid last es m.others m.then (λ n. sym (ap (λ (q : List NodeRecord × EventOutcome). words_read n q.0 es) (after_is c m.mid e m.told m.first)) ∙ rest_none (touches e n) (e, word_of c e) (local_history_with_reads n (after c e).0 es) (none n)),
+      no_look c e (first_none (touches e t.node) (e, received_word c e) (local_history_with_reads t.node (after c e).0 es) t.is (none t.node)),
+      blind_words m.mid last es m.others m.then (λ n. sym (ap (λ (q : List NodeRecord × EventOutcome). io_words_read n q.0 es) (after_is c m.mid e m.told m.first)) ∙ rest_none (touches e n) (e, received_word c e) (local_history_with_reads n (after c e).0 es) (none n)),
     )
 
 pub none_looks : (s z : State) → Runs s → Runs z → s.load ≡ z.load → HasNoLooks (causes_of s) → ((n : ℕ) → history_of s n ≡ history_of z n) → HasNoLooks (causes_of z)
 none_looks s z r q load none told = subst HasNoLooks (sym (causes_is z q)) (blind_words z.load q.last z.kept q.told q.run_is (λ n. each n))
   where
-    each : (n : ℕ) → words_read n z.load z.kept ≡ []
+    each : (n : ℕ) → io_words_read n z.load z.kept ≡ []
     each n = elim (cases_lt n (length z.load)) [
       | inl l ↦ (let size : length s.load ≡ length z.load = ap length load in
-          let same : mades_of r.told n ≡ mades_of q.told n = ap (λ x. mades_of x n) (sym (told_is s r)) ∙ told n ∙ ap (λ x. mades_of x n) (told_is z q) in
-          traced_silent n (record_at z.load n) (mades_of q.told n) (words_read n z.load z.kept) (record_at r.last n) (record_at q.last n)
-          (subst (λ c. Traced n (record_at c n) (mades_of q.told n) [] (record_at r.last n)) load
+          let same : made_events_of r.told n ≡ made_events_of q.told n = ap (λ x. made_events_of x n) (sym (told_is s r)) ∙ told n ∙ ap (λ x. made_events_of x n) (told_is z q) in
+          traced_silent n (record_at z.load n) (made_events_of q.told n) (io_words_read n z.load z.kept) (record_at r.last n) (record_at q.last n)
+          (subst (λ c. Traced n (record_at c n) (made_events_of q.told n) [] (record_at r.last n)) load
           (subst (λ x. Traced n (record_at s.load n) x [] (record_at r.last n)) same
-          (subst (λ x. Traced n (record_at s.load n) (mades_of r.told n) x (record_at r.last n)) (words_blind n s.load r.last s.kept r.told r.run_is (subst HasNoLooks (causes_is s r) none))
+          (subst (λ x. Traced n (record_at s.load n) (made_events_of r.told n) x (record_at r.last n)) (words_blind n s.load r.last s.kept r.told r.run_is (subst HasNoLooks (causes_is s r) none))
           (traced n s.load r.last s.kept r.told [] (omega (arith, l, size)) r.run_is))))
           (traced n z.load q.last z.kept q.told [] l q.run_is))
       | inr l ↦ words_past n z.load q.last z.kept q.told l q.run_is

@@ -3,9 +3,9 @@ use Rattle.std.proofs.Common.{◌≡◌, ℕ, zero, suc, ◌≤◌, List, [], �
 use Rattle.std.proofs.lemmas.List.{take-append-drop, length-set, get_or-set_same, get_or-set_other}
 use Rattle.ga_node.specs.Record.{NodeState, NodeRecord, HasSizes, record_of}
 use Rattle.ga_event.specs.Undo.{CanRestore}
-use Rattle.ga_event.specs.Told.{steps_of}
+use Rattle.ga_event.specs.Told.{count_steps}
 use Rattle.ga_journal.specs.Histories.{EntryRecord, JournalState, history}
-use Rattle.ga_journal.specs.Walked.{walked_back, CanWalk, held_before, among, before_entry, overwritten}
+use Rattle.ga_journal.specs.Walked.{node_before_entries, CanRestoreEntries, old_value_or, among, value_before_entry, overwritten_value}
 use Rattle.ga_journal.proofs.Logs.{steps_log}
 use Rattle.ga_lab.specs.inner.LabInvariant.{MatchesLog, state_of}
 use Rattle.ga_lab.proofs.Stepping.{whole_of}
@@ -16,15 +16,15 @@ use Rattle.std.proofs.lemmas.Bool.{eqb-true, eqb-false}
 use Rattle.std.proofs.lemmas.Option.{none-some, slice_get_cases}
 use Rattle.ga_node.specs.declared.place.Place.{Place}
 use Rattle.ga_node.specs.declared.place.Place.TheVariants.{P, A, B, Ram, Wait}
-use Rattle.ga_node.specs.State.{wait_of, restored, with_value, IsInRange, AreFit}
+use Rattle.ga_node.specs.State.{wait_of, with_restored_values, with_value, IsInRange, AreValuesInRange}
 use Rattle.ga_grid.specs.Chip.{node_at, record_at}
 use Rattle.ga_journal.proofs.Walks.{overwritten_within, walked_one, can_one}
 use Rattle.ga_lab.specs.Machine.{chip_of, earlier}
-use Rattle.ga_lab.specs.Holding.{Holds}
+use Rattle.ga_lab.specs.Holding.{HoldsValue}
 
 -- ---- A node walked back in parts
 
-can-append : (now : NodeState) (older newer : List EntryRecord) → CanWalk now (older ++ newer) → CanWalk (walked_back now newer) older
+can-append : (now : NodeState) (older newer : List EntryRecord) → CanRestoreEntries now (older ++ newer) → CanRestoreEntries (node_before_entries now newer) older
 can-append now [] newer can = tt
 can-append now (x ∷ xs) newer can = (subst (λ (z : NodeState). CanRestore z x.saved) (walked-append now xs newer) can.0, can-append now xs newer can.1)
 
@@ -35,16 +35,16 @@ between (suc to) (suc from) [] l = refl
 between (suc to) (suc from) (x ∷ xs) l = between to from xs (omega (arith, l))
 
 -- what was walked back to one step can be walked back to an earlier one, and is then as if it had been walked back there at once
-pub can_between : (now behind : NodeState) (to from : ℕ) (h : List EntryRecord) → to ≤ from → behind ≡ walked_back now (drop from h) → CanWalk now (drop to h) → CanWalk behind (drop to (take from h))
+pub can_between : (now behind : NodeState) (to from : ℕ) (h : List EntryRecord) → to ≤ from → behind ≡ node_before_entries now (drop from h) → CanRestoreEntries now (drop to h) → CanRestoreEntries behind (drop to (take from h))
 can_between now behind to from h l is can =
-    subst (λ (z : NodeState). CanWalk z (drop to (take from h))) (sym is) (can-append now (drop to (take from h)) (drop from h) (subst (CanWalk now) (between to from h l) can))
+    subst (λ (z : NodeState). CanRestoreEntries z (drop to (take from h))) (sym is) (can-append now (drop to (take from h)) (drop from h) (subst (CanRestoreEntries now) (between to from h l) can))
 
-pub walked_between : (now behind last : NodeState) (to from : ℕ) (h : List EntryRecord) → to ≤ from → behind ≡ walked_back now (drop from h) → last ≡ walked_back behind (drop to (take from h)) → last ≡ walked_back now (drop to h)
+pub walked_between : (now behind last : NodeState) (to from : ℕ) (h : List EntryRecord) → to ≤ from → behind ≡ node_before_entries now (drop from h) → last ≡ node_before_entries behind (drop to (take from h)) → last ≡ node_before_entries now (drop to h)
 walked_between now behind last to from h l is e =
-    e ∙ ap (λ (z : NodeState). walked_back z (drop to (take from h))) is ∙ sym (walked-append now (drop to (take from h)) (drop from h)) ∙ ap (walked_back now) (sym (between to from h l))
+    e ∙ ap (λ (z : NodeState). node_before_entries z (drop to (take from h))) is ∙ sym (walked-append now (drop to (take from h)) (drop from h)) ∙ ap (node_before_entries now) (sym (between to from h l))
 
 -- a node's history has as many entries as the history of all events has steps of the node
-pub kept_long : (chip : List NodeState) (book : JournalState) (n : ℕ) → MatchesLog chip book → length (history book.histories n) ≡ steps_of n (state_of chip book).kept
+pub kept_long : (chip : List NodeState) (book : JournalState) (n : ℕ) → MatchesLog chip book → length (history book.histories n) ≡ count_steps n (state_of chip book).kept
 kept_long chip book n tied = steps_log book n (whole_of chip book tied) ∙ kept_steps chip book n
 
 pub if_some : (o : Option ℕ) (Q : ℕ → Type 0) → ((old : ℕ) → o ≡ Some old → Q old) → IfSome o Q
@@ -72,7 +72,7 @@ left_ram ram cell other old value later true is rest h = absurd (none-some old (
 left_ram ram cell other old value later false is rest h = get_or-set_other ram other cell old _ (eqb-false cell other is) ∙ rest h
 
 holds_old : (what place : Place) (old value : ℕ) (node : NodeState) (later : Option ℕ) → IsInRange place old → length node.ram ≡ 64
-    → (later ≡ Some value → Holds (record_of node) what value) → held_before what place old later ≡ Some value → Holds (record_of (with_value node place old)) what value
+    → (later ≡ Some value → HoldsValue (record_of node) what value) → old_value_or what place old later ≡ Some value → HoldsValue (record_of (with_value node place old)) what value
 unfolding record_of
 holds_old P P old value node later fit size rest h = same_some h
 holds_old P place old value node later fit size rest h = rest h
@@ -88,7 +88,7 @@ holds_old (Ram cell) place old value node later fit size rest h = rest h
 holds_old what place old value node later fit size rest h = tt
 
 holds_left : (what place : Place) (old value : ℕ) (node : NodeState) (later : Option ℕ)
-    → (later ≡ None → Holds (record_of node) what value) → held_before what place old later ≡ None → Holds (record_of (with_value node place old)) what value
+    → (later ≡ None → HoldsValue (record_of node) what value) → old_value_or what place old later ≡ None → HoldsValue (record_of (with_value node place old)) what value
 unfolding record_of
 holds_left P P old value node later rest h = absurd (none-some old (sym h))
 holds_left P place old value node later rest h = rest h
@@ -102,7 +102,7 @@ holds_left (Ram cell) (Ram other) old value node later rest h = left_ram node.ra
 holds_left (Ram cell) place old value node later rest h = rest h
 holds_left what place old value node later rest h = tt
 
-fits_old : (what place : Place) (old value : ℕ) (later : Option ℕ) → IsInRange place old → (later ≡ Some value → IsInRange what value) → held_before what place old later ≡ Some value → IsInRange what value
+fits_old : (what place : Place) (old value : ℕ) (later : Option ℕ) → IsInRange place old → (later ≡ Some value → IsInRange what value) → old_value_or what place old later ≡ Some value → IsInRange what value
 fits_old P P old value later fit rest h = subst (IsInRange P) (same_some h) fit
 fits_old A A old value later fit rest h = subst (IsInRange A) (same_some h) fit
 fits_old B B old value later fit rest h = subst (IsInRange B) (same_some h) fit
@@ -116,8 +116,8 @@ fits_old what place old value later fit rest h = rest h
 
 -- ---- all of an event, and of many
 
-fit_among : (what : Place) (saved : List (Place × ℕ)) (value : ℕ) → AreFit saved → among what saved ≡ Some value → IsInRange what value
-unfolding AreFit
+fit_among : (what : Place) (saved : List (Place × ℕ)) (value : ℕ) → AreValuesInRange saved → among what saved ≡ Some value → IsInRange what value
+unfolding AreValuesInRange
 fit_among what [] value fit h = absurd (none-some value h)
 fit_among what (x ∷ rest) value fit h = fits_old what x.0 x.1 value (among what rest) fit.0 (fit_among what rest value fit.1) h
 
@@ -125,90 +125,90 @@ size_with : (place : Place) (old : ℕ) (node : NodeState) → length (with_valu
 size_with (Ram cell) old node = length-set node.ram cell old
 size_with place old node = refl
 
-size_restored : (node : NodeState) (saved : List (Place × ℕ)) → length (restored node saved).ram ≡ length node.ram
-unfolding restored
+size_restored : (node : NodeState) (saved : List (Place × ℕ)) → length (with_restored_values node saved).ram ≡ length node.ram
+unfolding with_restored_values
 size_restored node [] = refl
-size_restored node (x ∷ rest) = size_with x.0 x.1 (restored node rest) ∙ size_restored node rest
+size_restored node (x ∷ rest) = size_with x.0 x.1 (with_restored_values node rest) ∙ size_restored node rest
 
-size_walked : (node : NodeState) (es : List EntryRecord) → length (walked_back node es).ram ≡ length node.ram
+size_walked : (node : NodeState) (es : List EntryRecord) → length (node_before_entries node es).ram ≡ length node.ram
 size_walked node [] = refl
-size_walked node (e ∷ es) = size_restored (walked_back node es) e.saved ∙ size_walked node es
+size_walked node (e ∷ es) = size_restored (node_before_entries node es) e.saved ∙ size_walked node es
 
-restored_old : (what : Place) (node : NodeState) (saved : List (Place × ℕ)) (value : ℕ) → AreFit saved → length node.ram ≡ 64 → among what saved ≡ Some value
-    → Holds (record_of (restored node saved)) what value
-unfolding restored AreFit
+restored_old : (what : Place) (node : NodeState) (saved : List (Place × ℕ)) (value : ℕ) → AreValuesInRange saved → length node.ram ≡ 64 → among what saved ≡ Some value
+    → HoldsValue (record_of (with_restored_values node saved)) what value
+unfolding with_restored_values AreValuesInRange
 restored_old what node [] value fit size h = absurd (none-some value h)
 restored_old what node (x ∷ rest) value fit size h =
-    holds_old what x.0 x.1 value (restored node rest) (among what rest) fit.0 (size_restored node rest ∙ size) (restored_old what node rest value fit.1 size) h
+    holds_old what x.0 x.1 value (with_restored_values node rest) (among what rest) fit.0 (size_restored node rest ∙ size) (restored_old what node rest value fit.1 size) h
 
-restored_left : (what : Place) (node : NodeState) (saved : List (Place × ℕ)) (value : ℕ) → Holds (record_of node) what value → among what saved ≡ None
-    → Holds (record_of (restored node saved)) what value
-unfolding restored
+restored_left : (what : Place) (node : NodeState) (saved : List (Place × ℕ)) (value : ℕ) → HoldsValue (record_of node) what value → among what saved ≡ None
+    → HoldsValue (record_of (with_restored_values node saved)) what value
+unfolding with_restored_values
 restored_left what node [] value held h = held
 restored_left what node (x ∷ rest) value held h =
-    holds_left what x.0 x.1 value (restored node rest) (among what rest) (restored_left what node rest value held) h
+    holds_left what x.0 x.1 value (with_restored_values node rest) (among what rest) (restored_left what node rest value held) h
 
-walked_old : (now : NodeState) (h : List EntryRecord) (k value : ℕ) (what : Place) → length now.ram ≡ 64 → CanWalk now (drop k h) → overwritten h k what ≡ Some value
-    → Holds (record_of (walked_back now (drop k h))) what value
+walked_old : (now : NodeState) (h : List EntryRecord) (k value : ℕ) (what : Place) → length now.ram ≡ 64 → CanRestoreEntries now (drop k h) → overwritten_value h k what ≡ Some value
+    → HoldsValue (record_of (node_before_entries now (drop k h))) what value
 walked_old now h k value what size can is = ⊎_elim
     (λ found.
-    let fit : CanRestore (walked_back now (drop (k + 1) h)) found.0.saved = can_one now h k found.0 found.2 can in
-    subst (λ (z : NodeState). Holds (record_of z) what value) (sym (walked_one now h k found.0 found.2))
-    (restored_old what (walked_back now (drop (k + 1) h)) found.0.saved value fit.fit (size_walked now (drop (k + 1) h) ∙ size) (sym (ap (before_entry what) found.2) ∙ is)))
-    (λ past. absurd (none-some value (sym (ap (before_entry what) past.1) ∙ is)))
+    let fit : CanRestore (node_before_entries now (drop (k + 1) h)) found.0.saved = can_one now h k found.0 found.2 can in
+    subst (λ (z : NodeState). HoldsValue (record_of z) what value) (sym (walked_one now h k found.0 found.2))
+    (restored_old what (node_before_entries now (drop (k + 1) h)) found.0.saved value fit.fit (size_walked now (drop (k + 1) h) ∙ size) (sym (ap (value_before_entry what) found.2) ∙ is)))
+    (λ past. absurd (none-some value (sym (ap (value_before_entry what) past.1) ∙ is)))
     (slice_get_cases h k).1
 
-walked_fits : (now : NodeState) (h : List EntryRecord) (k value : ℕ) (what : Place) → CanWalk now (drop k h) → overwritten h k what ≡ Some value → IsInRange what value
+walked_fits : (now : NodeState) (h : List EntryRecord) (k value : ℕ) (what : Place) → CanRestoreEntries now (drop k h) → overwritten_value h k what ≡ Some value → IsInRange what value
 walked_fits now h k value what can is = ⊎_elim
     (λ found.
-    let fit : CanRestore (walked_back now (drop (k + 1) h)) found.0.saved = can_one now h k found.0 found.2 can in
-    fit_among what found.0.saved value fit.fit (sym (ap (before_entry what) found.2) ∙ is))
-    (λ past. absurd (none-some value (sym (ap (before_entry what) past.1) ∙ is)))
+    let fit : CanRestore (node_before_entries now (drop (k + 1) h)) found.0.saved = can_one now h k found.0 found.2 can in
+    fit_among what found.0.saved value fit.fit (sym (ap (value_before_entry what) found.2) ∙ is))
+    (λ past. absurd (none-some value (sym (ap (value_before_entry what) past.1) ∙ is)))
     (slice_get_cases h k).1
 
-walked_left : (now : NodeState) (h : List EntryRecord) (k value : ℕ) (what : Place) → k < length h → overwritten h k what ≡ None
-    → Holds (record_of (walked_back now (drop (k + 1) h))) what value → Holds (record_of (walked_back now (drop k h))) what value
+walked_left : (now : NodeState) (h : List EntryRecord) (k value : ℕ) (what : Place) → k < length h → overwritten_value h k what ≡ None
+    → HoldsValue (record_of (node_before_entries now (drop (k + 1) h))) what value → HoldsValue (record_of (node_before_entries now (drop k h))) what value
 walked_left now h k value what l is held = ⊎_elim
     (λ found.
-    subst (λ (z : NodeState). Holds (record_of z) what value) (sym (walked_one now h k found.0 found.2))
-    (restored_left what (walked_back now (drop (k + 1) h)) found.0.saved value held (sym (ap (before_entry what) found.2) ∙ is)))
+    subst (λ (z : NodeState). HoldsValue (record_of z) what value) (sym (walked_one now h k found.0 found.2))
+    (restored_left what (node_before_entries now (drop (k + 1) h)) found.0.saved value held (sym (ap (value_before_entry what) found.2) ∙ is)))
     (λ past. absurd (omega (arith, l, past.0)))
     (slice_get_cases h k).1
 
 -- ---- of a node of a lab
 
 -- the record of a node after `at` of its steps
-there : (chip : List NodeState) (book : JournalState) (n at place : ℕ) → MatchesLog chip book → steps_of n (take place (state_of chip book).kept) ≡ at
-    → record_of (walked_back (node_at chip n) (drop at (history book.histories n))) ≡ record_at (chip_of (earlier (state_of chip book) place)) n
-there chip book n at place tied so_many = peeked chip book n place at (walked_back (node_at chip n) (drop at (history book.histories n))) tied so_many refl
+there : (chip : List NodeState) (book : JournalState) (n at place : ℕ) → MatchesLog chip book → count_steps n (take place (state_of chip book).kept) ≡ at
+    → record_of (node_before_entries (node_at chip n) (drop at (history book.histories n))) ≡ record_at (chip_of (earlier (state_of chip book) place)) n
+there chip book n at place tied so_many = peeked chip book n place at (node_before_entries (node_at chip n) (drop at (history book.histories n))) tied so_many refl
 
 ram_size : (node : NodeState) → HasSizes (record_of node) → length node.ram ≡ 64
 unfolding record_of
 ram_size node sizes = sizes.ram
 
 pub old_is : (chip : List NodeState) (book : JournalState) (n at value place : ℕ) (what : Place) → MatchesLog chip book → HasSizes (record_of (node_at chip n))
-    → overwritten (history book.histories n) at what ≡ Some value → steps_of n (take place (state_of chip book).kept) ≡ at
-    → Holds (record_at (chip_of (earlier (state_of chip book) place)) n) what value
+    → overwritten_value (history book.histories n) at what ≡ Some value → count_steps n (take place (state_of chip book).kept) ≡ at
+    → HoldsValue (record_at (chip_of (earlier (state_of chip book) place)) n) what value
 old_is chip book n at value place what tied sizes is so_many =
-    subst (λ (z : NodeRecord). Holds z what value) (there chip book n at place tied so_many)
+    subst (λ (z : NodeRecord). HoldsValue z what value) (there chip book n at place tied so_many)
     (walked_old (node_at chip n) (history book.histories n) at value what (ram_size (node_at chip n) sizes) (can_peek chip book n at tied) is)
 
-pub old_in_range : (chip : List NodeState) (book : JournalState) (n at value : ℕ) (what : Place) → MatchesLog chip book → overwritten (history book.histories n) at what ≡ Some value → IsInRange what value
+pub old_in_range : (chip : List NodeState) (book : JournalState) (n at value : ℕ) (what : Place) → MatchesLog chip book → overwritten_value (history book.histories n) at what ≡ Some value → IsInRange what value
 old_in_range chip book n at value what tied is = walked_fits (node_at chip n) (history book.histories n) at value what (can_peek chip book n at tied) is
 
-pub old_within : (chip : List NodeState) (book : JournalState) (n at value : ℕ) (what : Place) → MatchesLog chip book → overwritten (history book.histories n) at what ≡ Some value
-    → at < steps_of n (state_of chip book).kept
+pub old_within : (chip : List NodeState) (book : JournalState) (n at value : ℕ) (what : Place) → MatchesLog chip book → overwritten_value (history book.histories n) at what ≡ Some value
+    → at < count_steps n (state_of chip book).kept
 old_within chip book n at value what tied is =
     let long = kept_long chip book n tied in
     let within = overwritten_within (history book.histories n) at value what is in omega (arith, long, within)
 
 pub stays_there : (chip : List NodeState) (book : JournalState) (n at before behind value : ℕ) (what : Place) → MatchesLog chip book
-    → overwritten (history book.histories n) at what ≡ None
-    → steps_of n (take before (state_of chip book).kept) ≡ at → steps_of n (take behind (state_of chip book).kept) ≡ at + 1
-    → Holds (record_at (chip_of (earlier (state_of chip book) behind)) n) what value → Holds (record_at (chip_of (earlier (state_of chip book) before)) n) what value
+    → overwritten_value (history book.histories n) at what ≡ None
+    → count_steps n (take before (state_of chip book).kept) ≡ at → count_steps n (take behind (state_of chip book).kept) ≡ at + 1
+    → HoldsValue (record_at (chip_of (earlier (state_of chip book) behind)) n) what value → HoldsValue (record_at (chip_of (earlier (state_of chip book) before)) n) what value
 stays_there chip book n at before behind value what tied is first second held =
     let within : at < length (history book.histories n) =
     (let front = steps_front n behind (state_of chip book).kept in let long = kept_long chip book n tied in omega (arith, front, long, second)) in
-    subst (λ (z : NodeRecord). Holds z what value) (there chip book n at before tied first)
+    subst (λ (z : NodeRecord). HoldsValue z what value) (there chip book n at before tied first)
     (walked_left (node_at chip n) (history book.histories n) at value what within is
-    (subst (λ (z : NodeRecord). Holds z what value) (sym (there chip book n (at + 1) behind tied second)) held))
+    (subst (λ (z : NodeRecord). HoldsValue z what value) (sym (there chip book n (at + 1) behind tied second)) held))

@@ -5,16 +5,16 @@ use Rattle.std.proofs.lemmas.Bool.{cases_Bool, cond-true, cond-false, both_ways}
 use Rattle.ga_event.specs.declared.event.Cause.{Cause}
 use Rattle.ga_event.specs.Apply.{EventOutcome, run, replay}
 use Rattle.ga_causal.specs.declared.chain.Link.{Link}
-use Rattle.ga_causal.specs.Dependence.{DependsOn, dependents, unflagged, rest, position_of_step, rest_from, rewound_list}
-use Rattle.ga_event.specs.Told.{events_in}
+use Rattle.ga_causal.specs.Dependence.{DependsOn, dependent_flags, without_flagged, rest, position_of_step, rest_or_all, events_after_rewind}
+use Rattle.ga_event.specs.Told.{events_of_causes}
 use Rattle.ga_causal.specs.Chains.{chain_of, links_to}
 use Rattle.ga_causal.proofs.Rollbacks.{rewound_twice}
 use Rattle.ga_event.specs.declared.event.Event.{Event}
 use Rattle.ga_causal.proofs.Runs.{run_rest}
 use Rattle.ga_causal.proofs.Exact.{DependsOn_from_flag, flag_from_DependsOn}
-use Rattle.ga_causal.proofs.LocalHistories.{touching, refused_exactly}
+use Rattle.ga_causal.proofs.LocalHistories.{count_touching_events, refused_exactly}
 use Rattle.ga_lab.specs.declared.fault.LabFault.{LabFault}
-use Rattle.ga_lab.specs.Machine.{State, told_by, causes_of, has_step, rewound, why_between, why_answer}
+use Rattle.ga_lab.specs.Machine.{State, outcomes_of_run, causes_of, has_step, state_after_rewind, chain_between, why_answer}
 use Rattle.ga_lab.proofs.Replays.{IsReplayed}
 use Rattle.ga_lab.proofs.Explaining.{step_has_position}
 use Rattle.ga_lab.proofs.Called.{events_run, Runs, runs_of}
@@ -22,7 +22,7 @@ use Rattle.ga_lab.proofs.Called.{events_run, Runs, runs_of}
 abbrev pub causes : List (Cause × EventOutcome) → List Cause
 causes ts = map (λ (x : Cause × EventOutcome). x.0) ts
 
-causes_without : (flags : List Bool) (ts : List (Cause × EventOutcome)) → causes (unflagged flags ts) ≡ unflagged flags (causes ts)
+causes_without : (flags : List Bool) (ts : List (Cause × EventOutcome)) → causes (without_flagged flags ts) ≡ without_flagged flags (causes ts)
 causes_without [] ts = refl
 causes_without (true ∷ flags) [] = refl
 causes_without (false ∷ flags) [] = refl
@@ -33,23 +33,23 @@ causes_without (false ∷ flags) (x ∷ ts) = ap (λ z. x.0 ∷ z) (causes_witho
 pub replayed : (s : State) → IsSome (replay s.load s.kept) → IsReplayed s
 replayed s some =
     let r : Runs s = runs_of s some in
-    ap (λ o. events_in (causes (told_by o))) r.run_is ∙ events_run s.load r.last s.kept r.told r.run_is
+    ap (λ o. events_of_causes (causes (outcomes_of_run o))) r.run_is ∙ events_run s.load r.last s.kept r.told r.run_is
 
 -- the causes that a rollback leaves
-pub rewound_causes : (s : State) (n k i : ℕ) → IsSome (replay s.load s.kept) → position_of_step (causes_of s) n k ≡ Some i → causes_of (rewound s n k) ≡ rest (causes_of s) i
+pub rewound_causes : (s : State) (n k i : ℕ) → IsSome (replay s.load s.kept) → position_of_step (causes_of s) n k ≡ Some i → causes_of (state_after_rewind s n k) ≡ rest (causes_of s) i
 rewound_causes s n k i some is =
     let r : Runs s = runs_of s some in
-    let told : causes_of s ≡ causes r.told = ap (λ o. causes (told_by o)) r.run_is in
+    let told : causes_of s ≡ causes r.told = ap (λ o. causes (outcomes_of_run o)) r.run_is in
     let left = run_rest s.load s.kept i r.last r.told r.run_is in
-    ap (λ (o : Option ℕ). causes (told_by (run s.load (events_in (rest_from (causes_of s) o))))) is
-    ∙ ap (λ z. causes (told_by (run s.load (events_in (rest z i))))) told
-    ∙ ap (λ o. causes (told_by o)) left.1
-    ∙ causes_without (dependents (causes r.told) i) r.told
+    ap (λ (o : Option ℕ). causes (outcomes_of_run (run s.load (events_of_causes (rest_or_all (causes_of s) o))))) is
+    ∙ ap (λ z. causes (outcomes_of_run (run s.load (events_of_causes (rest z i))))) told
+    ∙ ap (λ o. causes (outcomes_of_run o)) left.1
+    ∙ causes_without (dependent_flags (causes r.told) i) r.told
     ∙ ap (λ z. rest z i) (sym told)
 
-rewound_replayed : (s : State) (n k i : ℕ) → IsSome (replay s.load s.kept) → position_of_step (causes_of s) n k ≡ Some i → IsReplayed (rewound s n k)
+rewound_replayed : (s : State) (n k i : ℕ) → IsSome (replay s.load s.kept) → position_of_step (causes_of s) n k ≡ Some i → IsReplayed (state_after_rewind s n k)
 rewound_replayed s n k i some is =
-    ap events_in (rewound_causes s n k i some is) ∙ ap (λ (o : Option ℕ). events_in (rest_from (causes_of s) o)) (sym is)
+    ap events_of_causes (rewound_causes s n k i some is) ∙ ap (λ (o : Option ℕ). events_of_causes (rest_or_all (causes_of s) o)) (sym is)
 
 record Found (o : Option ℕ) : Type 0 where
   pub at : ℕ
@@ -67,54 +67,54 @@ of_none : (o : Option ℕ) → is_some o ≡ false → IsNone o
 of_none None h = refl
 of_none (Some i) h = absurd (cc)
 
-chain_none : (es : List Cause) (i q : ℕ) → slice_index_or (dependents es i) q false ≡ false → chain_of es i q ≡ None
+chain_none : (es : List Cause) (i q : ℕ) → slice_index_or (dependent_flags es i) q false ≡ false → chain_of es i q ≡ None
 unfolding chain_of
-chain_none es i q h = cond-false (slice_index_or (dependents es i) q false) (Some (links_to (suc q) es i q)) None h
+chain_none es i q h = cond-false (slice_index_or (dependent_flags es i) q false) (Some (links_to (suc q) es i q)) None h
 
-chain_some : (es : List Cause) (i q : ℕ) → slice_index_or (dependents es i) q false ≡ true → chain_of es i q ≡ Some (links_to (suc q) es i q)
+chain_some : (es : List Cause) (i q : ℕ) → slice_index_or (dependent_flags es i) q false ≡ true → chain_of es i q ≡ Some (links_to (suc q) es i q)
 unfolding chain_of
-chain_some es i q h = cond-true (slice_index_or (dependents es i) q false) (Some (links_to (suc q) es i q)) None h
+chain_some es i q h = cond-true (slice_index_or (dependent_flags es i) q false) (Some (links_to (suc q) es i q)) None h
 
-apart : (es : List Cause) (i q : ℕ) (w : Result (Option (List Link)) LabFault) → w ≡ Ok (chain_of es i q) → slice_index_or (dependents es i) q false ≡ true → w ≡ Ok None → ⊥
+apart : (es : List Cause) (i q : ℕ) (w : Result (Option (List Link)) LabFault) → w ≡ Ok (chain_of es i q) → slice_index_or (dependent_flags es i) q false ≡ true → w ≡ Ok None → ⊥
 apart es i q w is t h = let p : Ok (Some (links_to (suc q) es i q)) ≡ Ok None = ap Ok (sym (chain_some es i q t)) ∙ sym is ∙ h in absurd (cc)
 
 explained : (es : List Cause) (n k m j i q : ℕ) (w : Result (Option (List Link)) LabFault) (b : Bool) → position_of_step es n k ≡ Some i → position_of_step es m j ≡ Some q
     → w ≡ Ok (chain_of es i q) → b ≡ is_some (position_of_step (rest es i) m j) → (w ≡ Ok None) ↔ (b ≡ true)
 explained es n k m j i q w b at to is there = ⊎_elim
-    (λ t. let gone : b ≡ false = there ∙ none_of (position_of_step (rest es i) m j) ((refused_exactly es n k m j i q at to).1 (DependsOn_from_flag es i q (touching es m j q to).0 t)) in
+    (λ t. let gone : b ≡ false = there ∙ none_of (position_of_step (rest es i) m j) ((refused_exactly es n k m j i q at to).1 (DependsOn_from_flag es i q (count_touching_events es m j q to).0 t)) in
     (λ h. absurd (apart es i q w is t h), λ h. absurd (both_ways b gone h)))
     (λ f. let stays : is_some (position_of_step (rest es i) m j) ≡ true = ⊎_elim
     (λ y. y)
     (λ z. let d : DependsOn es i q = (refused_exactly es n k m j i q at to).0 (of_none (position_of_step (rest es i) m j) z) in
-    absurd (both_ways (slice_index_or (dependents es i) q false) f (flag_from_DependsOn es i q (touching es n k i at).0 d)))
+    absurd (both_ways (slice_index_or (dependent_flags es i) q false) f (flag_from_DependsOn es i q (count_touching_events es n k i at).0 d)))
     (cases_Bool (is_some (position_of_step (rest es i) m j))) in
     (λ h. there ∙ stays, λ h. is ∙ ap Ok (chain_none es i q f)))
-    (cases_Bool (slice_index_or (dependents es i) q false))
+    (cases_Bool (slice_index_or (dependent_flags es i) q false))
 
 pub rollback_iff_chain : (s : State) (n k m j : ℕ) → IsSome (replay s.load s.kept) → has_step s n k ≡ true → has_step s m j ≡ true
-    → (why_answer s n k m j ≡ Ok None) ↔ (has_step (rewound s n k) m j ≡ true)
+    → (why_answer s n k m j ≡ Ok None) ↔ (has_step (state_after_rewind s n k) m j ≡ true)
 rollback_iff_chain s n k m j some h g =
     let same : IsReplayed s = replayed s some in
     let a : Found (position_of_step (causes_of s) n k) = found (position_of_step (causes_of s) n k) (step_has_position s n k same ∙ h) in
     let b : Found (position_of_step (causes_of s) m j) = found (position_of_step (causes_of s) m j) (step_has_position s m j same ∙ g) in
-    explained (causes_of s) n k m j a.at b.at (why_answer s n k m j) (has_step (rewound s n k) m j) a.is b.is
-    (ap (λ (o : Option ℕ). why_between (causes_of s) o (position_of_step (causes_of s) m j)) a.is ∙ ap (λ (o : Option ℕ). why_between (causes_of s) (Some a.at) o) b.is)
-    (sym (step_has_position (rewound s n k) m j (rewound_replayed s n k a.at some a.is)) ∙ ap (λ z. is_some (position_of_step z m j)) (rewound_causes s n k a.at some a.is))
+    explained (causes_of s) n k m j a.at b.at (why_answer s n k m j) (has_step (state_after_rewind s n k) m j) a.is b.is
+    (ap (λ (o : Option ℕ). chain_between (causes_of s) o (position_of_step (causes_of s) m j)) a.is ∙ ap (λ (o : Option ℕ). chain_between (causes_of s) (Some a.at) o) b.is)
+    (sym (step_has_position (state_after_rewind s n k) m j (rewound_replayed s n k a.at some a.is)) ∙ ap (λ z. is_some (position_of_step z m j)) (rewound_causes s n k a.at some a.is))
 
 -- the causes after a rollback, whether the step exists or not
-pub rewound_list_causes : (s : State) (n k : ℕ) → IsSome (replay s.load s.kept) → causes_of (rewound s n k) ≡ rewound_list (causes_of s) n k
+pub rewound_list_causes : (s : State) (n k : ℕ) → IsSome (replay s.load s.kept) → causes_of (state_after_rewind s n k) ≡ events_after_rewind (causes_of s) n k
 rewound_list_causes s n k some = go (position_of_step (causes_of s) n k) refl
   where
-    go : (o : Option ℕ) → position_of_step (causes_of s) n k ≡ o → causes_of (rewound s n k) ≡ rewound_list (causes_of s) n k
-    go (Some i) is = rewound_causes s n k i some is ∙ ap (rest_from (causes_of s)) (sym is)
+    go : (o : Option ℕ) → position_of_step (causes_of s) n k ≡ o → causes_of (state_after_rewind s n k) ≡ events_after_rewind (causes_of s) n k
+    go (Some i) is = rewound_causes s n k i some is ∙ ap (rest_or_all (causes_of s)) (sym is)
     go None is =
-        ap (λ (o : Option ℕ). causes (told_by (run s.load (events_in (rest_from (causes_of s) o))))) is
-        ∙ ap (λ z. causes (told_by (run s.load z))) (replayed s some)
-        ∙ ap (rest_from (causes_of s)) (sym is)
+        ap (λ (o : Option ℕ). causes (outcomes_of_run (run s.load (events_of_causes (rest_or_all (causes_of s) o))))) is
+        ∙ ap (λ z. causes (outcomes_of_run (run s.load z))) (replayed s some)
+        ∙ ap (rest_or_all (causes_of s)) (sym is)
 
-pub either_order : (s : State) (n k m j : ℕ) → IsSome (replay s.load s.kept) → rewound (rewound s n k) m j ≡ rewound (rewound s m j) n k
-either_order s n k m j some =
+pub machine_rollbacks_commute : (s : State) (n k m j : ℕ) → IsSome (replay s.load s.kept) → state_after_rewind (state_after_rewind s n k) m j ≡ state_after_rewind (state_after_rewind s m j) n k
+machine_rollbacks_commute s n k m j some =
     let keep : List Event → State = λ z. record s { kept = z } in
-    ap (λ z. keep (events_in (rewound_list z m j))) (rewound_list_causes s n k some)
-    ∙ ap (λ z. keep (events_in z)) (rewound_twice (causes_of s) n k m j)
-    ∙ sym (ap (λ z. keep (events_in (rewound_list z n k))) (rewound_list_causes s m j some))
+    ap (λ z. keep (events_of_causes (events_after_rewind z m j))) (rewound_list_causes s n k some)
+    ∙ ap (λ z. keep (events_of_causes z)) (rewound_twice (causes_of s) n k m j)
+    ∙ sym (ap (λ z. keep (events_of_causes (events_after_rewind z n k))) (rewound_list_causes s m j some))

@@ -8,7 +8,7 @@ use Rattle.ga_node.specs.Record.{NodeRecord}
 use Rattle.ga_grid.specs.declared.node_id.NodeId.{NodeId}
 use Rattle.ga_event.specs.declared.event.Event.{Event}
 use Rattle.ga_event.specs.declared.event.Cause.{Cause}
-use Rattle.ga_event.specs.Apply.{EventOutcome, refusal_of, apply, after, when_allowed, cause_of, run}
+use Rattle.ga_event.specs.Apply.{EventOutcome, refusal_of, apply, after, some_if_allowed, cause_of, run}
 use Rattle.ga_event.specs.Next.{next}
 use Rattle.ga_causal.specs.Dependence.{cause_touches}
 use Rattle.ga_causal.specs.Equivalence.{AreIndependent, AreEquivalent, same, swapped, later, joined}
@@ -18,9 +18,9 @@ use Rattle.ga_event.specs.declared.made.Made.{Made}
 use Rattle.ga_rollback.proofs.Rewinding.{run_snoc}
 use Rattle.ga_lab.specs.declared.fault.LabFault.{LabFault}
 use Rattle.ga_lab.specs.declared.fault.LabFault.TheVariants.{Full, Spent}
-use Rattle.ga_lab.specs.Machine.{State, chip_of, made_next, answer_to, with_event, step_answer, unless_refused, stepped, undone, actor_of}
+use Rattle.ga_lab.specs.Machine.{State, chip_of, made_next_event, answer_to_event, with_event, step_answer, unless_refused, state_after_step, state_after_undo, acting_node}
 use Rattle.ga_lab.specs.Calls.{MachineCall, step, undo, rewind, after_call, after_calls, AreEquivalentStates}
-use Rattle.ga_lab.specs.Sequences.{AllNamed, CanCountAll, AreCausal, itself, back, chained, before, more, onward, refused, either, cancelled, turned, rolled}
+use Rattle.ga_lab.specs.Sequences.{HasNoUndo, CanCountAll, AreCausallyEquivalent, itself, back, chained, before, more, onward, refused, either, cancelled, turned, rolled}
 use Rattle.ga_lab.proofs.Alike.{same_step, same_rewind}
 use Rattle.ga_lab.proofs.Called.{Runs, with_kept, chip_is, call_runs, calls_run, runs_some, call_load, calls_load}
 use Rattle.ga_lab.proofs.Forward.{made_is_next}
@@ -51,22 +51,22 @@ record Counted (s z : State) (most : ℕ) : Type 0 where
   pub least : made ≤ most
   pub is : z ≡ counting s made
 
-pub counted_answer : (s : State) (e : Event) → s.made < 2 ^ 64 - 1 → answer_to s (Ok e) ≡ cond (nat_le s.limit (length s.kept)) (Err Full) (Ok (made_next s e))
-counted_answer s e l = ap (λ (z : Result Made LabFault). cond (nat_le s.limit (length s.kept)) (Err Full) z) (cond-false (nat_le (2 ^ 64 - 1) s.made) (Err Spent) (Ok (made_next s e)) (lt-leb (2 ^ 64 - 1) s.made l))
+pub counted_answer : (s : State) (e : Event) → s.made < 2 ^ 64 - 1 → answer_to_event s (Ok e) ≡ cond (nat_le s.limit (length s.kept)) (Err Full) (Ok (made_next_event s e))
+counted_answer s e l = ap (λ (z : Result Made LabFault). cond (nat_le s.limit (length s.kept)) (Err Full) z) (cond-false (nat_le (2 ^ 64 - 1) s.made) (Err Spent) (Ok (made_next_event s e)) (lt-leb (2 ^ 64 - 1) s.made l))
 
-step_counted : (s : State) (m : ℕ) (n : NodeId) → s.made < 2 ^ 64 - 1 → m < 2 ^ 64 - 1 → Counted (stepped s n) (stepped (counting s m) n) (m + 1)
+step_counted : (s : State) (m : ℕ) (n : NodeId) → s.made < 2 ^ 64 - 1 → m < 2 ^ 64 - 1 → Counted (state_after_step s n) (state_after_step (counting s m) n) (m + 1)
 step_counted s m n l k = go (next (chip_of s) n)
   where
     two : (e : Event) (full : Bool) (a b : Made) → Counted (unless_refused s (cond full (Err Full) (Ok a)) (with_event s (Ok e))) (unless_refused (counting s m) (cond full (Err Full) (Ok b)) (with_event (counting s m) (Ok e))) (m + 1)
     two e true a b = record { made = m; least = omega arith; is = refl }
     two e false a b = record { made = m + 1; least = omega arith; is = refl }
 
-    go : (o : Result Event NotReady) → Counted (unless_refused s (answer_to s o) (with_event s o)) (unless_refused (counting s m) (answer_to (counting s m) o) (with_event (counting s m) o)) (m + 1)
+    go : (o : Result Event NotReady) → Counted (unless_refused s (answer_to_event s o) (with_event s o)) (unless_refused (counting s m) (answer_to_event (counting s m) o) (with_event (counting s m) o)) (m + 1)
     go (Err why) = record { made = m; least = omega arith; is = refl }
     go (Ok e) =
-        subst (λ (z : Result Made LabFault). Counted (unless_refused s z (with_event s (Ok e))) (unless_refused (counting s m) (answer_to (counting s m) (Ok e)) (with_event (counting s m) (Ok e))) (m + 1)) (sym (counted_answer s e l))
-        (subst (λ (z : Result Made LabFault). Counted (unless_refused s (cond (nat_le s.limit (length s.kept)) (Err Full) (Ok (made_next s e))) (with_event s (Ok e))) (unless_refused (counting s m) z (with_event (counting s m) (Ok e))) (m + 1)) (sym (counted_answer (counting s m) e k))
-        (two e (nat_le s.limit (length s.kept)) (made_next s e) (made_next (counting s m) e)))
+        subst (λ (z : Result Made LabFault). Counted (unless_refused s z (with_event s (Ok e))) (unless_refused (counting s m) (answer_to_event (counting s m) (Ok e)) (with_event (counting s m) (Ok e))) (m + 1)) (sym (counted_answer s e l))
+        (subst (λ (z : Result Made LabFault). Counted (unless_refused s (cond (nat_le s.limit (length s.kept)) (Err Full) (Ok (made_next_event s e))) (with_event s (Ok e))) (unless_refused (counting s m) z (with_event (counting s m) (Ok e))) (m + 1)) (sym (counted_answer (counting s m) e k))
+        (two e (nat_le s.limit (length s.kept)) (made_next_event s e) (made_next_event (counting s m) e)))
 
 call_counted : (s : State) (m : ℕ) (call : MachineCall) → s.made < 2 ^ 64 - 1 → m < 2 ^ 64 - 1 → Counted (after_call s call) (after_call (counting s m) call) (m + 1)
 call_counted s m (step n) l k = step_counted s m n l k
@@ -80,7 +80,7 @@ step_made s (Ok e) (Ok told) = omega arith
 step_made s (Ok e) (Err fault) = omega arith
 
 pub call_made : (s : State) (call : MachineCall) → (after_call s call).made ≤ s.made + 1
-call_made s (step n) = step_made s (next (chip_of s) n) (answer_to s (next (chip_of s) n))
+call_made s (step n) = step_made s (next (chip_of s) n) (answer_to_event s (next (chip_of s) n))
 call_made s undo = omega arith
 call_made s (rewind n k) = omega arith
 
@@ -108,7 +108,7 @@ step_limit s (Ok e) (Ok told) = refl
 step_limit s (Ok e) (Err fault) = refl
 
 pub call_limit : (s : State) (call : MachineCall) → (after_call s call).limit ≡ s.limit
-call_limit s (step n) = step_limit s (next (chip_of s) n) (answer_to s (next (chip_of s) n))
+call_limit s (step n) = step_limit s (next (chip_of s) n) (answer_to_event s (next (chip_of s) n))
 call_limit s undo = refl
 call_limit s (rewind n k) = refl
 
@@ -121,9 +121,9 @@ called_append s [] ys = refl
 called_append s (call ∷ xs) ys = called_append (after_call s call) xs ys
 
 -- calls none of which is an undo, after two machines that are alike
-alike_calls : (s z : State) (calls : List MachineCall) → AllNamed calls → Runs s → AreEquivalentStates s z → AreEquivalentStates (after_calls s calls) (after_calls z calls)
+alike_calls : (s z : State) (calls : List MachineCall) → HasNoUndo calls → Runs s → AreEquivalentStates s z → AreEquivalentStates (after_calls s calls) (after_calls z calls)
 alike_calls s z [] named r a = a
-alike_calls s z (step n ∷ calls) named r a = alike_calls (stepped s n) (stepped z n) calls named (call_runs s (step n) r) ((same_step s z n a).1)
+alike_calls s z (step n ∷ calls) named r a = alike_calls (state_after_step s n) (state_after_step z n) calls named (call_runs s (step n) r) ((same_step s z n a).1)
 alike_calls s z (undo ∷ calls) named r a = absurd named
 alike_calls s z (rewind n k ∷ calls) named r a = alike_calls (after_call s (rewind n k)) (after_call z (rewind n k)) calls named (call_runs s (rewind n k) r) ((same_rewind s z n k (runs_some s r) a).1)
 
@@ -137,7 +137,7 @@ length_joined s xs zs l =
     omega (arith, l, a, b)
 
 -- two ends with as much made, and then the same calls
-ends_more : (s : State) (xs ys zs : List MachineCall) → AllNamed zs → CanCountAll s (xs ++ zs) → CanCountAll s (ys ++ zs) → Runs s → AreEquivalent s.load (ended s xs) (ended s ys) → AreEquivalent s.load (ended s (xs ++ zs)) (ended s (ys ++ zs))
+ends_more : (s : State) (xs ys zs : List MachineCall) → HasNoUndo zs → CanCountAll s (xs ++ zs) → CanCountAll s (ys ++ zs) → Runs s → AreEquivalent s.load (ended s xs) (ended s ys) → AreEquivalent s.load (ended s (xs ++ zs)) (ended s (ys ++ zs))
 ends_more s xs ys zs named l k r h =
     let a : State = after_calls s xs in
     let b : State = after_calls s ys in
@@ -166,58 +166,58 @@ ends_onward s xs ys zs h l k =
 
 -- A step that makes an event.
 
-pub answered : (s : State) (c : List NodeRecord) (e : Event) → chip_of s ≡ c → refusal_of c e ≡ None → length s.kept < s.limit → s.made < 2 ^ 64 - 1 → step_answer s (actor_of e) ≡ Ok (made_next s e)
+pub answered : (s : State) (c : List NodeRecord) (e : Event) → chip_of s ≡ c → refusal_of c e ≡ None → length s.kept < s.limit → s.made < 2 ^ 64 - 1 → step_answer s (acting_node e) ≡ Ok (made_next_event s e)
 answered s c e chip can room count =
-    ap (answer_to s) (ap (λ z. next z (actor_of e)) chip ∙ made_is_next c e can)
+    ap (answer_to_event s) (ap (λ z. next z (acting_node e)) chip ∙ made_is_next c e can)
     ∙ counted_answer s e count
-    ∙ cond-false (nat_le s.limit (length s.kept)) (Err Full) (Ok (made_next s e)) (lt-leb s.limit (length s.kept) room)
+    ∙ cond-false (nat_le s.limit (length s.kept)) (Err Full) (Ok (made_next_event s e)) (lt-leb s.limit (length s.kept) room)
 
-pub step_made_is : (s : State) (c : List NodeRecord) (e : Event) → chip_of s ≡ c → refusal_of c e ≡ None → length s.kept < s.limit → s.made < 2 ^ 64 - 1 → stepped s (actor_of e) ≡ with_event s (Ok e)
+pub step_made_is : (s : State) (c : List NodeRecord) (e : Event) → chip_of s ≡ c → refusal_of c e ≡ None → length s.kept < s.limit → s.made < 2 ^ 64 - 1 → state_after_step s (acting_node e) ≡ with_event s (Ok e)
 step_made_is s c e chip can room count =
-    ap (λ (z : Result Made LabFault). unless_refused s z (with_event s (next (chip_of s) (actor_of e)))) (answered s c e chip can room count)
-    ∙ ap (with_event s) (ap (λ z. next z (actor_of e)) chip ∙ made_is_next c e can)
+    ap (λ (z : Result Made LabFault). unless_refused s z (with_event s (next (chip_of s) (acting_node e)))) (answered s c e chip can room count)
+    ∙ ap (with_event s) (ap (λ z. next z (acting_node e)) chip ∙ made_is_next c e can)
 
 unfoldable pub runs_more : (s : State) (r : Runs s) (e : Event) → refusal_of r.last e ≡ None → Runs (with_event s (Ok e))
 runs_more s r e can = record {
   last = (after r.last e).0;
   told = _;
-  run_is = run_snoc s.load r.last (after r.last e).0 s.kept r.told e (after r.last e).1 r.run_is (ap (λ o. when_allowed o (after r.last e)) can);
+  run_is = run_snoc s.load r.last (after r.last e).0 s.kept r.told e (after r.last e).1 r.run_is (ap (λ o. some_if_allowed o (after r.last e)) can);
 }
 
 can_of : (c : List NodeRecord) (e : Event) (d : List NodeRecord) (t : EventOutcome) → apply c e ≡ Some (d, t) → refusal_of c e ≡ None
 can_of c e d t h = go (refusal_of c e) h
   where
-    go : (o : Option NotReady) → when_allowed o (after c e) ≡ Some (d, t) → o ≡ None
+    go : (o : Option NotReady) → some_if_allowed o (after c e) ≡ Some (d, t) → o ≡ None
     go None k = refl
     go (Some why) k = absurd (cc)
 
 -- the second of two independent events is enabled after the first
 can_after : (c : List NodeRecord) (e f : Event) → refusal_of c e ≡ None → refusal_of c f ≡ None → AreIndependent (cause_of c e) (cause_of c f) → refusal_of (after c e).0 f ≡ None
 can_after c e f ce cf h =
-    let made : apply c e ≡ Some ((after c e).0, (after c e).1) = ap (λ o. when_allowed o (after c e)) ce in
-    let other : apply c f ≡ Some ((after c f).0, (after c f).1) = ap (λ o. when_allowed o (after c f)) cf in
+    let made : apply c e ≡ Some ((after c e).0, (after c e).1) = ap (λ o. some_if_allowed o (after c e)) ce in
+    let other : apply c f ≡ Some ((after c f).0, (after c f).1) = ap (λ o. some_if_allowed o (after c f)) cf in
     let z = same_of (cause_touches (cause_of c e)) f c (after c f).0 (after c e).0 (after c f).1 (keeps_of c e (after c e).0 (after c e).1 made) (independent_on_all (cause_of c e) (cause_of c f) h) other in
     can_of (after c e).0 f z.mid (after c f).1 z.done
 
 two_steps : (s : State) (r : Runs s) (e f : Event) → length s.kept + 1 < s.limit → s.made + 1 < 2 ^ 64 - 1 → refusal_of r.last e ≡ None → refusal_of r.last f ≡ None → AreIndependent (cause_of r.last e) (cause_of r.last f)
-    → ended s (step (actor_of e) ∷ step (actor_of f) ∷ []) ≡ s.kept ++ e ∷ f ∷ []
+    → ended s (step (acting_node e) ∷ step (acting_node f) ∷ []) ≡ s.kept ++ e ∷ f ∷ []
 unfolding runs_more
 two_steps s r e f l k ce cf h =
     let t : State = with_event s (Ok e) in
     let more : Runs t = runs_more s r e ce in
     let size : length (s.kept ++ e ∷ []) ≡ length s.kept + 1 = length_push s.kept e in
-    let one : stepped s (actor_of e) ≡ t = step_made_is s r.last e (chip_is s r) ce (omega (arith, l)) (omega (arith, k)) in
-    let two : stepped t (actor_of f) ≡ with_event t (Ok f) = step_made_is t (after r.last e).0 f (chip_is t more) (can_after r.last e f ce cf h) (omega (arith, l, size)) k in
-    ap (λ (z : State). (stepped z (actor_of f)).kept) one ∙ ap (λ (z : State). z.kept) two ∙ Rattle.std.proofs.Common.append_assoc s.kept (e ∷ []) (f ∷ [])
+    let one : state_after_step s (acting_node e) ≡ t = step_made_is s r.last e (chip_is s r) ce (omega (arith, l)) (omega (arith, k)) in
+    let two : state_after_step t (acting_node f) ≡ with_event t (Ok f) = step_made_is t (after r.last e).0 f (chip_is t more) (can_after r.last e f ce cf h) (omega (arith, l, size)) k in
+    ap (λ (z : State). (state_after_step z (acting_node f)).kept) one ∙ ap (λ (z : State). z.kept) two ∙ Rattle.std.proofs.Common.append_assoc s.kept (e ∷ []) (f ∷ [])
 
 ends_turned : (s : State) (r : Runs s) (e f : Event) → length s.kept + 1 < s.limit → s.made + 1 < 2 ^ 64 - 1 → refusal_of r.last e ≡ None → refusal_of r.last f ≡ None → AreIndependent (cause_of r.last e) (cause_of r.last f)
-    → AreEquivalent s.load (ended s (step (actor_of e) ∷ step (actor_of f) ∷ [])) (ended s (step (actor_of f) ∷ step (actor_of e) ∷ []))
+    → AreEquivalent s.load (ended s (step (acting_node e) ∷ step (acting_node f) ∷ [])) (ended s (step (acting_node f) ∷ step (acting_node e) ∷ []))
 ends_turned s r e f l k ce cf h =
-    subst (λ z. AreEquivalent s.load z (ended s (step (actor_of f) ∷ step (actor_of e) ∷ []))) (sym (two_steps s r e f l k ce cf h))
+    subst (λ z. AreEquivalent s.load z (ended s (step (acting_node f) ∷ step (acting_node e) ∷ []))) (sym (two_steps s r e f l k ce cf h))
     (subst (λ z. AreEquivalent s.load (s.kept ++ e ∷ f ∷ []) z) (sym (two_steps s r f e l k cf ce (AreApart-sym (cause_of r.last e) (cause_of r.last f) h)))
     (equivalent_behind s.load r.last s.kept (e ∷ f ∷ []) (f ∷ e ∷ []) r.told r.run_is (swapped h)))
 
-pub undone_last : (s : State) (xs : List Event) (e : Event) → s.kept ≡ xs ++ e ∷ [] → undone s ≡ with_kept s xs
+pub undone_last : (s : State) (xs : List Event) (e : Event) → s.kept ≡ xs ++ e ∷ [] → state_after_undo s ≡ with_kept s xs
 undone_last s xs e is =
     let long : length (xs ++ e ∷ []) ≡ length xs + 1 = length_push xs e in
     let less : length s.kept - 1 ≡ length xs = let size : length s.kept ≡ length xs + 1 = ap length is ∙ long in omega arith in
@@ -227,15 +227,15 @@ undone_last s xs e is =
 ends_cancelled : (s : State) (n : NodeId) → IsOk (step_answer s n) → ended s (step n ∷ undo ∷ []) ≡ s.kept
 ends_cancelled s n ok = go (next (chip_of s) n) ok
   where
-    two : (e : Event) (a : Result Made LabFault) → IsOk a → (undone (unless_refused s a (with_event s (Ok e)))).kept ≡ s.kept
+    two : (e : Event) (a : Result Made LabFault) → IsOk a → (state_after_undo (unless_refused s a (with_event s (Ok e)))).kept ≡ s.kept
     two e (Ok told) k = ap (λ (z : State). z.kept) (undone_last (with_event s (Ok e)) s.kept e refl)
     two e (Err why) k = absurd (cc)
 
-    go : (o : Result Event NotReady) → IsOk (answer_to s o) → (undone (unless_refused s (answer_to s o) (with_event s o))).kept ≡ s.kept
+    go : (o : Result Event NotReady) → IsOk (answer_to_event s o) → (state_after_undo (unless_refused s (answer_to_event s o) (with_event s o))).kept ≡ s.kept
     go (Err why) k = absurd (cc)
-    go (Ok e) k = two e (answer_to s (Ok e)) k
+    go (Ok e) k = two e (answer_to_event s (Ok e)) k
 
-pub sound : (s : State) (xs ys : List MachineCall) → AreCausal s xs ys → Runs s → AreEquivalent s.load (ended s xs) (ended s ys)
+pub sound : (s : State) (xs ys : List MachineCall) → AreCausallyEquivalent s xs ys → Runs s → AreEquivalent s.load (ended s xs) (ended s ys)
 sound s xs ys itself r = same
 sound s xs ys (back h) r = equivalent-sym s.load (ended s ys) (ended s xs) (sound s ys xs h r)
 sound s xs ys (chained {ys = zs} h k) r = joined (sound s xs zs h r) (sound s zs ys k r)
@@ -244,7 +244,7 @@ sound s xs ys (before {call} {xs = us} {ys = vs} h) r =
 sound s xs ys (more us vs zs named l k h) r = ends_more s us vs zs named l k r (sound s us vs h r)
 sound s xs ys (onward us vs zs q l k h) r = subst (λ z. AreEquivalent s.load (ended s (us ++ zs)) z) (ends_onward s us vs zs q l k) same
 sound s xs ys (refused {call} q) r = subst (λ (z : State). AreEquivalent s.load z.kept s.kept) (sym q) same
-sound s xs ys (either {n} {m} q) r = subst (λ (z : State). AreEquivalent s.load (stepped s n).kept z.kept) q same
+sound s xs ys (either {n} {m} q) r = subst (λ (z : State). AreEquivalent s.load (state_after_step s n).kept z.kept) q same
 sound s xs ys (cancelled {n} ok) r = subst (λ z. AreEquivalent s.load z s.kept) (sym (ends_cancelled s n ok)) same
 sound s xs ys (turned {e} {f} l k ce cf h) r =
     let q : chip_of s ≡ r.last = chip_is s r in

@@ -16,17 +16,17 @@ use Rattle.ga_grid.specs.declared.node_id.NodeId.{NodeId}
 use Rattle.ga_event.specs.declared.event.Event.{Event}
 use Rattle.ga_event.specs.declared.event.Event.TheVariants as event
 use Rattle.ga_event.specs.declared.event.Cause.{Cause}
-use Rattle.ga_event.specs.Touches.{looked_at, seen_by, nodes_of as nodes_of_event}
-use Rattle.ga_event.specs.Apply.{EventOutcome, Did, Carried, neighbour_states, is_number, is_open, reads_from, unmatched, refusal_of, apply, after, when_allowed, cause_of, run}
+use Rattle.ga_event.specs.Touches.{looked_at_nodes, observed_by, event_nodes as nodes_of_event}
+use Rattle.ga_event.specs.Apply.{EventOutcome, ExecutedOwn, PassedWord, neighbour_states, equals_some, is_transfer_ready, waits_to_read_side, unmatched_unless, refusal_of, apply, after, some_if_allowed, cause_of, run}
 use Rattle.ga_causal.specs.Dependence.{cause_touches, HasNoLooks}
-use Rattle.ga_causal.specs.Equivalence.{AreEquivalent, local_history, local_history_told}
+use Rattle.ga_causal.specs.Equivalence.{AreEquivalent, local_history, local_history_outcomes}
 use Rattle.ga_causal.specs.Steps.{counted}
 use Rattle.ga_causal.proofs.Runs.{causes, first_of_run}
 use Rattle.ga_causal.proofs.Equivalences.{numbers, entries}
 use Rattle.ga_causal.proofs.Consistent.{told_after}
 use Rattle.ga_event.specs.declared.made.Made.{Made}
 use Rattle.ga_event.specs.declared.made.Made.TheVariants as made
-use Rattle.ga_event.specs.Told.{mades_of}
+use Rattle.ga_event.specs.Told.{made_events_of}
 use Rattle.ga_lab.specs.Machine.{State, initial_state, chip_of, causes_of, history_of}
 use Rattle.ga_lab.specs.Calls.{MachineCall, after_calls}
 use Rattle.ga_lab.proofs.Told.{made_of, history_accounted}
@@ -36,9 +36,9 @@ use Rattle.ga_lab.proofs.Heard.{none_looks}
 
 -- the side on which a neighbour is
 side_of : ℕ → ℕ → Side
-side_of w r = cond (is_number (neighbour_of w Right) r) Right (cond (is_number (neighbour_of w Down) r) Down (cond (is_number (neighbour_of w Left) r) Left Up))
+side_of w r = cond (equals_some (neighbour_of w Right) r) Right (cond (equals_some (neighbour_of w Down) r) Down (cond (equals_some (neighbour_of w Left) r) Left Up))
 
-number_is : (o : Option ℕ) (r : ℕ) → is_number o r ≡ true → o ≡ Some r
+number_is : (o : Option ℕ) (r : ℕ) → equals_some o r ≡ true → o ≡ Some r
 number_is None r h = absurd (cc)
 number_is (Some m) r h = ap Some (eqb-true m r h)
 
@@ -60,23 +60,23 @@ down_up w r h k = grind arith
 left_up : (w r : ℕ) → neighbour_of w Left ≡ Some r → neighbour_of w Up ≡ Some r → ⊥
 left_up w r h k = grind arith
 
-no_number : (o p : Option ℕ) (r : ℕ) → (o ≡ Some r → p ≡ Some r → ⊥) → is_number p r ≡ true → is_number o r ≡ false
-no_number o p r h t = false_from_ne_true (is_number o r) (λ u. h (number_is o r u) (number_is p r t))
+no_number : (o p : Option ℕ) (r : ℕ) → (o ≡ Some r → p ≡ Some r → ⊥) → equals_some p r ≡ true → equals_some o r ≡ false
+no_number o p r h t = false_from_ne_true (equals_some o r) (λ u. h (number_is o r u) (number_is p r t))
 
-side_is : (w r : ℕ) (side : Side) → is_number (neighbour_of w side) r ≡ true → side_of w r ≡ side
+side_is : (w r : ℕ) (side : Side) → equals_some (neighbour_of w side) r ≡ true → side_of w r ≡ side
 unfolding side_of
-side_is w r Right h = cond-true (is_number (neighbour_of w Right) r) Right _ h
+side_is w r Right h = cond-true (equals_some (neighbour_of w Right) r) Right _ h
 side_is w r Down h =
-    cond-false (is_number (neighbour_of w Right) r) Right _ (no_number (neighbour_of w Right) (neighbour_of w Down) r (right_down w r) h)
-    ∙ cond-true (is_number (neighbour_of w Down) r) Down _ h
+    cond-false (equals_some (neighbour_of w Right) r) Right _ (no_number (neighbour_of w Right) (neighbour_of w Down) r (right_down w r) h)
+    ∙ cond-true (equals_some (neighbour_of w Down) r) Down _ h
 side_is w r Left h =
-    cond-false (is_number (neighbour_of w Right) r) Right _ (no_number (neighbour_of w Right) (neighbour_of w Left) r (right_left w r) h)
-    ∙ cond-false (is_number (neighbour_of w Down) r) Down _ (no_number (neighbour_of w Down) (neighbour_of w Left) r (down_left w r) h)
-    ∙ cond-true (is_number (neighbour_of w Left) r) Left Up h
+    cond-false (equals_some (neighbour_of w Right) r) Right _ (no_number (neighbour_of w Right) (neighbour_of w Left) r (right_left w r) h)
+    ∙ cond-false (equals_some (neighbour_of w Down) r) Down _ (no_number (neighbour_of w Down) (neighbour_of w Left) r (down_left w r) h)
+    ∙ cond-true (equals_some (neighbour_of w Left) r) Left Up h
 side_is w r Up h =
-    cond-false (is_number (neighbour_of w Right) r) Right _ (no_number (neighbour_of w Right) (neighbour_of w Up) r (right_up w r) h)
-    ∙ cond-false (is_number (neighbour_of w Down) r) Down _ (no_number (neighbour_of w Down) (neighbour_of w Up) r (down_up w r) h)
-    ∙ cond-false (is_number (neighbour_of w Left) r) Left Up (no_number (neighbour_of w Left) (neighbour_of w Up) r (left_up w r) h)
+    cond-false (equals_some (neighbour_of w Right) r) Right _ (no_number (neighbour_of w Right) (neighbour_of w Up) r (right_up w r) h)
+    ∙ cond-false (equals_some (neighbour_of w Down) r) Down _ (no_number (neighbour_of w Down) (neighbour_of w Up) r (down_up w r) h)
+    ∙ cond-false (equals_some (neighbour_of w Left) r) Left Up (no_number (neighbour_of w Left) (neighbour_of w Up) r (left_up w r) h)
 
 -- an event that doesn't look
 blind : Event → Cause
@@ -84,8 +84,8 @@ blind e = record { event = e; look = false }
 
 -- the event and outcome of an event as made
 decoded : Made → (Cause × List ℕ) × EventOutcome
-decoded (made.Own node k kind) = ((blind (event.Own node), k ∷ []), Did kind)
-decoded (made.Pass w k r j word) = ((blind (event.Pass w r (side_of w.number r.number)), k ∷ j ∷ []), Carried word)
+decoded (made.Own node k kind) = ((blind (event.Own node), k ∷ []), ExecutedOwn kind)
+decoded (made.Pass w k r j word) = ((blind (event.Pass w r (side_of w.number r.number)), k ∷ j ∷ []), PassedWord word)
 
 -- it can be decoded from its form as made
 IsTellable : (Cause × List ℕ) × EventOutcome → Type 0
@@ -95,22 +95,22 @@ abbrev AreTellable : List ((Cause × List ℕ) × EventOutcome) → Type 0
 AreTellable [] = Unit {0}
 AreTellable (x ∷ xs) = IsTellable x × AreTellable xs
 
-seen_blind : (e : Event) → seen_by (blind e) ≡ nodes_of_event e
-unfolding seen_by blind
+seen_blind : (e : Event) → observed_by (blind e) ≡ nodes_of_event e
+unfolding observed_by blind
 seen_blind e = ap (λ z. nodes_of_event e ++ z) (none e) ∙ append-nil (nodes_of_event e)
   where
-    none : (e : Event) → looked_at e false ≡ []
+    none : (e : Event) → looked_at_nodes e false ≡ []
     none (event.Own node) = refl
     none (event.Pass w r side) = refl
 
-own_tellable : (s : ℕ → ℕ) (node : NodeId) (kind : _) → IsTellable ((blind (event.Own node), (s node.number + 1) ∷ []), Did kind)
+own_tellable : (s : ℕ → ℕ) (node : NodeId) (kind : _) → IsTellable ((blind (event.Own node), (s node.number + 1) ∷ []), ExecutedOwn kind)
 unfolding IsTellable decoded blind
 own_tellable s node kind = (made.Own node (s node.number + 1) kind, refl, refl)
 
-pass_tellable : (s : ℕ → ℕ) (w r : NodeId) (side : Side) (word : ℕ) → is_number (neighbour_of w.number side) r.number ≡ true → IsTellable ((blind (event.Pass w r side), (s w.number + 1) ∷ (s r.number + 1) ∷ []), Carried word)
+pass_tellable : (s : ℕ → ℕ) (w r : NodeId) (side : Side) (word : ℕ) → equals_some (neighbour_of w.number side) r.number ≡ true → IsTellable ((blind (event.Pass w r side), (s w.number + 1) ∷ (s r.number + 1) ∷ []), PassedWord word)
 unfolding IsTellable decoded blind
 pass_tellable s w r side word h =
-    (made.Pass w (s w.number + 1) r (s r.number + 1) word, refl, ap (λ z. ((blind (event.Pass w r z), (s w.number + 1) ∷ (s r.number + 1) ∷ []), Carried word)) (side_is w.number r.number side h))
+    (made.Pass w (s w.number + 1) r (s r.number + 1) word, refl, ap (λ z. ((blind (event.Pass w r z), (s w.number + 1) ∷ (s r.number + 1) ∷ []), PassedWord word)) (side_is w.number r.number side h))
 
 -- an event that was made
 record CanBe (c : List NodeRecord) (e : Event) (told : EventOutcome) : Type 0 where
@@ -120,14 +120,14 @@ record CanBe (c : List NodeRecord) (e : Event) (told : EventOutcome) : Type 0 wh
 can_be : (c d : List NodeRecord) (e : Event) (told : EventOutcome) → apply c e ≡ Some (d, told) → CanBe c e told
 can_be c d e told h = go (refusal_of c e) refl h
   where
-    go : (o : Option NotReady) → refusal_of c e ≡ o → when_allowed o (after c e) ≡ Some (d, told) → CanBe c e told
+    go : (o : Option NotReady) → refusal_of c e ≡ o → some_if_allowed o (after c e) ≡ Some (d, told) → CanBe c e told
     go None q k = record { free = q; is = ap (λ (z : List NodeRecord × EventOutcome). z.1) (same_Some (after c e) (d, told) k) }
     go (Some why) q k = absurd (cc)
 
-number_open : (w r : ℕ) (side : Side) (posted awaited : Wait) → is_open w r side posted awaited ≡ true → is_number (neighbour_of w side) r ≡ true
-number_open w r side posted awaited h = (and_parts (is_number (neighbour_of w side) r) _ ((and_parts _ (reads_from awaited side) h).0)).0
+number_open : (w r : ℕ) (side : Side) (posted awaited : Wait) → is_transfer_ready w r side posted awaited ≡ true → equals_some (neighbour_of w side) r ≡ true
+number_open w r side posted awaited h = (and_parts (equals_some (neighbour_of w side) r) _ ((and_parts _ (waits_to_read_side awaited side) h).0)).0
 
-open_from : (b : Bool) → unmatched b ≡ None → b ≡ true
+open_from : (b : Bool) → unmatched_unless b ≡ None → b ≡ true
 open_from true h = refl
 open_from false h = absurd (cc)
 
@@ -140,7 +140,7 @@ made_tellable c (event.Own node) told s h =
     (subst (λ z. IsTellable ((blind (event.Own node), z), (after c (event.Own node)).1)) (sym (numbers_blind s (event.Own node)))
     (own_tellable s node (own (neighbour_states c node.number) (record_at c node.number)).0))
 made_tellable c (event.Pass w r side) told s h =
-    let here : is_open w.number r.number side (record_at c w.number).wait (record_at c r.number).wait ≡ true = open_from (is_open w.number r.number side (record_at c w.number).wait (record_at c r.number).wait) h.free in
+    let here : is_transfer_ready w.number r.number side (record_at c w.number).wait (record_at c r.number).wait ≡ true = open_from (is_transfer_ready w.number r.number side (record_at c w.number).wait (record_at c r.number).wait) h.free in
     subst (λ z. IsTellable ((blind (event.Pass w r side), numbers s (blind (event.Pass w r side))), z)) h.is
     (subst (λ z. IsTellable ((blind (event.Pass w r side), z), (after c (event.Pass w r side)).1)) (sym (numbers_blind s (event.Pass w r side)))
     (pass_tellable s w r side (t (record_at c w.number)) (number_open w.number r.number side (record_at c w.number).wait (record_at c r.number).wait here)))
@@ -191,14 +191,14 @@ account_told_back : (s : State) (n : ℕ) (r : Runs s) → HasNoLooks (causes_of
 account_told_back s n r none =
     let all : AreTellable (told_after (λ i. 0) r.told) = all_tellable s.load r.last s.kept r.told (λ i. 0) r.run_is (subst HasNoLooks (causes_is s r) none) in
     ap (local_history n) (causes_is s r) ∙ untold n (λ i. 0) r.told
-    ∙ ap (map (λ x. x.0)) (sym (told_back (local_history_told n r.told) (some_tellable (λ x. cause_touches x.0.0 n) (told_after (λ i. 0) r.told) all)))
-    ∙ ap (λ z. map (λ x. x.0) (map decoded z)) (sym (ap (λ z. mades_of z n) (told_is s r) ∙ history_accounted r.told n))
+    ∙ ap (map (λ x. x.0)) (sym (told_back (local_history_outcomes n r.told) (some_tellable (λ x. cause_touches x.0.0 n) (told_after (λ i. 0) r.told) all)))
+    ∙ ap (λ z. map (λ x. x.0) (map decoded z)) (sym (ap (λ z. made_events_of z n) (told_is s r) ∙ history_accounted r.told n))
 
-pub traces_determine : (load : List NodeRecord) (limit bound : ℕ) (calls others : List MachineCall)
+pub traces_determine_chip : (load : List NodeRecord) (limit bound : ℕ) (calls others : List MachineCall)
     → HasNoLooks (causes_of (after_calls (initial_state load limit) calls))
     → ((n : ℕ) → history_of (after_calls (initial_state load limit) calls) n ≡ history_of (after_calls (initial_state load bound) others) n)
     → AreEquivalent load (after_calls (initial_state load limit) calls).kept (after_calls (initial_state load bound) others).kept × (chip_of (after_calls (initial_state load limit) calls) ≡ chip_of (after_calls (initial_state load bound) others))
-traces_determine load limit bound calls others none h =
+traces_determine_chip load limit bound calls others none h =
     let s = after_calls (initial_state load limit) calls in
     let z = after_calls (initial_state load bound) others in
     let r = first_runs load limit calls in

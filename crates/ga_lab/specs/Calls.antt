@@ -2,7 +2,7 @@
 use Rattle.std.specs.Prelude.{◌≡◌, ℕ, List, [], ◌∷◌}
 use Rattle.ga_grid.specs.declared.node_id.NodeId.{NodeId}
 use Rattle.ga_causal.specs.Equivalence.{AreEquivalent}
-use Rattle.ga_lab.specs.Machine.{State, initial_state, stepped, undone, rewound}
+use Rattle.ga_lab.specs.Machine.{State, initial_state, state_after_step, state_after_undo, state_after_rewind}
 
 pub data MachineCall : Type 0 where
   step : NodeId → MachineCall
@@ -11,9 +11,9 @@ pub data MachineCall : Type 0 where
 
 -- the machine after a call
 abbrev pub after_call : State → MachineCall → State
-after_call s (step n) = stepped s n
-after_call s undo = undone s
-after_call s (rewind n k) = rewound s n k
+after_call s (step n) = state_after_step s n
+after_call s undo = state_after_undo s
+after_call s (rewind n k) = state_after_rewind s n k
 
 -- the machine after these calls, one after another
 abbrev pub after_calls : State → List MachineCall → State
@@ -21,7 +21,7 @@ after_calls s [] = s
 after_calls s (call ∷ calls) = after_calls (after_call s call) calls
 
 -- calls lead to the machine from its load
-pub record IsReached (s : State) : Type 0 where
+pub record IsReachableState (s : State) : Type 0 where
   pub calls : List MachineCall
   pub is : after_calls (initial_state s.load s.limit) calls ≡ s
 

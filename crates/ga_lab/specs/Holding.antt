@@ -8,10 +8,10 @@ use Rattle.ga_node.specs.declared.place.Place.TheVariants.{P, A, B, Ram, Wait}
 
 -- whether a node has this value at a place: in P, in A, in B or in a cell of RAM, or as the number of its wait; true for other
 -- places
-abbrev pub Holds : NodeRecord → Place → ℕ → Type 0
-Holds node P value = node.p ≡ value
-Holds node A value = node.a ≡ value
-Holds node B value = node.b ≡ value
-Holds node (Ram cell) value = slice_index node.ram cell ≡ value
-Holds node Wait value = node.wait ≡ wait_of value
-Holds node _ value = Unit {0}
+abbrev pub HoldsValue : NodeRecord → Place → ℕ → Type 0
+HoldsValue node P value = node.p ≡ value
+HoldsValue node A value = node.a ≡ value
+HoldsValue node B value = node.b ≡ value
+HoldsValue node (Ram cell) value = slice_index node.ram cell ≡ value
+HoldsValue node Wait value = node.wait ≡ wait_of value
+HoldsValue node _ value = Unit {0}

@@ -8,17 +8,17 @@ use Rattle.ga_grid.specs.declared.node_id.NodeId.{NodeId}
 use Rattle.ga_event.specs.declared.event.Event.{Event}
 use Rattle.ga_event.specs.declared.event.Cause.{Cause}
 use Rattle.ga_event.specs.Apply.{refusal_of, cause_of}
-use Rattle.ga_causal.specs.Dependence.{dependents, unflagged, HasNoLooks, position_of_step}
+use Rattle.ga_causal.specs.Dependence.{dependent_flags, without_flagged, HasNoLooks, position_of_step}
 use Rattle.ga_causal.specs.Equivalence.{AreIndependent}
 use Rattle.ga_lab.specs.Calls.{MachineCall, step, undo, rewind, after_call, after_calls, AreEquivalentStates}
-use Rattle.ga_lab.specs.Machine.{actor_of, State, chip_of, causes_of, step_answer}
+use Rattle.ga_lab.specs.Machine.{acting_node, State, chip_of, causes_of, step_answer}
 
 -- no call is an undo
-abbrev pub AllNamed : List MachineCall → Type 0
-AllNamed [] = Unit {0}
-AllNamed (step n ∷ calls) = AllNamed calls
-AllNamed (undo ∷ calls) = ⊥
-AllNamed (rewind n k ∷ calls) = AllNamed calls
+abbrev pub HasNoUndo : List MachineCall → Type 0
+HasNoUndo [] = Unit {0}
+HasNoUndo (step n ∷ calls) = HasNoUndo calls
+HasNoUndo (undo ∷ calls) = ⊥
+HasNoUndo (rewind n k ∷ calls) = HasNoUndo calls
 
 -- a number of undos
 abbrev pub undos : ℕ → List MachineCall
@@ -30,44 +30,44 @@ abbrev pub CanCountAll : State → List MachineCall → Type 0
 CanCountAll s calls = s.made + length calls < 2 ^ 64
 
 -- whether the event is enabled
-abbrev pub CanBeMade : State → Event → Type 0
-CanBeMade s event = refusal_of (chip_of s) event ≡ None
+abbrev pub IsEventEnabled : State → Event → Type 0
+IsEventEnabled s event = refusal_of (chip_of s) event ≡ None
 
 -- From a machine on, the one sequence is made from the other by these rules.
-pub data AreCausal : State → List MachineCall → List MachineCall → Type 0 where
-  itself : {s : State} {xs : List MachineCall} → AreCausal s xs xs
-  back : {s : State} {xs ys : List MachineCall} → AreCausal s xs ys → AreCausal s ys xs
-  chained : {s : State} {xs ys zs : List MachineCall} → AreCausal s xs ys → AreCausal s ys zs → AreCausal s xs zs
+pub data AreCausallyEquivalent : State → List MachineCall → List MachineCall → Type 0 where
+  itself : {s : State} {xs : List MachineCall} → AreCausallyEquivalent s xs xs
+  back : {s : State} {xs ys : List MachineCall} → AreCausallyEquivalent s xs ys → AreCausallyEquivalent s ys xs
+  chained : {s : State} {xs ys zs : List MachineCall} → AreCausallyEquivalent s xs ys → AreCausallyEquivalent s ys zs → AreCausallyEquivalent s xs zs
   -- one call more at the beginning of both sequences
-  before : {s : State} {call : MachineCall} {xs ys : List MachineCall} → AreCausal (after_call s call) xs ys → AreCausal s (call ∷ xs) (call ∷ ys)
+  before : {s : State} {call : MachineCall} {xs ys : List MachineCall} → AreCausallyEquivalent (after_call s call) xs ys → AreCausallyEquivalent s (call ∷ xs) (call ∷ ys)
   -- the same calls more at the end of both sequences: none is an undo, or (in `onward`) both sequences lead to the same history
-  more : {s : State} (xs ys zs : List MachineCall) → AllNamed zs → CanCountAll s (xs ++ zs) → CanCountAll s (ys ++ zs)
-      → AreCausal s xs ys → AreCausal s (xs ++ zs) (ys ++ zs)
+  more : {s : State} (xs ys zs : List MachineCall) → HasNoUndo zs → CanCountAll s (xs ++ zs) → CanCountAll s (ys ++ zs)
+      → AreCausallyEquivalent s xs ys → AreCausallyEquivalent s (xs ++ zs) (ys ++ zs)
   onward : {s : State} (xs ys zs : List MachineCall) → (after_calls s xs).kept ≡ (after_calls s ys).kept
-      → CanCountAll s (xs ++ zs) → CanCountAll s (ys ++ zs) → AreCausal s xs ys → AreCausal s (xs ++ zs) (ys ++ zs)
+      → CanCountAll s (xs ++ zs) → CanCountAll s (ys ++ zs) → AreCausallyEquivalent s xs ys → AreCausallyEquivalent s (xs ++ zs) (ys ++ zs)
   -- a refused call is nothing
-  refused : {s : State} {call : MachineCall} → after_call s call ≡ s → AreCausal s (call ∷ []) []
+  refused : {s : State} {call : MachineCall} → after_call s call ≡ s → AreCausallyEquivalent s (call ∷ []) []
   -- a pass is made by a step of either of its nodes
-  either : {s : State} {n m : NodeId} → after_call s (step n) ≡ after_call s (step m) → AreCausal s (step n ∷ []) (step m ∷ [])
+  either : {s : State} {n m : NodeId} → after_call s (step n) ≡ after_call s (step m) → AreCausallyEquivalent s (step n ∷ []) (step m ∷ [])
   -- a step and its undo are nothing
-  cancelled : {s : State} {n : NodeId} → IsOk (step_answer s n) → AreCausal s (step n ∷ undo ∷ []) []
+  cancelled : {s : State} {n : NodeId} → IsOk (step_answer s n) → AreCausallyEquivalent s (step n ∷ undo ∷ []) []
   -- two independent steps swap
-  turned : {s : State} {e f : Event} → length s.kept + 1 < s.limit → s.made + 1 < 2 ^ 64 - 1 → CanBeMade s e → CanBeMade s f
+  turned : {s : State} {e f : Event} → length s.kept + 1 < s.limit → s.made + 1 < 2 ^ 64 - 1 → IsEventEnabled s e → IsEventEnabled s f
       → AreIndependent (cause_of (chip_of s) e) (cause_of (chip_of s) f)
-      → AreCausal s (step (actor_of e) ∷ step (actor_of f) ∷ []) (step (actor_of f) ∷ step (actor_of e) ∷ [])
+      → AreCausallyEquivalent s (step (acting_node e) ∷ step (acting_node f) ∷ []) (step (acting_node f) ∷ step (acting_node e) ∷ [])
   -- a rollback is undos, where these lead to the same but for the order of independent events
   rolled : {s : State} {n k : ℕ} (most : ℕ) → AreEquivalentStates (after_call s (rewind n k)) (after_calls s (undos most))
-      → AreCausal s (rewind n k ∷ []) (undos most)
+      → AreCausallyEquivalent s (rewind n k ∷ []) (undos most)
 
 -- the events that a rollback to the step at this place takes
-abbrev pub taken_from : List Cause → Option ℕ → List Cause
-taken_from events None = []
-taken_from events (Some place) = unflagged (map not (dependents events place)) events
+abbrev pub removed_events : List Cause → Option ℕ → List Cause
+removed_events events None = []
+removed_events events (Some place) = without_flagged (map not (dependent_flags events place)) events
 
 -- no rollback among the calls takes a look
-abbrev pub TakesNoLook : State → List MachineCall → Type 0
-TakesNoLook s [] = Unit {0}
-TakesNoLook s (step n ∷ calls) = TakesNoLook (after_call s (step n)) calls
-TakesNoLook s (undo ∷ calls) = TakesNoLook (after_call s undo) calls
-TakesNoLook s (rewind n k ∷ calls) =
-    HasNoLooks (taken_from (causes_of s) (position_of_step (causes_of s) n k)) × TakesNoLook (after_call s (rewind n k)) calls
+abbrev pub RemovesNoLook : State → List MachineCall → Type 0
+RemovesNoLook s [] = Unit {0}
+RemovesNoLook s (step n ∷ calls) = RemovesNoLook (after_call s (step n)) calls
+RemovesNoLook s (undo ∷ calls) = RemovesNoLook (after_call s undo) calls
+RemovesNoLook s (rewind n k ∷ calls) =
+    HasNoLooks (removed_events (causes_of s) (position_of_step (causes_of s) n k)) × RemovesNoLook (after_call s (rewind n k)) calls

@@ -3,21 +3,21 @@
 ghost use Rattle.std.specs.Prelude.{◌≡◌, ◌+◌, ◌<◌, ◌^◌, ◌⊎◌, ℕ, List, length, drop, Some, Err, IsOk};
 ghost use Rattle.ga_event.specs.declared.event.Cause.{Cause};
 ghost use Rattle.ga_causal.specs.Dependence.{position_of_step};
-ghost use Rattle.ga_journal.specs.Logs.{IsSince};
-ghost use Rattle.ga_lab.specs.Machine.{why_between};
+ghost use Rattle.ga_journal.specs.Logs.{AreEventsSince};
+ghost use Rattle.ga_lab.specs.Machine.{chain_between};
 
 use crate::fault::LabFault;
 use ga_causal::{Chain, find_later_chain, position_of_step};
 use ga_grid::NodeId;
-use ga_journal::Since;
+use ga_journal::EventsSince;
 
 /// The chain from the step at which these events begin to another, in the whole list of which they are the last.
-pub(crate) fn chain_since(since: &Since, to: (NodeId, u32)) -> Result<Option<Chain>, LabFault>
+pub(crate) fn chain_since(since: &EventsSince, to: (NodeId, u32)) -> Result<Option<Chain>, LabFault>
     requires counted { 0 < to.1 }
     requires short { since.now.before + length since.now.causes.items < 2 ^ 32 }
     ensures { (all : List Cause) (n k : ℕ) →
-        IsSince all n k to.0.number since.now.causes.items since.now.before since.now.steps →
-        let answer = why_between all (position_of_step all n k) (position_of_step all to.0.number to.1) in
+        AreEventsSince all n k to.0.number since.now.causes.items since.now.before since.now.steps →
+        let answer = chain_between all (position_of_step all n k) (position_of_step all to.0.number to.1) in
         (result ≡ answer) ⊎ ((result ≡ Err LabFault.Memory) × IsOk answer) }
 {
     if to.1 <= since.steps {
@@ -31,11 +31,11 @@ pub(crate) fn chain_since(since: &Since, to: (NodeId, u32)) -> Result<Option<Cha
 
 /// The chain from the first of these events to another of them.
 #[tactic(auto, using(crate::proofs::Explaining::found_chain))]
-fn chain(since: &Since, effect: u32) -> Result<Option<Chain>, LabFault>
+fn chain(since: &EventsSince, effect: u32) -> Result<Option<Chain>, LabFault>
     requires effect { effect < length since.now.causes.items }
     requires short { since.now.before + length since.now.causes.items < 2 ^ 32 }
     ensures { (all : List Cause) → drop since.now.before all ≡ since.now.causes.items →
-        (result ≡ why_between all (Some since.now.before) (Some (since.now.before + effect)))
+        (result ≡ chain_between all (Some since.now.before) (Some (since.now.before + effect)))
         ⊎ (result ≡ Err LabFault.Memory) }
 {
     let alloc = *since.causes.allocator();

@@ -4,23 +4,23 @@ use Rattle.std.proofs.lemmas.Bool.{both_ways}
 use Rattle.ga_slots.specs.Codes.{code_of}
 use Rattle.ga_slots.specs.declared.op.Op.{Op}
 use Rattle.ga_slots.specs.declared.op.Op.TheVariants as op
-use Rattle.ga_stacks.specs.Ring.{pushed}
-use Rattle.ga_ports.specs.Address.{classified}
+use Rattle.ga_stacks.specs.Ring.{words_after_push}
+use Rattle.ga_ports.specs.Address.{address_target}
 use Rattle.ga_ports.specs.declared.address.Target.{Target}
 use Rattle.ga_ports.specs.declared.address.Target.TheVariants.{Ram, Rom, Io, Ports, Bad}
-use Rattle.ga_node.specs.declared.wait.Reader.{Reader}
-use Rattle.ga_node.specs.declared.wait.Reader.TheVariants.{Instruction, Stack}
+use Rattle.ga_node.specs.declared.wait.ReadKind.{ReadKind}
+use Rattle.ga_node.specs.declared.wait.ReadKind.TheVariants.{Instruction, Stack}
 use Rattle.ga_node.specs.declared.seen.Seen.{Seen}
 use Rattle.ga_node.specs.declared.due.NextAction.{NextAction}
 use Rattle.ga_node.specs.declared.due.NextAction.TheVariants as due
-use Rattle.ga_node.specs.declared.kind.Kind.{Kind}
-use Rattle.ga_node.specs.declared.kind.Kind.TheVariants as kind
+use Rattle.ga_node.specs.declared.kind.OwnEventKind.{OwnEventKind}
+use Rattle.ga_node.specs.declared.kind.OwnEventKind.TheVariants as kind
 use Rattle.ga_node.specs.Io.{io_word}
 use Rattle.ga_node.specs.Record.{NodeRecord, HasSizes}
 use Rattle.ga_node.specs.Changes.{Change, after_changes}
-use Rattle.ga_node.specs.Table.{Access, Plain, Reads, Writes, with_kind, found, followed, carried_out, opcode_effect, fetches, reads_io_in, reads_io, next_action_of, done_by, own_event, own, is_io, looks_by, looks}
+use Rattle.ga_node.specs.Table.{Access, Plain, Reads, Writes, with_kind, found, followed, access_result, opcode_effect, fetch_access, access_reads_io, opcode_reads_io, next_action_of, action_result, own_event, own, is_io_target, is_look_action, looks}
 
-found_blind : (target : Target) (reader : Reader) (seen other : Seen) (n : NodeRecord) → is_io target ≡ false → found target reader seen n ≡ found target reader other n
+found_blind : (target : Target) (reader : ReadKind) (seen other : Seen) (n : NodeRecord) → is_io_target target ≡ false → found target reader seen n ≡ found target reader other n
 unfolding found
 found_blind (Ram k) reader seen other n blind = refl
 found_blind (Rom k) reader seen other n blind = refl
@@ -28,13 +28,13 @@ found_blind Io reader seen other n blind = absurd (both_ways true blind refl)
 found_blind (Ports sides) reader seen other n blind = refl
 found_blind Bad reader seen other n blind = refl
 
-access_blind : (reader : Reader) (access : Access) (seen other : Seen) (n : NodeRecord) → reads_io_in access ≡ false → carried_out reader access seen n ≡ carried_out reader access other n
+access_blind : (reader : ReadKind) (access : Access) (seen other : Seen) (n : NodeRecord) → access_reads_io access ≡ false → access_result reader access seen n ≡ access_result reader access other n
 access_blind reader (Plain changes) seen other n blind = refl
-access_blind reader (Reads address more) seen other n blind = ap (λ found. followed found more) (found_blind (classified address) reader seen other n blind)
+access_blind reader (Reads address more) seen other n blind = ap (λ found. followed found more) (found_blind (address_target address) reader seen other n blind)
 access_blind reader (Writes address more) seen other n blind = refl
 
-done_blind : (due : NextAction) (seen other : Seen) (n : NodeRecord) → looks_by due n ≡ false → done_by due seen n ≡ done_by due other n
-done_blind due.Fetch seen other n blind = ap (with_kind kind.Fetch) (access_blind Instruction (fetches n) seen other n blind)
+done_blind : (due : NextAction) (seen other : Seen) (n : NodeRecord) → is_look_action due n ≡ false → action_result due seen n ≡ action_result due other n
+done_blind due.Fetch seen other n blind = ap (with_kind kind.Fetch) (access_blind Instruction (fetch_access n) seen other n blind)
 done_blind (due.Run op) seen other n blind = ap (with_kind (kind.Run (code_of op))) (access_blind Stack (opcode_effect op n) seen other n blind)
 
 pub event_blind : (seen other : Seen) (n : NodeRecord) → looks n ≡ false → own_event seen n ≡ own_event other n
@@ -46,7 +46,7 @@ unfolding own
 own_blind seen other n blind = ap (λ event. (event.0, after_changes event.1 n)) (event_blind seen other n blind)
 
 -- whether it looks, by what it carries out
-pub looks_due : (due : NextAction) (n : NodeRecord) (look : Bool) → due ≡ next_action_of n → looks_by due n ≡ look → looks n ≡ look
+pub looks_due : (due : NextAction) (n : NodeRecord) (look : Bool) → due ≡ next_action_of n → is_look_action due n ≡ look → looks n ≡ look
 unfolding looks
 looks_due due n look is by = rw (← is) by
 
@@ -59,10 +59,10 @@ IsTelling (Reads address more) n = (word other : ℕ) → after_changes (more wo
 IsTelling (Writes address more) n = Unit {0}
 
 -- a word that was pushed is the top
-top_tells : (word other : ℕ) (xs : List ℕ) → length xs ≡ 10 → pushed word xs ≡ pushed other xs → word ≡ other
+top_tells : (word other : ℕ) (xs : List ℕ) → length xs ≡ 10 → words_after_push word xs ≡ words_after_push other xs → word ≡ other
 top_tells word other xs size same = sym (top word) ∙ ap (λ ys. slice_index ys 0) same ∙ top other
   where
-    top : (w : ℕ) → slice_index (pushed w xs) 0 ≡ w
+    top : (w : ℕ) → slice_index (words_after_push w xs) 0 ≡ w
     top w = get_or-take (length xs) (w ∷ xs) 0 0 (omega (arith, size))
 
 op_tells : (op : Op) (n : NodeRecord) → HasSizes n → IsTelling (opcode_effect op n) n
@@ -99,7 +99,7 @@ op_tells op.Push n sizes = tt
 op_tells op.BStore n sizes = tt
 op_tells op.AStore n sizes = tt
 
-read_tells : (target : Target) (reader : Reader) (more : ℕ → List Change) (k : Kind) (seen other : Seen) (n : NodeRecord) → is_io target ≡ true
+read_tells : (target : Target) (reader : ReadKind) (more : ℕ → List Change) (k : OwnEventKind) (seen other : Seen) (n : NodeRecord) → is_io_target target ≡ true
     → ((word else_word : ℕ) → after_changes (more word) n ≡ after_changes (more else_word) n → word ≡ else_word)
     → after_changes (with_kind k (followed (found target reader seen n) more)).1 n ≡ after_changes (with_kind k (followed (found target reader other n) more)).1 n → io_word seen ≡ io_word other
 unfolding found followed
@@ -109,24 +109,24 @@ read_tells Io reader more kind seen other n look tells same = tells (io_word see
 read_tells (Ports sides) reader more kind seen other n look tells same = cc
 read_tells Bad reader more kind seen other n look tells same = cc
 
-access_tells : (reader : Reader) (access : Access) (k : Kind) (seen other : Seen) (n : NodeRecord) → reads_io_in access ≡ true → IsTelling access n
-    → after_changes (with_kind k (carried_out reader access seen n)).1 n ≡ after_changes (with_kind k (carried_out reader access other n)).1 n → io_word seen ≡ io_word other
+access_tells : (reader : ReadKind) (access : Access) (k : OwnEventKind) (seen other : Seen) (n : NodeRecord) → access_reads_io access ≡ true → IsTelling access n
+    → after_changes (with_kind k (access_result reader access seen n)).1 n ≡ after_changes (with_kind k (access_result reader access other n)).1 n → io_word seen ≡ io_word other
 access_tells reader (Plain changes) kind seen other n look tells same = cc
-access_tells reader (Reads address more) kind seen other n look tells same = read_tells (classified address) reader more kind seen other n look tells same
+access_tells reader (Reads address more) kind seen other n look tells same = read_tells (address_target address) reader more kind seen other n look tells same
 access_tells reader (Writes address more) kind seen other n look tells same = cc
 
-done_tells : (due : NextAction) (seen other : Seen) (n : NodeRecord) → HasSizes n → looks_by due n ≡ true → after_changes (done_by due seen n).1 n ≡ after_changes (done_by due other n).1 n → io_word seen ≡ io_word other
-done_tells due.Fetch seen other n sizes look same = access_tells Instruction (fetches n) kind.Fetch seen other n look (λ word else_word e. ap (λ (m : NodeRecord). m.i) e) same
+done_tells : (due : NextAction) (seen other : Seen) (n : NodeRecord) → HasSizes n → is_look_action due n ≡ true → after_changes (action_result due seen n).1 n ≡ after_changes (action_result due other n).1 n → io_word seen ≡ io_word other
+done_tells due.Fetch seen other n sizes look same = access_tells Instruction (fetch_access n) kind.Fetch seen other n look (λ word else_word e. ap (λ (m : NodeRecord). m.i) e) same
 done_tells (due.Run op) seen other n sizes look same = access_tells Stack (opcode_effect op n) (kind.Run (code_of op)) seen other n look (op_tells op n sizes) same
 
 pub look_sees : (seen other : Seen) (n : NodeRecord) → HasSizes n → looks n ≡ true → own seen n ≡ own other n → io_word seen ≡ io_word other
 unfolding own own_event looks
-look_sees seen other n sizes look same = done_tells (next_action_of n) seen other n sizes look (ap (λ (z : Kind × NodeRecord). z.1) same)
+look_sees seen other n sizes look same = done_tells (next_action_of n) seen other n sizes look (ap (λ (z : OwnEventKind × NodeRecord). z.1) same)
 
 -- ---- the opcodes that read
 
 -- all opcodes that read have a code from 08 to 0b
-pub reads_not : (op : Op) (n : NodeRecord) → code_of op / 4 ≢ 2 → reads_io op n ≡ false
+pub reads_not : (op : Op) (n : NodeRecord) → code_of op / 4 ≢ 2 → opcode_reads_io op n ≡ false
 reads_not op.Return n other = refl
 reads_not op.Execute n other = refl
 reads_not op.Jump n other = refl

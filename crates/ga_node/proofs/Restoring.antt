@@ -4,11 +4,11 @@ use Rattle.std.specs.List.{slice_get}
 use Rattle.std.proofs.lemmas.Option.{get_or_from_slice_get, slice_get_within}
 use Rattle.std.proofs.lemmas.List.{set-get_or, set-set, set_comm}
 use Rattle.ga_node.specs.Record.{NodeState, record_of}
-use Rattle.ga_node.specs.State.{with_value, restored, IsInRange, IsApart, StaysApart, AreFit, wait_code}
+use Rattle.ga_node.specs.State.{with_value, with_restored_values, IsInRange, HasAtMostOneStatus, KeepsAtMostOneStatus, AreValuesInRange, wait_code}
 use Rattle.std.specs.Int.{from_bool}
 use Rattle.ga_node.specs.declared.wait.Wait.{Wait}
 use Rattle.ga_node.specs.declared.wait.Wait.TheVariants.{Nothing, Fetch as FetchWait, Read as ReadWait, Write as WriteWait}
-use Rattle.ga_node.specs.Table.{refused_by, refusal}
+use Rattle.ga_node.specs.Table.{wait_refusal, refusal}
 use Rattle.ga_node.specs.declared.place.Place.{Place}
 use Rattle.ga_node.specs.declared.place.Place.TheVariants.{T, S, DataCell, DataPointer, R, ReturnCell, ReturnPointer, Ram, Rom, A, B, P, I, Slot, Io, Carry, Wait as WaitCode, Stop}
 use Rattle.ga_node.specs.inner.Packed.{code_of, place_by, unpacked, IsWord, pairs_of, AreAt}
@@ -58,7 +58,7 @@ pub ram_back : (m n : NodeState) (k word old : ℕ) → m ≡ n → old ≡ slic
 ram_back m n k word old same value cell =
     ap (λ (xs : List ℕ). record m { ram = xs }) (set-set m.ram k word old ∙ ap (slice_set m.ram k) value ∙ set-get_or m.ram k 0) ∙ same
 
-pub stays_apart : (n : NodeState) (place : Place) (value : ℕ) → (place ≡ WaitCode → ⊥) → (place ≡ Stop → ⊥) → StaysApart n place value
+pub stays_apart : (n : NodeState) (place : Place) (value : ℕ) → (place ≡ WaitCode → ⊥) → (place ≡ Stop → ⊥) → KeepsAtMostOneStatus n place value
 stays_apart n T value a b = tt
 stays_apart n S value a b = tt
 stays_apart n (DataCell k) value a b = tt
@@ -78,59 +78,59 @@ stays_apart n Carry value a b = tt
 stays_apart n WaitCode value a b = absurd (a refl)
 stays_apart n Stop value a b = absurd (b refl)
 
-pub apart_from_no_wait : (n : NodeState) → n.wait ≡ Nothing → IsApart n
+pub apart_from_no_wait : (n : NodeState) → n.wait ≡ Nothing → HasAtMostOneStatus n
 apart_from_no_wait n none = rw none refl
 
 -- one more value written back
 restored_drop : (n : NodeState) (saved : List (Place × ℕ)) (i : ℕ) (d : Place × ℕ) → i < length saved
-    → restored n (drop i saved) ≡ with_value (restored n (drop (i + 1) saved)) (get_or saved i d).0 (get_or saved i d).1
-unfolding restored
+    → with_restored_values n (drop i saved) ≡ with_value (with_restored_values n (drop (i + 1) saved)) (get_or saved i d).0 (get_or saved i d).1
+unfolding with_restored_values
 restored_drop n saved i d below = rw (drop-cons saved i d below, add-one i) refl
 
 pub restored_one : (n : NodeState) (saved : List (Place × ℕ)) (i : ℕ) (value : Place × ℕ) → slice_get saved i ≡ Some value
-    → restored n (drop i saved) ≡ with_value (restored n (drop (i + 1) saved)) value.0 value.1
+    → with_restored_values n (drop i saved) ≡ with_value (with_restored_values n (drop (i + 1) saved)) value.0 value.1
 restored_one n saved i value is =
     restored_drop n saved i value (slice_get_within saved i value is)
-    ∙ ap (λ v. with_value (restored n (drop (i + 1) saved)) v.0 v.1) (get_or_from_slice_get saved i value value is)
+    ∙ ap (λ v. with_value (with_restored_values n (drop (i + 1) saved)) v.0 v.1) (get_or_from_slice_get saved i value value is)
 
 -- the value at a place of the list
-fit_within : (saved : List (Place × ℕ)) (i : ℕ) (d : Place × ℕ) → AreFit saved → i < length saved → IsInRange (get_or saved i d).0 (get_or saved i d).1
-unfolding AreFit
+fit_within : (saved : List (Place × ℕ)) (i : ℕ) (d : Place × ℕ) → AreValuesInRange saved → i < length saved → IsInRange (get_or saved i d).0 (get_or saved i d).1
+unfolding AreValuesInRange
 fit_within [] i d fit below = absurd (omega arith)
 fit_within (first ∷ rest) zero d fit below = fit.0
 fit_within (first ∷ rest) (suc i) d fit below = fit_within rest i d fit.1 (omega arith)
 
-pub fit_at : (saved : List (Place × ℕ)) (i : ℕ) (value : Place × ℕ) → AreFit saved → slice_get saved i ≡ Some value → IsInRange value.0 value.1
+pub fit_at : (saved : List (Place × ℕ)) (i : ℕ) (value : Place × ℕ) → AreValuesInRange saved → slice_get saved i ≡ Some value → IsInRange value.0 value.1
 fit_at saved i value fit is =
     subst (λ v. IsInRange v.0 v.1) (get_or_from_slice_get saved i value value is) (fit_within saved i value fit (slice_get_within saved i value is))
 
 -- nothing written back yet
-pub restored_past : (n : NodeState) (saved : List (Place × ℕ)) (i : ℕ) → length saved ≤ i → restored n (drop i saved) ≡ n
-unfolding restored
+pub restored_past : (n : NodeState) (saved : List (Place × ℕ)) (i : ℕ) → length saved ≤ i → with_restored_values n (drop i saved) ≡ n
+unfolding with_restored_values
 restored_past n [] zero past = refl
 restored_past n [] (suc i) past = refl
 restored_past n (first ∷ rest) zero past = absurd (omega arith)
 restored_past n (first ∷ rest) (suc i) past = restored_past n rest i (omega arith)
 
 -- some of the values written back, and then those before them
-pub fit_take : (saved : List (Place × ℕ)) (n : ℕ) → AreFit saved → AreFit (take n saved)
-unfolding AreFit
+pub fit_take : (saved : List (Place × ℕ)) (n : ℕ) → AreValuesInRange saved → AreValuesInRange (take n saved)
+unfolding AreValuesInRange
 fit_take saved zero fit = tt
 fit_take [] (suc n) fit = tt
 fit_take (first ∷ rest) (suc n) fit = (fit.0, fit_take rest n fit.1)
 
-pub restored_parts : (n : NodeState) (saved : List (Place × ℕ)) (k : ℕ) → restored n saved ≡ restored (restored n (drop k saved)) (take k saved)
-unfolding restored
+pub restored_parts : (n : NodeState) (saved : List (Place × ℕ)) (k : ℕ) → with_restored_values n saved ≡ with_restored_values (with_restored_values n (drop k saved)) (take k saved)
+unfolding with_restored_values
 restored_parts n saved zero = refl
 restored_parts n [] (suc k) = refl
 restored_parts n (first ∷ rest) (suc k) = ap (λ (m : NodeState). with_value m first.0 first.1) (restored_parts n rest k)
 
 -- a node that is ready for an event of its own
-pub apart_from_ready : (n : NodeState) → refusal (record_of n) ≡ None → IsApart n
+pub apart_from_ready : (n : NodeState) → refusal (record_of n) ≡ None → HasAtMostOneStatus n
 unfolding record_of
 apart_from_ready n ready = go n.wait refl ready
   where
-    go : (w : Wait) → n.wait ≡ w → refused_by w n.stop ≡ None → IsApart n
+    go : (w : Wait) → n.wait ≡ w → wait_refusal w n.stop ≡ None → HasAtMostOneStatus n
     go Nothing is h = apart_from_no_wait n is
     go (FetchWait sides) is h = absurd (cc)
     go (ReadWait sides) is h = absurd (cc)
@@ -188,18 +188,18 @@ other_place u w is has differ same = differ (sym is.1 ∙ ap code_of same ∙ ha
 
 -- one word more, that is written back last
 pub put_last : (n : NodeState) (code k w : ℕ) (ws : List ℕ) → AreAt code ws → IsWord w → w / 2 ^ 24 ≡ code + k → k < length ws
-    → restored n (pairs_of (slice_set ws k (suc w))) ≡ with_value (restored n (pairs_of ws)) (unpacked w).0 (unpacked w).1
-unfolding restored
+    → with_restored_values n (pairs_of (slice_set ws k (suc w))) ≡ with_value (with_restored_values n (pairs_of ws)) (unpacked w).0 (unpacked w).1
+unfolding with_restored_values
 put_last n code k w [] are is at l = absurd (omega (arith, l))
 put_last n code zero w (zero ∷ ws) are is at l = refl
 put_last n code zero w (suc u ∷ ws) are is at l =
     let same : u / 2 ^ 24 ≡ w / 2 ^ 24 = are.1 ∙ sym (at ∙ omega arith) in
-    sym (ap (λ p. with_value (with_value (restored n (pairs_of ws)) p (unpacked u).1) (unpacked w).0 (unpacked w).1) (same_place u w same)
-    ∙ absorbs (restored n (pairs_of ws)) (unpacked w).0 (unpacked u).1 (unpacked w).1)
+    sym (ap (λ p. with_value (with_value (with_restored_values n (pairs_of ws)) p (unpacked u).1) (unpacked w).0 (unpacked w).1) (same_place u w same)
+    ∙ absorbs (with_restored_values n (pairs_of ws)) (unpacked w).0 (unpacked u).1 (unpacked w).1)
 put_last n code (suc k) w (zero ∷ ws) are is at l = put_last n (code + 1) k w ws are is (at ∙ omega arith) (omega (arith, l))
 put_last n code (suc k) w (suc u ∷ ws) are is at l =
     ap (λ m. with_value m (unpacked u).0 (unpacked u).1) (put_last n (code + 1) k w ws are.2 is (at ∙ omega arith) (omega (arith, l)))
-    ∙ commute (restored n (pairs_of ws)) (unpacked w).0 (unpacked u).0 (unpacked w).1 (unpacked u).1
+    ∙ commute (with_restored_values n (pairs_of ws)) (unpacked w).0 (unpacked u).0 (unpacked w).1 (unpacked u).1
     (other_place w u is are.0 (λ same. absurd (let here = are.1 in omega (arith, at, here, same))))
 
 pub at_put : (code k w : ℕ) (ws : List ℕ) → AreAt code ws → IsWord w → w / 2 ^ 24 ≡ code + k → AreAt code (slice_set ws k (suc w))
@@ -209,8 +209,8 @@ at_put code zero w (suc u ∷ ws) are is at = (is, at ∙ omega arith, are.2)
 at_put code (suc k) w (zero ∷ ws) are is at = at_put (code + 1) k w ws are is (at ∙ omega arith)
 at_put code (suc k) w (suc u ∷ ws) are is at = (are.0, are.1, at_put (code + 1) k w ws are.2 is (at ∙ omega arith))
 
-pub fit_put : (k w : ℕ) (ws : List ℕ) → AreFit (pairs_of ws) → IsInRange (unpacked w).0 (unpacked w).1 → AreFit (pairs_of (slice_set ws k (suc w)))
-unfolding AreFit
+pub fit_put : (k w : ℕ) (ws : List ℕ) → AreValuesInRange (pairs_of ws) → IsInRange (unpacked w).0 (unpacked w).1 → AreValuesInRange (pairs_of (slice_set ws k (suc w)))
+unfolding AreValuesInRange
 fit_put k w [] fit here = fit
 fit_put zero w (zero ∷ ws) fit here = (here, fit)
 fit_put zero w (suc u ∷ ws) fit here = (here, fit.1)
@@ -229,17 +229,17 @@ pairs_past_one ws i w l is =
     let next : suc i ≡ i + 1 = omega arith in
     ap pairs_of (drop-cons ws i 0 l) ∙ ap (λ x. pairs_of (x ∷ drop (suc i) ws)) is ∙ ap (λ k. unpacked w ∷ pairs_of (drop k ws)) next
 
-fit_past : (ws : List ℕ) (i : ℕ) → AreFit (pairs_of ws) → AreFit (pairs_of (drop i ws))
-unfolding AreFit
+fit_past : (ws : List ℕ) (i : ℕ) → AreValuesInRange (pairs_of ws) → AreValuesInRange (pairs_of (drop i ws))
+unfolding AreValuesInRange
 fit_past ws zero fit = fit
 fit_past [] (suc i) fit = fit
 fit_past (zero ∷ ws) (suc i) fit = fit_past ws i fit
 fit_past (suc w ∷ ws) (suc i) fit = fit_past ws i fit.1
 
 -- the value of a gathered word is in range
-pub fit_of : (ws : List ℕ) (i w : ℕ) → AreFit (pairs_of ws) → i < length ws → get_or ws i 0 ≡ suc w → IsInRange (unpacked w).0 (unpacked w).1
-unfolding AreFit
-fit_of ws i w fit l is = (subst AreFit (pairs_past_one ws i w l is) (fit_past ws i fit)).0
+pub fit_of : (ws : List ℕ) (i w : ℕ) → AreValuesInRange (pairs_of ws) → i < length ws → get_or ws i 0 ≡ suc w → IsInRange (unpacked w).0 (unpacked w).1
+unfolding AreValuesInRange
+fit_of ws i w fit l is = (subst AreValuesInRange (pairs_past_one ws i w l is) (fit_past ws i fit)).0
 
 pub word_of : (code i w : ℕ) (ws : List ℕ) → AreAt code ws → i < length ws → get_or ws i 0 ≡ suc w → IsWord w
 word_of code i w [] are l is = absurd (omega (arith, l))
@@ -250,9 +250,9 @@ word_of code (suc i) w (suc u ∷ ws) are l is = word_of (code + 1) i w ws are.2
 
 -- one place more written back, and one where there is no word
 pub back_past_one : (n : NodeState) (ws : List ℕ) (i : ℕ) → i < length ws → 0 < get_or ws i 0
-    → restored n (pairs_of (drop i ws)) ≡ with_value (restored n (pairs_of (drop (i + 1) ws))) (unpacked (get_or ws i 0 - 1)).0 (unpacked (get_or ws i 0 - 1)).1
-unfolding restored
-back_past_one n ws i l some = ap (restored n) (pairs_past_one ws i (get_or ws i 0 - 1) l (omega (arith, some)))
+    → with_restored_values n (pairs_of (drop i ws)) ≡ with_value (with_restored_values n (pairs_of (drop (i + 1) ws))) (unpacked (get_or ws i 0 - 1)).0 (unpacked (get_or ws i 0 - 1)).1
+unfolding with_restored_values
+back_past_one n ws i l some = ap (with_restored_values n) (pairs_past_one ws i (get_or ws i 0 - 1) l (omega (arith, some)))
 
-pub back_past_none : (n : NodeState) (ws : List ℕ) (i : ℕ) → i < length ws → get_or ws i 0 ≤ 0 → restored n (pairs_of (drop i ws)) ≡ restored n (pairs_of (drop (i + 1) ws))
-back_past_none n ws i l none = ap (restored n) (pairs_past_none ws i l (omega (arith, none)))
+pub back_past_none : (n : NodeState) (ws : List ℕ) (i : ℕ) → i < length ws → get_or ws i 0 ≤ 0 → with_restored_values n (pairs_of (drop i ws)) ≡ with_restored_values n (pairs_of (drop (i + 1) ws))
+back_past_none n ws i l none = ap (with_restored_values n) (pairs_past_none ws i l (omega (arith, none)))

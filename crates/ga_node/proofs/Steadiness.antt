@@ -5,26 +5,26 @@ use Rattle.ga_slots.specs.Slots.{opcode}
 use Rattle.ga_slots.specs.Codes.{code_of}
 use Rattle.ga_slots.specs.declared.op.Op.{Op}
 use Rattle.ga_slots.specs.declared.op.Op.TheVariants as op
-use Rattle.ga_ports.specs.Address.{classified, is_single, side_of}
+use Rattle.ga_ports.specs.Address.{address_target, is_single_side, side_of}
 use Rattle.ga_ports.specs.declared.side.Side.{Side}
 use Rattle.ga_ports.specs.declared.address.Target.{Target}
 use Rattle.ga_ports.specs.declared.address.Target.TheVariants.{Ram, Rom, Io, Ports, Bad}
-use Rattle.ga_node.specs.Record.{NodeRecord, FitsWait, IsSteady}
-use Rattle.ga_node.specs.Changes.{Change, PushData, PopData, SetTop, PopTo, PushReturn, PopReturn, SetTopReturn, SetP, SetA, SetB, SetI, SetIo, SetCarry, SetRam, GoOn, Skip, StartAgain, SetWait, SetStop, changed, after_changes}
-use Rattle.ga_node.specs.Table.{t, r, found, stored, followed, effect, fetched, with_kind, posts, stop_effect, is_extended, own_event, own, refused_by, refusal, sent, taken, taking}
+use Rattle.ga_node.specs.Record.{NodeRecord, IsConsistentWait, HasConsistentWait}
+use Rattle.ga_node.specs.Changes.{Change, PushData, PopData, SetTop, PopTo, PushReturn, PopReturn, SetTopReturn, SetP, SetA, SetB, SetI, SetIo, SetCarry, SetRam, GoOn, Skip, StartAgain, SetWait, SetStop, node_after_change, after_changes}
+use Rattle.ga_node.specs.Table.{t, r, found, stored, followed, effect, fetch_result, with_kind, wait_effect, stop_effect, is_extended, own_event, own, wait_refusal, refusal, sent, taken, take_changes}
 use Rattle.ga_node.specs.declared.seen.Seen.{Seen}
 use Rattle.ga_node.specs.declared.wait.Wait.{Wait}
 use Rattle.ga_node.specs.declared.wait.Wait.TheVariants as wait
-use Rattle.ga_node.specs.declared.wait.Reader.{Reader}
-use Rattle.ga_node.specs.declared.wait.Reader.TheVariants.{Instruction, Stack}
-use Rattle.ga_node.specs.declared.kind.Kind.{Kind}
-use Rattle.ga_node.specs.declared.kind.Kind.TheVariants as kind
+use Rattle.ga_node.specs.declared.wait.ReadKind.{ReadKind}
+use Rattle.ga_node.specs.declared.wait.ReadKind.TheVariants.{Instruction, Stack}
+use Rattle.ga_node.specs.declared.kind.OwnEventKind.{OwnEventKind}
+use Rattle.ga_node.specs.declared.kind.OwnEventKind.TheVariants as kind
 use Rattle.ga_node.specs.declared.kind.NotReady.TheVariants.{Stopped}
 use Rattle.ga_node.proofs.Saving.{own_fetched, own_ran}
 
 -- a node that doesn't wait
-steady_without : (n : NodeRecord) → n.wait ≡ wait.Nothing → IsSteady n
-steady_without n e = subst (λ w. FitsWait w n.slot n.stop) (sym e) tt
+steady_without : (n : NodeRecord) → n.wait ≡ wait.Nothing → HasConsistentWait n
+steady_without n e = subst (λ w. IsConsistentWait w n.slot n.stop) (sym e) tt
 
 -- a change of neither the wait nor the stop
 abbrev IsPlain : Change → Type 0
@@ -36,7 +36,7 @@ abbrev ArePlain : List Change → Type 0
 ArePlain [] = Unit {0}
 ArePlain (change ∷ rest) = IsPlain change × ArePlain rest
 
-plain_change : (change : Change) (n : NodeRecord) → IsPlain change → (changed change n).wait ≡ n.wait
+plain_change : (change : Change) (n : NodeRecord) → IsPlain change → (node_after_change change n).wait ≡ n.wait
 plain_change (PushData word) n plain = refl
 plain_change PopData n plain = refl
 plain_change (SetTop word) n plain = refl
@@ -59,23 +59,23 @@ plain_change (SetStop code) n plain = absurd plain
 
 after_plain : (changes : List Change) (n : NodeRecord) → ArePlain changes → (after_changes changes n).wait ≡ n.wait
 after_plain [] n plain = refl
-after_plain (change ∷ rest) n plain = after_plain rest (changed change n) plain.1 ∙ plain_change change n plain.0
+after_plain (change ∷ rest) n plain = after_plain rest (node_after_change change n) plain.1 ∙ plain_change change n plain.0
 
 -- a wait that fits the slot, or a stop, and nothing else
 abbrev Ends : ℕ → List Change → Type 0
-Ends slot changes = ((w : Wait) × (changes ≡ SetWait w ∷ []) × FitsWait w slot 0) ⊎ ((code : ℕ) × (changes ≡ SetStop code ∷ []))
+Ends slot changes = ((w : Wait) × (changes ≡ SetWait w ∷ []) × IsConsistentWait w slot 0) ⊎ ((code : ℕ) × (changes ≡ SetStop code ∷ []))
 
 -- whether the outcome of an access, an opcode or a fetch has plain changes, or is a fitting wait or a stop
-abbrev Lands : ℕ → Result (List Change) (Kind × List Change) → Type 0
+abbrev Lands : ℕ → Result (List Change) (OwnEventKind × List Change) → Type 0
 Lands slot (Ok changes) = ArePlain changes
 Lands slot (Err event) = Ends slot event.1
 
 -- who reads in this slot
-abbrev Reads : Reader → ℕ → Type 0
+abbrev Reads : ReadKind → ℕ → Type 0
 Reads Instruction slot = slot ≡ 4
 Reads Stack slot = slot ≢ 4
 
-read_lands : (target : Target) (reader : Reader) (seen : Seen) (n : NodeRecord) (more : ℕ → List Change) → Reads reader n.slot
+read_lands : (target : Target) (reader : ReadKind) (seen : Seen) (n : NodeRecord) (more : ℕ → List Change) → Reads reader n.slot
     → ((word : ℕ) → ArePlain (more word)) → Lands n.slot (followed (found target reader seen n) more)
 unfolding found followed
 read_lands (Ram k) reader seen n more reads plain = plain _
@@ -85,7 +85,7 @@ read_lands (Ports sides) Instruction seen n more reads plain = inl (wait.Fetch s
 read_lands (Ports sides) Stack seen n more reads plain = inl (wait.Read sides, refl, (reads, refl))
 read_lands Bad reader seen n more reads plain = inr (2, refl)
 
-post_lands : (single : Bool) (side : Side) (slot : ℕ) → slot ≢ 4 → Ends slot (cond single (posts (wait.Write side)) (stop_effect 1)).1
+post_lands : (single : Bool) (side : Side) (slot : ℕ) → slot ≢ 4 → Ends slot (cond single (wait_effect (wait.Write side)) (stop_effect 1)).1
 post_lands true side slot other = inl (wait.Write side, refl, (other, refl))
 post_lands false side slot other = inr (1, refl)
 
@@ -95,7 +95,7 @@ unfolding stored followed
 write_lands (Ram k) n more other plain = (tt, plain)
 write_lands (Rom k) n more other plain = plain
 write_lands Io n more other plain = (tt, plain)
-write_lands (Ports sides) n more other plain = post_lands (is_single sides) (side_of sides) n.slot other
+write_lands (Ports sides) n more other plain = post_lands (is_single_side sides) (side_of sides) n.slot other
 write_lands Bad n more other plain = inr (2, refl)
 
 plain_either : (b : Bool) (x y : List Change) → ArePlain x → ArePlain y → ArePlain (cond b x y)
@@ -111,14 +111,14 @@ effect_lands op.Unext seen n other = plain_either (r n == 0) _ _ (tt, (tt, tt)) 
 effect_lands op.Next seen n other = plain_either (r n == 0) _ _ (tt, (tt, tt)) (tt, (tt, (tt, tt)))
 effect_lands op.If seen n other = plain_either (t n == 0) _ _ (tt, (tt, tt)) (tt, tt)
 effect_lands op.MinusIf seen n other = plain_either (t n / 2 ^ 17 == 0) _ _ (tt, (tt, tt)) (tt, tt)
-effect_lands op.FetchP seen n other = read_lands (classified n.p) Stack seen n _ other (λ word. (tt, (tt, (tt, tt))))
-effect_lands op.FetchPlus seen n other = read_lands (classified n.a) Stack seen n _ other (λ word. (tt, (tt, (tt, tt))))
-effect_lands op.FetchB seen n other = read_lands (classified n.b) Stack seen n _ other (λ word. (tt, (tt, tt)))
-effect_lands op.Fetch seen n other = read_lands (classified n.a) Stack seen n _ other (λ word. (tt, (tt, tt)))
-effect_lands op.StoreP seen n other = write_lands (classified n.p) n _ other (tt, (tt, (tt, tt)))
-effect_lands op.StorePlus seen n other = write_lands (classified n.a) n _ other (tt, (tt, (tt, tt)))
-effect_lands op.StoreB seen n other = write_lands (classified n.b) n _ other (tt, (tt, tt))
-effect_lands op.Store seen n other = write_lands (classified n.a) n _ other (tt, (tt, tt))
+effect_lands op.FetchP seen n other = read_lands (address_target n.p) Stack seen n _ other (λ word. (tt, (tt, (tt, tt))))
+effect_lands op.FetchPlus seen n other = read_lands (address_target n.a) Stack seen n _ other (λ word. (tt, (tt, (tt, tt))))
+effect_lands op.FetchB seen n other = read_lands (address_target n.b) Stack seen n _ other (λ word. (tt, (tt, tt)))
+effect_lands op.Fetch seen n other = read_lands (address_target n.a) Stack seen n _ other (λ word. (tt, (tt, tt)))
+effect_lands op.StoreP seen n other = write_lands (address_target n.p) n _ other (tt, (tt, (tt, tt)))
+effect_lands op.StorePlus seen n other = write_lands (address_target n.a) n _ other (tt, (tt, (tt, tt)))
+effect_lands op.StoreB seen n other = write_lands (address_target n.b) n _ other (tt, (tt, tt))
+effect_lands op.Store seen n other = write_lands (address_target n.a) n _ other (tt, (tt, tt))
 effect_lands op.MultiplyStep seen n other = (tt, (tt, (tt, tt)))
 effect_lands op.TwoStar seen n other = (tt, (tt, tt))
 effect_lands op.TwoSlash seen n other = (tt, (tt, tt))
@@ -136,30 +136,30 @@ effect_lands op.Push seen n other = (tt, (tt, (tt, tt)))
 effect_lands op.BStore seen n other = (tt, (tt, (tt, tt)))
 effect_lands op.AStore seen n other = (tt, (tt, (tt, tt)))
 
-named_steady : (n : NodeRecord) (kind : Kind) (outcome : Result (List Change) (Kind × List Change)) → n.wait ≡ wait.Nothing → n.stop ≡ 0 → Lands n.slot outcome
-    → IsSteady (after_changes (with_kind kind outcome).1 n)
+named_steady : (n : NodeRecord) (kind : OwnEventKind) (outcome : Result (List Change) (OwnEventKind × List Change)) → n.wait ≡ wait.Nothing → n.stop ≡ 0 → Lands n.slot outcome
+    → HasConsistentWait (after_changes (with_kind kind outcome).1 n)
 named_steady n kind (Ok changes) idle going plain = steady_without (after_changes changes n) (after_plain changes n plain ∙ idle)
-named_steady n kind (Err event) idle going (inl (w, is, fits)) = subst (λ changes. IsSteady (after_changes changes n)) (sym is) (subst (λ stop. FitsWait w n.slot stop) (sym going) fits)
+named_steady n kind (Err event) idle going (inl (w, is, fits)) = subst (λ changes. HasConsistentWait (after_changes changes n)) (sym is) (subst (λ stop. IsConsistentWait w n.slot stop) (sym going) fits)
 named_steady n kind (Err event) idle going (inr (code, is)) =
-    subst (λ changes. IsSteady (after_changes changes n)) (sym is) (steady_without (changed (SetStop code) n) idle)
+    subst (λ changes. HasConsistentWait (after_changes changes n)) (sym is) (steady_without (node_after_change (SetStop code) n) idle)
 
 -- an event of a node that runs
-run_steady : (seen : Seen) (n : NodeRecord) → n.wait ≡ wait.Nothing → n.stop ≡ 0 → IsSteady (own seen n).1
+run_steady : (seen : Seen) (n : NodeRecord) → n.wait ≡ wait.Nothing → n.stop ≡ 0 → HasConsistentWait (own seen n).1
 unfolding own
-run_steady seen n idle going = elim (cases_eq n.slot 4) [ inl due ↦ fetches due | inr other ↦ runs other ]
+run_steady seen n idle going = elim (cases_eq n.slot 4) [ inl due ↦ fetch_access due | inr other ↦ runs other ]
   where
-    fetches : n.slot ≡ 4 → IsSteady (after_changes (own_event seen n).1 n)
-    fetches due =
-        subst (λ event. IsSteady (after_changes event.1 n)) (sym (own_fetched seen n due))
-        (named_steady n kind.Fetch (fetched seen n) idle going (read_lands (classified n.p) Instruction seen n _ due (λ word. (tt, (tt, (tt, tt))))))
+    fetch_access : n.slot ≡ 4 → HasConsistentWait (after_changes (own_event seen n).1 n)
+    fetch_access due =
+        subst (λ event. HasConsistentWait (after_changes event.1 n)) (sym (own_fetched seen n due))
+        (named_steady n kind.Fetch (fetch_result seen n) idle going (read_lands (address_target n.p) Instruction seen n _ due (λ word. (tt, (tt, (tt, tt))))))
 
-    runs : n.slot ≢ 4 → IsSteady (after_changes (own_event seen n).1 n)
+    runs : n.slot ≢ 4 → HasConsistentWait (after_changes (own_event seen n).1 n)
     runs other =
         let op = opcode n.i n.slot in
-        subst (λ event. IsSteady (after_changes event.1 n)) (sym (own_ran seen n other))
+        subst (λ event. HasConsistentWait (after_changes event.1 n)) (sym (own_ran seen n other))
         (named_steady n (kind.Run (code_of op)) (effect op seen n) idle going (effect_lands op seen n other))
 
-pub idle_when : (w : Wait) (stop : ℕ) → refused_by w stop ≡ None → (w ≡ wait.Nothing) × (stop ≡ 0)
+pub idle_when : (w : Wait) (stop : ℕ) → wait_refusal w stop ≡ None → (w ≡ wait.Nothing) × (stop ≡ 0)
 idle_when wait.Nothing stop e = (refl, by_test (stop == 0) (eqb-true stop 0) e)
   where
     by_test : (b : Bool) → (b ≡ true → stop ≡ 0) → cond b None (Some Stopped) ≡ None → stop ≡ 0
@@ -169,20 +169,20 @@ idle_when (wait.Fetch sides) stop e = cc
 idle_when (wait.Read sides) stop e = cc
 idle_when (wait.Write side) stop e = cc
 
-pub own_steady : (seen : Seen) (n : NodeRecord) → refusal n ≡ None → IsSteady (own seen n).1
+pub own_steady : (seen : Seen) (n : NodeRecord) → refusal n ≡ None → HasConsistentWait (own seen n).1
 own_steady seen n ready = let runs = idle_when n.wait n.stop ready in run_steady seen n runs.0 runs.1
 
 -- the two sides of a transfer
-pub sent_steady : (n : NodeRecord) → IsSteady (sent n)
+pub sent_steady : (n : NodeRecord) → HasConsistentWait (sent n)
 unfolding sent
 sent_steady n = tt
 
-taken_by : (w : Wait) (word : ℕ) (n : NodeRecord) → n.wait ≡ w → IsSteady n → IsSteady (after_changes (taking w word) n)
+taken_by : (w : Wait) (word : ℕ) (n : NodeRecord) → n.wait ≡ w → HasConsistentWait n → HasConsistentWait (after_changes (take_changes w word) n)
 taken_by wait.Nothing word n e steady = steady
 taken_by (wait.Fetch sides) word n e steady = tt
 taken_by (wait.Read sides) word n e steady = tt
 taken_by (wait.Write side) word n e steady = steady
 
-pub taken_steady : (word : ℕ) (n : NodeRecord) → IsSteady n → IsSteady (taken word n)
+pub taken_steady : (word : ℕ) (n : NodeRecord) → HasConsistentWait n → HasConsistentWait (taken word n)
 unfolding taken
 taken_steady word n steady = taken_by n.wait word n refl steady

@@ -1,7 +1,7 @@
 -- What an event changes in a node, one register, stack or cell at a time: what each change leaves of the node as the F18A
 -- Technology Reference (DB001) describes it.
 use Rattle.std.specs.Prelude.{ℕ, ◌+◌, Bool, List, [], ◌∷◌, min, slice_set}
-use Rattle.ga_stacks.specs.Ring.{pushed, popped_data, popped_return, topped}
+use Rattle.ga_stacks.specs.Ring.{words_after_push, data_after_pop, return_after_pop, with_top}
 use Rattle.ga_node.specs.Record.{NodeRecord}
 use Rattle.ga_node.specs.declared.wait.Wait.{Wait}
 
@@ -34,28 +34,28 @@ pub data Change : Type 0 where
   SetStop : ℕ → Change
 
 -- the node after a change
-abbrev pub changed : Change → NodeRecord → NodeRecord
-changed (PushData word) n = record n { d = pushed word n.d }
-changed PopData n = record n { d = popped_data n.d }
-changed (SetTop word) n = record n { d = topped word n.d }
-changed (PopTo word) n = record n { d = topped word (popped_data n.d) }
-changed (PushReturn word) n = record n { r = pushed word n.r }
-changed PopReturn n = record n { r = popped_return n.r }
-changed (SetTopReturn word) n = record n { r = topped word n.r }
-changed (SetP address) n = record n { p = address }
-changed (SetA word) n = record n { a = word }
-changed (SetB address) n = record n { b = address }
-changed (SetI word) n = record n { i = word }
-changed (SetIo word) n = record n { io = word }
-changed (SetCarry bit) n = record n { carry = bit }
-changed (SetRam cell word) n = record n { ram = slice_set n.ram cell word }
-changed GoOn n = record n { slot = min (n.slot + 1) 4 }
-changed Skip n = record n { slot = 4 }
-changed StartAgain n = record n { slot = 0 }
-changed (SetWait wait) n = record n { wait = wait }
-changed (SetStop code) n = record n { stop = code }
+abbrev pub node_after_change : Change → NodeRecord → NodeRecord
+node_after_change (PushData word) n = record n { d = words_after_push word n.d }
+node_after_change PopData n = record n { d = data_after_pop n.d }
+node_after_change (SetTop word) n = record n { d = with_top word n.d }
+node_after_change (PopTo word) n = record n { d = with_top word (data_after_pop n.d) }
+node_after_change (PushReturn word) n = record n { r = words_after_push word n.r }
+node_after_change PopReturn n = record n { r = return_after_pop n.r }
+node_after_change (SetTopReturn word) n = record n { r = with_top word n.r }
+node_after_change (SetP address) n = record n { p = address }
+node_after_change (SetA word) n = record n { a = word }
+node_after_change (SetB address) n = record n { b = address }
+node_after_change (SetI word) n = record n { i = word }
+node_after_change (SetIo word) n = record n { io = word }
+node_after_change (SetCarry bit) n = record n { carry = bit }
+node_after_change (SetRam cell word) n = record n { ram = slice_set n.ram cell word }
+node_after_change GoOn n = record n { slot = min (n.slot + 1) 4 }
+node_after_change Skip n = record n { slot = 4 }
+node_after_change StartAgain n = record n { slot = 0 }
+node_after_change (SetWait wait) n = record n { wait = wait }
+node_after_change (SetStop code) n = record n { stop = code }
 
 -- the node after some changes, the first of them first
 abbrev pub after_changes : List Change → NodeRecord → NodeRecord
 after_changes [] n = n
-after_changes (change ∷ rest) n = after_changes rest (changed change n)
+after_changes (change ∷ rest) n = after_changes rest (node_after_change change n)

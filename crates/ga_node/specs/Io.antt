@@ -23,5 +23,5 @@ io_word seen =
     + shown seen.up 10 9
 
 -- no neighbour on any side; an event that reads nothing is the same for all neighbours
-abbrev pub nobody : Seen
-nobody = record { right = Nobody; down = Nobody; left = Nobody; up = Nobody }
+abbrev pub no_neighbours : Seen
+no_neighbours = record { right = Nobody; down = Nobody; left = Nobody; up = Nobody }

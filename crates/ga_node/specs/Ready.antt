@@ -13,19 +13,19 @@ abbrev pub IsRunning : NodeRecord → Type 0
 IsRunning n = (n.wait ≡ Nothing) × (n.stop ≡ 0)
 
 -- whether the node runs and can carry this out: an opcode is in a slot, and in the last slot its code is a multiple of 4
-abbrev pub CanDo : NextAction → NodeRecord → Type 0
-CanDo due.Fetch n = IsRunning n
-CanDo (due.Run op) n = IsRunning n × (n.slot < 4) × (n.slot ≡ 3 → code_of op % 4 ≡ 0)
+abbrev pub CanExecute : NextAction → NodeRecord → Type 0
+CanExecute due.Fetch n = IsRunning n
+CanExecute (due.Run op) n = IsRunning n × (n.slot < 4) × (n.slot ≡ 3 → code_of op % 4 ≡ 0)
 
--- a wait to write, and in `IsReading` a wait to read
-abbrev pub IsWriting : Wait → Type 0
-IsWriting (Write side) = Unit {0}
-IsWriting Nothing = ⊥
-IsWriting (FetchWait sides) = ⊥
-IsWriting (Read sides) = ⊥
+-- a wait to write, and in `IsReadWait` a wait to read
+abbrev pub IsWriteWait : Wait → Type 0
+IsWriteWait (Write side) = Unit {0}
+IsWriteWait Nothing = ⊥
+IsWriteWait (FetchWait sides) = ⊥
+IsWriteWait (Read sides) = ⊥
 
-abbrev pub IsReading : Wait → Type 0
-IsReading (FetchWait sides) = Unit {0}
-IsReading (Read sides) = Unit {0}
-IsReading Nothing = ⊥
-IsReading (Write side) = ⊥
+abbrev pub IsReadWait : Wait → Type 0
+IsReadWait (FetchWait sides) = Unit {0}
+IsReadWait (Read sides) = Unit {0}
+IsReadWait Nothing = ⊥
+IsReadWait (Write side) = ⊥

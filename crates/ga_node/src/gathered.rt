@@ -33,7 +33,7 @@ impl Model for OverwrittenValues {
 impl OverwrittenValues {
     ghost use Rattle.std.specs.Prelude.{◌≡◌, ◌≤◌, []};
     ghost use Rattle.ga_node.specs.Record.{NodeState};
-    ghost use Rattle.ga_node.specs.State.{with_value, with_aside, restored, IsInRange, AreFit, IsCleared};
+    ghost use Rattle.ga_node.specs.State.{with_value, with_suspended_status, with_restored_values, IsInRange, AreValuesInRange, HasClearedStatus};
 
     /// No old values: none is gathered yet.
     pub fn new() -> Self
@@ -46,8 +46,8 @@ impl OverwrittenValues {
     #[inline(always)]
     fn put(&mut self, word: u32)
         requires { IsWord word }
-        ensures back { (node : NodeState) → restored node self.new ≡ with_value (restored node self.old) (unpacked word).0 (unpacked word).1 }
-        ensures fit { AreFit self.old → IsInRange (unpacked word).0 (unpacked word).1 → AreFit self.new }
+        ensures back { (node : NodeState) → with_restored_values node self.new ≡ with_value (with_restored_values node self.old) (unpacked word).0 (unpacked word).1 }
+        ensures fit { AreValuesInRange self.old → IsInRange (unpacked word).0 (unpacked word).1 → AreValuesInRange self.new }
     {
         self.words[(word / 0x1000000) as usize] = word + 1;
     }
@@ -55,8 +55,8 @@ impl OverwrittenValues {
     /// Adds the values that an event overwrote; they are written back after those already gathered.
     #[inline(always)]
     pub fn add(&mut self, saved: &Saved)
-        ensures back { (node : NodeState) → restored node self.new ≡ restored (restored node self.old) saved.now }
-        ensures fit { AreFit self.old → AreFit saved.now → AreFit self.new }
+        ensures back { (node : NodeState) → with_restored_values node self.new ≡ with_restored_values (with_restored_values node self.old) saved.now }
+        ensures fit { AreValuesInRange self.old → AreValuesInRange saved.now → AreValuesInRange self.new }
     {
         let count = saved.len();
         for k in 0..count {
@@ -66,11 +66,11 @@ impl OverwrittenValues {
 
     /// Writes the gathered values back to a node whose wait and stop are set aside.
     pub fn write_back(&self, node: &mut Node, aside: &mut SuspendedStatus)
-        requires fit { AreFit self.now }
-        requires cleared { IsCleared node.old }
+        requires fit { AreValuesInRange self.now }
+        requires cleared { HasClearedStatus node.old }
         requires in_range { aside.old.stop ≤ 3 }
-        ensures back { with_aside node.new aside.new ≡ restored (with_aside node.old aside.old) self.now }
-        ensures cleared { IsCleared node.new }
+        ensures back { with_suspended_status node.new aside.new ≡ with_restored_values (with_suspended_status node.old aside.old) self.now }
+        ensures cleared { HasClearedStatus node.new }
         ensures in_range { aside.new.stop ≤ 3 }
     {
         let words = &self.words;

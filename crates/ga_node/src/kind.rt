@@ -5,7 +5,7 @@ use thiserror::Error;
 
 /// What an event of a node's own was.
 #[derive(Clone, Copy, PartialEq, Eq, Debug)]
-pub enum Kind {
+pub enum OwnEventKind {
     /// The word at P became the instruction word.
     Fetch,
     /// The opcode with this code was carried out.
@@ -18,13 +18,13 @@ pub enum Kind {
 
 /// A kind as a session prints it: `fetch`, `run` with the opcode's code in two hexadecimal digits, `wait`, `stop` with its
 /// number.
-impl fmt::Display for Kind {
+impl fmt::Display for OwnEventKind {
     fn fmt<W: fmt::Write>(&self, f: &mut fmt::Formatter<W>) -> fmt::Result {
         match self {
-            Kind::Fetch => write!(f, "fetch"),
-            Kind::Run(code) => write!(f, "run {code:02x}"),
-            Kind::Wait => write!(f, "wait"),
-            Kind::Stop(number) => write!(f, "stop {number}"),
+            OwnEventKind::Fetch => write!(f, "fetch"),
+            OwnEventKind::Run(code) => write!(f, "run {code:02x}"),
+            OwnEventKind::Wait => write!(f, "wait"),
+            OwnEventKind::Stop(number) => write!(f, "stop {number}"),
         }
     }
 }

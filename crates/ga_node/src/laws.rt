@@ -16,6 +16,6 @@ pub fn only_looks_observe()
 /// An event that looks observes: it leads to different nodes if the words of `io` differ. No event is called a look that isn't
 /// one.
 #[tactic(auto, using(crate::proofs::Looks::look_sees))]
-pub fn looks_observe()
+pub fn looks_depend_on_neighbours()
     ensures { (seen other : Seen) (node : NodeRecord) → HasSizes node → looks node ≡ true → own seen node ≡ own other node → io_word seen ≡ io_word other }
 {}

@@ -1,7 +1,7 @@
 //! What a node can see of its neighbours, and the word that a read of `io` gives.
 
 ghost use Rattle.std.specs.Prelude.{◌≡◌, ◌+◌, ◌≤◌, ◌<◌, ◌^◌};
-ghost use Rattle.ga_node.specs.Io.{io_word, nobody};
+ghost use Rattle.ga_node.specs.Io.{io_word, no_neighbours};
 
 use ga_word::Word18;
 
@@ -36,7 +36,7 @@ impl NeighbourState {
     #[inline(always)]
     fn shown(self, first: u32, second: u32) -> u32
         requires { first + second < 2 ^ 18 }
-        ensures nobody { self ≡ NeighbourState.Nobody → result ≡ first }
+        ensures no_neighbours { self ≡ NeighbourState.Nobody → result ≡ first }
         ensures idle { self ≡ NeighbourState.Idle → result ≡ first }
         ensures reading { self ≡ NeighbourState.Reading → result ≡ 0 }
         ensures writing { self ≡ NeighbourState.Writing → result ≡ first + second }
@@ -54,8 +54,8 @@ impl NeighbourState {
 impl Seen {
     /// Nobody on any side.
     #[inline(always)]
-    pub fn nobody() -> Self
-        ensures { result ≡ nobody }
+    pub fn no_neighbours() -> Self
+        ensures { result ≡ no_neighbours }
     {
         Seen {
             right: NeighbourState::Nobody,
@@ -76,6 +76,6 @@ impl Seen {
         let down = self.down.shown(0x4000, 0x2000);
         let left = self.left.shown(0x1000, 0x800);
         let up = self.up.shown(0x400, 0x200);
-        Word18::truncated(0x155 + right + down + left + up)
+        Word18::from_low_bits(0x155 + right + down + left + up)
     }
 }

@@ -20,7 +20,7 @@ pub enum Wait {
 
 /// Who reads: a fetch, or an opcode for the stack.
 #[derive(Clone, Copy, PartialEq, Eq, Debug)]
-pub enum Reader {
+pub enum ReadKind {
     /// A fetch, for the instruction word.
     Instruction,
     /// An opcode, for the data stack.

@@ -4,15 +4,15 @@ use Rattle.std.specs.Prelude.{reverse, Result, Ok, is_none, bytes_eq, codes}
 use Rattle.std.specs.Option.{option_map_or}
 use Rattle.std.proofs.lemmas.List.{reverse-append, length-take-le}
 use Rattle.ga_slots.specs.declared.op.Op.TheVariants.{Jump as JumpOp, Next as NextOp}
-use Rattle.ga_parser.specs.declared.item.Request.TheVariants.{Unext as UnextAsked}
+use Rattle.ga_parser.specs.declared.item.AssemblyRequest.TheVariants.{Unext as UnextAsked}
 use Rattle.ga_parser.specs.declared.controls.Open.{Open}
 use Rattle.ga_parser.specs.declared.controls.Open.TheVariants.{Loop, Ahead as JumpAhead}
 use Rattle.ga_parser.specs.declared.fault.SourceCause.{SourceCause}
 use Rattle.ga_parser.specs.declared.fault.SourceCause.TheVariants.{LabelTwice as StandsTwice, Taken as IsTaken}
 use Rattle.ga_parser.specs.declared.vocabulary.Control.{Control}
 use Rattle.ga_parser.specs.declared.vocabulary.Control.TheVariants.{Begin, For, Again, Until, Next, NextAround, Unext, While, Repeat, If, Else, Then}
-use Rattle.ga_parser.specs.Asking.{ParseState, Mention, Refusal, refuse_line, ◌▷◌, is_behind, one_label_more, control, mark, jump, ahead, asking, with_open, loop_ended, ahead_ended, end_ahead, around_ended, name_asks, named_before, give, given_in, word_asks, value_said, value_or_call}
-use Rattle.ga_parser.specs.Asking.Wrong.{LabelTwice, Taken, RegisterTwice}
+use Rattle.ga_parser.specs.Asking.{ParseState, LabelContent, Refusal, refusal_at_line, ◌▷◌, is_marked_label, with_added_label, control, mark, jump, ahead, with_added_request, with_open_words, innermost_loop_label, innermost_ahead_label, end_jump_ahead, outer_loop_label, label_name_requests, known_label_number, set_register_once, register_value_in, word_requests, value_of_word, value_or_call}
+use Rattle.ga_parser.specs.Asking.RefusalCause.{LabelTwice, Taken, RegisterTwice}
 use Rattle.ga_parser.specs.declared.item.RegisterValue.{RegisterValue}
 use Rattle.ga_parser.specs.declared.item.Operand.{Operand}
 use Rattle.ga_parser.specs.declared.vocabulary.Register.{Register as RegisterName}
@@ -53,18 +53,18 @@ last_but_one items d some =
 -- ---- labels that stand
 
 -- one more, which doesn't stand
-pub behind_more : (labels : List Mention) (line : ℕ) (name : List ℕ) (k : ℕ) → is_behind (one_label_more labels line name false) k ≡ is_behind labels k
+pub behind_more : (labels : List LabelContent) (line : ℕ) (name : List ℕ) (k : ℕ) → is_marked_label (with_added_label labels line name false) k ≡ is_marked_label labels k
 behind_more [] line name zero = refl
 behind_more [] line name (suc k) = refl
 behind_more (label ∷ labels) line name zero = refl
 behind_more (label ∷ labels) line name (suc k) = behind_more labels line name k
 
-none_behind : (labels : List Mention) → is_behind labels (length labels) ≡ false
+none_behind : (labels : List LabelContent) → is_marked_label labels (length labels) ≡ false
 none_behind [] = refl
 none_behind (label ∷ labels) = none_behind labels
 
 abbrev marked_or : Bool → ParseState → ℕ → Result ParseState Refusal
-marked_or b after line = cond b (refuse_line line LabelTwice) (Ok after)
+marked_or b after line = cond b (refusal_at_line line LabelTwice) (Ok after)
 
 same_mark : (b : Bool) (after : ParseState) (line : ℕ) → RefusesBy (cond b (Some StandsTwice) None) line (marked_or b after line)
 same_mark true after line = refl
@@ -75,34 +75,34 @@ by_mark a b e after line = subst (λ (t : Bool). RefusesBy (cond a (Some StandsT
 
 -- ---- control words
 
-loop_refused : (now : ParseState) (opened : List Open) (line : ℕ) (asks : ℕ × ParseState → ParseState) → RefusesBy (loop_cause_of (first_open opened)) line (loop_ended now opened line ▷ (λ end. Ok (asks end)))
+loop_refused : (now : ParseState) (opened : List Open) (line : ℕ) (asks : ℕ × ParseState → ParseState) → RefusesBy (loop_cause_of (first_open opened)) line (innermost_loop_label now opened line ▷ (λ end. Ok (asks end)))
 loop_refused now [] line asks = refl
 loop_refused now (Loop l k ∷ around) line asks = refl
 loop_refused now (JumpAhead l k ∷ around) line asks = refl
 
-around_refused : (now : ParseState) (opened : List Open) (line : ℕ) → RefusesBy (loop_cause_of (first_open (around_first opened))) line (around_ended now opened line ▷ (λ end. Ok (jump end.1 line NextOp end.0)))
+around_refused : (now : ParseState) (opened : List Open) (line : ℕ) → RefusesBy (loop_cause_of (first_open (around_first opened))) line (outer_loop_label now opened line ▷ (λ end. Ok (jump end.1 line NextOp end.0)))
 around_refused now [] line = refl
 around_refused now (one ∷ []) line = refl
 around_refused now (one ∷ Loop l k ∷ around) line = refl
 around_refused now (one ∷ JumpAhead l k ∷ around) line = refl
 
-else_refused : (now : ParseState) (opened : List Open) (line : ℕ) → RefusesBy (ahead_cause_of now.labels (first_open opened)) line (ahead_ended now opened line ▷ (λ end. mark (ahead end.1 line JumpOp) line end.0))
+else_refused : (now : ParseState) (opened : List Open) (line : ℕ) → RefusesBy (ahead_cause_of now.labels (first_open opened)) line (innermost_ahead_label now opened line ▷ (λ end. mark (ahead end.1 line JumpOp) line end.0))
 else_refused now [] line = refl
 else_refused now (Loop l k ∷ around) line = refl
-else_refused now (JumpAhead l k ∷ around) line = by_mark (is_behind now.labels k) (is_behind (one_label_more now.labels line [] false) k) (behind_more now.labels line [] k) _ line
+else_refused now (JumpAhead l k ∷ around) line = by_mark (is_marked_label now.labels k) (is_marked_label (with_added_label now.labels line [] false) k) (behind_more now.labels line [] k) _ line
 
-then_refused : (now : ParseState) (opened : List Open) (line : ℕ) → RefusesBy (ahead_cause_of now.labels (first_open opened)) line (ahead_ended now opened line ▷ (λ end. mark end.1 line end.0))
+then_refused : (now : ParseState) (opened : List Open) (line : ℕ) → RefusesBy (ahead_cause_of now.labels (first_open opened)) line (innermost_ahead_label now opened line ▷ (λ end. mark end.1 line end.0))
 then_refused now [] line = refl
 then_refused now (Loop l k ∷ around) line = refl
-then_refused now (JumpAhead l k ∷ around) line = by_mark (is_behind now.labels k) (is_behind now.labels k) refl _ line
+then_refused now (JumpAhead l k ∷ around) line = by_mark (is_marked_label now.labels k) (is_marked_label now.labels k) refl _ line
 
 repeat_refused : (now : ParseState) (opened : List Open) (line : ℕ) → RefusesBy (cause_or (loop_cause_of (first_open opened)) (ahead_cause_of now.labels (first_open (around_first opened)))) line
-    (loop_ended now opened line ▷ (λ end. end_ahead (jump end.1 line JumpOp end.0) line ▷ (λ out. mark out.1 line out.0)))
+    (innermost_loop_label now opened line ▷ (λ end. end_jump_ahead (jump end.1 line JumpOp end.0) line ▷ (λ out. mark out.1 line out.0)))
 repeat_refused now [] line = refl
 repeat_refused now (JumpAhead l k ∷ around) line = refl
 repeat_refused now (Loop l k ∷ []) line = refl
 repeat_refused now (Loop l k ∷ Loop m j ∷ around) line = refl
-repeat_refused now (Loop l k ∷ JumpAhead m j ∷ around) line = by_mark (is_behind now.labels j) (is_behind now.labels j) refl _ line
+repeat_refused now (Loop l k ∷ JumpAhead m j ∷ around) line = by_mark (is_marked_label now.labels j) (is_marked_label now.labels j) refl _ line
 
 pub control_refused : (now : ParseState) (line : ℕ) (word : Control) → RefusesBy (control_cause_of now.labels now.opened word) line (control now line word)
 control_refused now line Begin = refl
@@ -114,41 +114,41 @@ control_refused now line Again = loop_refused now now.opened line (λ end. jump 
 control_refused now line (Until op) = loop_refused now now.opened line (λ end. jump end.1 line op end.0)
 control_refused now line Next = loop_refused now now.opened line (λ end. jump end.1 line NextOp end.0)
 control_refused now line NextAround = around_refused now now.opened line
-control_refused now line Unext = loop_refused now now.opened line (λ end. asking end.1 line (UnextAsked end.0))
-control_refused now line (While op) = loop_refused now now.opened line (λ end. with_open (ahead end.1 line op) (Loop line end.0 ∷ (ahead end.1 line op).opened))
+control_refused now line Unext = loop_refused now now.opened line (λ end. with_added_request end.1 line (UnextAsked end.0))
+control_refused now line (While op) = loop_refused now now.opened line (λ end. with_open_words (ahead end.1 line op) (Loop line end.0 ∷ (ahead end.1 line op).opened))
 control_refused now line Repeat = repeat_refused now now.opened line
 
 -- ---- names
 
 name_by : (now : ParseState) (line : ℕ) (name : List ℕ) (is_taken_name : Bool) (before : Option ℕ) → RefusesBy (cond is_taken_name (Some IsTaken) (twice_cause_of now.labels before)) line
-    (cond is_taken_name (refuse_line line Taken) (mark (record now { labels = option_map_or (λ _. now.labels) before (one_label_more now.labels line name false) }) line (option_map_or (λ k. k) before (length now.labels))))
+    (cond is_taken_name (refusal_at_line line Taken) (mark (record now { labels = option_map_or (λ _. now.labels) before (with_added_label now.labels line name false) }) line (option_map_or (λ k. k) before (length now.labels))))
 name_by now line name true before = refl
-name_by now line name false (Some k) = by_mark (is_behind now.labels k) (is_behind now.labels k) refl _ line
+name_by now line name false (Some k) = by_mark (is_marked_label now.labels k) (is_marked_label now.labels k) refl _ line
 name_by now line name false None =
-    by_mark false (is_behind (one_label_more now.labels line name false) (length now.labels)) (behind_more now.labels line name (length now.labels) ∙ none_behind now.labels) _ line
+    by_mark false (is_marked_label (with_added_label now.labels line name false) (length now.labels)) (behind_more now.labels line name (length now.labels) ∙ none_behind now.labels) _ line
 
-pub name_refused : (now : ParseState) (line : ℕ) (name : List ℕ) → RefusesBy (name_cause_of now.labels name) line (name_asks now line name)
-unfolding name_asks
-name_refused now line name = name_by now line name (is_reserved name) (named_before now.labels name)
+pub name_refused : (now : ParseState) (line : ℕ) (name : List ℕ) → RefusesBy (name_cause_of now.labels name) line (label_name_requests now line name)
+unfolding label_name_requests
+name_refused now line name = name_by now line name (is_reserved name) (known_label_number now.labels name)
 
 -- ---- registers
 
-give_by : (after : ParseState) (line : ℕ) (before : Option RegisterValue) → RefusesBy (given_cause_of before) line (cond (is_none before) (Ok after) (refuse_line line RegisterTwice))
+give_by : (after : ParseState) (line : ℕ) (before : Option RegisterValue) → RefusesBy (given_cause_of before) line (cond (is_none before) (Ok after) (refusal_at_line line RegisterTwice))
 give_by after line None = refl
 give_by after line (Some given) = refl
 
-pub give_refused : (now : ParseState) (line : ℕ) (register : RegisterName) (value : Operand) → RefusesBy (given_cause_of (given_in now.registers register)) line (give now line register value)
-give_refused now line register value = give_by _ line (given_in now.registers register)
+pub give_refused : (now : ParseState) (line : ℕ) (register : RegisterName) (value : Operand) → RefusesBy (given_cause_of (register_value_in now.registers register)) line (set_register_once now line register value)
+give_refused now line register value = give_by _ line (register_value_in now.registers register)
 
 -- ---- a word without arguments
 
 pub control_word_refused : (now : ParseState) (line : ℕ) (word next : List ℕ) (one : Control) (cause : Option SourceCause) → bytes_eq next (codes ",") ≡ false → directive_in word ≡ None → opcode_in word ≡ None → control_in word ≡ Some one
-    → cause ≡ control_cause_of now.labels now.opened one → RefusesBy cause line (word_asks now line word next)
-unfolding word_asks
+    → cause ≡ control_cause_of now.labels now.opened one → RefusesBy cause line (word_requests now line word next)
+unfolding word_requests
 control_word_refused now line word next one cause comma none other is e =
     rw (e, comma, none, other, is) (control_refused now line one)
 
 pub other_word_refused : (now : ParseState) (line : ℕ) (word next : List ℕ) (cause : Option SourceCause) → bytes_eq next (codes ",") ≡ false → directive_in word ≡ None → opcode_in word ≡ None → control_in word ≡ None
-    → RefusesBy cause line (value_said now line word ▷ (λ said. value_or_call said.1 line word next said.0)) → RefusesBy cause line (word_asks now line word next)
-unfolding word_asks
+    → RefusesBy cause line (value_of_word now line word ▷ (λ said. value_or_call said.1 line word next said.0)) → RefusesBy cause line (word_requests now line word next)
+unfolding word_requests
 other_word_refused now line word next cause comma none other is refused = rw (comma, none, other, is) refused

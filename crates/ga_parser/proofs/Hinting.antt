@@ -2,19 +2,19 @@
 use Rattle.std.proofs.Common.{◌≡◌, ◌∙◌, ℕ, ◌+◌, ◌<◌, ◌≤◌, inl, inr, List, [], ◌++◌, length, drop, get_or, Bool, true, false, if◌then◌else◌, Some, sym, ap}
 use Rattle.std.specs.Prelude.{map, bytes_eq}
 use Rattle.std.proofs.lemmas.List.{drop_more, append-nil}
-use Rattle.ga_parser.specs.Vocabulary.{by_name}
-use Rattle.ga_parser.specs.Hints.{first_meant, is_meant}
+use Rattle.ga_parser.specs.Vocabulary.{find_in_table}
+use Rattle.ga_parser.specs.Hints.{first_probable_name, is_probable_name}
 use Rattle.ga_parser.specs.inner.Hinting.{row_of, name_of, is_short_row, is_short_name}
 use Rattle.std.specs.List.{list_all}
 use Rattle.std.proofs.lemmas.List.Folds.{list_all_at}
 use Rattle.std.proofs.lemmas.Bool.{cases_Bool, leb-true, true≢false}
-use Rattle.ga_parser.specs.declared.hint_words.OtherWord.{OtherWord}
+use Rattle.ga_parser.specs.declared.hint_words.ForeignWord.{ForeignWord}
 use Rattle.ga_parser.specs.declared.hint_words.KnownWord.{KnownWord}
 
 pub text_alone : (text : List ℕ) → text ++ ([] ++ []) ≡ text
 text_alone text = append-nil text
 
-pub short_row : (rows : List OtherWord) (i : ℕ) (d : OtherWord) → i < length rows → list_all is_short_row rows ≡ true → length (get_or rows i d).here.now ≤ 64
+pub short_row : (rows : List ForeignWord) (i : ℕ) (d : ForeignWord) → i < length rows → list_all is_short_row rows ≡ true → length (get_or rows i d).here.now ≤ 64
 short_row rows i d within all = elim (cases_Bool (is_short_row (get_or rows i d))) [
   | inl is ↦ leb-true (length (get_or rows i d).here.now) 64 is
   | inr isnt ↦ absurd (true≢false (sym all ∙ list_all_at is_short_row rows i d within isnt))
@@ -26,35 +26,35 @@ short_name names i d within all = elim (cases_Bool (is_short_name (get_or names 
   | inr isnt ↦ absurd (true≢false (sym all ∙ list_all_at is_short_name names i d within isnt))
 ]
 
-row : (word : List ℕ) (rows : List OtherWord) (i : ℕ) (d : OtherWord) → i < length rows → (b : Bool) → b ≡ bytes_eq word (get_or rows i d).word.now
-    → by_name (map row_of (drop i rows)) word ≡ (if b then Some (get_or rows i d).here.now else by_name (map row_of (drop (i + 1) rows)) word)
+row : (word : List ℕ) (rows : List ForeignWord) (i : ℕ) (d : ForeignWord) → i < length rows → (b : Bool) → b ≡ bytes_eq word (get_or rows i d).word.now
+    → find_in_table (map row_of (drop i rows)) word ≡ (if b then Some (get_or rows i d).here.now else find_in_table (map row_of (drop (i + 1) rows)) word)
 row word rows i d within b e =
-    ap (λ z. by_name (map row_of z) word) (drop_more rows i d within)
-    ∙ ap (λ (z : Bool). if z then Some (get_or rows i d).here.now else by_name (map row_of (drop (i + 1) rows)) word) (sym e)
+    ap (λ z. find_in_table (map row_of z) word) (drop_more rows i d within)
+    ∙ ap (λ (z : Bool). if z then Some (get_or rows i d).here.now else find_in_table (map row_of (drop (i + 1) rows)) word) (sym e)
 
-pub row_here : (word : List ℕ) (rows : List OtherWord) (i : ℕ) (d : OtherWord) → i < length rows → (b : Bool) → b ≡ true → b ≡ bytes_eq word (get_or rows i d).word.now
-    → Some (get_or rows i d).here.now ≡ by_name (map row_of (drop i rows)) word
+pub row_here : (word : List ℕ) (rows : List ForeignWord) (i : ℕ) (d : ForeignWord) → i < length rows → (b : Bool) → b ≡ true → b ≡ bytes_eq word (get_or rows i d).word.now
+    → Some (get_or rows i d).here.now ≡ find_in_table (map row_of (drop i rows)) word
 row_here word rows i d within b is e =
-    sym (row word rows i d within b e ∙ ap (λ (z : Bool). if z then Some (get_or rows i d).here.now else by_name (map row_of (drop (i + 1) rows)) word) is)
+    sym (row word rows i d within b e ∙ ap (λ (z : Bool). if z then Some (get_or rows i d).here.now else find_in_table (map row_of (drop (i + 1) rows)) word) is)
 
-pub row_behind : (word : List ℕ) (rows : List OtherWord) (i : ℕ) (d : OtherWord) → i < length rows → (b : Bool) → b ≡ false → b ≡ bytes_eq word (get_or rows i d).word.now
-    → by_name (map row_of (drop (i + 1) rows)) word ≡ by_name (map row_of (drop i rows)) word
+pub row_behind : (word : List ℕ) (rows : List ForeignWord) (i : ℕ) (d : ForeignWord) → i < length rows → (b : Bool) → b ≡ false → b ≡ bytes_eq word (get_or rows i d).word.now
+    → find_in_table (map row_of (drop (i + 1) rows)) word ≡ find_in_table (map row_of (drop i rows)) word
 row_behind word rows i d within b is e =
-    sym (row word rows i d within b e ∙ ap (λ (z : Bool). if z then Some (get_or rows i d).here.now else by_name (map row_of (drop (i + 1) rows)) word) is)
+    sym (row word rows i d within b e ∙ ap (λ (z : Bool). if z then Some (get_or rows i d).here.now else find_in_table (map row_of (drop (i + 1) rows)) word) is)
 
-meant : (word : List ℕ) (names : List KnownWord) (i : ℕ) (d : KnownWord) → i < length names → (b : Bool) → b ≡ is_meant word (get_or names i d).name.now
-    → first_meant word (map name_of (drop i names)) ≡ (if b then Some (get_or names i d).name.now else first_meant word (map name_of (drop (i + 1) names)))
-unfolding first_meant
+meant : (word : List ℕ) (names : List KnownWord) (i : ℕ) (d : KnownWord) → i < length names → (b : Bool) → b ≡ is_probable_name word (get_or names i d).name.now
+    → first_probable_name word (map name_of (drop i names)) ≡ (if b then Some (get_or names i d).name.now else first_probable_name word (map name_of (drop (i + 1) names)))
+unfolding first_probable_name
 meant word names i d within b e =
-    ap (λ z. first_meant word (map name_of z)) (drop_more names i d within)
-    ∙ ap (λ (z : Bool). if z then Some (get_or names i d).name.now else first_meant word (map name_of (drop (i + 1) names))) (sym e)
+    ap (λ z. first_probable_name word (map name_of z)) (drop_more names i d within)
+    ∙ ap (λ (z : Bool). if z then Some (get_or names i d).name.now else first_probable_name word (map name_of (drop (i + 1) names))) (sym e)
 
-pub meant_here : (word : List ℕ) (names : List KnownWord) (i : ℕ) (d : KnownWord) → i < length names → (b : Bool) → b ≡ true → b ≡ is_meant word (get_or names i d).name.now
-    → Some (get_or names i d).name.now ≡ first_meant word (map name_of (drop i names))
+pub meant_here : (word : List ℕ) (names : List KnownWord) (i : ℕ) (d : KnownWord) → i < length names → (b : Bool) → b ≡ true → b ≡ is_probable_name word (get_or names i d).name.now
+    → Some (get_or names i d).name.now ≡ first_probable_name word (map name_of (drop i names))
 meant_here word names i d within b is e =
-    sym (meant word names i d within b e ∙ ap (λ (z : Bool). if z then Some (get_or names i d).name.now else first_meant word (map name_of (drop (i + 1) names))) is)
+    sym (meant word names i d within b e ∙ ap (λ (z : Bool). if z then Some (get_or names i d).name.now else first_probable_name word (map name_of (drop (i + 1) names))) is)
 
-pub meant_behind : (word : List ℕ) (names : List KnownWord) (i : ℕ) (d : KnownWord) → i < length names → (b : Bool) → b ≡ false → b ≡ is_meant word (get_or names i d).name.now
-    → first_meant word (map name_of (drop (i + 1) names)) ≡ first_meant word (map name_of (drop i names))
+pub meant_behind : (word : List ℕ) (names : List KnownWord) (i : ℕ) (d : KnownWord) → i < length names → (b : Bool) → b ≡ false → b ≡ is_probable_name word (get_or names i d).name.now
+    → first_probable_name word (map name_of (drop (i + 1) names)) ≡ first_probable_name word (map name_of (drop i names))
 meant_behind word names i d within b is e =
-    sym (meant word names i d within b e ∙ ap (λ (z : Bool). if z then Some (get_or names i d).name.now else first_meant word (map name_of (drop (i + 1) names))) is)
+    sym (meant word names i d within b e ∙ ap (λ (z : Bool). if z then Some (get_or names i d).name.now else first_probable_name word (map name_of (drop (i + 1) names))) is)

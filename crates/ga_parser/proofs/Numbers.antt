@@ -11,7 +11,7 @@ use Rattle.std.proofs.lemmas.List.{take_all}
 use Rattle.std.proofs.lemmas.List.Folds.{list_all_more, list_all_at}
 use Rattle.std.proofs.lemmas.Int.Digits.{digits_value_more}
 use Rattle.ga_parser.specs.declared.number.Number.TheVariants.{Of, OutOfRange, Nothing}
-use Rattle.ga_parser.specs.Vocabulary.{digits_in, word_of_size, word_below, by_name}
+use Rattle.ga_parser.specs.Vocabulary.{value_of_digits, checked_word, checked_negative_word, find_in_table}
 use Rattle.ga_slots.specs.declared.op.Op.{Op}
 use Rattle.ga_slots.specs.declared.op.Op.TheVariants.{Return}
 use Rattle.ga_slots.specs.Codes.{name_of}
@@ -46,24 +46,24 @@ digits_more base text i n d below two is_n is_d =
 
 -- ---- where the text ends, and where it is no numeral
 
-pub no_digits : (base : ℕ) (text : List ℕ) → length text ≡ 0 → None ≡ option_map (λ n. min n 16777216) (digits_in base text)
+pub no_digits : (base : ℕ) (text : List ℕ) → length text ≡ 0 → None ≡ option_map (λ n. min n 16777216) (value_of_digits base text)
 no_digits base [] none = refl
 no_digits base (b ∷ text) none = absurd (omega arith)
 
-no_numeral : (base : ℕ) (text : List ℕ) → list_all (λ byte. is_digit byte base) text ≡ false → None ≡ option_map (λ n. min n 16777216) (digits_in base text)
+no_numeral : (base : ℕ) (text : List ℕ) → list_all (λ byte. is_digit byte base) text ≡ false → None ≡ option_map (λ n. min n 16777216) (value_of_digits base text)
 no_numeral base [] some = refl
 no_numeral base (b ∷ text) some = rw some refl
 
-pub no_digit : (base : ℕ) (text : List ℕ) (i : ℕ) → i < length text → (digit_value (get_or text i 0) < base → ⊥) → None ≡ option_map (λ n. min n 16777216) (digits_in base text)
+pub no_digit : (base : ℕ) (text : List ℕ) (i : ℕ) → i < length text → (digit_value (get_or text i 0) < base → ⊥) → None ≡ option_map (λ n. min n 16777216) (value_of_digits base text)
 no_digit base text i below none =
     no_numeral base text (list_all_at (λ byte. is_digit byte base) text i 0 below
     (let least : base ≤ digit_value (get_or text i 0) = omega arith in le-ltb (digit_value (get_or text i 0)) base least))
 
-numeral : (base : ℕ) (text : List ℕ) → 0 < length text → list_all (λ byte. is_digit byte base) text ≡ true → digits_in base text ≡ Some (digits_value base text)
+numeral : (base : ℕ) (text : List ℕ) → 0 < length text → list_all (λ byte. is_digit byte base) text ≡ true → value_of_digits base text ≡ Some (digits_value base text)
 numeral base [] some all = absurd (omega arith)
 numeral base (b ∷ text) some all = rw all refl
 
-pub all_digits : (base : ℕ) (text : List ℕ) (i n : ℕ) → 0 < length text → length text ≤ i → list_all (λ byte. is_digit byte base) (take i text) ≡ true → n ≡ min (digits_value base (take i text)) 16777216 → Some n ≡ option_map (λ n. min n 16777216) (digits_in base text)
+pub all_digits : (base : ℕ) (text : List ℕ) (i n : ℕ) → 0 < length text → length text ≤ i → list_all (λ byte. is_digit byte base) (take i text) ≡ true → n ≡ min (digits_value base (take i text)) 16777216 → Some n ≡ option_map (λ n. min n 16777216) (value_of_digits base text)
 all_digits base text i n some end all is_n =
     let whole = take_all i text end in
     ap Some (is_n ∙ ap (λ (front : List ℕ). told (digits_value base front)) whole)
@@ -71,31 +71,31 @@ all_digits base text i n some end all is_n =
 
 -- ---- the truncated number suffices
 
-size_told : (n : ℕ) → word_of_size (told n) ≡ word_of_size n
+size_told : (n : ℕ) → checked_word (told n) ≡ checked_word n
 size_told n = elim (cases_lt n 16777216) [
-  | inl small ↦ let e : min n 16777216 ≡ n = omega arith in ap word_of_size e
+  | inl small ↦ let e : min n 16777216 ≡ n = omega arith in ap checked_word e
   | inr large ↦
       let e : min n 16777216 ≡ 16777216 = omega arith in
       let past : 262144 ≤ n = omega arith in
-      ap word_of_size e ∙ sym (cond-false (ltb n 262144) (Of n) OutOfRange (le-ltb n 262144 past))
+      ap checked_word e ∙ sym (cond-false (ltb n 262144) (Of n) OutOfRange (le-ltb n 262144 past))
 ]
 
-below_told : (n : ℕ) → word_below (told n) ≡ word_below n
+below_told : (n : ℕ) → checked_negative_word (told n) ≡ checked_negative_word n
 below_told n = elim (cases_lt n 16777216) [
-  | inl small ↦ let e : min n 16777216 ≡ n = omega arith in ap word_below e
+  | inl small ↦ let e : min n 16777216 ≡ n = omega arith in ap checked_negative_word e
   | inr large ↦
       let e : min n 16777216 ≡ 16777216 = omega arith in
       let past : 131072 < n = omega arith in
-      ap word_below e ∙ sym (cond-false (leb n 131072) _ OutOfRange (lt-leb n 131072 past))
+      ap checked_negative_word e ∙ sym (cond-false (leb n 131072) _ OutOfRange (lt-leb n 131072 past))
 ]
 
-pub read_size : (number read : Option ℕ) → read ≡ option_map (λ n. min n 16777216) number → option_map_or word_of_size read Nothing ≡ option_map_or word_of_size number Nothing
-read_size None read e = ap (λ (o : Option ℕ). option_map_or word_of_size o Nothing) e
-read_size (Some n) read e = ap (λ (o : Option ℕ). option_map_or word_of_size o Nothing) e ∙ size_told n
+pub read_size : (number read : Option ℕ) → read ≡ option_map (λ n. min n 16777216) number → option_map_or checked_word read Nothing ≡ option_map_or checked_word number Nothing
+read_size None read e = ap (λ (o : Option ℕ). option_map_or checked_word o Nothing) e
+read_size (Some n) read e = ap (λ (o : Option ℕ). option_map_or checked_word o Nothing) e ∙ size_told n
 
-pub read_below : (number read : Option ℕ) → read ≡ option_map (λ n. min n 16777216) number → option_map_or word_below read Nothing ≡ option_map_or word_below number Nothing
-read_below None read e = ap (λ (o : Option ℕ). option_map_or word_below o Nothing) e
-read_below (Some n) read e = ap (λ (o : Option ℕ). option_map_or word_below o Nothing) e ∙ below_told n
+pub read_below : (number read : Option ℕ) → read ≡ option_map (λ n. min n 16777216) number → option_map_or checked_negative_word read Nothing ≡ option_map_or checked_negative_word number Nothing
+read_below None read e = ap (λ (o : Option ℕ). option_map_or checked_negative_word o Nothing) e
+read_below (Some n) read e = ap (λ (o : Option ℕ). option_map_or checked_negative_word o Nothing) e ∙ below_told n
 
 -- ---- opcodes by their own names
 
@@ -109,12 +109,12 @@ rows_left (op ∷ ops) (suc code) within =
     let one : suc code + 1 ≡ suc (code + 1) = omega arith in
     rows_left ops code (omega arith) ∙ ap (λ (k : ℕ). row_of (get_or ops code Return) ∷ drop k (map row_of (op ∷ ops))) (sym one)
 
-module _ (ops : List Op) (code : ℕ) (text name : List ℕ) (within : code < length ops) (is : name ≡ name_of (get_or ops code Return)) (before : by_name (drop code (map row_of ops)) text ≡ by_name (map row_of ops) text) where
-  first : by_name (row_of (get_or ops code Return) ∷ drop (code + 1) (map row_of ops)) text ≡ by_name (map row_of ops) text
-  first = ap (λ (rows : List (List ℕ × Op)). by_name rows text) (sym (rows_left ops code within)) ∙ before
+module _ (ops : List Op) (code : ℕ) (text name : List ℕ) (within : code < length ops) (is : name ≡ name_of (get_or ops code Return)) (before : find_in_table (drop code (map row_of ops)) text ≡ find_in_table (map row_of ops) text) where
+  first : find_in_table (row_of (get_or ops code Return) ∷ drop (code + 1) (map row_of ops)) text ≡ find_in_table (map row_of ops) text
+  first = ap (λ (rows : List (List ℕ × Op)). find_in_table rows text) (sym (rows_left ops code within)) ∙ before
 
-  pub other_row : bytes_eq text name ≡ false → by_name (drop (code + 1) (map row_of ops)) text ≡ by_name (map row_of ops) text
+  pub other_row : bytes_eq text name ≡ false → find_in_table (drop (code + 1) (map row_of ops)) text ≡ find_in_table (map row_of ops) text
   other_row test = sym (cond-false (bytes_eq text (name_of (get_or ops code Return))) _ _ (ap (bytes_eq text) (sym is) ∙ test)) ∙ first
 
-  pub this_row : bytes_eq text name ≡ true → Some (get_or ops code Return) ≡ by_name (map row_of ops) text
+  pub this_row : bytes_eq text name ≡ true → Some (get_or ops code Return) ≡ find_in_table (map row_of ops) text
   this_row test = sym (cond-true (bytes_eq text (name_of (get_or ops code Return))) _ _ (ap (bytes_eq text) (sym is) ∙ test)) ∙ first

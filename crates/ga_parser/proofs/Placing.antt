@@ -2,16 +2,16 @@
 use Rattle.std.proofs.Common.{◌≡◌, ◌∙◌, ℕ, zero, suc, ◌+◌, ◌<◌, List, [], ◌∷◌, ◌++◌, length, take, drop, get_or, slice_index_or, ap, ap₂, sym, refl, arith}
 use Rattle.std.specs.Prelude.{map, true, false, Bool}
 use Rattle.ga_parser.specs.declared.scan.Token.{Token}
-use Rattle.ga_parser.specs.Saying.{TokenContent, PlacedToken, token_content, token_contents, columns_of, at_columns, said_from, columns_from, source_lines, scanned_in}
+use Rattle.ga_parser.specs.Saying.{TokenContent, PlacedToken, token_content, token_contents, token_columns, with_columns, tokens_of_lines, columns_of_lines, source_lines, scanned_tokens}
 use Rattle.ga_parser.specs.inner.Placing.{placed, placed_all}
 use Rattle.ga_parser.specs.Constants.{first_text, without_definitions}
-use Rattle.ga_parser.specs.Groups.{grouped}
-use Rattle.ga_parser.specs.Groups.Beginning.{Nothing}
-use Rattle.ga_parser.specs.Words.{placed_in, all_in, columns_in, once_in}
+use Rattle.ga_parser.specs.Groups.{expand_node_groups}
+use Rattle.ga_parser.specs.Groups.NodeNaming.{Nothing}
+use Rattle.ga_parser.specs.Words.{placed_source_tokens, source_tokens, source_columns, source_tokens_without_copies}
 use Rattle.ga_parser.specs.inner.Drafting.{texts_of}
 
-pub placed_same : (tokens : List Token) → placed_all tokens ≡ at_columns (token_contents tokens) (columns_of tokens)
-unfolding at_columns
+pub placed_same : (tokens : List Token) → placed_all tokens ≡ with_columns (token_contents tokens) (token_columns tokens)
+unfolding with_columns
 placed_same [] = refl
 placed_same (token ∷ tokens) = ap (λ (rest : List PlacedToken). placed token ∷ rest) (placed_same tokens)
 
@@ -19,12 +19,12 @@ pub said_same : (tokens : List Token) → map (λ (one : PlacedToken). one.said)
 said_same [] = refl
 said_same (token ∷ tokens) = ap (λ (rest : List TokenContent). token_content token ∷ rest) (said_same tokens)
 
-pub columns_same : (tokens : List Token) → map (λ (one : PlacedToken). one.column) (placed_all tokens) ≡ columns_of tokens
+pub columns_same : (tokens : List Token) → map (λ (one : PlacedToken). one.column) (placed_all tokens) ≡ token_columns tokens
 columns_same [] = refl
 columns_same (token ∷ tokens) = ap (λ (rest : List ℕ). token.column ∷ rest) (columns_same tokens)
 
-pub scanned_same : (tokens : List Token) (source : List ℕ) → token_contents tokens ≡ said_from 1 (source_lines source) → columns_of tokens ≡ columns_from 1 (source_lines source) → placed_all tokens ≡ scanned_in source
-scanned_same tokens source said columns = placed_same tokens ∙ ap₂ at_columns said columns
+pub scanned_same : (tokens : List Token) (source : List ℕ) → token_contents tokens ≡ tokens_of_lines 1 (source_lines source) → token_columns tokens ≡ columns_of_lines 1 (source_lines source) → placed_all tokens ≡ scanned_tokens source
+scanned_same tokens source said columns = placed_same tokens ∙ ap₂ with_columns said columns
 
 pub first_placed : (tokens : List Token) (k : ℕ) (d : Token) → k < length tokens → placed_all (drop k tokens) ≡ placed (get_or tokens k d) ∷ placed_all (drop (k + 1) tokens)
 first_placed [] k d within = absurd (omega arith)
@@ -49,25 +49,25 @@ front_placed (token ∷ tokens) (suc k) d within =
 
 -- ---- all words of a source
 
-read_by : (whole : Bool) (source : List ℕ) (scanned read all : List Token) → token_contents scanned ≡ said_from 1 (source_lines source) → columns_of scanned ≡ columns_from 1 (source_lines source)
-    → placed_all read ≡ without_definitions (placed_all scanned) → placed_all all ≡ grouped whole Nothing (placed_all read) → placed_all all ≡ grouped whole Nothing (without_definitions (scanned_in source))
-read_by whole source scanned read all said columns constants nodes =
-    nodes ∙ ap (grouped whole Nothing) (constants ∙ ap without_definitions (scanned_same scanned source said columns))
+resolved_by_index : (whole : Bool) (source : List ℕ) (scanned read all : List Token) → token_contents scanned ≡ tokens_of_lines 1 (source_lines source) → token_columns scanned ≡ columns_of_lines 1 (source_lines source)
+    → placed_all read ≡ without_definitions (placed_all scanned) → placed_all all ≡ expand_node_groups whole Nothing (placed_all read) → placed_all all ≡ expand_node_groups whole Nothing (without_definitions (scanned_tokens source))
+resolved_by_index whole source scanned read all said columns constants nodes =
+    nodes ∙ ap (expand_node_groups whole Nothing) (constants ∙ ap without_definitions (scanned_same scanned source said columns))
 
-pub all_read : (source : List ℕ) (scanned read all : List Token) → token_contents scanned ≡ said_from 1 (source_lines source) → columns_of scanned ≡ columns_from 1 (source_lines source)
-    → placed_all read ≡ without_definitions (placed_all scanned) → placed_all all ≡ grouped true Nothing (placed_all read) → token_contents all ≡ all_in source
-unfolding placed_in
+pub all_read : (source : List ℕ) (scanned read all : List Token) → token_contents scanned ≡ tokens_of_lines 1 (source_lines source) → token_columns scanned ≡ columns_of_lines 1 (source_lines source)
+    → placed_all read ≡ without_definitions (placed_all scanned) → placed_all all ≡ expand_node_groups true Nothing (placed_all read) → token_contents all ≡ source_tokens source
+unfolding placed_source_tokens
 all_read source scanned read all said columns constants nodes =
-    sym (said_same all) ∙ ap (map (λ (one : PlacedToken). one.said)) (read_by true source scanned read all said columns constants nodes)
+    sym (said_same all) ∙ ap (map (λ (one : PlacedToken). one.said)) (resolved_by_index true source scanned read all said columns constants nodes)
 
-pub columns_read : (source : List ℕ) (scanned read all : List Token) → token_contents scanned ≡ said_from 1 (source_lines source) → columns_of scanned ≡ columns_from 1 (source_lines source)
-    → placed_all read ≡ without_definitions (placed_all scanned) → placed_all all ≡ grouped true Nothing (placed_all read) → columns_of all ≡ columns_in source
-unfolding placed_in
+pub columns_read : (source : List ℕ) (scanned read all : List Token) → token_contents scanned ≡ tokens_of_lines 1 (source_lines source) → token_columns scanned ≡ columns_of_lines 1 (source_lines source)
+    → placed_all read ≡ without_definitions (placed_all scanned) → placed_all all ≡ expand_node_groups true Nothing (placed_all read) → token_columns all ≡ source_columns source
+unfolding placed_source_tokens
 columns_read source scanned read all said columns constants nodes =
-    sym (columns_same all) ∙ ap (map (λ (one : PlacedToken). one.column)) (read_by true source scanned read all said columns constants nodes)
+    sym (columns_same all) ∙ ap (map (λ (one : PlacedToken). one.column)) (resolved_by_index true source scanned read all said columns constants nodes)
 
-pub once_read : (source : List ℕ) (scanned read all : List Token) → token_contents scanned ≡ said_from 1 (source_lines source) → columns_of scanned ≡ columns_from 1 (source_lines source)
-    → placed_all read ≡ without_definitions (placed_all scanned) → placed_all all ≡ grouped false Nothing (placed_all read) → token_contents all ≡ once_in source
-unfolding once_in
+pub once_read : (source : List ℕ) (scanned read all : List Token) → token_contents scanned ≡ tokens_of_lines 1 (source_lines source) → token_columns scanned ≡ columns_of_lines 1 (source_lines source)
+    → placed_all read ≡ without_definitions (placed_all scanned) → placed_all all ≡ expand_node_groups false Nothing (placed_all read) → token_contents all ≡ source_tokens_without_copies source
+unfolding source_tokens_without_copies
 once_read source scanned read all said columns constants nodes =
-    sym (said_same all) ∙ ap (map (λ (one : PlacedToken). one.said)) (read_by false source scanned read all said columns constants nodes)
+    sym (said_same all) ∙ ap (map (λ (one : PlacedToken). one.said)) (resolved_by_index false source scanned read all said columns constants nodes)

@@ -12,8 +12,8 @@ use Rattle.ga_parser.specs.declared.number.Number.TheVariants.{Of}
 use Rattle.ga_parser.specs.declared.item.Operand.{Operand}
 use Rattle.ga_parser.specs.declared.item.Operand.TheVariants.{Number}
 use Rattle.ga_parser.specs.declared.item.Item.TheVariants.{Cell}
-use Rattle.ga_parser.specs.declared.item.Request.{Request}
-use Rattle.ga_parser.specs.declared.item.Request.TheVariants.{Put, Go}
+use Rattle.ga_parser.specs.declared.item.AssemblyRequest.{AssemblyRequest}
+use Rattle.ga_parser.specs.declared.item.AssemblyRequest.TheVariants.{Put, Go}
 use Rattle.ga_parser.specs.declared.item.RegisterValue.{RegisterValue}
 use Rattle.ga_parser.specs.declared.vocabulary.Directive.{Directive}
 use Rattle.ga_parser.specs.declared.vocabulary.Directive.TheVariants.{Label as Labels, Address as GoesOn, Register as Gives, Fill, Carry}
@@ -26,17 +26,17 @@ use Rattle.ga_parser.specs.declared.draft.Expect.TheVariants.{Word, Address, Nam
 use Rattle.ga_parser.specs.declared.scan.TokenKind.{TokenKind}
 use Rattle.ga_parser.specs.declared.scan.TokenKind.TheVariants.{Word as WordKind, LongLine as LongLineKind, OpenComment as OpenCommentKind, NoNumber as NoNumberKind, Missing as MissingKind, Taken as TakenKind}
 use Rattle.ga_parser.specs.declared.controls.Open.{Open}
-use Rattle.ga_parser.specs.Asking.{Mention, is_waiting, with_carry_bit, ParseState, Refusal, asking as asks, nothing_asked, by_range, value_said, cell, directive, word_asks, named_word, address_asks, register_asks, given_in, with_given, hear as hear_asking, expected, of_kind, asked_from, asked_by_words, finished, all_closed, all_placed, next_text, ◌▷◌, mention_of}
-use Rattle.ga_parser.specs.Asking.Wrong.{LongLine, OpenComment, NoNumber, Missing, Taken}
+use Rattle.ga_parser.specs.Asking.{LabelContent, expects_operand, with_carry_bit, ParseState, Refusal, with_added_request as asks, initial_parse_state, if_number_in_range, value_of_word, cell, directive, word_requests, directive_or_word, org_requests, register_requests, register_value_in, with_register_value, parse_one_word as hear_asking, expected_word_requests, requests_if_word, parse_words_from, requests_of_words, finished_parse, refuse_unclosed, refuse_unplaced, next_text, ◌▷◌, label_content}
+use Rattle.ga_parser.specs.Asking.RefusalCause.{LongLine, OpenComment, NoNumber, Missing, Taken}
 use Rattle.ga_parser.specs.Saying.{TokenContent, token_content, token_contents}
 use Rattle.ga_ports.specs.Steps.{◌>>=◌}
-use Rattle.ga_parser.specs.Vocabulary.{by_name, has_prefix, number_by_word, directives, directive_in, bound_of, range_of}
-use Rattle.ga_parser.specs.Plain.{Plain, with_request, by_number, only_if, is_cell, asked_by, value_in, plain_of, no_request}
-use Rattle.ga_parser.specs.inner.Drafting.{Heard, HasHeard, nothing_heard, end_of, with_register, may_give, next_of, hear_word, hear, hear_all, texts_of}
+use Rattle.ga_parser.specs.Vocabulary.{find_in_table, has_prefix, number_of_word, directive_words, directive_in, register_bound, register_range}
+use Rattle.ga_parser.specs.Plain.{Plain, with_request, if_number, value_if, is_cell_address, as_plain_requests, value_in, plain_requests_of, no_request}
+use Rattle.ga_parser.specs.inner.Drafting.{Heard, HasHeard, nothing_heard, end_of, with_register, may_give, next_of, hear_word, parse_one_word, hear_all, texts_of}
 use Rattle.ga_parser.specs.declared.labels.Label.{Label}
 use Rattle.ga_parser.specs.declared.scan.Token.{Token}
 use Rattle.ga_parser.specs.declared.item.NodeRequests.{NodeRequests}
-use Rattle.ga_parser.specs.Requests.{AreRequestsOf}
+use Rattle.ga_parser.specs.Requests.{AreRequestsOfWords}
 use Rattle.ga_parser.proofs.Hearing.{no_some, some_same, no_label, numbered, allowed, not_carried, same_text, hear_plain, end_heard}
 
 -- the words ask for this, which is what was heard
@@ -45,20 +45,20 @@ record IsHeard (outcome : Result ParseState Refusal) (after : Heard) : Type 0 wh
   pub is : outcome ≡ Ok later
   pub has : HasHeard later after
 
-heard_as : (outcome : Result ParseState Refusal) (later : ParseState) (expected after : Heard) → outcome ≡ Ok later → HasHeard later expected → expected ≡ after → IsHeard outcome after
-heard_as outcome later expected after is has e = record { later = later; is = is; has = subst (λ (h : Heard). HasHeard later h) e has }
+heard_as : (outcome : Result ParseState Refusal) (later : ParseState) (expected_word_requests after : Heard) → outcome ≡ Ok later → HasHeard later expected_word_requests → expected_word_requests ≡ after → IsHeard outcome after
+heard_as outcome later expected_word_requests after is has e = record { later = later; is = is; has = subst (λ (h : Heard). HasHeard later h) e has }
 
 -- ---- numbers
 
-in_range : {X : Type 0} (word : List ℕ) (line n : ℕ) (range : NumberRange) (asks : ℕ → Result X Refusal) (other : Result X Refusal) → number_by_word word ≡ Of n → by_range (number_by_word word) line word range asks other ≡ asks n
-in_range word line n range asks other is = ap (λ (found : NumberIn). by_range found line word range asks other) is
+in_range : {X : Type 0} (word : List ℕ) (line n : ℕ) (range : NumberRange) (asks : ℕ → Result X Refusal) (other : Result X Refusal) → number_of_word word ≡ Of n → if_number_in_range (number_of_word word) line word range asks other ≡ asks n
+in_range word line n range asks other is = ap (λ (found : NumberIn). if_number_in_range found line word range asks other) is
 
 quoted_first : (word : List ℕ) → has_prefix word (codes "'") ≡ true → slice_index_or word 0 0 ≡ 39
 quoted_first [] e = absurd (true≢false (sym e))
 quoted_first (b ∷ word) e = ap (λ (t : List ℕ). slice_index_or t 0 0) (same_text (take 1 (b ∷ word)) (codes "'") e)
 
-number_said : (now : ParseState) (line n : ℕ) (word : List ℕ) → number_by_word word ≡ Of n → value_said now line word ≡ Ok (Some (Number n), now)
-unfolding value_said
+number_said : (now : ParseState) (line n : ℕ) (word : List ℕ) → number_of_word word ≡ Of n → value_of_word now line word ≡ Ok (Some (Number n), now)
+unfolding value_of_word
 number_said now line n word is = elim (cases_Bool (has_prefix word (codes "'"))) [
   | inl quoted ↦ absurd (no_label word n (quoted_first word quoted) is)
   | inr other ↦ cond-false (has_prefix word (codes "'")) _ _ other ∙ in_range word line n ToWord _ _ is
@@ -88,56 +88,56 @@ none_given : (o : Option RegisterValue) (given : Option Operand) → value_in o 
 none_given None given e none = refl
 none_given (Some one) given e none = absurd (true≢false (sym (ap is_none e ∙ none)))
 
-cell_small : (n : ℕ) → is_cell n ≡ true → n < 512
+cell_small : (n : ℕ) → is_cell_address n ≡ true → n < 512
 cell_small n is = grind (arith, nat_tests)
 
 module _ (now : ParseState) (heard : Heard) (has : HasHeard now heard) where
   next_has : (e : Expect) → HasHeard (record now { expect = e }) (record { expect = e; plain = heard.plain })
   next_has e = record { expect = refl; plain = has.plain; names = has.names; opened = has.opened; carries = has.carries }
 
-  asks_has : (e : Expect) (line : ℕ) (request : Request) → HasHeard (asks (record now { expect = e }) line request) (record { expect = e; plain = with_request heard.plain request })
+  asks_has : (e : Expect) (line : ℕ) (request : AssemblyRequest) → HasHeard (asks (record now { expect = e }) line request) (record { expect = e; plain = with_request heard.plain request })
   asks_has e line request = record {
     expect = refl;
-    plain = ap (λ (list : List Request). record (asked_by now.asked now.registers) { requests = list }) (map-append (λ one. one.request) now.asked (record { line = line; request = request } ∷ []))
+    plain = ap (λ (list : List AssemblyRequest). record (as_plain_requests now.asked now.registers) { requests = list }) (map-append (λ one. one.request) now.asked (record { line = line; request = request } ∷ []))
         ∙ ap (λ (p : Plain). with_request p request) has.plain;
     names = has.names;
     opened = has.opened;
     carries = has.carries;
   }
 
-  directive_heard : (line : ℕ) (word next : List ℕ) (after : Heard) (o : Option Directive) → directive_in word ≡ o → bytes_eq next (codes ",") ≡ false → ((o >>= next_of) >>= (λ e. Some (record { expect = e; plain = heard.plain }))) ≡ Some after → IsHeard (word_asks now line word next) after
-  unfolding word_asks
+  directive_heard : (line : ℕ) (word next : List ℕ) (after : Heard) (o : Option Directive) → directive_in word ≡ o → bytes_eq next (codes ",") ≡ false → ((o >>= next_of) >>= (λ e. Some (record { expect = e; plain = heard.plain }))) ≡ Some after → IsHeard (word_requests now line word next) after
+  unfolding word_requests
   directive_heard line word next after None named other is = absurd (no_some is)
   directive_heard line word next after (Some d) named other is =
       let e = is_next heard d after is in
       heard_as _ (record now { expect = e.0 }) _ after
-      (cond-false (bytes_eq next (codes ",")) _ _ other ∙ (ap (named_word now line word next) named ∙ ap (λ (a : ParseState). let r : Result ParseState Refusal = Ok a in r) (directive_next now line d e.0 e.1)))
+      (cond-false (bytes_eq next (codes ",")) _ _ other ∙ (ap (directive_or_word now line word next) named ∙ ap (λ (a : ParseState). let r : Result ParseState Refusal = Ok a in r) (directive_next now line d e.0 e.1)))
       (next_has e.0) e.2
 
-  word_heard : (line : ℕ) (word next : List ℕ) (after : Heard) → hear_word heard.plain word next ≡ Some after → IsHeard (word_asks now line word next) after
-  unfolding word_asks directive_in
+  word_heard : (line : ℕ) (word next : List ℕ) (after : Heard) → hear_word heard.plain word next ≡ Some after → IsHeard (word_requests now line word next) after
+  unfolding word_requests directive_in
   word_heard line word next after is = elim (cases_Bool (bytes_eq next (codes ","))) [
     | inl comma ↦
-        let number = numbered (number_by_word word) (λ n. Some (record { expect = Nothing; plain = with_request heard.plain (Put (Cell (Number n))) })) after
+        let number = numbered (number_of_word word) (λ n. Some (record { expect = Nothing; plain = with_request heard.plain (Put (Cell (Number n))) })) after
         (sym (cond-true (bytes_eq next (codes ",")) _ _ comma) ∙ is) in
         heard_as _ (asks (record now { expect = Nothing }) line (Put (Cell (Number number.n)))) _ after
         (cond-true (bytes_eq next (codes ",")) _ _ comma ∙ ap (λ (r : Result (Option Operand × ParseState) Refusal). r ▷ (λ said. cell said.1 line said.0)) (number_said now line number.n word number.is))
         (asks_has Nothing line (Put (Cell (Number number.n)))) (some_same _ after number.gives)
     | inr other ↦
-        directive_heard line word next after (by_name directives word) refl other (sym (cond-false (bytes_eq next (codes ",")) _ _ other) ∙ is)
+        directive_heard line word next after (find_in_table directive_words word) refl other (sym (cond-false (bytes_eq next (codes ",")) _ _ other) ∙ is)
   ]
 
-  address_heard : (line : ℕ) (word : List ℕ) (after : Heard) → by_number (number_by_word word) (λ n. only_if (is_cell n) (record { expect = Word; plain = with_request heard.plain (Go n) })) ≡ Some after → IsHeard (address_asks (record now { expect = Word }) line word) after
-  unfolding address_asks
+  address_heard : (line : ℕ) (word : List ℕ) (after : Heard) → if_number (number_of_word word) (λ n. value_if (is_cell_address n) (record { expect = Word; plain = with_request heard.plain (Go n) })) ≡ Some after → IsHeard (org_requests (record now { expect = Word }) line word) after
+  unfolding org_requests
   address_heard line word after is =
-      let number = numbered (number_by_word word) (λ n. only_if (is_cell n) (record { expect = Word; plain = with_request heard.plain (Go n) })) after is in
-      let may = allowed (is_cell number.n) _ after number.gives in
+      let number = numbered (number_of_word word) (λ n. value_if (is_cell_address n) (record { expect = Word; plain = with_request heard.plain (Go n) })) after is in
+      let may = allowed (is_cell_address number.n) _ after number.gives in
       let small : with_carry_bit now.carries number.n ≡ number.n = not_carried number.n now.carries has.carries (cell_small number.n may.0) in
       heard_as _ (asks (record now { expect = Word }) line (Go number.n)) _ after
-      (in_range word line number.n ToCell _ _ number.is ∙ (cond-true (is_cell number.n) _ _ may.0 ∙ ap (λ (n : ℕ). let r : Result ParseState Refusal = Ok (asks (record now { expect = Word }) line (Go n)) in r) small))
+      (in_range word line number.n ToCell _ _ number.is ∙ (cond-true (is_cell_address number.n) _ _ may.0 ∙ ap (λ (n : ℕ). let r : Result ParseState Refusal = Ok (asks (record now { expect = Word }) line (Go n)) in r) small))
       (asks_has Word line (Go number.n)) may.1
 
-  given_heard : (line n : ℕ) (register : RegisterName) → may_give heard.plain register n ≡ true → (nat_lt n (bound_of register) ≡ true) × (is_none (given_in now.registers register) ≡ true) × HasHeard (record now { expect = Word; registers = with_given now.registers register (record { line = line; value = Number n }) }) (record { expect = Word; plain = with_register heard.plain register n })
+  given_heard : (line n : ℕ) (register : RegisterName) → may_give heard.plain register n ≡ true → (nat_lt n (register_bound register) ≡ true) × (is_none (register_value_in now.registers register) ≡ true) × HasHeard (record now { expect = Word; registers = with_register_value now.registers register (record { line = line; value = Number n }) }) (record { expect = Word; plain = with_register heard.plain register n })
   given_heard line n P may = (
     (both (is_none heard.plain.p) (nat_lt n 0x400) may).1,
     none_given now.registers.p heard.plain.p (ap (λ (p : Plain). p.p) has.plain) (both (is_none heard.plain.p) (nat_lt n 0x400) may).0,
@@ -154,18 +154,18 @@ module _ (now : ParseState) (heard : Heard) (has : HasHeard now heard) where
     record { expect = refl; plain = ap (λ (p : Plain). record p { b = Some (Number n) }) has.plain; names = has.names; opened = has.opened; carries = has.carries },
   )
 
-  register_heard : (line : ℕ) (register : RegisterName) (word : List ℕ) (after : Heard) → by_number (number_by_word word) (λ n. only_if (may_give heard.plain register n) (record { expect = Word; plain = with_register heard.plain register n })) ≡ Some after → IsHeard (register_asks (record now { expect = Word }) line register word) after
-  unfolding register_asks
+  register_heard : (line : ℕ) (register : RegisterName) (word : List ℕ) (after : Heard) → if_number (number_of_word word) (λ n. value_if (may_give heard.plain register n) (record { expect = Word; plain = with_register heard.plain register n })) ≡ Some after → IsHeard (register_requests (record now { expect = Word }) line register word) after
+  unfolding register_requests
   register_heard line register word after is =
-      let number = numbered (number_by_word word) (λ n. only_if (may_give heard.plain register n) (record { expect = Word; plain = with_register heard.plain register n })) after is in
+      let number = numbered (number_of_word word) (λ n. value_if (may_give heard.plain register n) (record { expect = Word; plain = with_register heard.plain register n })) after is in
       let may = allowed (may_give heard.plain register number.n) _ after number.gives in
       let given = given_heard line number.n register may.0 in
-      heard_as _ (record now { expect = Word; registers = with_given now.registers register (record { line = line; value = Number number.n }) }) _ after
-      (in_range word line number.n (range_of register) _ _ number.is ∙ (cond-true (nat_lt number.n (bound_of register)) _ _ given.0 ∙ cond-true (is_none (given_in now.registers register)) _ _ given.1))
+      heard_as _ (record now { expect = Word; registers = with_register_value now.registers register (record { line = line; value = Number number.n }) }) _ after
+      (in_range word line number.n (register_range register) _ _ number.is ∙ (cond-true (nat_lt number.n (register_bound register)) _ _ given.0 ∙ cond-true (is_none (register_value_in now.registers register)) _ _ given.1))
       given.2 may.1
 
 -- one word, by what is expected
-expected_heard : (now : ParseState) (heard after : Heard) (e : Expect) (line : ℕ) (word next : List ℕ) → HasHeard now heard → heard.expect ≡ e → hear (record heard { expect = e }) word next ≡ Some after → IsHeard (expected (record now { expect = Word }) e line word next) after
+expected_heard : (now : ParseState) (heard after : Heard) (e : Expect) (line : ℕ) (word next : List ℕ) → HasHeard now heard → heard.expect ≡ e → parse_one_word (record heard { expect = e }) word next ≡ Some after → IsHeard (expected_word_requests (record now { expect = Word }) e line word next) after
 expected_heard now heard after Word line word next has e is =
     word_heard (record now { expect = Word }) (record heard { expect = Word }) (next_has now heard has Word) line word next after is
 expected_heard now heard after Address line word next has e is = address_heard now heard has line word after is
@@ -173,41 +173,41 @@ expected_heard now heard after Name line word next has e is = absurd (no_some is
 expected_heard now heard after (Register register) line word next has e is = register_heard now heard has line register word after is
 expected_heard now heard after Nothing line word next has e is = heard_as _ (record now { expect = Word }) _ after refl (next_has now heard has Word) (some_same _ after is)
 
-one_word : (now : ParseState) (heard after : Heard) (said : TokenContent) (next : List ℕ) → said.kind ≡ WordKind → HasHeard now heard → hear heard said.text next ≡ Some after → IsHeard (hear_asking now said next) after
+one_word : (now : ParseState) (heard after : Heard) (said : TokenContent) (next : List ℕ) → said.kind ≡ WordKind → HasHeard now heard → parse_one_word heard said.text next ≡ Some after → IsHeard (hear_asking now said next) after
 one_word now heard after said next kind has is =
     let there = expected_heard now heard after heard.expect said.line said.text next has refl is in
     heard_as _ there.later after after
-    (ap (λ (k : TokenKind). of_kind k said.line (expected (record now { expect = Word }) now.expect said.line said.text next)) kind
-    ∙ (ap (λ (e : Expect). expected (record now { expect = Word }) e said.line said.text next) has.expect ∙ there.is)) there.has refl
+    (ap (λ (k : TokenKind). requests_if_word k said.line (expected_word_requests (record now { expect = Word }) now.expect said.line said.text next)) kind
+    ∙ (ap (λ (e : Expect). expected_word_requests (record now { expect = Word }) e said.line said.text next) has.expect ∙ there.is)) there.has refl
 
 -- ---- all words
 
 -- what plain words ask for: this, or a line has a fault
 abbrev pub AsksPlain : Result ParseState Refusal → Plain → List TokenContent → Type 0
-AsksPlain outcome all words = MatchResult outcome (λ end. (asked_by end.asked end.registers ≡ all) × (end.labels ≡ [])) (λ refusal. All (λ said. said.kind ≡ WordKind) words → ⊥)
+AsksPlain outcome all words = MatchResult outcome (λ end. (as_plain_requests end.asked end.registers ≡ all) × (end.labels ≡ [])) (λ refusal. All (λ said. said.kind ≡ WordKind) words → ⊥)
 
 abbrev pub texts : List TokenContent → List (List ℕ)
 texts words = map (λ said. said.text) words
 
-none_open : (now : ParseState) (opened : List Open) → opened ≡ [] → all_closed now opened ≡ Ok now
-unfolding all_closed
-none_open now opened none = ap (all_closed now) none
+none_open : (now : ParseState) (opened : List Open) → opened ≡ [] → refuse_unclosed now opened ≡ Ok now
+unfolding refuse_unclosed
+none_open now opened none = ap (refuse_unclosed now) none
 
-none_named : (now : ParseState) (labels : List Mention) → labels ≡ [] → all_placed now labels ≡ Ok now
-unfolding all_placed
-none_named now labels none = ap (all_placed now) none
+none_named : (now : ParseState) (labels : List LabelContent) → labels ≡ [] → refuse_unplaced now labels ≡ Ok now
+unfolding refuse_unplaced
+none_named now labels none = ap (refuse_unplaced now) none
 
-ready : (e : Expect) (plain all : Plain) → end_of (record { expect = e; plain = plain }) ≡ Some all → is_waiting e ≡ false
+ready : (e : Expect) (plain all : Plain) → end_of (record { expect = e; plain = plain }) ≡ Some all → expects_operand e ≡ false
 ready Word plain all is = refl
 ready Address plain all is = absurd (no_some is)
 ready Name plain all is = absurd (no_some is)
 ready (Register register) plain all is = absurd (no_some is)
 ready Nothing plain all is = refl
 
-end_asked : (now : ParseState) (heard : Heard) (last : ℕ) (all : Plain) → HasHeard now heard → end_of heard ≡ Some all → finished now last ≡ Ok now
+end_asked : (now : ParseState) (heard : Heard) (last : ℕ) (all : Plain) → HasHeard now heard → end_of heard ≡ Some all → finished_parse now last ≡ Ok now
 end_asked now heard last all has is =
-    cond-false (is_waiting now.expect) _ _ (ap is_waiting has.expect ∙ ready heard.expect heard.plain all is)
-    ∙ (ap (λ (r : Result ParseState Refusal). r ▷ (λ closed. all_placed closed closed.labels)) (none_open now now.opened has.opened)
+    cond-false (expects_operand now.expect) _ _ (ap expects_operand has.expect ∙ ready heard.expect heard.plain all is)
+    ∙ (ap (λ (r : Result ParseState Refusal). r ▷ (λ closed. refuse_unplaced closed closed.labels)) (none_open now now.opened has.opened)
     ∙ none_named now now.labels has.names)
 
 next_same : (words : List TokenContent) → slice_index_or (texts words) 0 [] ≡ next_text words
@@ -226,7 +226,7 @@ more_words : (outcome : Result ParseState Refusal) (all : Plain) (said : TokenCo
 more_words (Ok end) all said words h = h
 more_words (Err refusal) all said words h = λ kinds. h (All-tail (λ said. said.kind ≡ WordKind) said words kinds)
 
-kind_cases : (kind : TokenKind) (line : ℕ) (asks : Result ParseState Refusal) → (kind ≡ WordKind) ⊎ ((kind ≡ WordKind → ⊥) × (refusal : Refusal) × (of_kind kind line asks ≡ Err refusal))
+kind_cases : (kind : TokenKind) (line : ℕ) (asks : Result ParseState Refusal) → (kind ≡ WordKind) ⊎ ((kind ≡ WordKind → ⊥) × (refusal : Refusal) × (requests_if_word kind line asks ≡ Err refusal))
 kind_cases WordKind line asks = inl refl
 kind_cases LongLineKind line asks = inr ((λ e. no_some (ap is_a_word e)), record { line = line; wrong = LongLine }, refl)
 kind_cases OpenCommentKind line asks = inr ((λ e. no_some (ap is_a_word e)), record { line = line; wrong = OpenComment }, refl)
@@ -236,67 +236,67 @@ kind_cases TakenKind line asks = inr ((λ e. no_some (ap is_a_word e)), record {
 
 -- the first word is heard, or has a fault of its line
 first_word : (now : ParseState) (heard : Heard) (last : ℕ) (said : TokenContent) (words : List TokenContent) (all : Plain)
-    → ((now : ParseState) (heard : Heard) → HasHeard now heard → hear_all heard (texts words) ≡ Some all → AsksPlain (asked_from now said.line words) all words)
-    → (o : Option Heard) → hear heard said.text (slice_index_or (texts words) 0 []) ≡ o → (o >>= (λ now. hear_all now (texts words))) ≡ Some all
-    → HasHeard now heard → AsksPlain (asked_from now last (said ∷ words)) all (said ∷ words)
-unfolding asked_from
+    → ((now : ParseState) (heard : Heard) → HasHeard now heard → hear_all heard (texts words) ≡ Some all → AsksPlain (parse_words_from now said.line words) all words)
+    → (o : Option Heard) → parse_one_word heard said.text (slice_index_or (texts words) 0 []) ≡ o → (o >>= (λ now. hear_all now (texts words))) ≡ Some all
+    → HasHeard now heard → AsksPlain (parse_words_from now last (said ∷ words)) all (said ∷ words)
+unfolding parse_words_from
 first_word now heard last said words all again None is more has = absurd (no_some more)
 first_word now heard last said words all again (Some after) is more has =
-    elim (kind_cases said.kind said.line (expected (record now { expect = Word }) now.expect said.line said.text (next_text words))) [
+    elim (kind_cases said.kind said.line (expected_word_requests (record now { expect = Word }) now.expect said.line said.text (next_text words))) [
       | inl word ↦
-          let one = one_word now heard after said (next_text words) word has (ap (hear heard said.text) (sym (next_same words)) ∙ is) in
+          let one = one_word now heard after said (next_text words) word has (ap (parse_one_word heard said.text) (sym (next_same words)) ∙ is) in
           let rest = again one.later after one.has more in
-          subst (λ (r : Result ParseState Refusal). AsksPlain r all (said ∷ words)) (sym (ap (λ (r : Result ParseState Refusal). r ▷ (λ after. asked_from after said.line words)) one.is))
-          (more_words (asked_from one.later said.line words) all said words rest)
+          subst (λ (r : Result ParseState Refusal). AsksPlain r all (said ∷ words)) (sym (ap (λ (r : Result ParseState Refusal). r ▷ (λ after. parse_words_from after said.line words)) one.is))
+          (more_words (parse_words_from one.later said.line words) all said words rest)
       | inr fault ↦
-          subst (λ (r : Result ParseState Refusal). AsksPlain r all (said ∷ words)) (sym (ap (λ (r : Result ParseState Refusal). r ▷ (λ after. asked_from after said.line words)) fault.2))
+          subst (λ (r : Result ParseState Refusal). AsksPlain r all (said ∷ words)) (sym (ap (λ (r : Result ParseState Refusal). r ▷ (λ after. parse_words_from after said.line words)) fault.2))
           (λ kinds. fault.0 (kinds 0 said (omega arith)))
     ]
 
-plain_from_here : (words : List TokenContent) (now : ParseState) (heard : Heard) (last : ℕ) (all : Plain) → HasHeard now heard → hear_all heard (texts words) ≡ Some all → AsksPlain (asked_from now last words) all words
-unfolding asked_from hear_all
+plain_from_here : (words : List TokenContent) (now : ParseState) (heard : Heard) (last : ℕ) (all : Plain) → HasHeard now heard → hear_all heard (texts words) ≡ Some all → AsksPlain (parse_words_from now last words) all words
+unfolding parse_words_from hear_all
 plain_from_here [] now heard last all has is =
     subst (λ (r : Result ParseState Refusal). AsksPlain r all []) (sym (end_asked now heard last all has is)) (has.plain ∙ end_heard heard all is, has.names)
 plain_from_here (said ∷ words) now heard last all has is =
-    first_word now heard last said words all (λ n h. plain_from_here words n h said.line all) (hear heard said.text (slice_index_or (texts words) 0 [])) refl is has
+    first_word now heard last said words all (λ n h. plain_from_here words n h said.line all) (parse_one_word heard said.text (slice_index_or (texts words) 0 [])) refl is has
 
-nothing_heard_yet : HasHeard nothing_asked nothing_heard
+nothing_heard_yet : HasHeard initial_parse_state nothing_heard
 nothing_heard_yet = record { expect = refl; plain = refl; names = refl; opened = refl; carries = refl }
 
-pub plain_asks : (line : ℕ) (words : List TokenContent) (all : Plain) → plain_of (texts words) ≡ Some all → AsksPlain (asked_by_words line words) all words
-plain_asks line words all is = plain_from_here words nothing_asked nothing_heard line all nothing_heard_yet (hear_plain (texts words) no_request all is)
+pub plain_asks : (line : ℕ) (words : List TokenContent) (all : Plain) → plain_requests_of (texts words) ≡ Some all → AsksPlain (requests_of_words line words) all words
+plain_asks line words all is = plain_from_here words initial_parse_state nothing_heard line all nothing_heard_yet (hear_plain (texts words) no_request all is)
 
 -- ---- the same of requests
 
 kinds_said : (tokens : List Token) → All (λ token. token.kind ≡ WordKind) tokens → All (λ said. said.kind ≡ WordKind) (token_contents tokens)
 kinds_said tokens kinds = All-map (λ said. said.kind ≡ WordKind) token_content tokens kinds
 
-abbrev has_some : List Mention → Type 0
+abbrev has_some : List LabelContent → Type 0
 has_some [] = ⊥
 has_some (label ∷ labels) = Unit {0}
 
-some_names : {label : Mention} {labels : List Mention} → label ∷ labels ≡ [] → ⊥
+some_names : {label : LabelContent} {labels : List LabelContent} → label ∷ labels ≡ [] → ⊥
 some_names e = subst has_some e tt
 
 pub map_map : (tokens : List Token) → map (λ said. said.text) (token_contents tokens) ≡ texts_of tokens
 map_map [] = refl
 map_map (token ∷ tokens) = ap (λ (rest : List (List ℕ)). token.text.now ∷ rest) (map_map tokens)
 
-no_names : (items : List Label) (labels : List Mention) → map mention_of items ≡ labels → labels ≡ [] → items ≡ []
+no_names : (items : List Label) (labels : List LabelContent) → map label_content items ≡ labels → labels ≡ [] → items ≡ []
 no_names [] labels e none = refl
 no_names (label ∷ items) labels e none = absurd (some_names (e ∙ none))
 
-module _ (line : ℕ) (tokens : List Token) (all : Plain) (is : plain_of (texts_of tokens) ≡ Some all) where
-  asks_plain : AsksPlain (asked_by_words line (token_contents tokens)) all (token_contents tokens)
-  asks_plain = plain_asks line (token_contents tokens) all (ap plain_of (map_map tokens) ∙ is)
+module _ (line : ℕ) (tokens : List Token) (all : Plain) (is : plain_requests_of (texts_of tokens) ≡ Some all) where
+  asks_plain : AsksPlain (requests_of_words line (token_contents tokens)) all (token_contents tokens)
+  asks_plain = plain_asks line (token_contents tokens) all (ap plain_requests_of (map_map tokens) ∙ is)
 
-  plain_end : (last : ParseState) → asked_by_words line (token_contents tokens) ≡ Ok last → (asked_by last.asked last.registers ≡ all) × (last.labels ≡ [])
+  plain_end : (last : ParseState) → requests_of_words line (token_contents tokens) ≡ Ok last → (as_plain_requests last.asked last.registers ≡ all) × (last.labels ≡ [])
   plain_end last e = subst (λ (r : Result ParseState Refusal). AsksPlain r all (token_contents tokens)) e asks_plain
 
-  pub plain_told : (requests : NodeRequests) → AreRequestsOf line (token_contents tokens) requests → (asked_by requests.asked.items requests.registers ≡ all) × (requests.names.items ≡ [])
+  pub plain_told : (requests : NodeRequests) → AreRequestsOfWords line (token_contents tokens) requests → (as_plain_requests requests.asked.items requests.registers ≡ all) × (requests.names.items ≡ [])
   plain_told requests of =
       let end = plain_end of.last of.asks in
       (rw (of.asked, of.registers) end.0, no_names requests.names.items of.last.labels of.names end.1)
 
-  pub plain_untold : (refusal : Refusal) → asked_by_words line (token_contents tokens) ≡ Err refusal → All (λ token. token.kind ≡ WordKind) tokens → ⊥
+  pub plain_untold : (refusal : Refusal) → requests_of_words line (token_contents tokens) ≡ Err refusal → All (λ token. token.kind ≡ WordKind) tokens → ⊥
   plain_untold refusal e kinds = subst (λ (r : Result ParseState Refusal). AsksPlain r all (token_contents tokens)) e asks_plain (kinds_said tokens kinds)

@@ -5,28 +5,28 @@ use Rattle.std.specs.List.{list_all}
 use Rattle.std.proofs.lemmas.Bool.{cond-true, cond-false, both_ways, and_parts, cases_Bool, le-ltb, lt-ltb}
 use Rattle.ga_text.specs.Lines.{with_byte, lines_of}
 use Rattle.ga_parser.specs.declared.scan.TokenKind.TheVariants.{LongLine, OpenComment}
-use Rattle.ga_parser.specs.Saying.{parted, is_blank, source_lines, has_bytes, source_words, longest_source_line, bare, TokenContent, a_word, a_fault, is_word, closes, spoken, said_by, up_to_fault, next_line, said_from, part_column, columns_spoken, columns_by, columns_from}
+use Rattle.ga_parser.specs.Saying.{parts_ended_by, is_blank, source_lines, has_bytes, source_words, max_source_line_bytes, stripped_source_line, TokenContent, word_token, line_fault_token, is_word, is_comment_end, tokens_of_words, tokens_of_line, tokens_until_fault, next_line_number, tokens_of_lines, part_column, columns_of_parts, columns_of_line, columns_of_lines}
 use Rattle.ga_parser.specs.inner.Drafting.{IsTold}
 
 -- ---- parts
 
 -- a byte that doesn't end it belongs to the part
-pub past_byte : (ends : ℕ → Bool) (b : ℕ) (text : List ℕ) → ends b ≡ false → parted ends (b ∷ text) ≡ with_byte b (parted ends text)
-unfolding parted
+pub past_byte : (ends : ℕ → Bool) (b : ℕ) (text : List ℕ) → ends b ≡ false → parts_ended_by ends (b ∷ text) ≡ with_byte b (parts_ended_by ends text)
+unfolding parts_ended_by
 past_byte ends b text other = rw other refl
 
 -- the first part ends before the first byte that ends one
-pub at_end : (ends : ℕ → Bool) (text : List ℕ) (i : ℕ) → i < length text → ((k : ℕ) → k < i → ends (get_or text k 0) ≡ false) → ends (get_or text i 0) ≡ true → parted ends text ≡ take i text ∷ parted ends (drop (i + 1) text)
-unfolding parted
+pub at_end : (ends : ℕ → Bool) (text : List ℕ) (i : ℕ) → i < length text → ((k : ℕ) → k < i → ends (get_or text k 0) ≡ false) → ends (get_or text i 0) ≡ true → parts_ended_by ends text ≡ take i text ∷ parts_ended_by ends (drop (i + 1) text)
+unfolding parts_ended_by
 at_end ends [] i within none here = absurd (omega arith)
 at_end ends (b ∷ text) zero within none here = rw here refl
 at_end ends (b ∷ text) (suc i) within none here =
-    let again : parted ends text ≡ take i text ∷ parted ends (drop (i + 1) text) = at_end ends text i (omega arith) (λ k below. none (suc k) (omega arith)) here in
+    let again : parts_ended_by ends text ≡ take i text ∷ parts_ended_by ends (drop (i + 1) text) = at_end ends text i (omega arith) (λ k below. none (suc k) (omega arith)) here in
     past_byte ends b text (none 0 (omega arith)) ∙ ap (with_byte b) again ∙ rw (add-one, add-one) refl
 
 -- without one the text is a part
-pub no_end : (ends : ℕ → Bool) (text : List ℕ) → 0 < length text → ((k : ℕ) → k < length text → ends (get_or text k 0) ≡ false) → parted ends text ≡ text ∷ parted ends []
-unfolding parted
+pub no_end : (ends : ℕ → Bool) (text : List ℕ) → 0 < length text → ((k : ℕ) → k < length text → ends (get_or text k 0) ≡ false) → parts_ended_by ends text ≡ text ∷ parts_ended_by ends []
+unfolding parts_ended_by
 no_end ends [] some none = absurd (omega arith)
 no_end ends (b ∷ []) some none = past_byte ends b [] (none 0 (omega arith))
 no_end ends (b ∷ c ∷ text) some none =
@@ -36,7 +36,7 @@ no_end ends (b ∷ c ∷ text) some none =
 
 -- lines are the parts that line feeds end
 pub same_lines : (text : List ℕ) → lines_of text ≡ source_lines text
-unfolding parted
+unfolding parts_ended_by
 same_lines [] = refl
 same_lines (byte ∷ text) = ap (λ (lines : List (List ℕ)). if byte == 10 then [] ∷ lines else with_byte byte lines) (same_lines text)
 
@@ -47,122 +47,122 @@ first_split text first rest e = sym (same_lines text) ∙ (e ∙ ap (λ (lines :
 -- ---- the words of a line
 
 -- a part with bytes is a word, and one without is none
-words_split : (rest part behind : List ℕ) → parted is_blank rest ≡ part ∷ parted is_blank behind → source_words rest ≡ cond (has_bytes part) (part ∷ source_words behind) (source_words behind)
+words_split : (rest part behind : List ℕ) → parts_ended_by is_blank rest ≡ part ∷ parts_ended_by is_blank behind → source_words rest ≡ cond (has_bytes part) (part ∷ source_words behind) (source_words behind)
 words_split rest part behind e = ap (λ (parts : List (List ℕ)). filter has_bytes parts) e
 
 -- a line without bytes has no word
 pub no_words : (rest : List ℕ) → length rest ≡ 0 → source_words rest ≡ []
-unfolding parted
+unfolding parts_ended_by
 no_words [] none = refl
 no_words (b ∷ rest) none = absurd (omega arith)
 
 -- a word, or no bytes, after a `(` that isn't closed yet
-pub hear_open : (line : ℕ) (rest part behind : List ℕ) → parted is_blank rest ≡ part ∷ parted is_blank behind → spoken line true (source_words rest) ≡ spoken line (not (closes part)) (source_words behind)
-unfolding spoken
-hear_open line rest [] behind e = ap (spoken line true) (words_split rest [] behind e)
-hear_open line rest (b ∷ part) behind e = ap (spoken line true) (words_split rest (b ∷ part) behind e)
+pub hear_open : (line : ℕ) (rest part behind : List ℕ) → parts_ended_by is_blank rest ≡ part ∷ parts_ended_by is_blank behind → tokens_of_words line true (source_words rest) ≡ tokens_of_words line (not (is_comment_end part)) (source_words behind)
+unfolding tokens_of_words
+hear_open line rest [] behind e = ap (tokens_of_words line true) (words_split rest [] behind e)
+hear_open line rest (b ∷ part) behind e = ap (tokens_of_words line true) (words_split rest (b ∷ part) behind e)
 
 -- `\` as a word
-pub hear_remark : (line : ℕ) (rest part behind : List ℕ) → parted is_blank rest ≡ part ∷ parted is_blank behind → bytes_eq part (codes "\\") ≡ true → spoken line false (source_words rest) ≡ []
-unfolding spoken
+pub hear_remark : (line : ℕ) (rest part behind : List ℕ) → parts_ended_by is_blank rest ≡ part ∷ parts_ended_by is_blank behind → bytes_eq part (codes "\\") ≡ true → tokens_of_words line false (source_words rest) ≡ []
+unfolding tokens_of_words
 hear_remark line rest [] behind e remark = absurd (both_ways false refl remark)
 hear_remark line rest (b ∷ part) behind e remark =
-    ap (spoken line false) (words_split rest (b ∷ part) behind e) ∙ cond-true (bytes_eq (b ∷ part) (codes "\\")) [] _ remark
+    ap (tokens_of_words line false) (words_split rest (b ∷ part) behind e) ∙ cond-true (bytes_eq (b ∷ part) (codes "\\")) [] _ remark
 
 -- `(` as a word
-pub hear_opening : (line : ℕ) (rest part behind : List ℕ) → parted is_blank rest ≡ part ∷ parted is_blank behind → bytes_eq part (codes "\\") ≡ false → bytes_eq part (codes "(") ≡ true → spoken line false (source_words rest) ≡ spoken line true (source_words behind)
-unfolding spoken
+pub hear_opening : (line : ℕ) (rest part behind : List ℕ) → parts_ended_by is_blank rest ≡ part ∷ parts_ended_by is_blank behind → bytes_eq part (codes "\\") ≡ false → bytes_eq part (codes "(") ≡ true → tokens_of_words line false (source_words rest) ≡ tokens_of_words line true (source_words behind)
+unfolding tokens_of_words
 hear_opening line rest [] behind e no_remark opening = absurd (both_ways false refl opening)
 hear_opening line rest (b ∷ part) behind e no_remark opening =
-    ap (spoken line false) (words_split rest (b ∷ part) behind e)
+    ap (tokens_of_words line false) (words_split rest (b ∷ part) behind e)
     ∙ (cond-false (bytes_eq (b ∷ part) (codes "\\")) [] _ no_remark
-    ∙ cond-true (bytes_eq (b ∷ part) (codes "(")) (spoken line true (source_words behind)) _ opening)
+    ∙ cond-true (bytes_eq (b ∷ part) (codes "(")) (tokens_of_words line true (source_words behind)) _ opening)
 
 -- no bytes
-pub hear_nothing : (line : ℕ) (rest part behind : List ℕ) → parted is_blank rest ≡ part ∷ parted is_blank behind → length part ≡ 0 → spoken line false (source_words rest) ≡ spoken line false (source_words behind)
-hear_nothing line rest [] behind e none = ap (spoken line false) (words_split rest [] behind e)
+pub hear_nothing : (line : ℕ) (rest part behind : List ℕ) → parts_ended_by is_blank rest ≡ part ∷ parts_ended_by is_blank behind → length part ≡ 0 → tokens_of_words line false (source_words rest) ≡ tokens_of_words line false (source_words behind)
+hear_nothing line rest [] behind e none = ap (tokens_of_words line false) (words_split rest [] behind e)
 hear_nothing line rest (b ∷ part) behind e none = absurd (omega arith)
 
 -- any other word
-pub hear_word : (line : ℕ) (rest part behind : List ℕ) → parted is_blank rest ≡ part ∷ parted is_blank behind → 0 < length part → bytes_eq part (codes "\\") ≡ false → bytes_eq part (codes "(") ≡ false → spoken line false (source_words rest) ≡ a_word line part ∷ spoken line false (source_words behind)
-unfolding spoken
+pub hear_word : (line : ℕ) (rest part behind : List ℕ) → parts_ended_by is_blank rest ≡ part ∷ parts_ended_by is_blank behind → 0 < length part → bytes_eq part (codes "\\") ≡ false → bytes_eq part (codes "(") ≡ false → tokens_of_words line false (source_words rest) ≡ word_token line part ∷ tokens_of_words line false (source_words behind)
+unfolding tokens_of_words
 hear_word line rest [] behind e some no_remark no_opening = absurd (omega arith)
 hear_word line rest (b ∷ part) behind e some no_remark no_opening =
-    ap (spoken line false) (words_split rest (b ∷ part) behind e)
+    ap (tokens_of_words line false) (words_split rest (b ∷ part) behind e)
     ∙ (cond-false (bytes_eq (b ∷ part) (codes "\\")) [] _ no_remark
-    ∙ cond-false (bytes_eq (b ∷ part) (codes "(")) (spoken line true (source_words behind)) _ no_opening)
+    ∙ cond-false (bytes_eq (b ∷ part) (codes "(")) (tokens_of_words line true (source_words behind)) _ no_opening)
 
 -- ---- faults of lines
 
 -- nothing is left out where there is no fault
-whole_front : (front rest : List TokenContent) → list_all is_word front ≡ true → up_to_fault (front ++ rest) ≡ front ++ up_to_fault rest
-unfolding up_to_fault
+whole_front : (front rest : List TokenContent) → list_all is_word front ≡ true → tokens_until_fault (front ++ rest) ≡ front ++ tokens_until_fault rest
+unfolding tokens_until_fault
 whole_front [] rest whole = refl
 whole_front (said ∷ front) rest whole =
     let parts = and_parts (is_word said) (list_all is_word front) whole in
-    ap (λ (tail : List TokenContent). said ∷ tail) (cond-true (is_word said) (up_to_fault (front ++ rest)) [] parts.0 ∙ whole_front front rest parts.1)
+    ap (λ (tail : List TokenContent). said ∷ tail) (cond-true (is_word said) (tokens_until_fault (front ++ rest)) [] parts.0 ∙ whole_front front rest parts.1)
 
 -- a fault comes last in the tokens of words
-fault_last : (line : ℕ) (is_open : Bool) (words : List (List ℕ)) (rest : List TokenContent) → list_all is_word (spoken line is_open words) ≡ false → up_to_fault (spoken line is_open words ++ rest) ≡ spoken line is_open words
-unfolding spoken up_to_fault
+fault_last : (line : ℕ) (is_open : Bool) (words : List (List ℕ)) (rest : List TokenContent) → list_all is_word (tokens_of_words line is_open words) ≡ false → tokens_until_fault (tokens_of_words line is_open words ++ rest) ≡ tokens_of_words line is_open words
+unfolding tokens_of_words tokens_until_fault
 fault_last line false [] rest faulty = absurd (both_ways true faulty refl)
 fault_last line true [] rest faulty = refl
-fault_last line true (word ∷ words) rest faulty = fault_last line (not (closes word)) words rest faulty
+fault_last line true (word ∷ words) rest faulty = fault_last line (not (is_comment_end word)) words rest faulty
 fault_last line false (word ∷ words) rest faulty = elim (cases_Bool (bytes_eq word (codes "\\"))) [
   | inl remark ↦ absurd (both_ways true (rw remark at faulty) refl)
   | inr other ↦ elim (cases_Bool (bytes_eq word (codes "("))) [
     | inl opening ↦ rw (other, opening) (fault_last line true words rest (rw (other, opening) at faulty))
-    | inr plain ↦ rw (other, plain) (ap (λ (tail : List TokenContent). a_word line word ∷ tail) (fault_last line false words rest (rw (other, plain) at faulty)))
+    | inr plain ↦ rw (other, plain) (ap (λ (tail : List TokenContent). word_token line word ∷ tail) (fault_last line false words rest (rw (other, plain) at faulty)))
   ]
 ]
 
 -- and so in what a line says
-line_fault_last : (line : ℕ) (text : List ℕ) (rest : List TokenContent) → list_all is_word (said_by line text) ≡ false → up_to_fault (said_by line text ++ rest) ≡ said_by line text
-unfolding up_to_fault
-line_fault_last line text rest faulty = elim (cases_Bool (ltb longest_source_line (length text))) [
+line_fault_last : (line : ℕ) (text : List ℕ) (rest : List TokenContent) → list_all is_word (tokens_of_line line text) ≡ false → tokens_until_fault (tokens_of_line line text ++ rest) ≡ tokens_of_line line text
+unfolding tokens_until_fault
+line_fault_last line text rest faulty = elim (cases_Bool (ltb max_source_line_bytes (length text))) [
   | inl long ↦ rw long refl
   | inr short ↦ rw short (fault_last line false (source_words text) rest (rw short at faulty))
 ]
 
 -- ---- one line after another
 
-module _ (line : ℕ) (rest whole first behind : List ℕ) (e : source_lines rest ≡ whole ∷ source_lines behind) (without : first ≡ bare line whole) where
+module _ (line : ℕ) (rest whole first behind : List ℕ) (e : source_lines rest ≡ whole ∷ source_lines behind) (without : first ≡ stripped_source_line line whole) where
   -- the line without what an editor added
-  line_said : said_from line (source_lines rest) ≡ (if bytes_eq first (codes "end") then [] else said_by line first ++ said_from (next_line line) (source_lines behind))
-  unfolding said_from
+  line_said : tokens_of_lines line (source_lines rest) ≡ (if bytes_eq first (codes "end") then [] else tokens_of_line line first ++ tokens_of_lines (next_line_number line) (source_lines behind))
+  unfolding tokens_of_lines
   line_said =
-      ap (said_from line) e
-      ∙ ap (λ (text : List ℕ). if bytes_eq text (codes "end") then [] else said_by line text ++ said_from (next_line line) (source_lines behind)) (sym without)
+      ap (tokens_of_lines line) e
+      ∙ ap (λ (text : List ℕ). if bytes_eq text (codes "end") then [] else tokens_of_line line text ++ tokens_of_lines (next_line_number line) (source_lines behind)) (sym without)
 
   -- a line `end`
-  pub at_end_line : bytes_eq first (codes "end") ≡ true → up_to_fault (said_from line (source_lines rest)) ≡ []
-  unfolding up_to_fault
-  at_end_line is = ap up_to_fault (line_said ∙ cond-true (bytes_eq first (codes "end")) [] (said_by line first ++ said_from (next_line line) (source_lines behind)) is)
+  pub at_end_line : bytes_eq first (codes "end") ≡ true → tokens_until_fault (tokens_of_lines line (source_lines rest)) ≡ []
+  unfolding tokens_until_fault
+  at_end_line is = ap tokens_until_fault (line_said ∙ cond-true (bytes_eq first (codes "end")) [] (tokens_of_line line first ++ tokens_of_lines (next_line_number line) (source_lines behind)) is)
 
-  pub ends_here : bytes_eq first (codes "end") ≡ true → said_from line (source_lines rest) ≡ []
-  ends_here is = line_said ∙ cond-true (bytes_eq first (codes "end")) [] (said_by line first ++ said_from (next_line line) (source_lines behind)) is
+  pub ends_here : bytes_eq first (codes "end") ≡ true → tokens_of_lines line (source_lines rest) ≡ []
+  ends_here is = line_said ∙ cond-true (bytes_eq first (codes "end")) [] (tokens_of_line line first ++ tokens_of_lines (next_line_number line) (source_lines behind)) is
 
   -- any other line
-  pub other_line : bytes_eq first (codes "end") ≡ false → said_from line (source_lines rest) ≡ said_by line first ++ said_from (next_line line) (source_lines behind)
-  other_line other = line_said ∙ cond-false (bytes_eq first (codes "end")) [] (said_by line first ++ said_from (next_line line) (source_lines behind)) other
+  pub other_line : bytes_eq first (codes "end") ≡ false → tokens_of_lines line (source_lines rest) ≡ tokens_of_line line first ++ tokens_of_lines (next_line_number line) (source_lines behind)
+  other_line other = line_said ∙ cond-false (bytes_eq first (codes "end")) [] (tokens_of_line line first ++ tokens_of_lines (next_line_number line) (source_lines behind)) other
 
   -- a line with a fault
-  pub at_faulty_line : bytes_eq first (codes "end") ≡ false → list_all is_word (said_by line first) ≡ false → up_to_fault (said_from line (source_lines rest)) ≡ said_by line first
-  at_faulty_line other faulty = ap up_to_fault (other_line other) ∙ line_fault_last line first (said_from (next_line line) (source_lines behind)) faulty
+  pub at_faulty_line : bytes_eq first (codes "end") ≡ false → list_all is_word (tokens_of_line line first) ≡ false → tokens_until_fault (tokens_of_lines line (source_lines rest)) ≡ tokens_of_line line first
+  at_faulty_line other faulty = ap tokens_until_fault (other_line other) ∙ line_fault_last line first (tokens_of_lines (next_line_number line) (source_lines behind)) faulty
 
   -- a line without
-  pub at_whole_line : bytes_eq first (codes "end") ≡ false → list_all is_word (said_by line first) ≡ true → up_to_fault (said_from line (source_lines rest)) ≡ said_by line first ++ up_to_fault (said_from (next_line line) (source_lines behind))
-  at_whole_line other whole_line = ap up_to_fault (other_line other) ∙ whole_front (said_by line first) (said_from (next_line line) (source_lines behind)) whole_line
+  pub at_whole_line : bytes_eq first (codes "end") ≡ false → list_all is_word (tokens_of_line line first) ≡ true → tokens_until_fault (tokens_of_lines line (source_lines rest)) ≡ tokens_of_line line first ++ tokens_until_fault (tokens_of_lines (next_line_number line) (source_lines behind))
+  at_whole_line other whole_line = ap tokens_until_fault (other_line other) ∙ whole_front (tokens_of_line line first) (tokens_of_lines (next_line_number line) (source_lines behind)) whole_line
 
 -- no line is left
-pub no_line_left : (line : ℕ) (rest : List ℕ) → length rest ≡ 0 → said_from line (source_lines rest) ≡ []
-unfolding parted said_from
+pub no_line_left : (line : ℕ) (rest : List ℕ) → length rest ≡ 0 → tokens_of_lines line (source_lines rest) ≡ []
+unfolding parts_ended_by tokens_of_lines
 no_line_left line [] none = refl
 no_line_left line (b ∷ rest) none = absurd (omega arith)
 
 -- so none is left up to a fault
-pub nothing_left : (line : ℕ) (rest : List ℕ) → length rest ≡ 0 → up_to_fault (said_from line (source_lines rest)) ≡ []
-unfolding parted said_from up_to_fault
+pub nothing_left : (line : ℕ) (rest : List ℕ) → length rest ≡ 0 → tokens_until_fault (tokens_of_lines line (source_lines rest)) ≡ []
+unfolding parts_ended_by tokens_of_lines tokens_until_fault
 nothing_left line [] none = refl
 nothing_left line (b ∷ rest) none = absurd (omega arith)
 
@@ -177,49 +177,49 @@ pub said_last : (told left said new part : List TokenContent) → new ≡ told +
 said_last told left said new part e is all = e ∙ (ap (λ (l : List TokenContent). told ++ l) (sym is) ∙ all)
 
 -- what was left has been listed except for some
-pub said_more : (told left said new part rest : List TokenContent) → new ≡ told ++ part → left ≡ part ++ rest → told ++ left ≡ said → new ++ rest ≡ said
-said_more told left said new part rest e parts all =
+pub with_added_token : (told left said new part rest : List TokenContent) → new ≡ told ++ part → left ≡ part ++ rest → told ++ left ≡ said → new ++ rest ≡ said
+with_added_token told left said new part rest e parts all =
     ap (λ (l : List TokenContent). l ++ rest) e ∙ (append_assoc told part rest ∙ (ap (λ (l : List TokenContent). told ++ l) (sym parts) ∙ all))
 
 -- ---- within a line
 
 -- the same tokens are left after a part
-pub told_same : (line : ℕ) (text : List ℕ) (before now : List TokenContent) (was is : Bool) (rest behind : List ℕ) → spoken line was (source_words rest) ≡ spoken line is (source_words behind) → IsTold line text before now was rest → IsTold line text before now is behind
+pub told_same : (line : ℕ) (text : List ℕ) (before now : List TokenContent) (was is : Bool) (rest behind : List ℕ) → tokens_of_words line was (source_words rest) ≡ tokens_of_words line is (source_words behind) → IsTold line text before now was rest → IsTold line text before now is behind
 told_same line text before now was is rest behind e told = record {
   says = ap (λ (l : List TokenContent). now ++ l) (sym e) ∙ told.says;
   whole = ap (list_all is_word) (sym e) ∙ told.whole;
 }
 
 -- a word has been listed
-pub told_word : (line : ℕ) (text : List ℕ) (before now new : List TokenContent) (is_open : Bool) (rest part behind : List ℕ) → is_open ≡ false → new ≡ now ++ a_word line part ∷ [] → spoken line false (source_words rest) ≡ a_word line part ∷ spoken line false (source_words behind) → IsTold line text before now is_open rest → IsTold line text before new is_open behind
+pub told_word : (line : ℕ) (text : List ℕ) (before now new : List TokenContent) (is_open : Bool) (rest part behind : List ℕ) → is_open ≡ false → new ≡ now ++ word_token line part ∷ [] → tokens_of_words line false (source_words rest) ≡ word_token line part ∷ tokens_of_words line false (source_words behind) → IsTold line text before now is_open rest → IsTold line text before new is_open behind
 told_word line text before now new true rest part behind closed pushed e told = absurd (both_ways true closed refl)
 told_word line text before now new false rest part behind closed pushed e told = record {
-  says = said_more now (spoken line false (source_words rest)) (before ++ spoken line false (source_words text)) new (a_word line part ∷ []) (spoken line false (source_words behind)) pushed e told.says;
+  says = with_added_token now (tokens_of_words line false (source_words rest)) (before ++ tokens_of_words line false (source_words text)) new (word_token line part ∷ []) (tokens_of_words line false (source_words behind)) pushed e told.says;
   whole = ap (list_all is_word) (sym e) ∙ told.whole;
 }
 
 -- at the end of a line
-pub none_left : (line : ℕ) (rest : List ℕ) → length rest ≡ 0 → spoken line false (source_words rest) ≡ []
-unfolding spoken
-none_left line rest none = ap (spoken line false) (no_words rest none)
+pub none_left : (line : ℕ) (rest : List ℕ) → length rest ≡ 0 → tokens_of_words line false (source_words rest) ≡ []
+unfolding tokens_of_words
+none_left line rest none = ap (tokens_of_words line false) (no_words rest none)
 
-pub open_left : (line : ℕ) (rest : List ℕ) → length rest ≡ 0 → spoken line true (source_words rest) ≡ a_fault line OpenComment ∷ []
-unfolding spoken
-open_left line rest none = ap (spoken line true) (no_words rest none)
+pub open_left : (line : ℕ) (rest : List ℕ) → length rest ≡ 0 → tokens_of_words line true (source_words rest) ≡ line_fault_token line OpenComment ∷ []
+unfolding tokens_of_words
+open_left line rest none = ap (tokens_of_words line true) (no_words rest none)
 
 -- a line that isn't too long says what its words say
-pub short_line : (line : ℕ) (text : List ℕ) → length text ≤ 200 → said_by line text ≡ spoken line false (source_words text)
-short_line line text short = cond-false (ltb longest_source_line (length text)) (a_fault line LongLine ∷ []) (spoken line false (source_words text)) (le-ltb longest_source_line (length text) short)
+pub short_line : (line : ℕ) (text : List ℕ) → length text ≤ 200 → tokens_of_line line text ≡ tokens_of_words line false (source_words text)
+short_line line text short = cond-false (ltb max_source_line_bytes (length text)) (line_fault_token line LongLine ∷ []) (tokens_of_words line false (source_words text)) (le-ltb max_source_line_bytes (length text) short)
 
-pub long_line : (line : ℕ) (text : List ℕ) → 200 < length text → said_by line text ≡ a_fault line LongLine ∷ []
-long_line line text long = cond-true (ltb longest_source_line (length text)) (a_fault line LongLine ∷ []) (spoken line false (source_words text)) (lt-ltb longest_source_line (length text) long)
+pub long_line : (line : ℕ) (text : List ℕ) → 200 < length text → tokens_of_line line text ≡ line_fault_token line LongLine ∷ []
+long_line line text long = cond-true (ltb max_source_line_bytes (length text)) (line_fault_token line LongLine ∷ []) (tokens_of_words line false (source_words text)) (lt-ltb max_source_line_bytes (length text) long)
 
-pub line_told : (line : ℕ) (text : List ℕ) (before now new left : List TokenContent) (is_open : Bool) (rest : List ℕ) → length text ≤ 200 → IsTold line text before now is_open rest → spoken line is_open (source_words rest) ≡ left → new ≡ now ++ left → new ≡ before ++ said_by line text
+pub line_told : (line : ℕ) (text : List ℕ) (before now new left : List TokenContent) (is_open : Bool) (rest : List ℕ) → length text ≤ 200 → IsTold line text before now is_open rest → tokens_of_words line is_open (source_words rest) ≡ left → new ≡ now ++ left → new ≡ before ++ tokens_of_line line text
 line_told line text before now new left is_open rest short told e pushed =
-    said_last now (spoken line is_open (source_words rest)) (before ++ spoken line false (source_words text)) new left pushed e told.says
+    said_last now (tokens_of_words line is_open (source_words rest)) (before ++ tokens_of_words line false (source_words text)) new left pushed e told.says
     ∙ ap (λ (l : List TokenContent). before ++ l) (sym (short_line line text short))
 
-pub line_whole : (line : ℕ) (text : List ℕ) (before now left : List TokenContent) (is_open : Bool) (rest : List ℕ) → length text ≤ 200 → IsTold line text before now is_open rest → spoken line is_open (source_words rest) ≡ left → list_all is_word left ≡ list_all is_word (said_by line text)
+pub line_whole : (line : ℕ) (text : List ℕ) (before now left : List TokenContent) (is_open : Bool) (rest : List ℕ) → length text ≤ 200 → IsTold line text before now is_open rest → tokens_of_words line is_open (source_words rest) ≡ left → list_all is_word left ≡ list_all is_word (tokens_of_line line text)
 line_whole line text before now left is_open rest short told e =
     ap (list_all is_word) (sym e) ∙ (told.whole ∙ ap (list_all is_word) (sym (short_line line text short)))
 
@@ -241,46 +241,46 @@ columns_same told left all rest is e = ap (λ (l : List ℕ). told ++ l) (sym is
 -- ---- within a line
 
 -- where nothing is left, no column counts
-no_columns : (c d : ℕ) (is_open : Bool) → columns_spoken c is_open [] ≡ columns_spoken d is_open []
-unfolding columns_spoken
+no_columns : (c d : ℕ) (is_open : Bool) → columns_of_parts c is_open [] ≡ columns_of_parts d is_open []
+unfolding columns_of_parts
 no_columns c d false = refl
 no_columns c d true = refl
 
 -- The column of the rest is that after a part and the byte that ends it.
 pub next_column : (size : ℕ) (rest part behind : List ℕ) (is_open : Bool) → length rest ≤ size → length behind ≡ length rest - (length part + 1)
-    → columns_spoken (size - length rest + 1 + length part + 1) is_open (parted is_blank behind) ≡ columns_spoken (size - length behind + 1) is_open (parted is_blank behind)
-unfolding parted
+    → columns_of_parts (size - length rest + 1 + length part + 1) is_open (parts_ended_by is_blank behind) ≡ columns_of_parts (size - length behind + 1) is_open (parts_ended_by is_blank behind)
+unfolding parts_ended_by
 next_column size rest part [] is_open within left = no_columns _ _ is_open
 next_column size rest part (b ∷ behind) is_open within left =
-    ap (λ (c : ℕ). columns_spoken c is_open (parted is_blank (b ∷ behind))) (omega arith)
+    ap (λ (c : ℕ). columns_of_parts c is_open (parts_ended_by is_blank (b ∷ behind))) (omega arith)
 
-module _ (size : ℕ) (rest part behind : List ℕ) (e : parted is_blank rest ≡ part ∷ parted is_blank behind) (within : length rest ≤ size) (left : length behind ≡ length rest - (length part + 1)) where
+module _ (size : ℕ) (rest part behind : List ℕ) (e : parts_ended_by is_blank rest ≡ part ∷ parts_ended_by is_blank behind) (within : length rest ≤ size) (left : length behind ≡ length rest - (length part + 1)) where
   -- a part after a `(` that isn't closed yet
-  pub columns_open : columns_spoken (size - length rest + 1) true (parted is_blank rest) ≡ columns_spoken (size - length behind + 1) (not (closes part)) (parted is_blank behind)
-  unfolding columns_spoken
-  columns_open = ap (columns_spoken (size - length rest + 1) true) e ∙ next_column size rest part behind (not (closes part)) within left
+  pub columns_open : columns_of_parts (size - length rest + 1) true (parts_ended_by is_blank rest) ≡ columns_of_parts (size - length behind + 1) (not (is_comment_end part)) (parts_ended_by is_blank behind)
+  unfolding columns_of_parts
+  columns_open = ap (columns_of_parts (size - length rest + 1) true) e ∙ next_column size rest part behind (not (is_comment_end part)) within left
 
   -- `\`
-  pub columns_remark : bytes_eq part (codes "\\") ≡ true → columns_spoken (size - length rest + 1) false (parted is_blank rest) ≡ []
-  unfolding columns_spoken
-  columns_remark remark = ap (columns_spoken (size - length rest + 1) false) e ∙ cond-true (bytes_eq part (codes "\\")) [] _ remark
+  pub columns_remark : bytes_eq part (codes "\\") ≡ true → columns_of_parts (size - length rest + 1) false (parts_ended_by is_blank rest) ≡ []
+  unfolding columns_of_parts
+  columns_remark remark = ap (columns_of_parts (size - length rest + 1) false) e ∙ cond-true (bytes_eq part (codes "\\")) [] _ remark
 
   -- `(`
-  pub columns_opening : bytes_eq part (codes "\\") ≡ false → bytes_eq part (codes "(") ≡ true → columns_spoken (size - length rest + 1) false (parted is_blank rest) ≡ columns_spoken (size - length behind + 1) true (parted is_blank behind)
-  unfolding columns_spoken
+  pub columns_opening : bytes_eq part (codes "\\") ≡ false → bytes_eq part (codes "(") ≡ true → columns_of_parts (size - length rest + 1) false (parts_ended_by is_blank rest) ≡ columns_of_parts (size - length behind + 1) true (parts_ended_by is_blank behind)
+  unfolding columns_of_parts
   columns_opening no_remark opening =
-      ap (columns_spoken (size - length rest + 1) false) e
+      ap (columns_of_parts (size - length rest + 1) false) e
       ∙ (cond-false (bytes_eq part (codes "\\")) [] _ no_remark
-      ∙ (cond-true (bytes_eq part (codes "(")) (columns_spoken (size - length rest + 1 + length part + 1) true (parted is_blank behind)) _ opening
+      ∙ (cond-true (bytes_eq part (codes "(")) (columns_of_parts (size - length rest + 1 + length part + 1) true (parts_ended_by is_blank behind)) _ opening
       ∙ next_column size rest part behind true within left))
 
   -- any other part
-  columns_plain : bytes_eq part (codes "\\") ≡ false → bytes_eq part (codes "(") ≡ false → columns_spoken (size - length rest + 1) false (parted is_blank rest) ≡ part_column (size - length rest + 1) part ++ columns_spoken (size - length behind + 1) false (parted is_blank behind)
-  unfolding columns_spoken
+  columns_plain : bytes_eq part (codes "\\") ≡ false → bytes_eq part (codes "(") ≡ false → columns_of_parts (size - length rest + 1) false (parts_ended_by is_blank rest) ≡ part_column (size - length rest + 1) part ++ columns_of_parts (size - length behind + 1) false (parts_ended_by is_blank behind)
+  unfolding columns_of_parts
   columns_plain no_remark no_opening =
-      ap (columns_spoken (size - length rest + 1) false) e
+      ap (columns_of_parts (size - length rest + 1) false) e
       ∙ (cond-false (bytes_eq part (codes "\\")) [] _ no_remark
-      ∙ (cond-false (bytes_eq part (codes "(")) (columns_spoken (size - length rest + 1 + length part + 1) true (parted is_blank behind)) _ no_opening
+      ∙ (cond-false (bytes_eq part (codes "(")) (columns_of_parts (size - length rest + 1 + length part + 1) true (parts_ended_by is_blank behind)) _ no_opening
       ∙ ap (λ (l : List ℕ). part_column (size - length rest + 1) part ++ l) (next_column size rest part behind false within left)))
 
 no_part : (column : ℕ) (part : List ℕ) → length part ≡ 0 → part_column column part ≡ []
@@ -291,62 +291,62 @@ one_part : (column : ℕ) (part : List ℕ) → 0 < length part → part_column 
 one_part column [] some = absurd (omega arith)
 one_part column (b ∷ part) some = refl
 
-module _ (size : ℕ) (rest part behind : List ℕ) (e : parted is_blank rest ≡ part ∷ parted is_blank behind) (within : length rest ≤ size) (left : length behind ≡ length rest - (length part + 1)) where
+module _ (size : ℕ) (rest part behind : List ℕ) (e : parts_ended_by is_blank rest ≡ part ∷ parts_ended_by is_blank behind) (within : length rest ≤ size) (left : length behind ≡ length rest - (length part + 1)) where
   -- no bytes
-  pub columns_nothing : bytes_eq part (codes "\\") ≡ false → bytes_eq part (codes "(") ≡ false → length part ≡ 0 → columns_spoken (size - length rest + 1) false (parted is_blank rest) ≡ columns_spoken (size - length behind + 1) false (parted is_blank behind)
+  pub columns_nothing : bytes_eq part (codes "\\") ≡ false → bytes_eq part (codes "(") ≡ false → length part ≡ 0 → columns_of_parts (size - length rest + 1) false (parts_ended_by is_blank rest) ≡ columns_of_parts (size - length behind + 1) false (parts_ended_by is_blank behind)
   columns_nothing no_remark no_opening none =
       columns_plain size rest part behind e within left no_remark no_opening
-      ∙ ap (λ (l : List ℕ). l ++ columns_spoken (size - length behind + 1) false (parted is_blank behind)) (no_part (size - length rest + 1) part none)
+      ∙ ap (λ (l : List ℕ). l ++ columns_of_parts (size - length behind + 1) false (parts_ended_by is_blank behind)) (no_part (size - length rest + 1) part none)
 
   -- a word
-  pub columns_word : bytes_eq part (codes "\\") ≡ false → bytes_eq part (codes "(") ≡ false → 0 < length part → columns_spoken (size - length rest + 1) false (parted is_blank rest) ≡ (size - length rest + 1) ∷ [] ++ columns_spoken (size - length behind + 1) false (parted is_blank behind)
+  pub columns_word : bytes_eq part (codes "\\") ≡ false → bytes_eq part (codes "(") ≡ false → 0 < length part → columns_of_parts (size - length rest + 1) false (parts_ended_by is_blank rest) ≡ (size - length rest + 1) ∷ [] ++ columns_of_parts (size - length behind + 1) false (parts_ended_by is_blank behind)
   columns_word no_remark no_opening some =
       columns_plain size rest part behind e within left no_remark no_opening
-      ∙ ap (λ (l : List ℕ). l ++ columns_spoken (size - length behind + 1) false (parted is_blank behind)) (one_part (size - length rest + 1) part some)
+      ∙ ap (λ (l : List ℕ). l ++ columns_of_parts (size - length behind + 1) false (parts_ended_by is_blank behind)) (one_part (size - length rest + 1) part some)
 
 -- at the end of a line
-pub columns_none : (column : ℕ) (rest : List ℕ) → length rest ≡ 0 → columns_spoken column false (parted is_blank rest) ≡ []
-unfolding columns_spoken parted
+pub columns_none : (column : ℕ) (rest : List ℕ) → length rest ≡ 0 → columns_of_parts column false (parts_ended_by is_blank rest) ≡ []
+unfolding columns_of_parts parts_ended_by
 columns_none column [] none = refl
 columns_none column (b ∷ rest) none = absurd (omega arith)
 
-pub columns_left_open : (column : ℕ) (rest : List ℕ) → length rest ≡ 0 → columns_spoken column true (parted is_blank rest) ≡ 1 ∷ []
-unfolding columns_spoken parted
+pub columns_left_open : (column : ℕ) (rest : List ℕ) → length rest ≡ 0 → columns_of_parts column true (parts_ended_by is_blank rest) ≡ 1 ∷ []
+unfolding columns_of_parts parts_ended_by
 columns_left_open column [] none = refl
 columns_left_open column (b ∷ rest) none = absurd (omega arith)
 
 -- a line that isn't too long
-pub columns_short : (text : List ℕ) → length text ≤ 200 → columns_by text ≡ columns_spoken 1 false (parted is_blank text)
-columns_short text short = cond-false (ltb longest_source_line (length text)) (1 ∷ []) (columns_spoken 1 false (parted is_blank text)) (le-ltb longest_source_line (length text) short)
+pub columns_short : (text : List ℕ) → length text ≤ 200 → columns_of_line text ≡ columns_of_parts 1 false (parts_ended_by is_blank text)
+columns_short text short = cond-false (ltb max_source_line_bytes (length text)) (1 ∷ []) (columns_of_parts 1 false (parts_ended_by is_blank text)) (le-ltb max_source_line_bytes (length text) short)
 
-pub columns_long : (text : List ℕ) → 200 < length text → columns_by text ≡ 1 ∷ []
-columns_long text long = cond-true (ltb longest_source_line (length text)) (1 ∷ []) (columns_spoken 1 false (parted is_blank text)) (lt-ltb longest_source_line (length text) long)
+pub columns_long : (text : List ℕ) → 200 < length text → columns_of_line text ≡ 1 ∷ []
+columns_long text long = cond-true (ltb max_source_line_bytes (length text)) (1 ∷ []) (columns_of_parts 1 false (parts_ended_by is_blank text)) (lt-ltb max_source_line_bytes (length text) long)
 
 -- the rest of the line has been listed
-pub columns_line : (text told left all new part : List ℕ) → length text ≤ 200 → new ≡ told ++ part → left ≡ part → told ++ left ≡ all ++ columns_spoken 1 false (parted is_blank text) → new ≡ all ++ columns_by text
+pub columns_line : (text told left all new part : List ℕ) → length text ≤ 200 → new ≡ told ++ part → left ≡ part → told ++ left ≡ all ++ columns_of_parts 1 false (parts_ended_by is_blank text) → new ≡ all ++ columns_of_line text
 columns_line text told left all new part short pushed is e =
-    columns_last told left (all ++ columns_spoken 1 false (parted is_blank text)) new part pushed is e
+    columns_last told left (all ++ columns_of_parts 1 false (parts_ended_by is_blank text)) new part pushed is e
     ∙ ap (λ (l : List ℕ). all ++ l) (sym (columns_short text short))
 
 -- ---- one line after another
 
-module _ (line : ℕ) (rest whole first behind : List ℕ) (e : source_lines rest ≡ whole ∷ source_lines behind) (without : first ≡ bare line whole) where
-  columns_here : columns_from line (source_lines rest) ≡ (if bytes_eq first (codes "end") then [] else columns_by first ++ columns_from (next_line line) (source_lines behind))
-  unfolding columns_from
+module _ (line : ℕ) (rest whole first behind : List ℕ) (e : source_lines rest ≡ whole ∷ source_lines behind) (without : first ≡ stripped_source_line line whole) where
+  columns_here : columns_of_lines line (source_lines rest) ≡ (if bytes_eq first (codes "end") then [] else columns_of_line first ++ columns_of_lines (next_line_number line) (source_lines behind))
+  unfolding columns_of_lines
   columns_here =
-      ap (columns_from line) e
-      ∙ ap (λ (text : List ℕ). if bytes_eq text (codes "end") then [] else columns_by text ++ columns_from (next_line line) (source_lines behind)) (sym without)
+      ap (columns_of_lines line) e
+      ∙ ap (λ (text : List ℕ). if bytes_eq text (codes "end") then [] else columns_of_line text ++ columns_of_lines (next_line_number line) (source_lines behind)) (sym without)
 
   -- a line `end`
-  pub columns_end_here : bytes_eq first (codes "end") ≡ true → columns_from line (source_lines rest) ≡ []
-  columns_end_here is = columns_here ∙ cond-true (bytes_eq first (codes "end")) [] (columns_by first ++ columns_from (next_line line) (source_lines behind)) is
+  pub columns_end_here : bytes_eq first (codes "end") ≡ true → columns_of_lines line (source_lines rest) ≡ []
+  columns_end_here is = columns_here ∙ cond-true (bytes_eq first (codes "end")) [] (columns_of_line first ++ columns_of_lines (next_line_number line) (source_lines behind)) is
 
   -- any other
-  pub columns_other_line : bytes_eq first (codes "end") ≡ false → columns_from line (source_lines rest) ≡ columns_by first ++ columns_from (next_line line) (source_lines behind)
-  columns_other_line other = columns_here ∙ cond-false (bytes_eq first (codes "end")) [] (columns_by first ++ columns_from (next_line line) (source_lines behind)) other
+  pub columns_other_line : bytes_eq first (codes "end") ≡ false → columns_of_lines line (source_lines rest) ≡ columns_of_line first ++ columns_of_lines (next_line_number line) (source_lines behind)
+  columns_other_line other = columns_here ∙ cond-false (bytes_eq first (codes "end")) [] (columns_of_line first ++ columns_of_lines (next_line_number line) (source_lines behind)) other
 
 -- no line is left
-pub no_columns_left : (line : ℕ) (rest : List ℕ) → length rest ≡ 0 → columns_from line (source_lines rest) ≡ []
-unfolding parted columns_from
+pub no_columns_left : (line : ℕ) (rest : List ℕ) → length rest ≡ 0 → columns_of_lines line (source_lines rest) ≡ []
+unfolding parts_ended_by columns_of_lines
 no_columns_left line [] none = refl
 no_columns_left line (b ∷ rest) none = absurd (omega arith)

@@ -10,11 +10,11 @@ use Rattle.ga_parser.specs.declared.number.Number.TheVariants.{Of, OutOfRange, N
 use Rattle.ga_parser.specs.declared.item.Operand.{Operand}
 use Rattle.ga_parser.specs.declared.item.Operand.TheVariants.{Number, Label}
 use Rattle.ga_parser.specs.declared.item.Item.TheVariants.{Opcode, Literal, Back, Ahead, Cell}
-use Rattle.ga_parser.specs.declared.item.Request.{Request}
-use Rattle.ga_parser.specs.declared.item.Request.TheVariants.{Put, Unext, Mark, Fill, Go, Carry}
+use Rattle.ga_parser.specs.declared.item.AssemblyRequest.{AssemblyRequest}
+use Rattle.ga_parser.specs.declared.item.AssemblyRequest.TheVariants.{Put, Unext, Mark, Fill, Go, Carry}
 use Rattle.ga_parser.specs.declared.item.LocatedRequest.{LocatedRequest}
 use Rattle.ga_parser.specs.declared.item.RegisterValue.{RegisterValue}
-use Rattle.ga_parser.specs.declared.item.Registers.{Registers}
+use Rattle.ga_parser.specs.declared.item.InitialRegisters.{InitialRegisters}
 use Rattle.ga_parser.specs.declared.vocabulary.Control.{Control}
 use Rattle.ga_parser.specs.declared.vocabulary.Control.TheVariants.{Begin, For, Again, Until, Next, NextAround, Unext as UnextWord, While, Repeat, If, Else, Then}
 use Rattle.ga_parser.specs.declared.vocabulary.Directive.{Directive}
@@ -29,19 +29,19 @@ use Rattle.ga_parser.specs.declared.labels.Label.{Label as LabelRecord}
 use Rattle.ga_parser.specs.declared.controls.Open.{Open}
 use Rattle.ga_parser.specs.declared.controls.Open.TheVariants.{Loop, Ahead as JumpAhead}
 use Rattle.ga_parser.specs.Saying.{TokenContent, has_bytes}
-use Rattle.ga_parser.specs.Vocabulary.{has_prefix, number_by_word, opcode_in, control_in, directive_in, bound_of, range_of, is_reserved}
-use Rattle.ga_parser.specs.Plain.{is_cell}
+use Rattle.ga_parser.specs.Vocabulary.{has_prefix, number_of_word, opcode_in, control_in, directive_in, register_bound, register_range, is_reserved}
+use Rattle.ga_parser.specs.Plain.{is_cell_address}
 
 -- ---- what the words so far ask for
 
 -- a label by its number: its name, empty where a control word made it, the line that names it first, and whether its place was met
-pub record Mention : Type 0 where
+pub record LabelContent : Type 0 where
   pub name : List ℕ
   pub line : ℕ
   pub is_marked : Bool
 
-abbrev pub mention_of : LabelRecord → Mention
-mention_of label = record { name = label.name.now; line = label.line; is_marked = label.is_marked }
+abbrev pub label_content : LabelRecord → LabelContent
+label_content label = record { name = label.name.now; line = label.line; is_marked = label.is_marked }
 
 pub record ParseState : Type 0 where
   -- what the next word is
@@ -49,16 +49,16 @@ pub record ParseState : Type 0 where
   -- the requests with their lines
   pub asked : List LocatedRequest
   -- the labels in the order in which the words name them first
-  pub labels : List Mention
-  pub registers : Registers
+  pub labels : List LabelContent
+  pub registers : InitialRegisters
   -- the open control words, the innermost first
   pub opened : List Open
   -- bit 9 of addresses from here on
   pub carries : Bool
 
 -- the requests before the first word
-abbrev pub nothing_asked : ParseState
-nothing_asked = record {
+abbrev pub initial_parse_state : ParseState
+initial_parse_state = record {
   expect = Word;
   asked = [];
   labels = [];
@@ -69,29 +69,29 @@ nothing_asked = record {
 
 -- ---- words that are no source
 
-pub data Wrong : Type 0 where
-  LongLine : Wrong
-  OpenComment : Wrong
-  Unknown : List ℕ → Wrong
-  Taken : Wrong
-  Missing : Wrong
-  NoNumber : Wrong
-  LabelTwice : Wrong
-  RegisterTwice : Wrong
-  Unmatched : Wrong
-  Unclosed : Wrong
+pub data RefusalCause : Type 0 where
+  LongLine : RefusalCause
+  OpenComment : RefusalCause
+  Unknown : List ℕ → RefusalCause
+  Taken : RefusalCause
+  Missing : RefusalCause
+  NoNumber : RefusalCause
+  LabelTwice : RefusalCause
+  RegisterTwice : RefusalCause
+  Unmatched : RefusalCause
+  Unclosed : RefusalCause
   -- a word that says no number which its place takes
-  NoNumberHere : List ℕ → NumberRange → Wrong
+  NoNumberHere : List ℕ → NumberRange → RefusalCause
   -- a fault that words alone don't have
-  Later : Wrong
+  Later : RefusalCause
 
 -- a fault, and the line for which it is reported
 pub record Refusal : Type 0 where
   pub line : ℕ
-  pub wrong : Wrong
+  pub wrong : RefusalCause
 
-abbrev pub refuse_line : {X : Type 0} → ℕ → Wrong → Result X Refusal
-refuse_line line wrong = Err (record { line = line; wrong = wrong })
+abbrev pub refusal_at_line : {X : Type 0} → ℕ → RefusalCause → Result X Refusal
+refusal_at_line line wrong = Err (record { line = line; wrong = wrong })
 
 infixl 10 ◌▷◌
 abbrev pub ◌▷◌ : {X Y : Type 0} → Result X Refusal → (X → Result Y Refusal) → Result Y Refusal
@@ -101,252 +101,252 @@ Err refusal ▷ f = Err refusal
 -- ---- requests and labels
 
 -- one request more
-abbrev pub asking : ParseState → ℕ → Request → ParseState
-asking now line request = record now { asked = now.asked ++ record { line = line; request = request } ∷ [] }
+abbrev pub with_added_request : ParseState → ℕ → AssemblyRequest → ParseState
+with_added_request now line request = record now { asked = now.asked ++ record { line = line; request = request } ∷ [] }
 
 -- the number of the first label with this name, where words named it before; an empty name is no label's
-unfoldable pub named_before : List Mention → List ℕ → Option ℕ
-named_before [] name = None
-named_before (label ∷ labels) name = if has_bytes name && bytes_eq label.name name then Some 0 else option_map (λ k. k + 1) (named_before labels name)
+unfoldable pub known_label_number : List LabelContent → List ℕ → Option ℕ
+known_label_number [] name = None
+known_label_number (label ∷ labels) name = if has_bytes name && bytes_eq label.name name then Some 0 else option_map (λ k. k + 1) (known_label_number labels name)
 
 -- the label's number, which is the next one where it is new
-abbrev pub label_number : List Mention → List ℕ → ℕ
-label_number labels name = option_map_or (λ k. k) (named_before labels name) (length labels)
+abbrev pub label_number : List LabelContent → List ℕ → ℕ
+label_number labels name = option_map_or (λ k. k) (known_label_number labels name) (length labels)
 
 -- the labels with one more
-abbrev pub one_label_more : List Mention → ℕ → List ℕ → Bool → List Mention
-one_label_more labels line name is_marked = labels ++ record { name = name; line = line; is_marked = is_marked } ∷ []
+abbrev pub with_added_label : List LabelContent → ℕ → List ℕ → Bool → List LabelContent
+with_added_label labels line name is_marked = labels ++ record { name = name; line = line; is_marked = is_marked } ∷ []
 
 -- the labels, with this one among them
-abbrev pub with_name : List Mention → ℕ → List ℕ → List Mention
-with_name labels line name = option_map_or (λ _. labels) (named_before labels name) (one_label_more labels line name false)
+abbrev pub with_label_name : List LabelContent → ℕ → List ℕ → List LabelContent
+with_label_name labels line name = option_map_or (λ _. labels) (known_label_number labels name) (with_added_label labels line name false)
 
 -- the words name a label
-abbrev pub naming : ParseState → ℕ → List ℕ → ParseState
-naming now line name = record now { labels = with_name now.labels line name }
+abbrev pub with_named_label : ParseState → ℕ → List ℕ → ParseState
+with_named_label now line name = record now { labels = with_label_name now.labels line name }
 
-abbrev pub label_at : List Mention → ℕ → Mention
+abbrev pub label_at : List LabelContent → ℕ → LabelContent
 label_at labels label = slice_index_or labels label (record { name = []; line = 0; is_marked = false })
 
 -- the label has its place before
-abbrev pub is_behind : List Mention → ℕ → Bool
-is_behind labels label = (label_at labels label).is_marked
+abbrev pub is_marked_label : List LabelContent → ℕ → Bool
+is_marked_label labels label = (label_at labels label).is_marked
 
-abbrev pub with_mark : List Mention → ℕ → List Mention
-with_mark labels label = slice_set labels label (record (label_at labels label) { is_marked = true })
+abbrev pub with_marked_label : List LabelContent → ℕ → List LabelContent
+with_marked_label labels label = slice_set labels label (record (label_at labels label) { is_marked = true })
 
 -- the label has its place here, and nowhere before
 abbrev pub mark : ParseState → ℕ → ℕ → Result ParseState Refusal
 mark now line label =
-    if is_behind now.labels label then refuse_line line LabelTwice
-    else Ok (asking (record now { labels = with_mark now.labels label }) line (Mark label))
+    if is_marked_label now.labels label then refusal_at_line line LabelTwice
+    else Ok (with_added_request (record now { labels = with_marked_label now.labels label }) line (Mark label))
 
 -- an opcode with the address of a label: back to an earlier one, or ahead
 abbrev pub jump : ParseState → ℕ → Op → ℕ → ParseState
-jump now line op label = asking now line (Put (if is_behind now.labels label then Back op label else Ahead op label))
+jump now line op label = with_added_request now line (Put (if is_marked_label now.labels label then Back op label else Ahead op label))
 
 -- ---- control words
 
 -- a loop from here on
 abbrev pub begin_loop : ParseState → ℕ → ParseState
 begin_loop now line =
-    record (asking (record now { labels = one_label_more now.labels line [] true }) line (Mark (length now.labels))) { opened = Loop line (length now.labels) ∷ now.opened }
+    record (with_added_request (record now { labels = with_added_label now.labels line [] true }) line (Mark (length now.labels))) { opened = Loop line (length now.labels) ∷ now.opened }
 
 -- a jump ahead, open until its label has a place
 abbrev pub ahead : ParseState → ℕ → Op → ParseState
 ahead now line op =
-    record (jump (record now { labels = one_label_more now.labels line [] false }) line op (length now.labels)) { opened = JumpAhead line (length now.labels) ∷ now.opened }
+    record (jump (record now { labels = with_added_label now.labels line [] false }) line op (length now.labels)) { opened = JumpAhead line (length now.labels) ∷ now.opened }
 
 -- the requests, with these control words open
-abbrev pub with_open : ParseState → List Open → ParseState
-with_open now opened = record now { opened = opened }
+abbrev pub with_open_words : ParseState → List Open → ParseState
+with_open_words now opened = record now { opened = opened }
 
 -- the innermost open word is a loop, which ends: its label
-abbrev pub loop_ended : ParseState → List Open → ℕ → Result (ℕ × ParseState) Refusal
-loop_ended now (Loop _ label ∷ around) line = Ok (label, with_open now around)
-loop_ended now (JumpAhead _ _ ∷ around) line = refuse_line line Unmatched
-loop_ended now [] line = refuse_line line Unmatched
+abbrev pub innermost_loop_label : ParseState → List Open → ℕ → Result (ℕ × ParseState) Refusal
+innermost_loop_label now (Loop _ label ∷ around) line = Ok (label, with_open_words now around)
+innermost_loop_label now (JumpAhead _ _ ∷ around) line = refusal_at_line line Unmatched
+innermost_loop_label now [] line = refusal_at_line line Unmatched
 
 abbrev pub end_loop : ParseState → ℕ → Result (ℕ × ParseState) Refusal
-end_loop now line = loop_ended now now.opened line
+end_loop now line = innermost_loop_label now now.opened line
 
 -- the innermost open word is a jump ahead, which ends: its label
-abbrev pub ahead_ended : ParseState → List Open → ℕ → Result (ℕ × ParseState) Refusal
-ahead_ended now (JumpAhead _ label ∷ around) line = Ok (label, with_open now around)
-ahead_ended now (Loop _ _ ∷ around) line = refuse_line line Unmatched
-ahead_ended now [] line = refuse_line line Unmatched
+abbrev pub innermost_ahead_label : ParseState → List Open → ℕ → Result (ℕ × ParseState) Refusal
+innermost_ahead_label now (JumpAhead _ label ∷ around) line = Ok (label, with_open_words now around)
+innermost_ahead_label now (Loop _ _ ∷ around) line = refusal_at_line line Unmatched
+innermost_ahead_label now [] line = refusal_at_line line Unmatched
 
-abbrev pub end_ahead : ParseState → ℕ → Result (ℕ × ParseState) Refusal
-end_ahead now line = ahead_ended now now.opened line
+abbrev pub end_jump_ahead : ParseState → ℕ → Result (ℕ × ParseState) Refusal
+end_jump_ahead now line = innermost_ahead_label now now.opened line
 
 -- a loop is around the innermost open word, which stays open; the loop ends: its label
-abbrev pub around_ended : ParseState → List Open → ℕ → Result (ℕ × ParseState) Refusal
-around_ended now (innermost ∷ opened) line = end_loop (with_open now opened) line ▷ (λ end. Ok (end.0, with_open end.1 (innermost ∷ end.1.opened)))
-around_ended now [] line = refuse_line line Unmatched
+abbrev pub outer_loop_label : ParseState → List Open → ℕ → Result (ℕ × ParseState) Refusal
+outer_loop_label now (innermost ∷ opened) line = end_loop (with_open_words now opened) line ▷ (λ end. Ok (end.0, with_open_words end.1 (innermost ∷ end.1.opened)))
+outer_loop_label now [] line = refusal_at_line line Unmatched
 
-abbrev pub end_around : ParseState → ℕ → Result (ℕ × ParseState) Refusal
-end_around now line = around_ended now now.opened line
+abbrev pub end_outer_loop : ParseState → ℕ → Result (ℕ × ParseState) Refusal
+end_outer_loop now line = outer_loop_label now now.opened line
 
 -- what a control word asks for
 abbrev pub control : ParseState → ℕ → Control → Result ParseState Refusal
 control now line Begin = Ok (begin_loop now line)
-control now line For = Ok (begin_loop (asking now line (Put (Opcode Push))) line)
+control now line For = Ok (begin_loop (with_added_request now line (Put (Opcode Push))) line)
 control now line (If op) = Ok (ahead now line op)
-control now line Else = end_ahead now line ▷ (λ end. mark (ahead end.1 line Jump) line end.0)
-control now line Then = end_ahead now line ▷ (λ end. mark end.1 line end.0)
+control now line Else = end_jump_ahead now line ▷ (λ end. mark (ahead end.1 line Jump) line end.0)
+control now line Then = end_jump_ahead now line ▷ (λ end. mark end.1 line end.0)
 control now line Again = end_loop now line ▷ (λ end. Ok (jump end.1 line Jump end.0))
 control now line (Until op) = end_loop now line ▷ (λ end. Ok (jump end.1 line op end.0))
 control now line Next = end_loop now line ▷ (λ end. Ok (jump end.1 line NextOp end.0))
-control now line NextAround = end_around now line ▷ (λ end. Ok (jump end.1 line NextOp end.0))
-control now line UnextWord = end_loop now line ▷ (λ end. Ok (asking end.1 line (Unext end.0)))
-control now line (While op) = end_loop now line ▷ (λ end. Ok (with_open (ahead end.1 line op) (Loop line end.0 ∷ (ahead end.1 line op).opened)))
-control now line Repeat = end_loop now line ▷ (λ end. end_ahead (jump end.1 line Jump end.0) line ▷ (λ out. mark out.1 line out.0))
+control now line NextAround = end_outer_loop now line ▷ (λ end. Ok (jump end.1 line NextOp end.0))
+control now line UnextWord = end_loop now line ▷ (λ end. Ok (with_added_request end.1 line (Unext end.0)))
+control now line (While op) = end_loop now line ▷ (λ end. Ok (with_open_words (ahead end.1 line op) (Loop line end.0 ∷ (ahead end.1 line op).opened)))
+control now line Repeat = end_loop now line ▷ (λ end. end_jump_ahead (jump end.1 line Jump end.0) line ▷ (λ out. mark out.1 line out.0))
 
 -- ---- numbers and values
 
 -- what a number asks for, where the word is one that is in range; a place takes numbers of this range
-abbrev pub by_range : {X : Type 0} → NumberIn → ℕ → List ℕ → NumberRange → (ℕ → Result X Refusal) → Result X Refusal → Result X Refusal
-by_range (Of n) line word range asks other = asks n
-by_range OutOfRange line word range asks other = refuse_line line (NoNumberHere word range)
-by_range NotANumber line word range asks other = other
+abbrev pub if_number_in_range : {X : Type 0} → NumberIn → ℕ → List ℕ → NumberRange → (ℕ → Result X Refusal) → Result X Refusal → Result X Refusal
+if_number_in_range (Of n) line word range asks other = asks n
+if_number_in_range OutOfRange line word range asks other = refusal_at_line line (NoNumberHere word range)
+if_number_in_range NotANumber line word range asks other = other
 
 -- the value of a word, if it has one: a number, a port, or, after an apostrophe, the address of a label
-unfoldable pub value_said : ParseState → ℕ → List ℕ → Result (Option Operand × ParseState) Refusal
-value_said now line word =
+unfoldable pub value_of_word : ParseState → ℕ → List ℕ → Result (Option Operand × ParseState) Refusal
+value_of_word now line word =
     if has_prefix word (codes "'") then
-    (if has_bytes (drop 1 word) then Ok (Some (Label (label_number now.labels (drop 1 word))), naming now line (drop 1 word)) else refuse_line line Missing)
-    else by_range (number_by_word word) line word ToWord (λ n. Ok (Some (Number n), now)) (Ok (None, now))
+    (if has_bytes (drop 1 word) then Ok (Some (Label (label_number now.labels (drop 1 word))), with_named_label now line (drop 1 word)) else refusal_at_line line Missing)
+    else if_number_in_range (number_of_word word) line word ToWord (λ n. Ok (Some (Number n), now)) (Ok (None, now))
 
 -- ---- words
 
 -- `X ,`
 abbrev pub cell : ParseState → ℕ → Option Operand → Result ParseState Refusal
-cell now line (Some value) = Ok (asking (record now { expect = Nothing }) line (Put (Cell value)))
-cell now line None = refuse_line line Missing
+cell now line (Some value) = Ok (with_added_request (record now { expect = Nothing }) line (Put (Cell value)))
+cell now line None = refusal_at_line line Missing
 
 abbrev pub directive : ParseState → ℕ → Directive → ParseState
 directive now line Labels = record now { expect = Name }
 directive now line GoesOn = record now { expect = Address }
 directive now line (Gives register) = record now { expect = Register register }
-directive now line Fills = asking now line Fill
-directive now line (Carries is_set) = asking (record now { carries = is_set }) line (Carry is_set)
+directive now line Fills = with_added_request now line Fill
+directive now line (Carries is_set) = with_added_request (record now { carries = is_set }) line (Carry is_set)
 
 -- `NAME`, or `NAME ;`
 unfoldable pub call : ParseState → ℕ → List ℕ → List ℕ → Result ParseState Refusal
 call now line name next =
-    if is_reserved name then refuse_line line (Unknown name)
-    else if bytes_eq next (codes ";") then Ok (jump (record (naming now line name) { expect = Nothing }) line Jump (label_number now.labels name))
-    else Ok (jump (naming now line name) line Call (label_number now.labels name))
+    if is_reserved name then refusal_at_line line (Unknown name)
+    else if bytes_eq next (codes ";") then Ok (jump (record (with_named_label now line name) { expect = Nothing }) line Jump (label_number now.labels name))
+    else Ok (jump (with_named_label now line name) line Call (label_number now.labels name))
 
 -- a literal, or else a label's name
 abbrev pub value_or_call : ParseState → ℕ → List ℕ → List ℕ → Option Operand → Result ParseState Refusal
-value_or_call now line word next (Some value) = Ok (asking now line (Put (Literal value)))
+value_or_call now line word next (Some value) = Ok (with_added_request now line (Put (Literal value)))
 value_or_call now line word next None = call now line word next
 
 -- a word that neither `,` nor a directive decides
-abbrev pub alone : ParseState → ℕ → List ℕ → List ℕ → Option Op → Option Control → Result ParseState Refusal
-alone now line word next (Some op) _ = Ok (asking now line (Put (Opcode op)))
-alone now line word next None (Some one) = control now line one
-alone now line word next None None = value_said now line word ▷ (λ said. value_or_call said.1 line word next said.0)
+abbrev pub opcode_control_or_value : ParseState → ℕ → List ℕ → List ℕ → Option Op → Option Control → Result ParseState Refusal
+opcode_control_or_value now line word next (Some op) _ = Ok (with_added_request now line (Put (Opcode op)))
+opcode_control_or_value now line word next None (Some one) = control now line one
+opcode_control_or_value now line word next None None = value_of_word now line word ▷ (λ said. value_or_call said.1 line word next said.0)
 
 -- a word without arguments, or one of a table
-abbrev pub named_word : ParseState → ℕ → List ℕ → List ℕ → Option Directive → Result ParseState Refusal
-named_word now line word next (Some one) = Ok (directive now line one)
-named_word now line word next None = alone now line word next (opcode_in word) (control_in word)
+abbrev pub directive_or_word : ParseState → ℕ → List ℕ → List ℕ → Option Directive → Result ParseState Refusal
+directive_or_word now line word next (Some one) = Ok (directive now line one)
+directive_or_word now line word next None = opcode_control_or_value now line word next (opcode_in word) (control_in word)
 
 -- a word where any is allowed, and the word after it
-unfoldable pub word_asks : ParseState → ℕ → List ℕ → List ℕ → Result ParseState Refusal
-word_asks now line word next =
-    if bytes_eq next (codes ",") then value_said now line word ▷ (λ said. cell said.1 line said.0)
-    else named_word now line word next (directive_in word)
+unfoldable pub word_requests : ParseState → ℕ → List ℕ → List ℕ → Result ParseState Refusal
+word_requests now line word next =
+    if bytes_eq next (codes ",") then value_of_word now line word ▷ (λ said. cell said.1 line said.0)
+    else directive_or_word now line word next (directive_in word)
 
 -- `: NAME`
-unfoldable pub name_asks : ParseState → ℕ → List ℕ → Result ParseState Refusal
-name_asks now line name = if is_reserved name then refuse_line line Taken else mark (naming now line name) line (label_number now.labels name)
+unfoldable pub label_name_requests : ParseState → ℕ → List ℕ → Result ParseState Refusal
+label_name_requests now line name = if is_reserved name then refusal_at_line line Taken else mark (with_named_label now line name) line (label_number now.labels name)
 
 -- an address with this bit 9
 abbrev pub with_carry_bit : Bool → ℕ → ℕ
 with_carry_bit is_set address = (if is_set then 512 else 0) + address % 512
 
 -- `org N`
-unfoldable pub address_asks : ParseState → ℕ → List ℕ → Result ParseState Refusal
-address_asks now line word =
-    by_range (number_by_word word) line word ToCell (λ n. if is_cell n then Ok (asking now line (Go (with_carry_bit now.carries n))) else refuse_line line (NoNumberHere word ToCell)) (refuse_line line Missing)
+unfoldable pub org_requests : ParseState → ℕ → List ℕ → Result ParseState Refusal
+org_requests now line word =
+    if_number_in_range (number_of_word word) line word ToCell (λ n. if is_cell_address n then Ok (with_added_request now line (Go (with_carry_bit now.carries n))) else refusal_at_line line (NoNumberHere word ToCell)) (refusal_at_line line Missing)
 
 -- what a register is given
-abbrev pub given_in : Registers → RegisterName → Option RegisterValue
-given_in registers P = registers.p
-given_in registers A = registers.a
-given_in registers B = registers.b
+abbrev pub register_value_in : InitialRegisters → RegisterName → Option RegisterValue
+register_value_in registers P = registers.p
+register_value_in registers A = registers.a
+register_value_in registers B = registers.b
 
-abbrev pub with_given : Registers → RegisterName → RegisterValue → Registers
-with_given registers P given = record registers { p = Some given }
-with_given registers A given = record registers { a = Some given }
-with_given registers B given = record registers { b = Some given }
+abbrev pub with_register_value : InitialRegisters → RegisterName → RegisterValue → InitialRegisters
+with_register_value registers P given = record registers { p = Some given }
+with_register_value registers A given = record registers { a = Some given }
+with_register_value registers B given = record registers { b = Some given }
 
 -- the register is given this, and nothing before
-abbrev pub give : ParseState → ℕ → RegisterName → Operand → Result ParseState Refusal
-give now line register value =
-    if is_none (given_in now.registers register) then Ok (record now { registers = with_given now.registers register (record { line = line; value = value }) })
-    else refuse_line line RegisterTwice
+abbrev pub set_register_once : ParseState → ℕ → RegisterName → Operand → Result ParseState Refusal
+set_register_once now line register value =
+    if is_none (register_value_in now.registers register) then Ok (record now { registers = with_register_value now.registers register (record { line = line; value = value }) })
+    else refusal_at_line line RegisterTwice
 
 -- `/p X`, `/a X`, `/b X`
-unfoldable pub register_asks : ParseState → ℕ → RegisterName → List ℕ → Result ParseState Refusal
-register_asks now line register word =
-    by_range (number_by_word word) line word (range_of register) (λ n. if nat_lt n (bound_of register) then give now line register (Number n) else refuse_line line (NoNumberHere word (range_of register)))
-    (if is_reserved word then refuse_line line Missing else give (naming now line word) line register (Label (label_number now.labels word)))
+unfoldable pub register_requests : ParseState → ℕ → RegisterName → List ℕ → Result ParseState Refusal
+register_requests now line register word =
+    if_number_in_range (number_of_word word) line word (register_range register) (λ n. if nat_lt n (register_bound register) then set_register_once now line register (Number n) else refusal_at_line line (NoNumberHere word (register_range register)))
+    (if is_reserved word then refusal_at_line line Missing else set_register_once (with_named_label now line word) line register (Label (label_number now.labels word)))
 
 -- a word by what is expected
-abbrev pub expected : ParseState → Expect → ℕ → List ℕ → List ℕ → Result ParseState Refusal
-expected now Word line word next = word_asks now line word next
-expected now Address line word next = address_asks now line word
-expected now Name line word next = name_asks now line word
-expected now (Register register) line word next = register_asks now line register word
-expected now Nothing line word next = Ok now
+abbrev pub expected_word_requests : ParseState → Expect → ℕ → List ℕ → List ℕ → Result ParseState Refusal
+expected_word_requests now Word line word next = word_requests now line word next
+expected_word_requests now Address line word next = org_requests now line word
+expected_word_requests now Name line word next = label_name_requests now line word
+expected_word_requests now (Register register) line word next = register_requests now line register word
+expected_word_requests now Nothing line word next = Ok now
 
 -- a token is a word, or the fault of a line
-abbrev pub of_kind : TokenKind → ℕ → Result ParseState Refusal → Result ParseState Refusal
-of_kind WordKind line asks = asks
-of_kind LongLineKind line asks = refuse_line line LongLine
-of_kind OpenCommentKind line asks = refuse_line line OpenComment
-of_kind NoNumberKind line asks = refuse_line line NoNumber
-of_kind MissingKind line asks = refuse_line line Missing
-of_kind TakenKind line asks = refuse_line line Taken
+abbrev pub requests_if_word : TokenKind → ℕ → Result ParseState Refusal → Result ParseState Refusal
+requests_if_word WordKind line asks = asks
+requests_if_word LongLineKind line asks = refusal_at_line line LongLine
+requests_if_word OpenCommentKind line asks = refusal_at_line line OpenComment
+requests_if_word NoNumberKind line asks = refusal_at_line line NoNumber
+requests_if_word MissingKind line asks = refusal_at_line line Missing
+requests_if_word TakenKind line asks = refusal_at_line line Taken
 
 -- what words ask for with one word more
-abbrev pub hear : ParseState → TokenContent → List ℕ → Result ParseState Refusal
-hear now said next = of_kind said.kind said.line (expected (record now { expect = Word }) now.expect said.line said.text next)
+abbrev pub parse_one_word : ParseState → TokenContent → List ℕ → Result ParseState Refusal
+parse_one_word now said next = requests_if_word said.kind said.line (expected_word_requests (record now { expect = Word }) now.expect said.line said.text next)
 
 -- ---- at the end
 
 -- a word is missing
-abbrev pub is_waiting : Expect → Bool
-is_waiting Word = false
-is_waiting Address = true
-is_waiting Name = true
-is_waiting (Register _) = true
-is_waiting Nothing = false
+abbrev pub expects_operand : Expect → Bool
+expects_operand Word = false
+expects_operand Address = true
+expects_operand Name = true
+expects_operand (Register _) = true
+expects_operand Nothing = false
 
 -- the line of a control word
-abbrev pub line_of : Open → ℕ
-line_of (Loop line _) = line
-line_of (JumpAhead line _) = line
+abbrev pub open_word_line : Open → ℕ
+open_word_line (Loop line _) = line
+open_word_line (JumpAhead line _) = line
 
 -- no control word is open; otherwise the fault names the outermost one
-unfoldable pub all_closed : ParseState → List Open → Result ParseState Refusal
-all_closed now [] = Ok now
-all_closed now (one ∷ []) = refuse_line (line_of one) Unclosed
-all_closed now (one ∷ around) = all_closed now around
+unfoldable pub refuse_unclosed : ParseState → List Open → Result ParseState Refusal
+refuse_unclosed now [] = Ok now
+refuse_unclosed now (one ∷ []) = refusal_at_line (open_word_line one) Unclosed
+refuse_unclosed now (one ∷ around) = refuse_unclosed now around
 
 -- each name has a place; otherwise the fault names the first that has none
-unfoldable pub all_placed : ParseState → List Mention → Result ParseState Refusal
-all_placed now [] = Ok now
-all_placed now (label ∷ labels) = if has_bytes label.name && not label.is_marked then refuse_line label.line (Unknown label.name) else all_placed now labels
+unfoldable pub refuse_unplaced : ParseState → List LabelContent → Result ParseState Refusal
+refuse_unplaced now [] = Ok now
+refuse_unplaced now (label ∷ labels) = if has_bytes label.name && not label.is_marked then refusal_at_line label.line (Unknown label.name) else refuse_unplaced now labels
 
-abbrev pub finished : ParseState → ℕ → Result ParseState Refusal
-finished now last =
-    if is_waiting now.expect then refuse_line last Missing
-    else all_closed now now.opened ▷ (λ closed. all_placed closed closed.labels)
+abbrev pub finished_parse : ParseState → ℕ → Result ParseState Refusal
+finished_parse now last =
+    if expects_operand now.expect then refusal_at_line last Missing
+    else refuse_unclosed now now.opened ▷ (λ closed. refuse_unplaced closed closed.labels)
 
 -- ---- the words of a node
 
@@ -356,10 +356,10 @@ next_text [] = []
 next_text (said ∷ rest) = said.text
 
 -- the requests of words after others, the last of which was on this line
-unfoldable pub asked_from : ParseState → ℕ → List TokenContent → Result ParseState Refusal
-asked_from now last [] = finished now last
-asked_from now last (said ∷ rest) = hear now said (next_text rest) ▷ (λ after. asked_from after said.line rest)
+unfoldable pub parse_words_from : ParseState → ℕ → List TokenContent → Result ParseState Refusal
+parse_words_from now last [] = finished_parse now last
+parse_words_from now last (said ∷ rest) = parse_one_word now said (next_text rest) ▷ (λ after. parse_words_from after said.line rest)
 
 -- the requests of the words after a node's name, which is on this line
-abbrev pub asked_by_words : ℕ → List TokenContent → Result ParseState Refusal
-asked_by_words line words = asked_from nothing_asked line words
+abbrev pub requests_of_words : ℕ → List TokenContent → Result ParseState Refusal
+requests_of_words line words = parse_words_from initial_parse_state line words

@@ -11,9 +11,9 @@ are_exchanged _ _ = false
 -- The word is the name but for one letter, which is missing, too much or another; or but for two that stand together and are
 -- exchanged. So their distance is one at most, where it counts insertions, deletions, substitutions and transpositions of
 -- neighbours (Damerau 1964).
-unfoldable pub is_near : Text → Text → Bool
-is_near [] name = nat_le (length name) 1
-is_near (first ∷ rest) [] = length rest == 0
-is_near (first ∷ rest) (letter ∷ more) =
-    if first == letter then is_near rest more
+unfoldable pub is_within_one_edit : Text → Text → Bool
+is_within_one_edit [] name = nat_le (length name) 1
+is_within_one_edit (first ∷ rest) [] = length rest == 0
+is_within_one_edit (first ∷ rest) (letter ∷ more) =
+    if first == letter then is_within_one_edit rest more
     else pointwise nat_eq rest more || (pointwise nat_eq rest (letter ∷ more) || (pointwise nat_eq (first ∷ rest) more || are_exchanged (first ∷ rest) (letter ∷ more)))

@@ -2,7 +2,7 @@
 use Rattle.std.specs.Prelude.{ℕ, ◌≡◌, Bool, true, false, ◌&&◌, not, if◌then◌else◌, List, [], ◌∷◌, ◌++◌, map, reverse, filter, codes, bytes_eq, Option, Some, None, Result, Ok, Err}
 use Rattle.std.specs.List.{flat_map}
 use Rattle.ga_parser.specs.declared.controls.Open.{Open}
-use Rattle.ga_parser.specs.declared.fault.Fault.{Fault}
+use Rattle.ga_parser.specs.declared.fault.SourceFault.{SourceFault}
 use Rattle.ga_parser.specs.declared.item.LocatedRequest.{LocatedRequest}
 use Rattle.ga_parser.specs.declared.item.RegisterValue.{RegisterValue}
 use Rattle.ga_parser.specs.declared.item.Item.{Item}
@@ -10,13 +10,13 @@ use Rattle.ga_parser.specs.declared.item.Item.TheVariants.{Opcode, Literal, Back
 use Rattle.ga_parser.specs.declared.item.NodeRequests.{NodeRequests}
 use Rattle.ga_parser.specs.declared.item.Operand.{Operand}
 use Rattle.ga_parser.specs.declared.item.Operand.TheVariants.{Number, Label}
-use Rattle.ga_parser.specs.declared.item.Registers.{Registers}
-use Rattle.ga_parser.specs.declared.item.Request.{Request}
-use Rattle.ga_parser.specs.declared.item.Request.TheVariants.{Put, Unext}
+use Rattle.ga_parser.specs.declared.item.InitialRegisters.{InitialRegisters}
+use Rattle.ga_parser.specs.declared.item.AssemblyRequest.{AssemblyRequest}
+use Rattle.ga_parser.specs.declared.item.AssemblyRequest.TheVariants.{Put, Unext}
 use Rattle.ga_parser.specs.declared.draft.Expect.{Expect}
 use Rattle.ga_parser.specs.declared.draft.Expect.TheVariants.{Word}
-use Rattle.ga_parser.specs.Asking.{ParseState, Mention, Refusal, nothing_asked, hear, is_waiting, line_of, label_at, mention_of, next_text}
-use Rattle.ga_parser.specs.Asking.Wrong.{Missing, Unclosed, Unknown}
+use Rattle.ga_parser.specs.Asking.{ParseState, LabelContent, Refusal, initial_parse_state, parse_one_word, expects_operand, open_word_line, label_at, label_content, next_text}
+use Rattle.ga_parser.specs.Asking.RefusalCause.{Missing, Unclosed, Unknown}
 use Rattle.ga_parser.specs.Requests.{word_refusal}
 use Rattle.ga_parser.specs.Saying.{TokenContent, has_bytes}
 
@@ -27,43 +27,43 @@ pub record Recovery : Type 0 where
   pub last : ℕ
   pub now : ParseState
   pub refused : List Refusal
-  pub is_passed : Bool
+  pub is_last_skipped : Bool
 
 -- the word is passed over, with a directive that takes it
-abbrev pub passed_over : ParseState → ParseState
-passed_over now = record now { expect = Word }
+abbrev pub with_skipped_word : ParseState → ParseState
+with_skipped_word now = record now { expect = Word }
 
 -- what comes of a word: it is heard or refused
-abbrev pub by_hearing : Recovery → ℕ → Result ParseState Refusal → Recovery
-by_hearing so_far line (Ok after) = record { last = line; now = after; refused = so_far.refused; is_passed = false }
-by_hearing so_far line (Err refusal) = record { last = line; now = passed_over so_far.now; refused = so_far.refused ++ refusal ∷ []; is_passed = true }
+abbrev pub recovery_after_result : Recovery → ℕ → Result ParseState Refusal → Recovery
+recovery_after_result so_far line (Ok after) = record { last = line; now = after; refused = so_far.refused; is_last_skipped = false }
+recovery_after_result so_far line (Err refusal) = record { last = line; now = with_skipped_word so_far.now; refused = so_far.refused ++ refusal ∷ []; is_last_skipped = true }
 
 abbrev pub is_comma : TokenContent → Bool
 is_comma said = bytes_eq said.text (codes ",")
 
 -- one more word, and the text of the next: a `,` after a skipped word is skipped with it
-abbrev pub recover_one : Recovery → TokenContent → List ℕ → Recovery
-recover_one so_far said next = if so_far.is_passed && is_comma said then so_far else by_hearing so_far said.line (hear so_far.now said next)
+abbrev pub recover_next_word : Recovery → TokenContent → List ℕ → Recovery
+recover_next_word so_far said next = if so_far.is_last_skipped && is_comma said then so_far else recovery_after_result so_far said.line (parse_one_word so_far.now said next)
 
 unfoldable pub recover_from : Recovery → List TokenContent → Recovery
 recover_from so_far [] = so_far
-recover_from so_far (said ∷ rest) = recover_from (recover_one so_far said (next_text rest)) rest
+recover_from so_far (said ∷ rest) = recover_from (recover_next_word so_far said (next_text rest)) rest
 
 -- before the words of a node, whose name is on this line
-abbrev pub unread : ℕ → Recovery
-unread line = record { last = line; now = nothing_asked; refused = []; is_passed = false }
+abbrev pub initial_recovery : ℕ → Recovery
+initial_recovery line = record { last = line; now = initial_parse_state; refused = []; is_last_skipped = false }
 
 -- all words after the name
 abbrev pub recover : ℕ → List TokenContent → Recovery
-recover line words = recover_from (unread line) words
+recover line words = recover_from (initial_recovery line) words
 
 -- ---- at the end: a word that is missing, control words that are open, and names that no place has
 
-abbrev pub missing_by : ℕ → Expect → List Refusal
-missing_by last expect = if is_waiting expect then record { line = last; wrong = Missing } ∷ [] else []
+abbrev pub missing_word_refusals : ℕ → Expect → List Refusal
+missing_word_refusals last expect = if expects_operand expect then record { line = last; wrong = Missing } ∷ [] else []
 
-abbrev pub unclosed : Open → Refusal
-unclosed one = record { line = line_of one; wrong = Unclosed }
+abbrev pub unclosed_word_refusal : Open → Refusal
+unclosed_word_refusal one = record { line = open_word_line one; wrong = Unclosed }
 
 -- the label of which a request or a register needs the place
 abbrev pub operand_label : Operand → Option ℕ
@@ -77,54 +77,54 @@ item_label (Back op label) = Some label
 item_label (Ahead op label) = Some label
 item_label (Cell value) = operand_label value
 
-abbrev pub request_label : Request → Option ℕ
+abbrev pub request_label : AssemblyRequest → Option ℕ
 request_label (Put item) = item_label item
 request_label (Unext label) = Some label
 request_label _ = None
 
-abbrev pub given_label : Option RegisterValue → Option ℕ
-given_label (Some given) = operand_label given.value
-given_label None = None
+abbrev pub register_label : Option RegisterValue → Option ℕ
+register_label (Some given) = operand_label given.value
+register_label None = None
 
 -- no label is needed, or it has its place
-abbrev pub has_place : List Mention → Option ℕ → Bool
+abbrev pub has_place : List LabelContent → Option ℕ → Bool
 has_place labels (Some label) = (label_at labels label).is_marked
 has_place labels None = true
 
 -- The word on this line names a label that has no place. If a control word made the label, the fault is that it is open.
-abbrev pub unplaced : List Mention → ℕ → Option ℕ → List Refusal
-unplaced labels line (Some label) =
+abbrev pub unplaced_label_refusals : List LabelContent → ℕ → Option ℕ → List Refusal
+unplaced_label_refusals labels line (Some label) =
     if not (label_at labels label).is_marked && has_bytes (label_at labels label).name then record { line = line; wrong = Unknown (label_at labels label).name } ∷ [] else []
-unplaced labels line None = []
+unplaced_label_refusals labels line None = []
 
-abbrev pub unplaced_asked : List Mention → LocatedRequest → List Refusal
-unplaced_asked labels asked = unplaced labels asked.line (request_label asked.request)
+abbrev pub unplaced_request_refusals : List LabelContent → LocatedRequest → List Refusal
+unplaced_request_refusals labels asked = unplaced_label_refusals labels asked.line (request_label asked.request)
 
-abbrev pub unplaced_given : List Mention → Option RegisterValue → List Refusal
-unplaced_given labels (Some given) = unplaced labels given.line (operand_label given.value)
-unplaced_given labels None = []
+abbrev pub unplaced_register_refusals : List LabelContent → Option RegisterValue → List Refusal
+unplaced_register_refusals labels (Some given) = unplaced_label_refusals labels given.line (operand_label given.value)
+unplaced_register_refusals labels None = []
 
 -- all faults reported after the last word
-abbrev pub refused_at_end : ℕ → ParseState → List Refusal
-refused_at_end last now =
-    missing_by last now.expect ++ map unclosed (reverse now.opened) ++ flat_map (unplaced_asked now.labels) now.asked
-    ++ unplaced_given now.labels now.registers.p ++ unplaced_given now.labels now.registers.a ++ unplaced_given now.labels now.registers.b
+abbrev pub refusals_at_end : ℕ → ParseState → List Refusal
+refusals_at_end last now =
+    missing_word_refusals last now.expect ++ map unclosed_word_refusal (reverse now.opened) ++ flat_map (unplaced_request_refusals now.labels) now.asked
+    ++ unplaced_register_refusals now.labels now.registers.p ++ unplaced_register_refusals now.labels now.registers.a ++ unplaced_register_refusals now.labels now.registers.b
 
 -- ---- what is left
 
-abbrev pub is_left : List Mention → LocatedRequest → Bool
-is_left labels asked = has_place labels (request_label asked.request)
+abbrev pub is_recovered_request : List LabelContent → LocatedRequest → Bool
+is_recovered_request labels asked = has_place labels (request_label asked.request)
 
-abbrev pub given_left : List Mention → Option RegisterValue → Option RegisterValue
-given_left labels given = if has_place labels (given_label given) then given else None
+abbrev pub recovered_register_value : List LabelContent → Option RegisterValue → Option RegisterValue
+recovered_register_value labels given = if has_place labels (register_label given) then given else None
 
-abbrev pub registers_left : List Mention → Registers → Registers
-registers_left labels registers = record { p = given_left labels registers.p; a = given_left labels registers.a; b = given_left labels registers.b }
+abbrev pub recovered_registers : List LabelContent → InitialRegisters → InitialRegisters
+recovered_registers labels registers = record { p = recovered_register_value labels registers.p; a = recovered_register_value labels registers.a; b = recovered_register_value labels registers.b }
 
 -- The requests are those of the words after a node's name on this line, without those at fault: neither skipped, nor with a
 -- label that has no place. The faults are theirs, those of skipped words first.
-pub record AreRequestsLeft (line : ℕ) (words : List TokenContent) (requests : NodeRequests) (faults : List Fault) : Type 0 where
-  pub asked : requests.asked.items ≡ filter (is_left (recover line words).now.labels) (recover line words).now.asked
-  pub names : map mention_of requests.names.items ≡ (recover line words).now.labels
-  pub registers : requests.registers ≡ registers_left (recover line words).now.labels (recover line words).now.registers
-  pub told : map word_refusal faults ≡ (recover line words).refused ++ refused_at_end (recover line words).last (recover line words).now
+pub record AreRecoveredRequests (line : ℕ) (words : List TokenContent) (requests : NodeRequests) (faults : List SourceFault) : Type 0 where
+  pub asked : requests.asked.items ≡ filter (is_recovered_request (recover line words).now.labels) (recover line words).now.asked
+  pub names : map label_content requests.names.items ≡ (recover line words).now.labels
+  pub registers : requests.registers ≡ recovered_registers (recover line words).now.labels (recover line words).now.registers
+  pub told : map word_refusal faults ≡ (recover line words).refused ++ refusals_at_end (recover line words).last (recover line words).now

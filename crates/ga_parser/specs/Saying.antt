@@ -10,51 +10,51 @@ use Rattle.ga_parser.specs.declared.scan.Token.{Token}
 -- ---- lines, and the words of a line
 
 -- The parts of a text that some bytes end. The last may lack its end. An empty text has no part.
-unfoldable pub parted : (ℕ → Bool) → List ℕ → List (List ℕ)
-parted ends [] = []
-parted ends (byte ∷ text) = if ends byte then [] ∷ parted ends text else with_byte byte (parted ends text)
+unfoldable pub parts_ended_by : (ℕ → Bool) → List ℕ → List (List ℕ)
+parts_ended_by ends [] = []
+parts_ended_by ends (byte ∷ text) = if ends byte then [] ∷ parts_ended_by ends text else with_byte byte (parts_ended_by ends text)
 
 -- a line feed
-abbrev pub is_feed : ℕ → Bool
-is_feed byte = byte == 10
+abbrev pub is_line_feed : ℕ → Bool
+is_line_feed byte = byte == 10
 
 -- a blank or a tab
 abbrev pub is_blank : ℕ → Bool
 is_blank byte = byte == 32 || byte == 9
 
 abbrev pub source_lines : List ℕ → List (List ℕ)
-source_lines text = parted is_feed text
+source_lines text = parts_ended_by is_line_feed text
 
 abbrev pub has_bytes : List ℕ → Bool
 has_bytes [] = false
 has_bytes (byte ∷ text) = true
 
 abbrev pub source_words : List ℕ → List (List ℕ)
-source_words line = filter has_bytes (parted is_blank line)
+source_words line = filter has_bytes (parts_ended_by is_blank line)
 
 -- ---- what some editors write into a text
 
 -- the byte order mark (Unicode, U+FEFF in UTF-8)
-abbrev pub order_mark : List ℕ
-order_mark = 0xef ∷ 0xbb ∷ 0xbf ∷ []
+abbrev pub byte_order_mark : List ℕ
+byte_order_mark = 0xef ∷ 0xbb ∷ 0xbf ∷ []
 
 -- a line without the byte order mark, where it is the first and begins with one
 abbrev pub strip_bom : ℕ → List ℕ → List ℕ
-strip_bom line text = if line == 1 && bytes_eq (take 3 text) order_mark then drop 3 text else text
+strip_bom line text = if line == 1 && bytes_eq (take 3 text) byte_order_mark then drop 3 text else text
 
 -- a line without the carriage return at its end
-abbrev pub without_return : List ℕ → List ℕ
-without_return text = if slice_index text (length text - 1) == 13 then take (length text - 1) text else text
+abbrev pub without_carriage_return : List ℕ → List ℕ
+without_carriage_return text = if slice_index text (length text - 1) == 13 then take (length text - 1) text else text
 
 -- a line without the byte order mark, and without the carriage return at its end
-abbrev pub bare : ℕ → List ℕ → List ℕ
-bare line text = without_return (strip_bom line text)
+abbrev pub stripped_source_line : ℕ → List ℕ → List ℕ
+stripped_source_line line text = without_carriage_return (strip_bom line text)
 
 -- ---- what a line says
 
 -- the most bytes of a line, without a byte order mark, a carriage return and a line feed
-abbrev pub longest_source_line : ℕ
-longest_source_line = 200
+abbrev pub max_source_line_bytes : ℕ
+max_source_line_bytes = 200
 
 -- a word, or what is wrong with a line and then no text, with the line's number
 pub record TokenContent : Type 0 where
@@ -62,11 +62,11 @@ pub record TokenContent : Type 0 where
   pub text : List ℕ
   pub kind : TokenKind
 
-abbrev pub a_word : ℕ → List ℕ → TokenContent
-a_word line text = record { line = line; text = text; kind = Word }
+abbrev pub word_token : ℕ → List ℕ → TokenContent
+word_token line text = record { line = line; text = text; kind = Word }
 
-abbrev pub a_fault : ℕ → TokenKind → TokenContent
-a_fault line kind = record { line = line; text = []; kind = kind }
+abbrev pub line_fault_token : ℕ → TokenKind → TokenContent
+line_fault_token line kind = record { line = line; text = []; kind = kind }
 
 abbrev pub is_word_kind : TokenKind → Bool
 is_word_kind Word = true
@@ -80,39 +80,39 @@ abbrev pub is_word : TokenContent → Bool
 is_word said = is_word_kind said.kind
 
 -- the word ends with `)`
-abbrev pub closes : List ℕ → Bool
-closes word = slice_index word (length word - 1) == 41
+abbrev pub is_comment_end : List ℕ → Bool
+is_comment_end word = slice_index word (length word - 1) == 41
 
 -- The tokens of words of a line, after a `(` that isn't closed yet or not: `\` omits everything after it, and `(` everything up
 -- to a word that ends with `)`.
-unfoldable pub spoken : ℕ → Bool → List (List ℕ) → List TokenContent
-spoken line false [] = []
-spoken line true [] = a_fault line OpenComment ∷ []
-spoken line false (word ∷ words) =
+unfoldable pub tokens_of_words : ℕ → Bool → List (List ℕ) → List TokenContent
+tokens_of_words line false [] = []
+tokens_of_words line true [] = line_fault_token line OpenComment ∷ []
+tokens_of_words line false (word ∷ words) =
     if bytes_eq word (codes "\\") then []
-    else if bytes_eq word (codes "(") then spoken line true words
-    else a_word line word ∷ spoken line false words
-spoken line true (word ∷ words) = spoken line (not (closes word)) words
+    else if bytes_eq word (codes "(") then tokens_of_words line true words
+    else word_token line word ∷ tokens_of_words line false words
+tokens_of_words line true (word ∷ words) = tokens_of_words line (not (is_comment_end word)) words
 
-abbrev pub said_by : ℕ → List ℕ → List TokenContent
-said_by line text = if nat_lt longest_source_line (length text) then a_fault line LongLine ∷ [] else spoken line false (source_words text)
+abbrev pub tokens_of_line : ℕ → List ℕ → List TokenContent
+tokens_of_line line text = if nat_lt max_source_line_bytes (length text) then line_fault_token line LongLine ∷ [] else tokens_of_words line false (source_words text)
 
 -- ---- what a text says
 
 -- the tokens, up to the first fault
-unfoldable pub up_to_fault : List TokenContent → List TokenContent
-up_to_fault [] = []
-up_to_fault (said ∷ rest) = said ∷ (if is_word said then up_to_fault rest else [])
+unfoldable pub tokens_until_fault : List TokenContent → List TokenContent
+tokens_until_fault [] = []
+tokens_until_fault (said ∷ rest) = said ∷ (if is_word said then tokens_until_fault rest else [])
 
 -- the number of the next line
-abbrev pub next_line : ℕ → ℕ
-next_line line = min (line + 1) (2 ^ 32 - 1)
+abbrev pub next_line_number : ℕ → ℕ
+next_line_number line = min (line + 1) (2 ^ 32 - 1)
 
 -- what the lines say up to one that is `end`, numbered from here on
-unfoldable pub said_from : ℕ → List (List ℕ) → List TokenContent
-said_from line [] = []
-said_from line (text ∷ texts) =
-    if bytes_eq (bare line text) (codes "end") then [] else said_by line (bare line text) ++ said_from (next_line line) texts
+unfoldable pub tokens_of_lines : ℕ → List (List ℕ) → List TokenContent
+tokens_of_lines line [] = []
+tokens_of_lines line (text ∷ texts) =
+    if bytes_eq (stripped_source_line line text) (codes "end") then [] else tokens_of_line line (stripped_source_line line text) ++ tokens_of_lines (next_line_number line) texts
 
 -- ---- what was read
 
@@ -130,28 +130,28 @@ abbrev pub part_column : ℕ → List ℕ → List ℕ
 part_column column part = if has_bytes part then column ∷ [] else []
 
 -- The columns of the tokens of parts of a line, the first of which is at this column, after a `(` that isn't closed yet or not.
-unfoldable pub columns_spoken : ℕ → Bool → List (List ℕ) → List ℕ
-columns_spoken column false [] = []
-columns_spoken column true [] = 1 ∷ []
-columns_spoken column false (part ∷ parts) =
+unfoldable pub columns_of_parts : ℕ → Bool → List (List ℕ) → List ℕ
+columns_of_parts column false [] = []
+columns_of_parts column true [] = 1 ∷ []
+columns_of_parts column false (part ∷ parts) =
     if bytes_eq part (codes "\\") then []
-    else if bytes_eq part (codes "(") then columns_spoken (column + length part + 1) true parts
-    else part_column column part ++ columns_spoken (column + length part + 1) false parts
-columns_spoken column true (part ∷ parts) = columns_spoken (column + length part + 1) (not (closes part)) parts
+    else if bytes_eq part (codes "(") then columns_of_parts (column + length part + 1) true parts
+    else part_column column part ++ columns_of_parts (column + length part + 1) false parts
+columns_of_parts column true (part ∷ parts) = columns_of_parts (column + length part + 1) (not (is_comment_end part)) parts
 
 -- the columns of what a line says
-abbrev pub columns_by : List ℕ → List ℕ
-columns_by text = if nat_lt longest_source_line (length text) then 1 ∷ [] else columns_spoken 1 false (parted is_blank text)
+abbrev pub columns_of_line : List ℕ → List ℕ
+columns_of_line text = if nat_lt max_source_line_bytes (length text) then 1 ∷ [] else columns_of_parts 1 false (parts_ended_by is_blank text)
 
 -- the columns of what the lines say up to one that is `end`, numbered from here on
-unfoldable pub columns_from : ℕ → List (List ℕ) → List ℕ
-columns_from line [] = []
-columns_from line (text ∷ texts) =
-    if bytes_eq (bare line text) (codes "end") then [] else columns_by (bare line text) ++ columns_from (next_line line) texts
+unfoldable pub columns_of_lines : ℕ → List (List ℕ) → List ℕ
+columns_of_lines line [] = []
+columns_of_lines line (text ∷ texts) =
+    if bytes_eq (stripped_source_line line text) (codes "end") then [] else columns_of_line (stripped_source_line line text) ++ columns_of_lines (next_line_number line) texts
 
 -- the columns of words that were read
-abbrev pub columns_of : List Token → List ℕ
-columns_of tokens = map (λ (token : Token). token.column) tokens
+abbrev pub token_columns : List Token → List ℕ
+token_columns tokens = map (λ (token : Token). token.column) tokens
 
 -- ---- tokens with their columns
 
@@ -160,11 +160,11 @@ pub record PlacedToken : Type 0 where
   pub column : ℕ
 
 -- tokens at these columns
-unfoldable pub at_columns : List TokenContent → List ℕ → List PlacedToken
-at_columns [] columns = []
-at_columns (said ∷ rest) [] = record { said = said; column = 0 } ∷ at_columns rest []
-at_columns (said ∷ rest) (column ∷ columns) = record { said = said; column = column } ∷ at_columns rest columns
+unfoldable pub with_columns : List TokenContent → List ℕ → List PlacedToken
+with_columns [] columns = []
+with_columns (said ∷ rest) [] = record { said = said; column = 0 } ∷ with_columns rest []
+with_columns (said ∷ rest) (column ∷ columns) = record { said = said; column = column } ∷ with_columns rest columns
 
 -- the tokens of a source as they are written, up to its end or to a line `end`
-abbrev pub scanned_in : List ℕ → List PlacedToken
-scanned_in source = at_columns (said_from 1 (source_lines source)) (columns_from 1 (source_lines source))
+abbrev pub scanned_tokens : List ℕ → List PlacedToken
+scanned_tokens source = with_columns (tokens_of_lines 1 (source_lines source)) (columns_of_lines 1 (source_lines source))

@@ -3,7 +3,7 @@
 use Rattle.std.specs.Prelude.{ℕ, ◌-◌, ◌*◌, ◌%◌, ◌==◌, nat_lt, nat_le, bit_xor, ◌&&◌, if◌then◌else◌, List, [], ◌∷◌, length, take, drop, codes, bytes_eq, Bool, Option, Some, None, true, false, ◌||◌, map, is_some}
 use Rattle.std.specs.List.{list_all}
 use Rattle.ga_ports.specs.Steps.{◌>>=◌}
-use Rattle.ga_ports.specs.Address.{set_number}
+use Rattle.ga_ports.specs.Address.{parse_side_set}
 use Rattle.std.specs.Option.{option_or, option_map_or}
 use Rattle.std.specs.Char.{is_digit}
 use Rattle.std.specs.Str.Parse.{digits_value}
@@ -29,39 +29,39 @@ abbrev pub is_numeral : ℕ → List ℕ → Bool
 is_numeral base text = has_bytes text && list_all (λ byte. is_digit byte base) text
 
 -- the number that digits of a base write
-abbrev pub digits_in : ℕ → List ℕ → Option ℕ
-digits_in base text = if is_numeral base text then Some (digits_value base text) else None
+abbrev pub value_of_digits : ℕ → List ℕ → Option ℕ
+value_of_digits base text = if is_numeral base text then Some (digits_value base text) else None
 
 -- the text begins with this front
 abbrev pub has_prefix : List ℕ → List ℕ → Bool
 has_prefix text front = bytes_eq (take (length front) text) front
 
 -- decimal digits, or hexadecimal ones after `0x`
-abbrev pub plain_in : List ℕ → Option ℕ
-plain_in text = if has_prefix text (codes "0x") then digits_in 16 (drop 2 text) else digits_in 10 text
+abbrev pub unsigned_number : List ℕ → Option ℕ
+unsigned_number text = if has_prefix text (codes "0x") then value_of_digits 16 (drop 2 text) else value_of_digits 10 text
 
 -- a number up to 262143
-abbrev pub word_of_size : ℕ → Number
-word_of_size size = if nat_lt size 262144 then Of size else OutOfRange
+abbrev pub checked_word : ℕ → Number
+checked_word size = if nat_lt size 262144 then Of size else OutOfRange
 
 -- a number down to -131072, modulo 2^18
-abbrev pub word_below : ℕ → Number
-word_below size = if nat_le size 131072 then Of ((262144 - size) % 262144) else OutOfRange
+abbrev pub checked_negative_word : ℕ → Number
+checked_negative_word size = if nat_le size 131072 then Of ((262144 - size) % 262144) else OutOfRange
 
-abbrev pub numeral_in : List ℕ → Number
-numeral_in text =
-    if has_prefix text (codes "-") then option_map_or word_below (plain_in (drop 1 text)) Nothing
-    else option_map_or word_of_size (plain_in text) Nothing
+abbrev pub signed_number : List ℕ → Number
+signed_number text =
+    if has_prefix text (codes "-") then option_map_or checked_negative_word (unsigned_number (drop 1 text)) Nothing
+    else option_map_or checked_word (unsigned_number text) Nothing
 
 -- ---- ports
 
 -- what a table has for a name
-abbrev pub by_name : {X : Type 0} → List (List ℕ × X) → List ℕ → Option X
-by_name [] text = None
-by_name (row ∷ rest) text = if bytes_eq text row.0 then Some row.1 else by_name rest text
+abbrev pub find_in_table : {X : Type 0} → List (List ℕ × X) → List ℕ → Option X
+find_in_table [] text = None
+find_in_table (row ∷ rest) text = if bytes_eq text row.0 then Some row.1 else find_in_table rest text
 
-abbrev pub ports : List (List ℕ × ℕ)
-ports =
+abbrev pub named_ports : List (List ℕ × ℕ)
+named_ports =
     (codes "right", 0x1d5)
     ∷ (codes "down", 0x115)
     ∷ (codes "left", 0x175)
@@ -70,25 +70,25 @@ ports =
     ∷ []
 
 -- the address of a set of ports, by the number of the set (DB001, ports): a side that it has turns a bit over; none where it is empty
-abbrev pub set_address : ℕ → Option ℕ
-set_address set = if set == 0 then None else Some (bit_xor 0x155 (16 * set))
+abbrev pub port_set_address : ℕ → Option ℕ
+port_set_address set = if set == 0 then None else Some (bit_xor 0x155 (16 * set))
 
 -- a set of ports: a letter or a hyphen for each side
-abbrev pub set_in : List ℕ → Option ℕ
-set_in text = set_number text >>= set_address
+abbrev pub named_port_set : List ℕ → Option ℕ
+named_port_set text = parse_side_set text >>= port_set_address
 
-abbrev pub port_in : List ℕ → Option ℕ
-port_in text = option_or (by_name ports text) (set_in text)
+abbrev pub named_port_address : List ℕ → Option ℕ
+named_port_address text = option_or (find_in_table named_ports text) (named_port_set text)
 
 -- ---- what a word says of a number: the address of a port, or the number modulo 2^18
-abbrev pub number_by_word : List ℕ → Number
-number_by_word text = option_map_or Of (port_in text) (numeral_in text)
+abbrev pub number_of_word : List ℕ → Number
+number_of_word text = option_map_or Of (named_port_address text) (signed_number text)
 
 -- ---- opcodes
 
 -- the names that an opcode has beside its own
-abbrev pub other_names : List (List ℕ × Op)
-other_names =
+abbrev pub opcode_aliases : List (List ℕ × Op)
+opcode_aliases =
     (codes "-", Invert)
     ∷ (codes "inv", Invert)
     ∷ (codes "xor", Or)
@@ -96,28 +96,28 @@ other_names =
     ∷ []
 
 -- each opcode by its own name
-abbrev pub own_names : List (List ℕ × Op)
-own_names = map (λ op. (name_of op, op)) all_ops
+abbrev pub opcode_names : List (List ℕ × Op)
+opcode_names = map (λ op. (name_of op, op)) all_ops
 
 -- the opcode, if no address follows it: one with an address is written as a call, a loop or a jump ahead
-abbrev pub without_address : Op → Option Op
-without_address Jump = None
-without_address Call = None
-without_address UnextOp = None
-without_address NextOp = None
-without_address IfOp = None
-without_address MinusIf = None
-without_address op = Some op
+abbrev pub opcode_without_address : Op → Option Op
+opcode_without_address Jump = None
+opcode_without_address Call = None
+opcode_without_address UnextOp = None
+opcode_without_address NextOp = None
+opcode_without_address IfOp = None
+opcode_without_address MinusIf = None
+opcode_without_address op = Some op
 
 -- the opcode that a word is
 unfoldable pub opcode_in : List ℕ → Option Op
-opcode_in word = option_or (by_name other_names word) (by_name own_names word) >>= without_address
+opcode_in word = option_or (find_in_table opcode_aliases word) (find_in_table opcode_names word) >>= opcode_without_address
 
 -- ---- control words
 
 -- the control words that close the innermost loop
-abbrev pub closings : List (List ℕ × Control)
-closings =
+abbrev pub loop_closing_words : List (List ℕ × Control)
+loop_closing_words =
     (codes "again", Again)
     ∷ (codes "until", Until IfOp)
     ∷ (codes "-until", Until MinusIf)
@@ -138,16 +138,16 @@ controls =
     ∷ (codes "ahead", If Jump)
     ∷ (codes "else", Else)
     ∷ (codes "then", Then)
-    ∷ closings
+    ∷ loop_closing_words
 
 -- the control word that a word is
 unfoldable pub control_in : List ℕ → Option Control
-control_in word = by_name controls word
+control_in word = find_in_table controls word
 
 -- ---- directives
 
-abbrev pub directives : List (List ℕ × Directive)
-directives =
+abbrev pub directive_words : List (List ℕ × Directive)
+directive_words =
     (codes ":", Label)
     ∷ (codes "org", Address)
     ∷ (codes "/p", Given P)
@@ -160,19 +160,19 @@ directives =
 
 -- the directive that a word is
 unfoldable pub directive_in : List ℕ → Option Directive
-directive_in word = by_name directives word
+directive_in word = find_in_table directive_words word
 
 -- what a register is given is below this
-abbrev pub bound_of : Register → ℕ
-bound_of P = 0x400
-bound_of A = 0x40000
-bound_of B = 0x200
+abbrev pub register_bound : Register → ℕ
+register_bound P = 0x400
+register_bound A = 0x40000
+register_bound B = 0x200
 
 -- the numbers that a register takes
-abbrev pub range_of : Register → NumberRange
-range_of P = ToP
-range_of A = ToWord
-range_of B = ToB
+abbrev pub register_range : Register → NumberRange
+register_range P = ToP
+register_range A = ToWord
+register_range B = ToB
 
 -- ---- names
 
@@ -183,8 +183,8 @@ is_a_number OutOfRange = true
 is_a_number Nothing = false
 
 -- the word begins a node, defines a constant, ends a cell or begins a comment, or has an apostrophe in front
-abbrev pub is_sign : List ℕ → Bool
-is_sign word = bytes_eq word (codes "node") || bytes_eq word (codes "constant") || bytes_eq word (codes ",") || bytes_eq word (codes "\\") || bytes_eq word (codes "(") || has_prefix word (codes "'")
+abbrev pub is_syntax_word : List ℕ → Bool
+is_syntax_word word = bytes_eq word (codes "node") || bytes_eq word (codes "constant") || bytes_eq word (codes ",") || bytes_eq word (codes "\\") || bytes_eq word (codes "(") || has_prefix word (codes "'")
 
 -- The word says something of itself, so that no label has this name: an opcode, with an address or without, a control word, a number,
 -- a port, a directive, or a sign.
@@ -192,6 +192,6 @@ unfoldable pub is_reserved : List ℕ → Bool
 is_reserved word =
     (is_some (opcode_in word) || bytes_eq word (codes "jump") || bytes_eq word (codes "call"))
     || is_some (control_in word)
-    || is_a_number (number_by_word word)
+    || is_a_number (number_of_word word)
     || is_some (directive_in word)
-    || is_sign word
+    || is_syntax_word word

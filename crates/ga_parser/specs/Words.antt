@@ -2,29 +2,29 @@
 -- project's own).
 use Rattle.std.specs.Prelude.{ℕ, true, false, List, map}
 use Rattle.ga_parser.specs.Constants.{without_definitions}
-use Rattle.ga_parser.specs.Groups.{grouped}
-use Rattle.ga_parser.specs.Groups.Beginning.{Nothing}
-use Rattle.ga_parser.specs.Plain.{texts_in}
-use Rattle.ga_parser.specs.Saying.{TokenContent, PlacedToken, scanned_in, up_to_fault}
+use Rattle.ga_parser.specs.Groups.{expand_node_groups}
+use Rattle.ga_parser.specs.Groups.NodeNaming.{Nothing}
+use Rattle.ga_parser.specs.Plain.{token_texts}
+use Rattle.ga_parser.specs.Saying.{TokenContent, PlacedToken, scanned_tokens, tokens_until_fault}
 
 -- the words, with the whole program of several nodes after each of their names
-unfoldable pub placed_in : List ℕ → List PlacedToken
-placed_in source = grouped true Nothing (without_definitions (scanned_in source))
+unfoldable pub placed_source_tokens : List ℕ → List PlacedToken
+placed_source_tokens source = expand_node_groups true Nothing (without_definitions (scanned_tokens source))
 
-abbrev pub all_in : List ℕ → List TokenContent
-all_in source = map (λ one. one.said) (placed_in source)
+abbrev pub source_tokens : List ℕ → List TokenContent
+source_tokens source = map (λ one. one.said) (placed_source_tokens source)
 
-abbrev pub columns_in : List ℕ → List ℕ
-columns_in source = map (λ one. one.column) (placed_in source)
+abbrev pub source_columns : List ℕ → List ℕ
+source_columns source = map (λ one. one.column) (placed_source_tokens source)
 
 -- the words, with the program of several nodes after the last of their names alone
-unfoldable pub once_in : List ℕ → List TokenContent
-once_in source = map (λ one. one.said) (grouped false Nothing (without_definitions (scanned_in source)))
+unfoldable pub source_tokens_without_copies : List ℕ → List TokenContent
+source_tokens_without_copies source = map (λ one. one.said) (expand_node_groups false Nothing (without_definitions (scanned_tokens source)))
 
 -- the words, up to the first fault of a line or of a constant
-unfoldable pub said_in : List ℕ → List TokenContent
-said_in source = up_to_fault (all_in source)
+unfoldable pub source_tokens_until_fault : List ℕ → List TokenContent
+source_tokens_until_fault source = tokens_until_fault (source_tokens source)
 
 -- the texts of the words
-abbrev pub words_in : List ℕ → List (List ℕ)
-words_in source = texts_in (said_in source)
+abbrev pub source_word_texts : List ℕ → List (List ℕ)
+source_word_texts source = token_texts (source_tokens_until_fault source)

@@ -1,7 +1,7 @@
 //! Words without the definitions of constants, which are read as their numbers.
 
 ghost use Rattle.std.specs.Prelude.{◌≡◌, IfOk};
-ghost use Rattle.ga_parser.specs.Constants.{defines as defines_by, begins_label as begins_label_in, without_definitions, fault_in_place as fault_by, or_word as or_word_in};
+ghost use Rattle.ga_parser.specs.Constants.{begins_definition as defines_by, begins_label as begins_label_in, without_definitions, fault_token as fault_token_for, number_or_word as or_word_in};
 ghost use Rattle.ga_parser.specs.inner.Placing.{placed, placed_all};
 
 use super::draft::text_at;
@@ -33,7 +33,7 @@ pub(crate) struct Resolving<'s> {
 }
 
 /// Whether a constant is defined: its number is the word, and the next word is `constant`.
-fn defines(word: Token<'_>, next: &[u8]) -> bool
+fn begins_definition(word: Token<'_>, next: &[u8]) -> bool
     ensures { result ≡ defines_by (placed word.entry) next.now }
 {
     word.kind == TokenKind::Word && next == b"constant".as_slice()
@@ -47,8 +47,8 @@ fn begins_label(word: Token<'_>) -> bool
 }
 
 /// A fault in the place of a word.
-fn fault_in_place<'s>(kind: TokenKind, word: Token<'s>) -> Token<'s>
-    ensures { placed result ≡ fault_by kind (placed word.entry) }
+fn fault_token<'s>(kind: TokenKind, word: Token<'s>) -> Token<'s>
+    ensures { placed result ≡ fault_token_for kind (placed word.entry) }
 {
     Token {
         line: word.line,
@@ -60,12 +60,12 @@ fn fault_in_place<'s>(kind: TokenKind, word: Token<'s>) -> Token<'s>
 
 impl<'s> Resolving<'s> {
     ghost use Rattle.std.specs.Prelude.{◌≡◌, option_map, OnOk};
-    ghost use Rattle.ga_parser.specs.Constants.{nothing_resolved, resolve_one, read_as as read_as_in, number_named as named_number, knowing, is_free as is_free_in, definition_fault as definition_fault_in, define as define_in, passed, past_last, said_more};
+    ghost use Rattle.ga_parser.specs.Constants.{initial_resolution, resolve_next_word, resolved_word_text as read_as_in, constant_number_text as named_number, with_defined_name, is_free_name as is_free_in, definition_fault as definition_fault_in, resolve_definition as define_in, with_passed_word, end_resolution, with_added_token};
     ghost use Rattle.ga_parser.specs.inner.Placing.{placed};
     ghost use Rattle.ga_parser.specs.inner.Resolving.{resolving_of, known_of};
 
     fn new(alloc: Global) -> Self
-        ensures { resolving_of result ≡ nothing_resolved }
+        ensures { resolving_of result ≡ initial_resolution }
     {
         Resolving {
             words: Vec::new(alloc),
@@ -76,17 +76,17 @@ impl<'s> Resolving<'s> {
     }
 
     /// What a word is read as: a constant as its number.
-    fn read_as(&self, word: &'s [u8]) -> &'s [u8]
+    fn resolved_word_text(&self, word: &'s [u8]) -> &'s [u8]
         ensures { result.now ≡ read_as_in (known_of self.now) word.now }
     {
         match self.names.find(word) {
-            Some(name) => or_word(self.number_named(name), word),
+            Some(name) => number_or_word(self.constant_number_text(name), word),
             None => word,
         }
     }
 
     /// What the name with a number is read as, nothing for a label.
-    fn number_named(&self, name: usize) -> &'s [u8]
+    fn constant_number_text(&self, name: usize) -> &'s [u8]
         ensures { result.now ≡ named_number (known_of self.now) name }
     {
         match self.numbers.get(name) {
@@ -97,7 +97,7 @@ impl<'s> Resolving<'s> {
 
     /// Adds a word.
     fn push(&mut self, word: Token<'s>) -> Result<(), AllocError>
-        ensures { OnOk result (resolving_of self.new ≡ said_more (resolving_of self.old) (placed word.entry)) }
+        ensures { OnOk result (resolving_of self.new ≡ with_added_token (resolving_of self.old) (placed word.entry)) }
     {
         self.words.push(word)?;
         Ok(())
@@ -105,7 +105,7 @@ impl<'s> Resolving<'s> {
 
     /// Adds a name, unless it is there.
     fn add(&mut self, line: u32, name: &'s [u8], number: &'s [u8]) -> Result<(), AllocError>
-        ensures { OnOk result (resolving_of self.new ≡ knowing (resolving_of self.old) line name.now number.now) }
+        ensures { OnOk result (resolving_of self.new ≡ with_defined_name (resolving_of self.old) line name.now number.now) }
     {
         if self.names.find(name).is_some() {
             return Ok(());
@@ -116,7 +116,7 @@ impl<'s> Resolving<'s> {
     }
 
     /// Whether a constant may have this name.
-    fn is_free(&self, name: &'s [u8]) -> bool
+    fn is_free_name(&self, name: &'s [u8]) -> bool
         ensures { result ≡ is_free_in (known_of self.now) name.now }
     {
         !is_reserved(name) && self.names.find(name).is_none()
@@ -126,24 +126,21 @@ impl<'s> Resolving<'s> {
     fn definition_fault(&self, number: Token<'s>, name: Token<'s>) -> Option<Token<'s>>
         ensures { option_map placed result ≡ definition_fault_in (known_of self.now) (placed number.entry) (placed name.entry) }
     {
-        let text = self.read_as(number.text);
+        let text = self.resolved_word_text(number.text);
         match number_of(text) {
             Number::Of(_) => {
-                if self.is_free(name.text) {
+                if self.is_free_name(name.text) {
                     None
                 } else {
-                    Some(fault_in_place(TokenKind::Taken, name))
+                    Some(fault_token(TokenKind::Taken, name))
                 }
             }
-            Number::OutOfRange | Number::Nothing => Some(fault_in_place(
-                TokenKind::NoNumber,
-                number,
-            )),
+            Number::OutOfRange | Number::Nothing => Some(fault_token(TokenKind::NoNumber, number)),
         }
     }
 
     /// Defines a constant, or adds the fault of its definition.
-    fn define(
+    fn resolve_definition(
         &mut self,
         number: Token<'s>,
         word: Token<'s>,
@@ -152,13 +149,13 @@ impl<'s> Resolving<'s> {
         ensures { OnOk result (resolving_of self.new ≡ define_in (resolving_of self.old) (placed number.entry) (placed word.entry) (placed name.entry)) }
     {
         if name.kind != TokenKind::Word {
-            self.push(fault_in_place(TokenKind::Missing, word))?;
+            self.push(fault_token(TokenKind::Missing, word))?;
             return self.push(name);
         }
         match self.definition_fault(number, name) {
             Some(fault) => self.push(fault),
             None => {
-                let text = self.read_as(number.text);
+                let text = self.resolved_word_text(number.text);
                 self.add(name.line, name.text, text)
             }
         }
@@ -166,9 +163,9 @@ impl<'s> Resolving<'s> {
 
     /// Takes a word that is no part of a definition.
     fn pass(&mut self, word: Token<'s>, next: &'s [u8]) -> Result<(), AllocError>
-        ensures { OnOk result (resolving_of self.new ≡ passed (resolving_of self.old) (placed word.entry) next.now) }
+        ensures { OnOk result (resolving_of self.new ≡ with_passed_word (resolving_of self.old) (placed word.entry) next.now) }
     {
-        let text = self.read_as(word.text);
+        let text = self.resolved_word_text(word.text);
         self.push(Token {
             line: word.line,
             column: word.column,
@@ -183,13 +180,13 @@ impl<'s> Resolving<'s> {
 
     /// Takes a word.
     fn take(&mut self, word: Token<'s>, next: &'s [u8]) -> Result<(), AllocError>
-        ensures { OnOk result (resolving_of self.new ≡ resolve_one (resolving_of self.old) (placed word.entry) next.now) }
+        ensures { OnOk result (resolving_of self.new ≡ resolve_next_word (resolving_of self.old) (placed word.entry) next.now) }
     {
         let awaited = self.awaited;
         self.awaited = Awaited::Any;
         match awaited {
             Awaited::Any => {
-                if defines(word, next) {
+                if begins_definition(word, next) {
                     self.awaited = Awaited::Constant(word);
                     Ok(())
                 } else {
@@ -200,23 +197,23 @@ impl<'s> Resolving<'s> {
                 self.awaited = Awaited::Name(number, word);
                 Ok(())
             }
-            Awaited::Name(number, constant) => self.define(number, constant, word),
+            Awaited::Name(number, constant) => self.resolve_definition(number, constant, word),
         }
     }
 
     /// Adds the fault of a definition without a name.
     fn end(&mut self) -> Result<(), AllocError>
-        ensures { OnOk result (resolving_of self.new ≡ past_last (resolving_of self.old)) }
+        ensures { OnOk result (resolving_of self.new ≡ end_resolution (resolving_of self.old)) }
     {
         match self.awaited {
-            Awaited::Name(_, constant) => self.push(fault_in_place(TokenKind::Missing, constant)),
+            Awaited::Name(_, constant) => self.push(fault_token(TokenKind::Missing, constant)),
             Awaited::Any | Awaited::Constant(_) => Ok(()),
         }
     }
 }
 
 /// The number, or the word where there is none.
-fn or_word<'s>(number: &'s [u8], word: &'s [u8]) -> &'s [u8]
+fn number_or_word<'s>(number: &'s [u8], word: &'s [u8]) -> &'s [u8]
     ensures { result.now ≡ or_word_in number.now word.now }
 {
     if number.is_empty() { word } else { number }

@@ -1,13 +1,13 @@
 //! The control words: loops and jumps ahead.
 
 ghost use Rattle.std.specs.Prelude.{◌≡◌, Ok};
-ghost use Rattle.ga_parser.specs.Asking.{asking, begin_loop as begin_row, ahead as ahead_row, end_loop, end_ahead, end_around, control as control_row, jump as jump_row, line_of, ◌▷◌};
+ghost use Rattle.ga_parser.specs.Asking.{with_added_request, begin_loop as begin_row, ahead as ahead_row, end_loop, end_jump_ahead, end_outer_loop, control as control_row, jump as jump_row, open_word_line, ◌▷◌};
 ghost use Rattle.ga_parser.specs.inner.Drafting.{Answers, asking_of};
 ghost use Rattle.ga_parser.specs.declared.vocabulary.Control.TheVariants.{Else as ElseWord, Then as ThenWord, NextAround as NextAroundWord, Unext as UnextWord, While as WhileWord, Repeat as RepeatWord, For as ForWord};
 
 use super::draft::RequestBuilder;
-use super::fault::{Fault, SourceCause, fault_at};
-use super::item::{Item, Request};
+use super::fault::{SourceCause, SourceFault, fault_at};
+use super::item::{AssemblyRequest, Item};
 use super::vocabulary::Control;
 use ga_slots::Op;
 
@@ -23,7 +23,7 @@ pub(crate) enum Open {
 impl Open {
     /// The line of the control word.
     pub(crate) fn line(self) -> u32
-        ensures { result ≡ line_of self }
+        ensures { result ≡ open_word_line self }
     {
         match self {
             Open::Loop(line, _) | Open::Ahead(line, _) => line,
@@ -33,7 +33,7 @@ impl Open {
 
 impl<'s> RequestBuilder<'s> {
     /// What a control word asks for.
-    pub(crate) fn control(&mut self, line: u32, word: Control) -> Result<(), Fault<'s>>
+    pub(crate) fn control(&mut self, line: u32, word: Control) -> Result<(), SourceFault<'s>>
         ensures { Answers result (control_row (asking_of self.old) line word) (λ _. asking_of self.new) }
     {
         match word {
@@ -53,25 +53,25 @@ impl<'s> RequestBuilder<'s> {
     }
 
     /// A loop from here on.
-    fn begin(&mut self, line: u32) -> Result<(), Fault<'s>>
+    fn begin(&mut self, line: u32) -> Result<(), SourceFault<'s>>
         ensures { Answers result (Ok (begin_row (asking_of self.old) line)) (λ _. asking_of self.new) }
     {
         let label = self.labels.add_anonymous(line, true)?;
-        self.ask(line, Request::Mark(label))?;
+        self.ask(line, AssemblyRequest::Mark(label))?;
         self.open.push(Open::Loop(line, label))?;
         Ok(())
     }
 
     /// `for`: a loop that counts.
-    fn begin_for(&mut self, line: u32) -> Result<(), Fault<'s>>
+    fn begin_for(&mut self, line: u32) -> Result<(), SourceFault<'s>>
         ensures { Answers result (control_row (asking_of self.old) line ForWord) (λ _. asking_of self.new) }
     {
-        self.ask(line, Request::Put(Item::Opcode(Op::Push)))?;
+        self.ask(line, AssemblyRequest::Put(Item::Opcode(Op::Push)))?;
         self.begin(line)
     }
 
     /// A jump ahead, open until its label is marked.
-    fn ahead(&mut self, line: u32, op: Op) -> Result<(), Fault<'s>>
+    fn ahead(&mut self, line: u32, op: Op) -> Result<(), SourceFault<'s>>
         ensures { Answers result (Ok (ahead_row (asking_of self.old) line op)) (λ _. asking_of self.new) }
     {
         let label = self.labels.add_anonymous(line, false)?;
@@ -81,7 +81,7 @@ impl<'s> RequestBuilder<'s> {
     }
 
     /// `else`.
-    fn otherwise(&mut self, line: u32) -> Result<(), Fault<'s>>
+    fn otherwise(&mut self, line: u32) -> Result<(), SourceFault<'s>>
         ensures { Answers result (control_row (asking_of self.old) line ElseWord) (λ _. asking_of self.new) }
     {
         let label = self.close_ahead(line)?;
@@ -90,7 +90,7 @@ impl<'s> RequestBuilder<'s> {
     }
 
     /// `then`.
-    fn join(&mut self, line: u32) -> Result<(), Fault<'s>>
+    fn join(&mut self, line: u32) -> Result<(), SourceFault<'s>>
         ensures { Answers result (control_row (asking_of self.old) line ThenWord) (λ _. asking_of self.new) }
     {
         let label = self.close_ahead(line)?;
@@ -98,7 +98,7 @@ impl<'s> RequestBuilder<'s> {
     }
 
     /// A jump back that ends the innermost loop.
-    fn back(&mut self, line: u32, op: Op) -> Result<(), Fault<'s>>
+    fn back(&mut self, line: u32, op: Op) -> Result<(), SourceFault<'s>>
         ensures { Answers result (end_loop (asking_of self.old) line ▷ (λ end. Ok (jump_row end.1 line op end.0))) (λ _. asking_of self.new) }
     {
         let label = self.close_loop(line)?;
@@ -106,7 +106,7 @@ impl<'s> RequestBuilder<'s> {
     }
 
     /// `*next`.
-    fn next_around(&mut self, line: u32) -> Result<(), Fault<'s>>
+    fn next_around(&mut self, line: u32) -> Result<(), SourceFault<'s>>
         ensures { Answers result (control_row (asking_of self.old) line NextAroundWord) (λ _. asking_of self.new) }
     {
         let label = self.close_around(line)?;
@@ -114,15 +114,15 @@ impl<'s> RequestBuilder<'s> {
     }
 
     /// `unext`.
-    fn unext(&mut self, line: u32) -> Result<(), Fault<'s>>
+    fn unext(&mut self, line: u32) -> Result<(), SourceFault<'s>>
         ensures { Answers result (control_row (asking_of self.old) line UnextWord) (λ _. asking_of self.new) }
     {
         let label = self.close_loop(line)?;
-        self.ask(line, Request::Unext(label))
+        self.ask(line, AssemblyRequest::Unext(label))
     }
 
     /// `while` and `-while`.
-    fn leave(&mut self, line: u32, op: Op) -> Result<(), Fault<'s>>
+    fn leave(&mut self, line: u32, op: Op) -> Result<(), SourceFault<'s>>
         ensures { Answers result (control_row (asking_of self.old) line (WhileWord op)) (λ _. asking_of self.new) }
     {
         let label = self.close_loop(line)?;
@@ -132,7 +132,7 @@ impl<'s> RequestBuilder<'s> {
     }
 
     /// `repeat`.
-    fn repeat(&mut self, line: u32) -> Result<(), Fault<'s>>
+    fn repeat(&mut self, line: u32) -> Result<(), SourceFault<'s>>
         ensures { Answers result (control_row (asking_of self.old) line RepeatWord) (λ _. asking_of self.new) }
     {
         let label = self.close_loop(line)?;
@@ -142,7 +142,7 @@ impl<'s> RequestBuilder<'s> {
     }
 
     /// The label of the innermost open word, which is a loop.
-    fn close_loop(&mut self, line: u32) -> Result<usize, Fault<'s>>
+    fn close_loop(&mut self, line: u32) -> Result<usize, SourceFault<'s>>
         ensures { Answers result (end_loop (asking_of self.old) line) (λ label. (label, asking_of self.new)) }
     {
         match self.open.pop() {
@@ -152,8 +152,8 @@ impl<'s> RequestBuilder<'s> {
     }
 
     /// The label of the innermost open word, which is a jump ahead.
-    fn close_ahead(&mut self, line: u32) -> Result<usize, Fault<'s>>
-        ensures { Answers result (end_ahead (asking_of self.old) line) (λ label. (label, asking_of self.new)) }
+    fn close_ahead(&mut self, line: u32) -> Result<usize, SourceFault<'s>>
+        ensures { Answers result (end_jump_ahead (asking_of self.old) line) (λ label. (label, asking_of self.new)) }
     {
         match self.open.pop() {
             Some(Open::Ahead(_, label)) => Ok(label),
@@ -162,8 +162,8 @@ impl<'s> RequestBuilder<'s> {
     }
 
     /// The label of the loop around the innermost open word, which stays open.
-    fn close_around(&mut self, line: u32) -> Result<usize, Fault<'s>>
-        ensures { Answers result (end_around (asking_of self.old) line) (λ label. (label, asking_of self.new)) }
+    fn close_around(&mut self, line: u32) -> Result<usize, SourceFault<'s>>
+        ensures { Answers result (end_outer_loop (asking_of self.old) line) (λ label. (label, asking_of self.new)) }
     {
         let Some(innermost) = self.open.pop() else {
             return Err(fault_at(line, SourceCause::Unmatched));

@@ -3,15 +3,17 @@
 ghost use Rattle.std.specs.Prelude.{◌≡◌, ◌⊎◌, Err, IfOk, IfErr, codes, [], bytes_eq, if◌then◌else◌, slice_index_or};
 ghost use Rattle.ga_slots.specs.declared.op.Op.TheVariants.{Jump, Call};
 ghost use Rattle.ga_parser.specs.declared.fault.SourceCause.TheVariants.{Memory};
-ghost use Rattle.ga_parser.specs.Asking.{asked_by_words, with_carry_bit as carried_of, is_waiting as is_waiting_for};
-ghost use Rattle.ga_parser.specs.Requests.{AreRequestsOf, word_refusal};
-ghost use Rattle.ga_parser.specs.Asking.Wrong.{NoNumberHere};
+ghost use Rattle.ga_parser.specs.Asking.{requests_of_words, with_carry_bit as carried_of, expects_operand as is_waiting_for};
+ghost use Rattle.ga_parser.specs.Requests.{AreRequestsOfWords, word_refusal};
+ghost use Rattle.ga_parser.specs.Asking.RefusalCause.{NoNumberHere};
 ghost use Rattle.ga_parser.specs.inner.Drafting.{Answers, asking_of, texts_of};
 ghost use Rattle.ga_parser.specs.Saying.{token_contents};
 
 use super::controls::Open;
-use super::fault::{Fault, NumberRange, SourceCause, fault_at};
-use super::item::{Item, LocatedRequest, NodeRequests, Operand, RegisterValue, Registers, Request};
+use super::fault::{NumberRange, SourceCause, SourceFault, fault_at};
+use super::item::{
+    AssemblyRequest, InitialRegisters, Item, LocatedRequest, NodeRequests, Operand, RegisterValue,
+};
 use super::labels::Labels;
 use super::number::{Number, number_of};
 use super::scan::Token;
@@ -38,7 +40,7 @@ pub(crate) enum Expect {
 pub(crate) struct RequestBuilder<'s> {
     pub asked: Vec<LocatedRequest>,
     pub labels: Labels<'s>,
-    pub registers: Registers,
+    pub registers: InitialRegisters,
     pub open: Vec<Open>,
     /// Bit 9 of the addresses from here on.
     carries: bool,
@@ -47,18 +49,18 @@ pub(crate) struct RequestBuilder<'s> {
 
 impl<'s> RequestBuilder<'s> {
     ghost use Rattle.std.specs.Prelude.{◌≡◌, Ok};
-    ghost use Rattle.ga_parser.specs.Asking.{◌▷◌, nothing_asked, asking, jump as jump_row, mark as mark_row, value_said, name_asks, register_asks, address_asks, directive as directive_row, cell as cell_row, call as call_row, word_asks, hear, give, naming, label_number as number_of_label, finished};
+    ghost use Rattle.ga_parser.specs.Asking.{◌▷◌, initial_parse_state, with_added_request, jump as jump_row, mark as mark_row, value_of_word, label_name_requests, register_requests, org_requests, directive as directive_row, cell as cell_row, call as call_row, word_requests, parse_one_word, set_register_once, with_named_label, label_number as number_of_label, finished_parse};
     ghost use Rattle.ga_parser.specs.declared.item.Operand.TheVariants.{Label as LabelOf};
     ghost use Rattle.ga_parser.specs.inner.Drafting.{Answers, asking_of};
     ghost use Rattle.ga_parser.specs.Saying.{token_content};
 
     pub(crate) fn new(alloc: Global) -> Self
-        ensures { asking_of result ≡ nothing_asked }
+        ensures { asking_of result ≡ initial_parse_state }
     {
         RequestBuilder {
             asked: Vec::new(alloc),
             labels: Labels::new(alloc),
-            registers: Registers {
+            registers: InitialRegisters {
                 p: None,
                 a: None,
                 b: None,
@@ -69,15 +71,15 @@ impl<'s> RequestBuilder<'s> {
         }
     }
 
-    pub(crate) fn ask(&mut self, line: u32, request: Request) -> Result<(), Fault<'s>>
-        ensures { Answers result (Ok (asking (asking_of self.old) line request)) (λ _. asking_of self.new) }
+    pub(crate) fn ask(&mut self, line: u32, request: AssemblyRequest) -> Result<(), SourceFault<'s>>
+        ensures { Answers result (Ok (with_added_request (asking_of self.old) line request)) (λ _. asking_of self.new) }
     {
         self.asked.push(LocatedRequest { line, request })?;
         Ok(())
     }
 
     /// Asks for an opcode with the address of a label.
-    pub(crate) fn jump(&mut self, line: u32, op: Op, label: usize) -> Result<(), Fault<'s>>
+    pub(crate) fn jump(&mut self, line: u32, op: Op, label: usize) -> Result<(), SourceFault<'s>>
         ensures { Answers result (Ok (jump_row (asking_of self.old) line op label)) (λ _. asking_of self.new) }
     {
         let item = if self.labels.is_marked(label) {
@@ -85,24 +87,24 @@ impl<'s> RequestBuilder<'s> {
         } else {
             Item::Ahead(op, label)
         };
-        self.ask(line, Request::Put(item))
+        self.ask(line, AssemblyRequest::Put(item))
     }
 
     /// The label has its place here.
-    pub(crate) fn mark(&mut self, line: u32, label: usize) -> Result<(), Fault<'s>>
+    pub(crate) fn mark(&mut self, line: u32, label: usize) -> Result<(), SourceFault<'s>>
         ensures { Answers result (mark_row (asking_of self.old) line label) (λ _. asking_of self.new) }
     {
         if self.labels.is_marked(label) {
             return Err(fault_at(line, SourceCause::LabelTwice));
         }
         self.labels.mark(label);
-        self.ask(line, Request::Mark(label))
+        self.ask(line, AssemblyRequest::Mark(label))
     }
 
     /// A number, a port, or the address of a label after an apostrophe.
-    #[tactic(auto, unfolding(crate::specs::Asking::value_said))]
-    fn value(&mut self, line: u32, text: &'s [u8]) -> Result<Option<Operand>, Fault<'s>>
-        ensures { Answers result (value_said (asking_of self.old) line text.now) (λ found. (found, asking_of self.new)) }
+    #[tactic(auto, unfolding(crate::specs::Asking::value_of_word))]
+    fn value(&mut self, line: u32, text: &'s [u8]) -> Result<Option<Operand>, SourceFault<'s>>
+        ensures { Answers result (value_of_word (asking_of self.old) line text.now) (λ found. (found, asking_of self.new)) }
     {
         if let [b'\'', name @ ..] = text {
             if name.is_empty() {
@@ -118,9 +120,9 @@ impl<'s> RequestBuilder<'s> {
         }
     }
 
-    #[tactic(auto, unfolding(crate::specs::Asking::name_asks))]
-    fn name(&mut self, line: u32, name: &'s [u8]) -> Result<(), Fault<'s>>
-        ensures { Answers result (name_asks (asking_of self.old) line name.now) (λ _. asking_of self.new) }
+    #[tactic(auto, unfolding(crate::specs::Asking::label_name_requests))]
+    fn name(&mut self, line: u32, name: &'s [u8]) -> Result<(), SourceFault<'s>>
+        ensures { Answers result (label_name_requests (asking_of self.old) line name.now) (λ _. asking_of self.new) }
     {
         if is_reserved(name) {
             return Err(fault_at(line, SourceCause::Taken));
@@ -130,9 +132,14 @@ impl<'s> RequestBuilder<'s> {
     }
 
     /// A number, a port or a label, as a register's value at load.
-    #[tactic(auto, unfolding(crate::specs::Asking::register_asks))]
-    fn register(&mut self, line: u32, register: Register, text: &'s [u8]) -> Result<(), Fault<'s>>
-        ensures { Answers result (register_asks (asking_of self.old) line register text.now) (λ _. asking_of self.new) }
+    #[tactic(auto, unfolding(crate::specs::Asking::register_requests))]
+    fn register(
+        &mut self,
+        line: u32,
+        register: Register,
+        text: &'s [u8],
+    ) -> Result<(), SourceFault<'s>>
+        ensures { Answers result (register_requests (asking_of self.old) line register text.now) (λ _. asking_of self.new) }
     {
         let value = match number_of(text) {
             Number::Of(number) => {
@@ -161,30 +168,33 @@ impl<'s> RequestBuilder<'s> {
         Ok(())
     }
 
-    fn directive(&mut self, line: u32, directive: Directive) -> Result<(), Fault<'s>>
+    fn directive(&mut self, line: u32, directive: Directive) -> Result<(), SourceFault<'s>>
         ensures { Answers result (Ok (directive_row (asking_of self.old) line directive)) (λ _. asking_of self.new) }
     {
         match directive {
             Directive::Label => self.expect = Expect::Name,
             Directive::Address => self.expect = Expect::Address,
             Directive::Register(register) => self.expect = Expect::Register(register),
-            Directive::Fill => self.ask(line, Request::Fill)?,
+            Directive::Fill => self.ask(line, AssemblyRequest::Fill)?,
             Directive::Carry(is_set) => {
                 self.carries = is_set;
-                self.ask(line, Request::Carry(is_set))?;
+                self.ask(line, AssemblyRequest::Carry(is_set))?;
             }
         }
         Ok(())
     }
 
-    #[tactic(auto, unfolding(crate::specs::Asking::address_asks))]
-    fn address(&mut self, line: u32, text: &'s [u8]) -> Result<(), Fault<'s>>
-        ensures { Answers result (address_asks (asking_of self.old) line text.now) (λ _. asking_of self.new) }
+    #[tactic(auto, unfolding(crate::specs::Asking::org_requests))]
+    fn address(&mut self, line: u32, text: &'s [u8]) -> Result<(), SourceFault<'s>>
+        ensures { Answers result (org_requests (asking_of self.old) line text.now) (λ _. asking_of self.new) }
     {
         match number_of(text) {
             Number::Of(found) => {
                 if found < 0x40 || 0x80 <= found && found < 0xc0 {
-                    self.ask(line, Request::Go(with_carry_bit(self.carries, found)))
+                    self.ask(
+                        line,
+                        AssemblyRequest::Go(with_carry_bit(self.carries, found)),
+                    )
                 } else {
                     Err(out_of_range(line, text, NumberRange::Cell))
                 }
@@ -195,19 +205,19 @@ impl<'s> RequestBuilder<'s> {
     }
 
     /// A cell with a value.
-    fn cell(&mut self, line: u32, text: &'s [u8]) -> Result<(), Fault<'s>>
-        ensures { Answers result (value_said (asking_of self.old) line text.now ▷ (λ said. cell_row said.1 line said.0)) (λ _. asking_of self.new) }
+    fn cell(&mut self, line: u32, text: &'s [u8]) -> Result<(), SourceFault<'s>>
+        ensures { Answers result (value_of_word (asking_of self.old) line text.now ▷ (λ said. cell_row said.1 line said.0)) (λ _. asking_of self.new) }
     {
         let Some(value) = self.value(line, text)? else {
             return Err(fault_at(line, SourceCause::Missing));
         };
         self.expect = Expect::Nothing;
-        self.ask(line, Request::Put(Item::Cell(value)))
+        self.ask(line, AssemblyRequest::Put(Item::Cell(value)))
     }
 
     /// A call of a label, or a jump there where `;` is next.
     #[tactic(auto, unfolding(crate::specs::Asking::call))]
-    fn call(&mut self, line: u32, name: &'s [u8], next: &[u8]) -> Result<(), Fault<'s>>
+    fn call(&mut self, line: u32, name: &'s [u8], next: &[u8]) -> Result<(), SourceFault<'s>>
         ensures { Answers result (call_row (asking_of self.old) line name.now next.now) (λ _. asking_of self.new) }
     {
         if is_reserved(name) {
@@ -222,9 +232,9 @@ impl<'s> RequestBuilder<'s> {
     }
 
     /// A word without arguments. The next word decides whether it is a cell, and whether a call is a jump.
-    #[tactic(auto, unfolding(crate::specs::Asking::word_asks))]
-    fn word(&mut self, line: u32, text: &'s [u8], next: &[u8]) -> Result<(), Fault<'s>>
-        ensures { Answers result (word_asks (asking_of self.old) line text.now next.now) (λ _. asking_of self.new) }
+    #[tactic(auto, unfolding(crate::specs::Asking::word_requests))]
+    fn word(&mut self, line: u32, text: &'s [u8], next: &[u8]) -> Result<(), SourceFault<'s>>
+        ensures { Answers result (word_requests (asking_of self.old) line text.now next.now) (λ _. asking_of self.new) }
     {
         if next == b",".as_slice() {
             return self.cell(line, text);
@@ -233,19 +243,19 @@ impl<'s> RequestBuilder<'s> {
             return self.directive(line, directive);
         }
         if let Some(op) = parse_opcode(text) {
-            return self.ask(line, Request::Put(Item::Opcode(op)));
+            return self.ask(line, AssemblyRequest::Put(Item::Opcode(op)));
         }
         if let Some(control) = control_named(text) {
             return self.control(line, control);
         }
         if let Some(value) = self.value(line, text)? {
-            return self.ask(line, Request::Put(Item::Literal(value)));
+            return self.ask(line, AssemblyRequest::Put(Item::Literal(value)));
         }
         self.call(line, text, next)
     }
 
-    pub(crate) fn take(&mut self, token: Token<'s>, next: &[u8]) -> Result<(), Fault<'s>>
-        ensures { Answers result (hear (asking_of self.old) (token_content token.entry) next.now) (λ _. asking_of self.new) }
+    pub(crate) fn take(&mut self, token: Token<'s>, next: &[u8]) -> Result<(), SourceFault<'s>>
+        ensures { Answers result (parse_one_word (asking_of self.old) (token_content token.entry) next.now) (λ _. asking_of self.new) }
     {
         let text = token.word()?;
         let expect = self.expect;
@@ -260,11 +270,11 @@ impl<'s> RequestBuilder<'s> {
     }
 
     /// What is missing or still open after the last word, and a name that is no label's.
-    #[tactic(auto, unfolding(crate::specs::Asking::all_closed))]
-    fn finish(&self, line: u32) -> Result<(), Fault<'s>>
-        ensures { Answers result (finished (asking_of self.now) line) (λ _. asking_of self.now) }
+    #[tactic(auto, unfolding(crate::specs::Asking::refuse_unclosed))]
+    fn finish(&self, line: u32) -> Result<(), SourceFault<'s>>
+        ensures { Answers result (finished_parse (asking_of self.now) line) (λ _. asking_of self.now) }
     {
-        if is_waiting(self.expect) {
+        if expects_operand(self.expect) {
             return Err(fault_at(line, SourceCause::Missing));
         }
         if let Some(open) = self.open.first() {
@@ -275,14 +285,14 @@ impl<'s> RequestBuilder<'s> {
 }
 
 /// A number that its place doesn't take.
-fn out_of_range(line: u32, text: &[u8], range: NumberRange) -> Fault<'_>
+fn out_of_range(line: u32, text: &[u8], range: NumberRange) -> SourceFault<'_>
     ensures { word_refusal result ≡ record { line = line; wrong = NoNumberHere text.entry.now range } }
 {
     fault_at(line, SourceCause::Number(text, range))
 }
 
 /// Whether a word is missing.
-pub(crate) fn is_waiting(expect: Expect) -> bool
+pub(crate) fn expects_operand(expect: Expect) -> bool
     ensures { result ≡ is_waiting_for expect }
 {
     match expect {
@@ -317,8 +327,8 @@ fn read_node<'s>(
     alloc: Global,
     line: u32,
     tokens: &[Token<'s>],
-) -> Result<RequestBuilder<'s>, Fault<'s>>
-    ensures { Answers result (asked_by_words line (token_contents tokens.now)) asking_of }
+) -> Result<RequestBuilder<'s>, SourceFault<'s>>
+    ensures { Answers result (requests_of_words line (token_contents tokens.now)) asking_of }
 {
     let mut draft = RequestBuilder::new(alloc);
     let mut last = line;
@@ -346,9 +356,9 @@ pub fn read_requests<'s>(
     alloc: Global,
     line: u32,
     tokens: &[Token<'s>],
-) -> Result<NodeRequests<'s>, Fault<'s>>
-    ensures asked { IfOk result (AreRequestsOf line (token_contents tokens.now)) }
-    ensures refused { IfErr result (λ fault. (fault.cause ≡ Memory) ⊎ (asked_by_words line (token_contents tokens.now) ≡ Err (word_refusal fault))) }
+) -> Result<NodeRequests<'s>, SourceFault<'s>>
+    ensures asked { IfOk result (AreRequestsOfWords line (token_contents tokens.now)) }
+    ensures refused { IfErr result (λ fault. (fault.cause ≡ Memory) ⊎ (requests_of_words line (token_contents tokens.now) ≡ Err (word_refusal fault))) }
 {
     let RequestBuilder {
         asked,

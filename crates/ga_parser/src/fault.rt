@@ -69,12 +69,12 @@ pub enum SourceCause<'s> {
 
 /// A fault of a text, and its line from 1 on; 0 where memory was refused.
 #[derive(Clone, Copy, PartialEq, Eq, Debug)]
-pub struct Fault<'s> {
+pub struct SourceFault<'s> {
     pub line: u32,
     pub cause: SourceCause<'s>,
 }
 
-impl<'s> From<AllocError> for Fault<'s> {
+impl<'s> From<AllocError> for SourceFault<'s> {
     ghost use Rattle.std.specs.Prelude.{◌≡◌};
     ghost use Rattle.ga_parser.specs.declared.fault.SourceCause.TheVariants.{Memory};
 
@@ -85,7 +85,7 @@ impl<'s> From<AllocError> for Fault<'s> {
     }
 }
 
-impl<'s, T: Drop> From<AllocFailed<T>> for Fault<'s> {
+impl<'s, T: Drop> From<AllocFailed<T>> for SourceFault<'s> {
     ghost use Rattle.std.specs.Prelude.{◌≡◌};
     ghost use Rattle.ga_parser.specs.declared.fault.SourceCause.TheVariants.{Memory};
 
@@ -97,9 +97,9 @@ impl<'s, T: Drop> From<AllocFailed<T>> for Fault<'s> {
 }
 
 /// A fault at a line.
-pub fn fault_at(line: u32, cause: SourceCause<'_>) -> Fault<'_>
+pub fn fault_at(line: u32, cause: SourceCause<'_>) -> SourceFault<'_>
     ensures line { result.line ≡ line }
     ensures cause { result.cause ≡ cause.entry }
 {
-    Fault { line, cause }
+    SourceFault { line, cause }
 }

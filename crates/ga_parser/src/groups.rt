@@ -1,13 +1,13 @@
 //! Words in which each node has a `node` of its own.
 
 ghost use Rattle.std.specs.Prelude.{◌≡◌, ◌++◌, IfOk, OnOk};
-ghost use Rattle.ga_parser.specs.Groups.{grouped as grouped_by, begins_node as begins_by, is_further as is_further_by, begun_after as begun_by, behind_names as behind_names_in, body as body_in, words_before};
-ghost use Rattle.ga_parser.specs.Groups.Beginning.{Nothing};
+ghost use Rattle.ga_parser.specs.Groups.{expand_node_groups as grouped_by, begins_node as begins_by, is_further_node_name as is_further_by, naming_after_word as begun_by, words_after_names as behind_names_in, body as body_words, words_before_name};
+ghost use Rattle.ga_parser.specs.Groups.NodeNaming.{Nothing};
 ghost use Rattle.ga_parser.specs.inner.Placing.{placed, placed_all};
 ghost use Rattle.ga_parser.specs.inner.Grouping.{begun_of};
 
 use super::scan::{Token, TokenKind};
-use ga_grid::node_number;
+use ga_grid::parse_node_name;
 use std::alloc::{AllocError, Global};
 
 /// What comes before a word.
@@ -29,14 +29,14 @@ fn begins(word: &Token<'_>) -> bool
 }
 
 /// Whether a word after a name is a name too: three digits on the line of `node`.
-fn is_further(node: Token<'_>, word: &Token<'_>) -> bool
+fn is_further_node_name(node: Token<'_>, word: &Token<'_>) -> bool
     ensures { result ≡ is_further_by (placed node.entry) (placed word.now) }
 {
-    word.kind == TokenKind::Word && word.line == node.line && node_number(word.text).is_some()
+    word.kind == TokenKind::Word && word.line == node.line && parse_node_name(word.text).is_some()
 }
 
 /// What comes before the next word.
-fn begun_after<'s>(begun: Naming<'s>, word: Token<'s>) -> Naming<'s>
+fn naming_after_word<'s>(begun: Naming<'s>, word: Token<'s>) -> Naming<'s>
     ensures { begun_of result ≡ begun_by (begun_of begun.entry) (placed word.entry) }
 {
     if begins(&word) {
@@ -46,7 +46,7 @@ fn begun_after<'s>(begun: Naming<'s>, word: Token<'s>) -> Naming<'s>
         Naming::Nothing => Naming::Nothing,
         Naming::Node(node) => Naming::Name(node),
         Naming::Name(node) => {
-            if is_further(node, &word) {
+            if is_further_node_name(node, &word) {
                 Naming::Name(node)
             } else {
                 Naming::Nothing
@@ -56,11 +56,11 @@ fn begun_after<'s>(begun: Naming<'s>, word: Token<'s>) -> Naming<'s>
 }
 
 /// The words after further names.
-fn behind_names<'a, 's>(node: Token<'s>, words: &'a [Token<'s>]) -> &'a [Token<'s>]
+fn words_after_names<'a, 's>(node: Token<'s>, words: &'a [Token<'s>]) -> &'a [Token<'s>]
     ensures { placed_all result.now ≡ behind_names_in (placed node.entry) (placed_all words.now) }
 {
     for (i, word) in words.iter().enumerate() {
-        if !is_further(node, word) {
+        if !is_further_node_name(node, word) {
             return words.split_at(i).1;
         }
     }
@@ -69,7 +69,7 @@ fn behind_names<'a, 's>(node: Token<'s>, words: &'a [Token<'s>]) -> &'a [Token<'
 
 /// The words before the next `node`.
 fn body<'a, 's>(words: &'a [Token<'s>]) -> &'a [Token<'s>]
-    ensures { placed_all result.now ≡ body_in (placed_all words.now) }
+    ensures { placed_all result.now ≡ body_words (placed_all words.now) }
 {
     for (i, word) in words.iter().enumerate() {
         if begins(word) {
@@ -87,16 +87,16 @@ fn push_before<'s>(
     word: &Token<'s>,
     rest: &[Token<'s>],
 ) -> Result<(), AllocError>
-    ensures { OnOk result (placed_all all.new.items ≡ placed_all all.old.items ++ words_before is_whole (begun_of begun.entry) (placed word.now) (placed_all rest.now)) }
+    ensures { OnOk result (placed_all all.new.items ≡ placed_all all.old.items ++ words_before_name is_whole (begun_of begun.entry) (placed word.now) (placed_all rest.now)) }
 {
     let Naming::Name(node) = begun else {
         return Ok(());
     };
-    if !is_further(node, word) {
+    if !is_further_node_name(node, word) {
         return Ok(());
     }
     if is_whole {
-        all.extend_from_slice(body(behind_names(node, rest)))?;
+        all.extend_from_slice(body(words_after_names(node, rest)))?;
     }
     all.push(node)?;
     Ok(())
@@ -104,7 +104,7 @@ fn push_before<'s>(
 
 /// The words with a `node` before each name of a node. If they are to be whole, the program of several nodes comes after each name,
 /// otherwise after the last alone.
-pub(crate) fn grouped<'s>(
+pub(crate) fn expand_node_groups<'s>(
     alloc: Global,
     words: &[Token<'s>],
     is_whole: bool,
@@ -116,7 +116,7 @@ pub(crate) fn grouped<'s>(
     for (i, word) in words.iter().enumerate() {
         push_before(&mut all, is_whole, begun, word, words.split_at(i + 1).1)?;
         all.push(*word)?;
-        begun = begun_after(begun, *word);
+        begun = naming_after_word(begun, *word);
     }
     Ok(all)
 }

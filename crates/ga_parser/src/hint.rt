@@ -2,12 +2,12 @@
 
 ghost use Rattle.std.specs.List.{list_all};
 ghost use Rattle.std.specs.Prelude.{◌≡◌, ◌≤◌, true, [], ◌++◌, ℕ, List, length, map, option_map, IfSome};
-ghost use Rattle.ga_parser.specs.Vocabulary.{by_name};
-ghost use Rattle.ga_parser.specs.Hints.{foreign_spelling, known_word, first_meant, is_meant, behind_dollar, behind_colon, in_front_of, number_in_front, spelled, hint_for, hint_text, IsShortFor};
+ghost use Rattle.ga_parser.specs.Vocabulary.{find_in_table};
+ghost use Rattle.ga_parser.specs.Hints.{foreign_spelling, find_probable_word, first_probable_name, is_probable_name, digits_after_dollar, name_after_colon, word_before_byte, number_before_comma, local_spelling, hint_for, hint_text, IsShortHint};
 ghost use Rattle.ga_parser.specs.inner.Hinting.{row_of, name_of, is_short_row, is_short_name};
 
-use super::hint_words::{KnownWord, OtherWord, known_words, other_words};
-use super::nearness::{is_near, is_same};
+use super::hint_words::{ForeignWord, KnownWord, foreign_words, known_words};
+use super::nearness::{is_same_ignoring_case, is_within_one_edit};
 use super::number::{digits, number_of};
 use super::vocabulary::is_number;
 
@@ -25,13 +25,13 @@ fn foreign_spelling(word: &[u8]) -> Option<&'static [u8]>
     ensures text { option_map (λ text. text.now) result ≡ foreign_spelling word.now }
     ensures short { IfSome result (λ text. length text.now ≤ 64) }
 {
-    said_here(other_words(), word)
+    said_here(foreign_words(), word)
 }
 
 #[tactic(auto, using(crate::proofs::Hinting::row_here, crate::proofs::Hinting::row_behind, crate::proofs::Hinting::short_row, std::proofs::lemmas::List::drop_all))]
-fn said_here(rows: &'static [OtherWord], word: &[u8]) -> Option<&'static [u8]>
+fn said_here(rows: &'static [ForeignWord], word: &[u8]) -> Option<&'static [u8]>
     requires { list_all is_short_row rows.now ≡ true }
-    ensures text { option_map (λ text. text.now) result ≡ by_name (map row_of rows.now) word.now }
+    ensures text { option_map (λ text. text.now) result ≡ find_in_table (map row_of rows.now) word.now }
     ensures short { IfSome result (λ text. length text.now ≤ 64) }
 {
     'rows: for row in rows {
@@ -43,22 +43,22 @@ fn said_here(rows: &'static [OtherWord], word: &[u8]) -> Option<&'static [u8]>
 }
 
 /// The first word of source that was meant.
-#[tactic(auto, unfolding(crate::specs::Hints::known_word))]
-fn known_word(word: &[u8]) -> Option<&'static [u8]>
-    ensures text { option_map (λ text. text.now) result ≡ known_word word.now }
+#[tactic(auto, unfolding(crate::specs::Hints::find_probable_word))]
+fn find_probable_word(word: &[u8]) -> Option<&'static [u8]>
+    ensures text { option_map (λ text. text.now) result ≡ find_probable_word word.now }
     ensures short { IfSome result (λ text. length text.now ≤ 64) }
 {
     meant_among(known_words(), word)
 }
 
-#[tactic(auto, using(crate::proofs::Hinting::meant_here, crate::proofs::Hinting::meant_behind, crate::proofs::Hinting::short_name, std::proofs::lemmas::List::drop_all), unfolding(crate::specs::Hints::first_meant))]
+#[tactic(auto, using(crate::proofs::Hinting::meant_here, crate::proofs::Hinting::meant_behind, crate::proofs::Hinting::short_name, std::proofs::lemmas::List::drop_all), unfolding(crate::specs::Hints::first_probable_name))]
 fn meant_among(names: &'static [KnownWord], word: &[u8]) -> Option<&'static [u8]>
     requires { list_all is_short_name names.now ≡ true }
-    ensures text { option_map (λ text. text.now) result ≡ first_meant word.now (map name_of names.now) }
+    ensures text { option_map (λ text. text.now) result ≡ first_probable_name word.now (map name_of names.now) }
     ensures short { IfSome result (λ text. length text.now ≤ 64) }
 {
     'names: for known in names {
-        if is_meant(word, known.name) {
+        if is_probable_name(word, known.name) {
             return Some(known.name);
         }
     }
@@ -66,15 +66,15 @@ fn meant_among(names: &'static [KnownWord], word: &[u8]) -> Option<&'static [u8]
 }
 
 /// Whether a name was meant by a word: they differ in upper case alone, or, where the name has four letters or more, in one letter.
-fn is_meant(word: &[u8], name: &[u8]) -> bool
-    ensures { result ≡ is_meant word.now name.now }
+fn is_probable_name(word: &[u8], name: &[u8]) -> bool
+    ensures { result ≡ is_probable_name word.now name.now }
 {
-    is_same(word, name) || name.len() > 3 && is_near(word, name)
+    is_same_ignoring_case(word, name) || name.len() > 3 && is_within_one_edit(word, name)
 }
 
 /// The digits of a hexadecimal number after a `$`.
-fn behind_dollar(word: &[u8]) -> Option<&[u8]>
-    ensures text { option_map (λ text. text.now) result ≡ behind_dollar word.now }
+fn digits_after_dollar(word: &[u8]) -> Option<&[u8]>
+    ensures text { option_map (λ text. text.now) result ≡ digits_after_dollar word.now }
     ensures short { IfSome result (λ text. length text.now ≤ length word.now) }
 {
     let rest = word.strip_prefix(b"$")?;
@@ -85,8 +85,8 @@ fn behind_dollar(word: &[u8]) -> Option<&[u8]>
 }
 
 /// The part before the byte with which a word ends.
-fn in_front_of(end: u8, word: &[u8]) -> Option<&[u8]>
-    ensures text { option_map (λ text. text.now) result ≡ in_front_of end word.now }
+fn word_before_byte(end: u8, word: &[u8]) -> Option<&[u8]>
+    ensures text { option_map (λ text. text.now) result ≡ word_before_byte end word.now }
     ensures short { IfSome result (λ text. length text.now ≤ length word.now) }
 {
     match word {
@@ -96,8 +96,8 @@ fn in_front_of(end: u8, word: &[u8]) -> Option<&[u8]>
 }
 
 /// The part after the colon with which a word begins.
-fn behind_colon(word: &[u8]) -> Option<&[u8]>
-    ensures text { option_map (λ text. text.now) result ≡ behind_colon word.now }
+fn name_after_colon(word: &[u8]) -> Option<&[u8]>
+    ensures text { option_map (λ text. text.now) result ≡ name_after_colon word.now }
     ensures short { IfSome result (λ text. length text.now ≤ length word.now) }
 {
     match word {
@@ -107,11 +107,11 @@ fn behind_colon(word: &[u8]) -> Option<&[u8]>
 }
 
 /// The number in front of the comma with which a word ends.
-fn number_in_front(word: &[u8]) -> Option<&[u8]>
-    ensures text { option_map (λ text. text.now) result ≡ number_in_front word.now }
+fn number_before_comma(word: &[u8]) -> Option<&[u8]>
+    ensures text { option_map (λ text. text.now) result ≡ number_before_comma word.now }
     ensures short { IfSome result (λ text. length text.now ≤ length word.now) }
 {
-    let rest = in_front_of(b',', word)?;
+    let rest = word_before_byte(b',', word)?;
     if is_number(number_of(rest)) {
         Some(rest)
     } else {
@@ -120,27 +120,27 @@ fn number_in_front(word: &[u8]) -> Option<&[u8]>
 }
 
 /// A word that was spelled as elsewhere, or without a blank, as it is spelled here.
-#[tactic(auto, using(crate::proofs::Hinting::text_alone), unfolding(crate::specs::Hints::spelled))]
-fn spelled(word: &[u8]) -> Option<Hint<'_>>
-    ensures text { option_map hint_text result ≡ spelled word.now }
-    ensures short { IfSome result (IsShortFor word.now) }
+#[tactic(auto, using(crate::proofs::Hinting::text_alone), unfolding(crate::specs::Hints::local_spelling))]
+fn local_spelling(word: &[u8]) -> Option<Hint<'_>>
+    ensures text { option_map hint_text result ≡ local_spelling word.now }
+    ensures short { IfSome result (IsShortHint word.now) }
 {
     if let Some(text) = foreign_spelling(word) {
         return Some(hinted(text, b"", b""));
     }
-    if let Some(digits) = behind_dollar(word) {
+    if let Some(digits) = digits_after_dollar(word) {
         return Some(hinted(b"0x", digits, b""));
     }
-    if let Some(name) = in_front_of(b';', word) {
+    if let Some(name) = word_before_byte(b';', word) {
         return Some(hinted(b"", name, b" ;"));
     }
-    if let Some(name) = in_front_of(b':', word) {
+    if let Some(name) = word_before_byte(b':', word) {
         return Some(hinted(b": ", name, b""));
     }
-    if let Some(name) = behind_colon(word) {
+    if let Some(name) = name_after_colon(word) {
         return Some(hinted(b": ", name, b""));
     }
-    if let Some(number) = number_in_front(word) {
+    if let Some(number) = number_before_comma(word) {
         return Some(hinted(b"", number, b" ,"));
     }
     None
@@ -150,7 +150,7 @@ fn hinted<'s>(before: &'static [u8], word: &'s [u8], behind: &'static [u8]) -> H
     requires before { length before.now ≤ 64 }
     requires behind { length behind.now ≤ 64 }
     ensures text { hint_text result ≡ before.entry.now ++ (word.entry.now ++ behind.entry.now) }
-    ensures short { (text : List ℕ) → length word.entry.now ≤ length text → IsShortFor text result }
+    ensures short { (text : List ℕ) → length word.entry.now ≤ length text → IsShortHint text result }
 {
     Hint {
         before,
@@ -163,12 +163,12 @@ fn hinted<'s>(before: &'static [u8], word: &'s [u8], behind: &'static [u8]) -> H
 #[tactic(auto, unfolding(crate::specs::Hints::hint_for))]
 pub fn hint_for(word: &[u8]) -> Option<Hint<'_>>
     ensures text { option_map hint_text result ≡ hint_for word.now }
-    ensures short { IfSome result (IsShortFor word.now) }
+    ensures short { IfSome result (IsShortHint word.now) }
 {
-    if let Some(hint) = spelled(word) {
+    if let Some(hint) = local_spelling(word) {
         return Some(hint);
     }
-    match known_word(word) {
+    match find_probable_word(word) {
         Some(name) => Some(hinted(name, b"", b"?")),
         None => None,
     }

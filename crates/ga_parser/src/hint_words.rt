@@ -2,11 +2,11 @@
 
 ghost use Rattle.std.specs.Prelude.{◌≡◌, true, map};
 ghost use Rattle.std.specs.List.{list_all};
-ghost use Rattle.ga_parser.specs.Hints.{other_words, known_words};
+ghost use Rattle.ga_parser.specs.Hints.{foreign_words, known_words};
 ghost use Rattle.ga_parser.specs.inner.Hinting.{row_of, name_of, is_short_row, is_short_name};
 
 /// A word of another Forth or of an assembler, and what says it here.
-pub(crate) struct OtherWord {
+pub(crate) struct ForeignWord {
     pub word: &'static [u8],
     pub here: &'static [u8],
 }
@@ -16,176 +16,176 @@ pub(crate) struct KnownWord {
     pub name: &'static [u8],
 }
 
-static OTHER_WORDS: &[OtherWord] = &[
-    OtherWord {
+static OTHER_WORDS: &[ForeignWord] = &[
+    ForeignWord {
         word: b">r",
         here: b"push",
     },
-    OtherWord {
+    ForeignWord {
         word: b"r>",
         here: b"pop",
     },
-    OtherWord {
+    ForeignWord {
         word: b"r@",
         here: b"pop dup push",
     },
-    OtherWord {
+    ForeignWord {
         word: b"2dup",
         here: b"over over",
     },
-    OtherWord {
+    ForeignWord {
         word: b"2drop",
         here: b"drop drop",
     },
-    OtherWord {
+    ForeignWord {
         word: b"nip",
         here: b"push drop pop",
     },
-    OtherWord {
+    ForeignWord {
         word: b"swap",
         here: b"over push push drop pop pop",
     },
-    OtherWord {
+    ForeignWord {
         word: b"tuck",
         here: b"over push push drop pop pop over",
     },
-    OtherWord {
+    ForeignWord {
         word: b"rot",
         here: b"push push a! pop pop a, which changes A",
     },
-    OtherWord {
+    ForeignWord {
         word: b"1+",
         here: b"1 . +",
     },
-    OtherWord {
+    ForeignWord {
         word: b"1-",
         here: b"-1 . +",
     },
-    OtherWord {
+    ForeignWord {
         word: b"negate",
         here: b"inv 1 . +",
     },
-    OtherWord {
+    ForeignWord {
         word: b"*",
         here: b"+*, one step",
     },
-    OtherWord {
+    ForeignWord {
         word: b"lshift",
         here: b"2*, one bit",
     },
-    OtherWord {
+    ForeignWord {
         word: b"<<",
         here: b"2*, one bit",
     },
-    OtherWord {
+    ForeignWord {
         word: b"rshift",
         here: b"2/, one bit",
     },
-    OtherWord {
+    ForeignWord {
         word: b">>",
         here: b"2/, one bit",
     },
-    OtherWord {
+    ForeignWord {
         word: b"not",
         here: b"inv",
     },
-    OtherWord {
+    ForeignWord {
         word: b"~",
         here: b"inv",
     },
-    OtherWord {
+    ForeignWord {
         word: b"&",
         here: b"and",
     },
-    OtherWord {
+    ForeignWord {
         word: b"^",
         here: b"xor",
     },
-    OtherWord {
+    ForeignWord {
         word: b"|",
         here: b"dup push inv and pop xor",
     },
-    OtherWord {
+    ForeignWord {
         word: b"a@",
         here: b"a",
     },
-    OtherWord {
+    ForeignWord {
         word: b"@a",
         here: b"@",
     },
-    OtherWord {
+    ForeignWord {
         word: b"!a",
         here: b"!",
     },
-    OtherWord {
+    ForeignWord {
         word: b"@a+",
         here: b"@+",
     },
-    OtherWord {
+    ForeignWord {
         word: b"!a+",
         here: b"!+",
     },
-    OtherWord {
+    ForeignWord {
         word: b"do",
         here: b"for",
     },
-    OtherWord {
+    ForeignWord {
         word: b"loop",
         here: b"next",
     },
-    OtherWord {
+    ForeignWord {
         word: b"if,",
         here: b"if",
     },
-    OtherWord {
+    ForeignWord {
         word: b"endif",
         here: b"then",
     },
-    OtherWord {
+    ForeignWord {
         word: b"exit",
         here: b";",
     },
-    OtherWord {
+    ForeignWord {
         word: b";s",
         here: b";",
     },
-    OtherWord {
+    ForeignWord {
         word: b"call",
         here: b"NAME",
     },
-    OtherWord {
+    ForeignWord {
         word: b"jump",
         here: b"NAME ;",
     },
-    OtherWord {
+    ForeignWord {
         word: b"variable",
         here: b": NAME 0 ,",
     },
-    OtherWord {
+    ForeignWord {
         word: b"create",
         here: b": NAME",
     },
-    OtherWord {
+    ForeignWord {
         word: b"equ",
         here: b"N constant NAME",
     },
-    OtherWord {
+    ForeignWord {
         word: b",",
         here: b"N ,",
     },
-    OtherWord {
+    ForeignWord {
         word: b"end",
         here: b"end on a line of its own",
     },
-    OtherWord {
+    ForeignWord {
         word: b"//",
         here: b"\\",
     },
-    OtherWord {
+    ForeignWord {
         word: b"#",
         here: b"\\",
     },
-    OtherWord {
+    ForeignWord {
         word: b"--",
         here: b"\\",
     },
@@ -234,8 +234,8 @@ static KNOWN_WORDS: &[KnownWord] = &[
 ];
 
 /// The words of other Forths.
-pub(crate) fn other_words() -> &'static [OtherWord]
-    ensures rows { map row_of result.now ≡ other_words }
+pub(crate) fn foreign_words() -> &'static [ForeignWord]
+    ensures rows { map row_of result.now ≡ foreign_words }
     ensures short { list_all is_short_row result.now ≡ true }
 {
     OTHER_WORDS

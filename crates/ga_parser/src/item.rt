@@ -33,7 +33,7 @@ impl Default for Item {
 
 /// A request of the source.
 #[derive(Clone, Copy)]
-pub enum Request {
+pub enum AssemblyRequest {
     /// An item in the next place where it fits.
     Put(Item),
     /// `unext` to this label.
@@ -52,7 +52,7 @@ pub enum Request {
 #[derive(Clone, Copy)]
 pub struct LocatedRequest {
     pub line: u32,
-    pub request: Request,
+    pub request: AssemblyRequest,
 }
 
 /// A register's value at load, and the line that gives it; line 0 where none does.
@@ -64,7 +64,7 @@ pub struct RegisterValue {
 
 /// What the source gives a node's registers at load.
 #[derive(Clone, Copy, PartialEq, Eq)]
-pub struct Registers {
+pub struct InitialRegisters {
     pub p: Option<RegisterValue>,
     pub a: Option<RegisterValue>,
     pub b: Option<RegisterValue>,
@@ -76,5 +76,5 @@ pub struct NodeRequests<'s> {
     pub asked: Vec<LocatedRequest>,
     /// The labels by their numbers; the name is empty where a control word made the label.
     pub names: Vec<Label<'s>>,
-    pub registers: Registers,
+    pub registers: InitialRegisters,
 }

@@ -20,12 +20,16 @@ mod scan;
 mod vocabulary;
 
 pub use draft::{read_requests, with_carry_bit};
-pub use fault::{Fault, NumberRange, SourceCause, fault_at};
+pub use fault::{NumberRange, SourceCause, SourceFault, fault_at};
 pub use hint::{Hint, hint_for};
-pub use item::{Item, LocatedRequest, NodeRequests, Operand, RegisterValue, Registers, Request};
+pub use item::{
+    AssemblyRequest, InitialRegisters, Item, LocatedRequest, NodeRequests, Operand, RegisterValue,
+};
 pub use labels::Label;
-pub use nearness::is_near;
+pub use nearness::is_within_one_edit;
 pub use number::parse_port;
-pub use recovery::{Recovered, recover_requests};
-pub use scan::{Token, TokenKind, source_words, strip_bom, up_to_fault, words_once};
+pub use recovery::{RecoveredRequests, recover_requests};
+pub use scan::{
+    Token, TokenKind, source_words, source_words_without_copies, strip_bom, tokens_until_fault,
+};
 pub use vocabulary::{Directive, Register, parse_directive};

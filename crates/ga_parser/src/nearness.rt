@@ -3,12 +3,12 @@
 ghost use Rattle.std.specs.Prelude.{◌≡◌};
 ghost use Rattle.std.specs.Cmp.Lexicographic.{pointwise};
 ghost use Rattle.std.specs.Char.{eq_ignore_ascii_case};
-ghost use Rattle.ga_parser.specs.Nearness.{is_near, are_exchanged};
+ghost use Rattle.ga_parser.specs.Nearness.{is_within_one_edit, are_exchanged};
 
 /// Whether a word is a name but for one letter: one is missing, too much or another, or two that stand together are exchanged.
-#[tactic(auto, unfolding(crate::specs::Nearness::is_near))]
-pub fn is_near(word: &[u8], name: &[u8]) -> bool
-    ensures { result ≡ is_near word.now name.now }
+#[tactic(auto, unfolding(crate::specs::Nearness::is_within_one_edit))]
+pub fn is_within_one_edit(word: &[u8], name: &[u8]) -> bool
+    ensures { result ≡ is_within_one_edit word.now name.now }
 {
     let Some((first, rest)) = word.split_first() else {
         return name.len() <= 1;
@@ -17,7 +17,7 @@ pub fn is_near(word: &[u8], name: &[u8]) -> bool
         return rest.is_empty();
     };
     if first == letter {
-        return is_near(rest, more);
+        return is_within_one_edit(rest, more);
     }
     rest == more || rest == name || word == more || are_exchanged(word, name)
 }
@@ -37,7 +37,7 @@ fn are_exchanged(word: &[u8], name: &[u8]) -> bool
 }
 
 /// Whether a word is a name but for letters in upper case.
-pub fn is_same(word: &[u8], name: &[u8]) -> bool
+pub fn is_same_ignoring_case(word: &[u8], name: &[u8]) -> bool
     ensures { result ≡ pointwise eq_ignore_ascii_case word.now name.now }
 {
     let Some((first, rest)) = word.split_first() else {
@@ -46,5 +46,5 @@ pub fn is_same(word: &[u8], name: &[u8]) -> bool
     let Some((letter, more)) = name.split_first() else {
         return false;
     };
-    first.eq_ignore_ascii_case(letter) && is_same(rest, more)
+    first.eq_ignore_ascii_case(letter) && is_same_ignoring_case(rest, more)
 }

@@ -4,9 +4,9 @@ ghost use Rattle.std.specs.Prelude.{◌≡◌, ◌<◌, ◌≤◌, ◌^◌, min,
 ghost use Rattle.std.specs.Char.{digit_value};
 ghost use Rattle.std.specs.Option.{option_map_or, SomeIff};
 ghost use Rattle.ga_parser.specs.declared.number.Number.TheVariants.{Nothing};
-ghost use Rattle.ga_parser.specs.Vocabulary.{digits_in, plain_in, word_of_size, word_below, numeral_in, set_in, port_in, number_by_word};
+ghost use Rattle.ga_parser.specs.Vocabulary.{value_of_digits, unsigned_number, checked_word, checked_negative_word, signed_number, named_port_set, named_port_address, number_of_word};
 
-use ga_ports::set_number;
+use ga_ports::parse_side_set;
 
 /// What a word says of a number.
 #[derive(Clone, Copy, PartialEq, Eq)]
@@ -33,7 +33,7 @@ fn digit(byte: u8, base: u32) -> Option<u32>
 pub(crate) fn digits(text: &[u8], base: u32) -> Option<u32>
     requires least { 2 ≤ base }
     requires most { base ≤ 16 }
-    ensures { result ≡ option_map (λ number. min number (2 ^ 24)) (digits_in base text.now) }
+    ensures { result ≡ option_map (λ number. min number (2 ^ 24)) (value_of_digits base text.now) }
 {
     if text.is_empty() {
         return None;
@@ -48,7 +48,7 @@ pub(crate) fn digits(text: &[u8], base: u32) -> Option<u32>
 
 /// A number as it is written, where the word is one.
 fn plain(text: &[u8]) -> Option<u32>
-    ensures { result ≡ option_map (λ number. min number (2 ^ 24)) (plain_in text.now) }
+    ensures { result ≡ option_map (λ number. min number (2 ^ 24)) (unsigned_number text.now) }
 {
     match text.strip_prefix(b"0x") {
         Some(rest) => digits(rest, 16),
@@ -57,8 +57,8 @@ fn plain(text: &[u8]) -> Option<u32>
 }
 
 /// A number of this size.
-fn word_of_size(size: u32) -> Number
-    ensures { result ≡ word_of_size size }
+fn checked_word(size: u32) -> Number
+    ensures { result ≡ checked_word size }
 {
     if size < 0x4_0000 {
         Number::Of(size)
@@ -68,8 +68,8 @@ fn word_of_size(size: u32) -> Number
 }
 
 /// A number of this size below 0.
-fn word_below(size: u32) -> Number
-    ensures { result ≡ word_below size }
+fn checked_negative_word(size: u32) -> Number
+    ensures { result ≡ checked_negative_word size }
 {
     if size <= 0x2_0000 {
         Number::Of((0x4_0000 - size) % 0x4_0000)
@@ -80,27 +80,27 @@ fn word_below(size: u32) -> Number
 
 /// The number of digits after a `-`.
 fn negative(text: &[u8]) -> Number
-    ensures { result ≡ option_map_or word_below (plain_in text.now) Nothing }
+    ensures { result ≡ option_map_or checked_negative_word (unsigned_number text.now) Nothing }
 {
     match plain(text) {
-        Some(size) => word_below(size),
+        Some(size) => checked_negative_word(size),
         None => Number::Nothing,
     }
 }
 
 /// What digits say of a number.
 fn positive(text: &[u8]) -> Number
-    ensures { result ≡ option_map_or word_of_size (plain_in text.now) Nothing }
+    ensures { result ≡ option_map_or checked_word (unsigned_number text.now) Nothing }
 {
     match plain(text) {
-        Some(size) => word_of_size(size),
+        Some(size) => checked_word(size),
         None => Number::Nothing,
     }
 }
 
 /// The number of digits, after a `-` or without.
 fn numeral(text: &[u8]) -> Number
-    ensures { result ≡ numeral_in text.now }
+    ensures { result ≡ signed_number text.now }
 {
     match text.strip_prefix(b"-") {
         Some(rest) => negative(rest),
@@ -110,7 +110,7 @@ fn numeral(text: &[u8]) -> Number
 
 /// The number of a word modulo 2^18.
 pub(crate) fn number_of(text: &[u8]) -> Number
-    ensures { result ≡ number_by_word text.now }
+    ensures { result ≡ number_of_word text.now }
 {
     match parse_port(text) {
         Some(address) => Number::Of(address),
@@ -120,7 +120,7 @@ pub(crate) fn number_of(text: &[u8]) -> Number
 
 /// The address of a port (`right`, `down`, `left`, `up`, `io`) or of a set of ports (`r---`, `rdlu` and so on).
 pub fn parse_port(text: &[u8]) -> Option<u32>
-    ensures { result ≡ port_in text.now }
+    ensures { result ≡ named_port_address text.now }
 {
     if text == b"right".as_slice() {
         Some(0x1d5)
@@ -133,15 +133,15 @@ pub fn parse_port(text: &[u8]) -> Option<u32>
     } else if text == b"io".as_slice() {
         Some(0x15d)
     } else {
-        ports(text)
+        named_ports(text)
     }
 }
 
 /// The address of a set of ports.
-fn ports(text: &[u8]) -> Option<u32>
-    ensures { result ≡ set_in text.now }
+fn named_ports(text: &[u8]) -> Option<u32>
+    ensures { result ≡ named_port_set text.now }
 {
-    let set = set_number(text)?;
+    let set = parse_side_set(text)?;
     if set == 0 {
         None
     } else {

@@ -3,26 +3,28 @@
 ghost use Rattle.std.specs.Prelude.{◌≡◌, ◌++◌, map, filter, IfOk, IfErr, OnOk};
 ghost use Rattle.std.specs.List.{flat_map};
 ghost use Rattle.ga_parser.specs.declared.fault.SourceCause.TheVariants.{Memory};
-ghost use Rattle.ga_parser.specs.Asking.{mention_of};
+ghost use Rattle.ga_parser.specs.Asking.{label_content};
 ghost use Rattle.ga_parser.specs.Requests.{word_refusal};
-ghost use Rattle.ga_parser.specs.Recovery.{AreRequestsLeft, operand_label as label_by, item_label as label_of_item, request_label as label_of_request, has_place as place_by, unplaced, unplaced_asked, unplaced_given, given_label as label_of_given, given_left as left_of, registers_left as left_by, is_left as is_left_by, recover, missing_by, unclosed};
+ghost use Rattle.ga_parser.specs.Recovery.{AreRecoveredRequests, operand_label as label_by, item_label as label_of_item, request_label as label_of_request, has_place as place_by, unplaced_label_refusals, unplaced_request_refusals, unplaced_register_refusals, register_label as label_of_given, recovered_register_value as left_of, recovered_registers as left_by, is_recovered_request as is_left_by, recover, missing_word_refusals, unclosed_word_refusal};
 ghost use Rattle.ga_parser.specs.Saying.{token_contents};
 ghost use Rattle.ga_parser.specs.inner.Recovering.{recovery_of};
 
 use super::controls::Open;
-use super::draft::{Expect, RequestBuilder, is_waiting, text_at};
-use super::fault::{Fault, SourceCause, fault_at};
-use super::item::{Item, LocatedRequest, NodeRequests, Operand, RegisterValue, Registers, Request};
+use super::draft::{Expect, RequestBuilder, expects_operand, text_at};
+use super::fault::{SourceCause, SourceFault, fault_at};
+use super::item::{
+    AssemblyRequest, InitialRegisters, Item, LocatedRequest, NodeRequests, Operand, RegisterValue,
+};
 use super::labels::Label;
 use super::scan::Token;
 use std::alloc::{AllocError, Global};
 
 /// What words of a node ask for of which some are at fault.
 #[derive(Drop)]
-pub struct Recovered<'s> {
+pub struct RecoveredRequests<'s> {
     pub requests: NodeRequests<'s>,
     /// Those of words, and then those of what is missing, open or named after the last word.
-    pub faults: Vec<Fault<'s>>,
+    pub faults: Vec<SourceFault<'s>>,
 }
 
 /// The label of which a value is the address.
@@ -47,19 +49,22 @@ fn item_label(item: Item) -> Option<usize>
 }
 
 /// The label of which a request needs the place.
-fn request_label(request: Request) -> Option<usize>
+fn request_label(request: AssemblyRequest) -> Option<usize>
     ensures { result ≡ label_of_request request }
 {
     match request {
-        Request::Put(item) => item_label(item),
-        Request::Unext(label) => Some(label),
-        Request::Mark(_) | Request::Fill | Request::Go(_) | Request::Carry(_) => None,
+        AssemblyRequest::Put(item) => item_label(item),
+        AssemblyRequest::Unext(label) => Some(label),
+        AssemblyRequest::Mark(_)
+        | AssemblyRequest::Fill
+        | AssemblyRequest::Go(_)
+        | AssemblyRequest::Carry(_) => None,
     }
 }
 
 /// Whether no label is needed, or it has its place.
 fn has_place(labels: &[Label<'_>], label: Option<usize>) -> bool
-    ensures { result ≡ place_by (map mention_of labels.now) label }
+    ensures { result ≡ place_by (map label_content labels.now) label }
 {
     match label {
         Some(label) => match labels.get(label) {
@@ -72,12 +77,12 @@ fn has_place(labels: &[Label<'_>], label: Option<usize>) -> bool
 
 /// Adds the fault of a word that names a label without a place.
 fn add_unplaced<'s>(
-    faults: &mut Vec<Fault<'s>>,
+    faults: &mut Vec<SourceFault<'s>>,
     labels: &[Label<'s>],
     line: u32,
     label: Option<usize>,
 ) -> Result<(), AllocError>
-    ensures { OnOk result (map word_refusal faults.new.items ≡ map word_refusal faults.old.items ++ unplaced (map mention_of labels.now) line label) }
+    ensures { OnOk result (map word_refusal faults.new.items ≡ map word_refusal faults.old.items ++ unplaced_label_refusals (map label_content labels.now) line label) }
 {
     let Some(label) = label else {
         return Ok(());
@@ -93,11 +98,11 @@ fn add_unplaced<'s>(
 
 /// Adds the fault of a register that is given a label without a place.
 fn add_given<'s>(
-    faults: &mut Vec<Fault<'s>>,
+    faults: &mut Vec<SourceFault<'s>>,
     labels: &[Label<'s>],
     given: Option<RegisterValue>,
 ) -> Result<(), AllocError>
-    ensures { OnOk result (map word_refusal faults.new.items ≡ map word_refusal faults.old.items ++ unplaced_given (map mention_of labels.now) given) }
+    ensures { OnOk result (map word_refusal faults.new.items ≡ map word_refusal faults.old.items ++ unplaced_register_refusals (map label_content labels.now) given) }
 {
     match given {
         Some(given) => add_unplaced(faults, labels, given.line, operand_label(given.value)),
@@ -106,8 +111,11 @@ fn add_given<'s>(
 }
 
 /// What a register is given, unless that is a label without a place.
-fn given_left(labels: &[Label<'_>], given: Option<RegisterValue>) -> Option<RegisterValue>
-    ensures { result ≡ left_of (map mention_of labels.now) given }
+fn recovered_register_value(
+    labels: &[Label<'_>],
+    given: Option<RegisterValue>,
+) -> Option<RegisterValue>
+    ensures { result ≡ left_of (map label_content labels.now) given }
 {
     let Some(found) = given else {
         return None;
@@ -120,19 +128,19 @@ fn given_left(labels: &[Label<'_>], given: Option<RegisterValue>) -> Option<Regi
 }
 
 /// What the registers are given, without labels that have no place.
-fn registers_left(labels: &[Label<'_>], registers: Registers) -> Registers
-    ensures { result ≡ left_by (map mention_of labels.now) registers }
+fn recovered_registers(labels: &[Label<'_>], registers: InitialRegisters) -> InitialRegisters
+    ensures { result ≡ left_by (map label_content labels.now) registers }
 {
-    Registers {
-        p: given_left(labels, registers.p),
-        a: given_left(labels, registers.a),
-        b: given_left(labels, registers.b),
+    InitialRegisters {
+        p: recovered_register_value(labels, registers.p),
+        a: recovered_register_value(labels, registers.a),
+        b: recovered_register_value(labels, registers.b),
     }
 }
 
 /// Whether a request is left: its label has a place, where it needs one.
-fn is_left(labels: &[Label<'_>], asked: LocatedRequest) -> bool
-    ensures { result ≡ is_left_by (map mention_of labels.now) asked }
+fn is_recovered_request(labels: &[Label<'_>], asked: LocatedRequest) -> bool
+    ensures { result ≡ is_left_by (map label_content labels.now) asked }
 {
     has_place(labels, request_label(asked.request))
 }
@@ -140,17 +148,17 @@ fn is_left(labels: &[Label<'_>], asked: LocatedRequest) -> bool
 /// The requests that are left, and the faults of the others.
 fn requests_left<'s>(
     alloc: Global,
-    faults: &mut Vec<Fault<'s>>,
+    faults: &mut Vec<SourceFault<'s>>,
     labels: &[Label<'s>],
     asked: &[LocatedRequest],
 ) -> Result<Vec<LocatedRequest>, AllocError>
-    ensures faults { OnOk result (map word_refusal faults.new.items ≡ map word_refusal faults.old.items ++ flat_map (unplaced_asked (map mention_of labels.now)) asked.now) }
-    ensures left { IfOk result (λ left. left.items ≡ filter (is_left_by (map mention_of labels.now)) asked.now) }
+    ensures faults { OnOk result (map word_refusal faults.new.items ≡ map word_refusal faults.old.items ++ flat_map (unplaced_request_refusals (map label_content labels.now)) asked.now) }
+    ensures left { IfOk result (λ left. left.items ≡ filter (is_left_by (map label_content labels.now)) asked.now) }
 {
     let mut left = Vec::new(alloc);
     for one in asked {
         add_unplaced(faults, labels, one.line, request_label(one.request))?;
-        if is_left(labels, *one) {
+        if is_recovered_request(labels, *one) {
             left.push(*one)?;
         }
     }
@@ -161,68 +169,68 @@ fn requests_left<'s>(
 #[derive(Drop)]
 struct Reading<'s> {
     draft: RequestBuilder<'s>,
-    faults: Vec<Fault<'s>>,
+    faults: Vec<SourceFault<'s>>,
     /// The line of the last word.
     last: u32,
     /// Whether the last word was passed over.
-    is_passed: bool,
+    is_last_skipped: bool,
 }
 
 impl<'s> Reading<'s> {
     ghost use Rattle.std.specs.Prelude.{◌≡◌, ◌⊎◌, ◌&&◌, Err, OnOk, IfErr};
     ghost use Rattle.ga_parser.specs.declared.fault.SourceCause.TheVariants.{Memory};
-    ghost use Rattle.ga_parser.specs.Asking.{hear as hear_row, refuse_line};
-    ghost use Rattle.ga_parser.specs.Recovery.{by_hearing, is_comma, recover_one, unread};
-    ghost use Rattle.ga_parser.specs.Requests.{word_refusal, wrong_of};
+    ghost use Rattle.ga_parser.specs.Asking.{parse_one_word as hear_row, refusal_at_line};
+    ghost use Rattle.ga_parser.specs.Recovery.{recovery_after_result, is_comma, recover_next_word, initial_recovery};
+    ghost use Rattle.ga_parser.specs.Requests.{word_refusal, refusal_cause_of};
     ghost use Rattle.ga_parser.specs.Saying.{token_content};
     ghost use Rattle.ga_parser.specs.inner.Recovering.{recovery_of};
 
     /// Before the words of a node, whose name is on this line.
     fn new(alloc: Global, line: u32) -> Self
-        ensures { recovery_of result ≡ unread line }
+        ensures { recovery_of result ≡ initial_recovery line }
     {
         Reading {
             draft: RequestBuilder::new(alloc),
             faults: Vec::new(alloc),
             last: line,
-            is_passed: false,
+            is_last_skipped: false,
         }
     }
 
     /// Whether the word belongs to the one before, which was skipped.
     fn goes_along(&self, token: Token<'s>) -> bool
-        ensures { result ≡ (self.now.is_passed && is_comma (token_content token.entry)) }
+        ensures { result ≡ (self.now.is_last_skipped && is_comma (token_content token.entry)) }
     {
-        self.is_passed && token.text == b",".as_slice()
+        self.is_last_skipped && token.text == b",".as_slice()
     }
 
     /// Passes over a word that would be refused.
-    fn pass_over(&mut self, line: u32, cause: SourceCause<'s>) -> Result<(), Fault<'s>>
-        ensures passed { OnOk result (recovery_of self.new ≡ by_hearing (recovery_of self.old) line (refuse_line line (wrong_of cause.entry))) }
+    fn pass_over(&mut self, line: u32, cause: SourceCause<'s>) -> Result<(), SourceFault<'s>>
+        ensures with_passed_word { OnOk result (recovery_of self.new ≡ recovery_after_result (recovery_of self.old) line (refusal_at_line line (refusal_cause_of cause.entry))) }
         ensures refused { IfErr result (λ fault. fault.cause ≡ Memory) }
     {
         self.faults.push(fault_at(line, cause))?;
         self.draft.expect = Expect::Word;
-        self.is_passed = true;
+        self.is_last_skipped = true;
         self.last = line;
         Ok(())
     }
 
     /// Takes a word.
-    fn hear(&mut self, token: Token<'s>, next: &[u8]) -> Result<(), Fault<'s>>
-        ensures heard { OnOk result (recovery_of self.new ≡ by_hearing (recovery_of self.old) token.entry.line (hear_row (recovery_of self.old).now (token_content token.entry) next.now)) }
+    fn parse_one_word(&mut self, token: Token<'s>, next: &[u8]) -> Result<(), SourceFault<'s>>
+        ensures heard { OnOk result (recovery_of self.new ≡ recovery_after_result (recovery_of self.old) token.entry.line (hear_row (recovery_of self.old).now (token_content token.entry) next.now)) }
         ensures refused { IfErr result (λ fault. (fault.cause ≡ Memory) ⊎ (hear_row (recovery_of self.old).now (token_content token.entry) next.now ≡ Err (word_refusal fault))) }
     {
         self.draft.take(token, next)?;
-        self.is_passed = false;
+        self.is_last_skipped = false;
         self.last = token.line;
         Ok(())
     }
 
     /// Takes a word, or skips it if it would be refused. A `,` after a skipped word is skipped with it.
     #[tactic(auto, using(crate::proofs::Recovering::only_memory, crate::proofs::Recovering::heard_one))]
-    fn take(&mut self, token: Token<'s>, next: &[u8]) -> Result<(), Fault<'s>>
-        ensures taken { OnOk result (recovery_of self.new ≡ recover_one (recovery_of self.old) (token_content token.entry) next.now) }
+    fn take(&mut self, token: Token<'s>, next: &[u8]) -> Result<(), SourceFault<'s>>
+        ensures taken { OnOk result (recovery_of self.new ≡ recover_next_word (recovery_of self.old) (token_content token.entry) next.now) }
         ensures refused { IfErr result (λ fault. fault.cause ≡ Memory) }
     {
         if self.goes_along(token) {
@@ -230,13 +238,17 @@ impl<'s> Reading<'s> {
         }
         match self.draft.refusal(token, next) {
             Some(cause) => self.pass_over(token.line, cause),
-            None => self.hear(token, next),
+            None => self.parse_one_word(token, next),
         }
     }
 }
 
 /// The words of a node, without those that are refused.
-fn read_left<'s>(alloc: Global, line: u32, tokens: &[Token<'s>]) -> Result<Reading<'s>, Fault<'s>>
+fn read_left<'s>(
+    alloc: Global,
+    line: u32,
+    tokens: &[Token<'s>],
+) -> Result<Reading<'s>, SourceFault<'s>>
     ensures read { IfOk result (λ reading. recovery_of reading ≡ recover line (token_contents tokens.now)) }
     ensures refused { IfErr result (λ fault. fault.cause ≡ Memory) }
 {
@@ -248,8 +260,8 @@ fn read_left<'s>(alloc: Global, line: u32, tokens: &[Token<'s>]) -> Result<Readi
 }
 
 /// Adds the faults of control words that are open.
-fn add_unclosed<'s>(faults: &mut Vec<Fault<'s>>, all: &[Open]) -> Result<(), AllocError>
-    ensures { OnOk result (map word_refusal faults.new.items ≡ map word_refusal faults.old.items ++ map unclosed all.now) }
+fn add_unclosed<'s>(faults: &mut Vec<SourceFault<'s>>, all: &[Open]) -> Result<(), AllocError>
+    ensures { OnOk result (map word_refusal faults.new.items ≡ map word_refusal faults.old.items ++ map unclosed_word_refusal all.now) }
 {
     for one in all {
         faults.push(fault_at(one.line(), SourceCause::Open))?;
@@ -259,14 +271,14 @@ fn add_unclosed<'s>(faults: &mut Vec<Fault<'s>>, all: &[Open]) -> Result<(), All
 
 /// Adds the faults of a word that is missing after the last one, and of control words that are open.
 fn add_open<'s>(
-    faults: &mut Vec<Fault<'s>>,
+    faults: &mut Vec<SourceFault<'s>>,
     expect: Expect,
     all: &[Open],
     last: u32,
 ) -> Result<(), AllocError>
-    ensures { OnOk result (map word_refusal faults.new.items ≡ map word_refusal faults.old.items ++ missing_by last expect ++ map unclosed all.now) }
+    ensures { OnOk result (map word_refusal faults.new.items ≡ map word_refusal faults.old.items ++ missing_word_refusals last expect ++ map unclosed_word_refusal all.now) }
 {
-    if is_waiting(expect) {
+    if expects_operand(expect) {
         faults.push(fault_at(last, SourceCause::Missing))?;
     }
     add_unclosed(faults, all)
@@ -280,15 +292,15 @@ pub fn recover_requests<'s>(
     alloc: Global,
     line: u32,
     tokens: &[Token<'s>],
-) -> Result<Recovered<'s>, Fault<'s>>
-    ensures left { IfOk result (λ all. AreRequestsLeft line (token_contents tokens.now) all.requests all.faults.items) }
+) -> Result<RecoveredRequests<'s>, SourceFault<'s>>
+    ensures left { IfOk result (λ all. AreRecoveredRequests line (token_contents tokens.now) all.requests all.faults.items) }
     ensures refused { IfErr result (λ fault. fault.cause ≡ Memory) }
 {
     let Reading {
         draft,
         mut faults,
         last,
-        is_passed: _,
+        is_last_skipped: _,
     } = read_left(alloc, line, tokens)?;
     let RequestBuilder {
         asked,
@@ -305,8 +317,8 @@ pub fn recover_requests<'s>(
     add_given(&mut faults, all, registers.p)?;
     add_given(&mut faults, all, registers.a)?;
     add_given(&mut faults, all, registers.b)?;
-    let registers = registers_left(all, registers);
-    Ok(Recovered {
+    let registers = recovered_registers(all, registers);
+    Ok(RecoveredRequests {
         requests: NodeRequests {
             asked,
             names,

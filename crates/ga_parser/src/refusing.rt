@@ -1,7 +1,7 @@
 //! Whether a word would be refused, before it is taken.
 
 ghost use Rattle.std.specs.Prelude.{◌≡◌, ℕ, List};
-ghost use Rattle.ga_parser.specs.Asking.{ParseState, ◌▷◌, value_said, cell as cell_row, value_or_call, address_asks};
+ghost use Rattle.ga_parser.specs.Asking.{ParseState, ◌▷◌, value_of_word, cell as cell_row, value_or_call, org_requests};
 ghost use Rattle.ga_parser.specs.inner.Refusing.{RefusesBy, loop_cause_of};
 
 use super::controls::Open;
@@ -14,9 +14,9 @@ use super::vocabulary::{
 };
 
 /// Why a value is refused, where it is; what is no value by the other cause.
-#[tactic(auto, unfolding(crate::specs::Asking::value_said))]
+#[tactic(auto, unfolding(crate::specs::Asking::value_of_word))]
 fn cell_cause<'s>(text: &'s [u8]) -> Option<SourceCause<'s>>
-    ensures { (now : ParseState) (line : ℕ) → RefusesBy result line (value_said now line text.now ▷ (λ said. cell_row said.1 line said.0)) }
+    ensures { (now : ParseState) (line : ℕ) → RefusesBy result line (value_of_word now line text.now ▷ (λ said. cell_row said.1 line said.0)) }
 {
     if let [b'\'', name @ ..] = text {
         return if name.is_empty() {
@@ -33,9 +33,9 @@ fn cell_cause<'s>(text: &'s [u8]) -> Option<SourceCause<'s>>
 }
 
 /// Why a literal or a label's name is refused, where it is.
-#[tactic(auto, unfolding(crate::specs::Asking::value_said, crate::specs::Asking::call))]
+#[tactic(auto, unfolding(crate::specs::Asking::value_of_word, crate::specs::Asking::call))]
 fn literal_cause<'s>(text: &'s [u8]) -> Option<SourceCause<'s>>
-    ensures { (now : ParseState) (line : ℕ) (next : List ℕ) → RefusesBy result line (value_said now line text.now ▷ (λ said. value_or_call said.1 line text.now next said.0)) }
+    ensures { (now : ParseState) (line : ℕ) (next : List ℕ) → RefusesBy result line (value_of_word now line text.now ▷ (λ said. value_or_call said.1 line text.now next said.0)) }
 {
     if let [b'\'', name @ ..] = text {
         return if name.is_empty() {
@@ -58,9 +58,9 @@ fn literal_cause<'s>(text: &'s [u8]) -> Option<SourceCause<'s>>
 }
 
 /// Why an address is refused, where it is.
-#[tactic(auto, unfolding(crate::specs::Asking::address_asks))]
+#[tactic(auto, unfolding(crate::specs::Asking::org_requests))]
 fn address_cause<'s>(text: &'s [u8]) -> Option<SourceCause<'s>>
-    ensures { (now : ParseState) (line : ℕ) → RefusesBy result line (address_asks now line text.now) }
+    ensures { (now : ParseState) (line : ℕ) → RefusesBy result line (org_requests now line text.now) }
 {
     match number_of(text) {
         Number::Of(found) => {
@@ -88,8 +88,8 @@ fn loop_cause<'s>(innermost: Option<Open>) -> Option<SourceCause<'s>>
 
 impl<'s> RequestBuilder<'s> {
     ghost use Rattle.std.specs.Prelude.{◌≡◌, ℕ, reverse};
-    ghost use Rattle.ga_parser.specs.Asking.{given_in, register_asks, word_asks, hear};
-    ghost use Rattle.ga_parser.specs.Recovery.{passed_over};
+    ghost use Rattle.ga_parser.specs.Asking.{register_value_in, register_requests, word_requests, parse_one_word};
+    ghost use Rattle.ga_parser.specs.Recovery.{with_skipped_word};
     ghost use Rattle.ga_parser.specs.Saying.{token_content};
     ghost use Rattle.ga_parser.specs.inner.Drafting.{asking_of};
     ghost use Rattle.ga_parser.specs.inner.Refusing.{RefusesBy, first_open, around_first, ahead_cause_of, control_cause_of, name_cause_of, given_cause_of};
@@ -176,7 +176,7 @@ impl<'s> RequestBuilder<'s> {
 
     /// Why a second value of a register is refused, where it is one.
     fn twice_cause(&self, register: Register) -> Option<SourceCause<'s>>
-        ensures { result ≡ given_cause_of (given_in self.now.registers register) }
+        ensures { result ≡ given_cause_of (register_value_in self.now.registers register) }
     {
         let given = match register {
             Register::P => self.registers.p,
@@ -190,9 +190,9 @@ impl<'s> RequestBuilder<'s> {
     }
 
     /// Why a register's value is refused, where it is.
-    #[tactic(auto, using(crate::proofs::Causes::give_refused), unfolding(crate::specs::Asking::register_asks))]
+    #[tactic(auto, using(crate::proofs::Causes::give_refused), unfolding(crate::specs::Asking::register_requests))]
     fn register_cause(&self, register: Register, text: &'s [u8]) -> Option<SourceCause<'s>>
-        ensures { (line : ℕ) → RefusesBy result line (register_asks (passed_over (asking_of self.now)) line register text.now) }
+        ensures { (line : ℕ) → RefusesBy result line (register_requests (with_skipped_word (asking_of self.now)) line register text.now) }
     {
         match number_of(text) {
             Number::Of(number) => {
@@ -212,9 +212,9 @@ impl<'s> RequestBuilder<'s> {
     }
 
     /// Why a word without arguments is refused, if it is.
-    #[tactic(auto, using(crate::proofs::Causes::control_word_refused, crate::proofs::Causes::other_word_refused), unfolding(crate::specs::Asking::word_asks))]
+    #[tactic(auto, using(crate::proofs::Causes::control_word_refused, crate::proofs::Causes::other_word_refused), unfolding(crate::specs::Asking::word_requests))]
     fn word_cause(&self, text: &'s [u8], next: &[u8]) -> Option<SourceCause<'s>>
-        ensures { (line : ℕ) → RefusesBy result line (word_asks (passed_over (asking_of self.now)) line text.now next.now) }
+        ensures { (line : ℕ) → RefusesBy result line (word_requests (with_skipped_word (asking_of self.now)) line text.now next.now) }
     {
         if next == b",".as_slice() {
             return cell_cause(text);
@@ -234,7 +234,7 @@ impl<'s> RequestBuilder<'s> {
     /// Why a word would be refused that is the next one, where it would.
     #[tactic(auto, using(crate::proofs::Causes::name_refused))]
     pub(crate) fn refusal(&self, token: Token<'s>, next: &[u8]) -> Option<SourceCause<'s>>
-        ensures { RefusesBy result token.entry.line (hear (asking_of self.now) (token_content token.entry) next.now) }
+        ensures { RefusesBy result token.entry.line (parse_one_word (asking_of self.now) (token_content token.entry) next.now) }
     {
         match token.kind {
             TokenKind::LongLine => Some(SourceCause::LongLine),

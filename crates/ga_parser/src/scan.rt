@@ -2,14 +2,14 @@
 
 ghost use Rattle.std.specs.Prelude.{◌≡◌, ◌<◌, ◌+◌, ◌-◌, [], ◌∷◌, ◌++◌, length, IsOkAnd, IsErrAnd, IfOk, OnOk};
 ghost use Rattle.std.specs.List.{list_all};
-ghost use Rattle.ga_parser.specs.Saying.{is_blank as is_blank_byte, parted, closes as closes_comment, strip_bom as without_mark, bare as bare_line, without_return as without_end, said_by, is_word, is_word_kind, said_from, source_lines, up_to_fault as up_to_fault_in, token_content, token_contents, columns_by, columns_from, columns_of};
-ghost use Rattle.ga_parser.specs.Words.{all_in, columns_in, once_in};
+ghost use Rattle.ga_parser.specs.Saying.{is_blank as is_blank_byte, parts_ended_by, is_comment_end as closes_comment, strip_bom as without_mark, stripped_source_line as bare_line, without_carriage_return as without_end, tokens_of_line, is_word, is_word_kind, tokens_of_lines, source_lines, tokens_until_fault as up_to_fault_in, token_content, token_contents, columns_of_line, columns_of_lines, token_columns};
+ghost use Rattle.ga_parser.specs.Words.{source_tokens, source_columns, source_tokens_without_copies};
 ghost use Rattle.ga_parser.specs.declared.scan.TokenKind.TheVariants.{Word, LongLine, OpenComment, NoNumber, Missing, Taken};
 ghost use Rattle.ga_parser.specs.declared.fault.SourceCause.TheVariants.{LongLine as TooLong, OpenComment as LeftOpen, NoNumber as NumberLeftOut, Missing as NameLeftOut, Taken as IsTaken};
 
 use super::constants::resolve;
-use super::fault::{Fault, SourceCause, fault_at};
-use super::groups::grouped;
+use super::fault::{SourceCause, SourceFault, fault_at};
+use super::groups::expand_node_groups;
 use ga_text::first_line;
 use std::alloc::{AllocError, Global};
 
@@ -45,7 +45,7 @@ impl<'s> Token<'s> {
     ///
     /// # Errors
     /// The line's fault.
-    pub fn word(self) -> Result<&'s [u8], Fault<'s>>
+    pub fn word(self) -> Result<&'s [u8], SourceFault<'s>>
         ensures told { IfOk result (λ text. text.now ≡ self.entry.text.now) }
         ensures word { self.entry.kind ≡ Word → IsOkAnd result (λ text. text.now ≡ self.entry.text.now) }
         ensures long { self.entry.kind ≡ LongLine → IsErrAnd result (λ fault. (fault.line ≡ self.entry.line) × (fault.cause ≡ TooLong)) }
@@ -75,7 +75,7 @@ fn is_blank(byte: u8) -> bool
 }
 
 /// Whether a word closes a comment.
-fn closes(word: &[u8]) -> bool
+fn is_comment_end(word: &[u8]) -> bool
     ensures { result ≡ closes_comment word.now }
 {
     if let [.., b')'] = word { true } else { false }
@@ -85,7 +85,7 @@ fn closes(word: &[u8]) -> bool
 #[tactic(auto, using(crate::proofs::Scanning::at_end, crate::proofs::Scanning::no_end))]
 fn first_part(text: &[u8]) -> (&[u8], &[u8])
     requires { 0 < length text.now }
-    ensures splits { parted is_blank_byte text.now ≡ result.0.now ∷ parted is_blank_byte result.1.now }
+    ensures splits { parts_ended_by is_blank_byte text.now ≡ result.0.now ∷ parts_ended_by is_blank_byte result.1.now }
     ensures left { length result.1.now ≡ length text.now - (length result.0.now + 1) }
     ensures shorter { length result.1.now < length text.now }
 {
@@ -99,9 +99,9 @@ fn first_part(text: &[u8]) -> (&[u8], &[u8])
 
 /// Adds the words of a line, and then its fault where it has one. True where it has none.
 fn scan_line<'s>(tokens: &mut Vec<Token<'s>>, line: u32, text: &'s [u8]) -> Result<bool, AllocError>
-    ensures says { OnOk result (token_contents tokens.new.items ≡ token_contents tokens.old.items ++ said_by line text.now) }
-    ensures columns { OnOk result (columns_of tokens.new.items ≡ columns_of tokens.old.items ++ columns_by text.now) }
-    ensures whole { IfOk result (λ whole. whole ≡ list_all is_word (said_by line text.now)) }
+    ensures says { OnOk result (token_contents tokens.new.items ≡ token_contents tokens.old.items ++ tokens_of_line line text.now) }
+    ensures columns { OnOk result (token_columns tokens.new.items ≡ token_columns tokens.old.items ++ columns_of_line text.now) }
+    ensures whole { IfOk result (λ whole. whole ≡ list_all is_word (tokens_of_line line text.now)) }
 {
     if text.len() > LONGEST {
         push(tokens, line, 1, &[], TokenKind::LongLine)?;
@@ -113,7 +113,7 @@ fn scan_line<'s>(tokens: &mut Vec<Token<'s>>, line: u32, text: &'s [u8]) -> Resu
         let (part, behind) = first_part(rest);
         let column = (text.len() - rest.len()) as u32 + 1;
         if is_open {
-            is_open = !closes(part);
+            is_open = !is_comment_end(part);
         } else if part == b"\\".as_slice() {
             return Ok(true);
         } else if part == b"(".as_slice() {
@@ -139,7 +139,7 @@ fn push<'s>(
     kind: TokenKind,
 ) -> Result<(), AllocError>
     ensures says { OnOk result (token_contents tokens.new.items ≡ token_contents tokens.old.items ++ record { line = line; text = text.now; kind = kind } ∷ []) }
-    ensures column { OnOk result (columns_of tokens.new.items ≡ columns_of tokens.old.items ++ column ∷ []) }
+    ensures column { OnOk result (token_columns tokens.new.items ≡ token_columns tokens.old.items ++ column ∷ []) }
 {
     tokens.push(Token {
         line,
@@ -161,7 +161,7 @@ pub fn strip_bom(line: u32, text: &[u8]) -> &[u8]
 }
 
 /// A line without the carriage return at its end.
-fn without_return(text: &[u8]) -> &[u8]
+fn without_carriage_return(text: &[u8]) -> &[u8]
     ensures { result.now ≡ without_end text.now }
 {
     match text {
@@ -171,23 +171,23 @@ fn without_return(text: &[u8]) -> &[u8]
 }
 
 /// A line without what some editors write before or after it.
-fn bare(line: u32, text: &[u8]) -> &[u8]
+fn stripped_source_line(line: u32, text: &[u8]) -> &[u8]
     ensures { result.now ≡ bare_line line text.now }
 {
-    without_return(strip_bom(line, text))
+    without_carriage_return(strip_bom(line, text))
 }
 
 /// The words of a text as they are written, up to its end or to a line `end`. What follows a line with a fault is read too.
 fn scanned_words(alloc: Global, source: &[u8]) -> Result<Vec<Token<'_>>, AllocError>
-    ensures says { IfOk result (λ words. token_contents words.items ≡ said_from 1 (source_lines source.now)) }
-    ensures columns { IfOk result (λ words. columns_of words.items ≡ columns_from 1 (source_lines source.now)) }
+    ensures says { IfOk result (λ words. token_contents words.items ≡ tokens_of_lines 1 (source_lines source.now)) }
+    ensures columns { IfOk result (λ words. token_columns words.items ≡ columns_of_lines 1 (source_lines source.now)) }
 {
     let mut words = Vec::new(alloc);
     let mut rest = source;
     let mut line = 1u32;
     while !rest.is_empty() {
         let (whole, behind) = first_line(rest);
-        let first = bare(line, whole);
+        let first = stripped_source_line(line, whole);
         if first == b"end".as_slice() {
             return Ok(words);
         }
@@ -204,24 +204,27 @@ fn scanned_words(alloc: Global, source: &[u8]) -> Result<Vec<Token<'_>>, AllocEr
 /// # Errors
 /// Allocation failed.
 pub fn source_words(alloc: Global, source: &[u8]) -> Result<Vec<Token<'_>>, AllocError>
-    ensures says { IfOk result (λ words. token_contents words.items ≡ all_in source.now) }
-    ensures columns { IfOk result (λ words. columns_of words.items ≡ columns_in source.now) }
+    ensures says { IfOk result (λ words. token_contents words.items ≡ source_tokens source.now) }
+    ensures columns { IfOk result (λ words. token_columns words.items ≡ source_columns source.now) }
 {
     let scanned = scanned_words(alloc, source)?;
     let resolved = resolve(alloc, scanned.as_slice())?;
-    Ok(grouped(alloc, resolved.as_slice(), true)?)
+    Ok(expand_node_groups(alloc, resolved.as_slice(), true)?)
 }
 
 /// The words of `source_words`, but with the program of several nodes after the last of their names alone: so each fault is found once.
 ///
 /// # Errors
 /// Allocation failed.
-pub fn words_once(alloc: Global, source: &[u8]) -> Result<Vec<Token<'_>>, AllocError>
-    ensures { IfOk result (λ words. token_contents words.items ≡ once_in source.now) }
+pub fn source_words_without_copies(
+    alloc: Global,
+    source: &[u8],
+) -> Result<Vec<Token<'_>>, AllocError>
+    ensures { IfOk result (λ words. token_contents words.items ≡ source_tokens_without_copies source.now) }
 {
     let scanned = scanned_words(alloc, source)?;
     let resolved = resolve(alloc, scanned.as_slice())?;
-    Ok(grouped(alloc, resolved.as_slice(), false)?)
+    Ok(expand_node_groups(alloc, resolved.as_slice(), false)?)
 }
 
 /// Whether the word is no fault.
@@ -232,7 +235,7 @@ fn is_whole(word: &Token<'_>) -> bool
 }
 
 /// The words up to the first fault of a line or of a constant, with that one.
-pub fn up_to_fault<'a, 's>(words: &'a [Token<'s>]) -> &'a [Token<'s>]
+pub fn tokens_until_fault<'a, 's>(words: &'a [Token<'s>]) -> &'a [Token<'s>]
     ensures { token_contents result.now ≡ up_to_fault_in (token_contents words.now) }
 {
     for (i, word) in words.iter().enumerate() {

@@ -1,18 +1,18 @@
 //! The words that stand for themselves.
 
 ghost use Rattle.std.specs.Prelude.{◌≡◌, ◌||◌, is_some, codes, bytes_eq};
-ghost use Rattle.ga_parser.specs.Vocabulary.{by_name, closings, other_names, own_names, without_address, opcode_in, control_in, directive_in, bound_of, range_of, is_a_number as is_number_in, is_sign as is_sign_word, is_reserved as is_taken_word};
+ghost use Rattle.ga_parser.specs.Vocabulary.{find_in_table, loop_closing_words, opcode_aliases, opcode_names, opcode_without_address, opcode_in, control_in, directive_in, register_bound, register_range, is_a_number as is_number_in, is_syntax_word as is_sign_word, is_reserved as is_taken_word};
 
 use super::fault::NumberRange;
 use super::number::{Number, number_of};
 use ga_slots::Op;
 
 /// The value in a table for a name, if it is the text; otherwise the last argument, or nothing.
-macro_rules! by_name {
+macro_rules! find_in_table {
     ($text:expr;) => { None };
     ($text:expr; else $other:expr) => { $other };
     ($text:expr; $name:literal => $meaning:expr, $($rows:tt)*) => {
-        if $text == $name.as_slice() { Some($meaning) } else { by_name!($text; $($rows)*) }
+        if $text == $name.as_slice() { Some($meaning) } else { find_in_table!($text; $($rows)*) }
     };
 }
 
@@ -36,9 +36,9 @@ pub(crate) enum Control {
 
 /// The opcode of a name that it has beside its own.
 fn other_name(text: &[u8]) -> Option<Op>
-    ensures { result ≡ by_name other_names text.now }
+    ensures { result ≡ find_in_table opcode_aliases text.now }
 {
-    by_name!(text;
+    find_in_table!(text;
         b"-" => Op::Invert,
         b"inv" => Op::Invert,
         b"xor" => Op::Or,
@@ -48,7 +48,7 @@ fn other_name(text: &[u8]) -> Option<Op>
 
 /// The opcode of its own name.
 fn own_name(text: &[u8]) -> Option<Op>
-    ensures { result ≡ by_name own_names text.now }
+    ensures { result ≡ find_in_table opcode_names text.now }
 {
     for code in 0..32u8 {
         let op = Op::from_code(code);
@@ -60,8 +60,8 @@ fn own_name(text: &[u8]) -> Option<Op>
 }
 
 /// The opcode, if no address follows it.
-fn without_address(op: Op) -> Option<Op>
-    ensures { result ≡ without_address op }
+fn opcode_without_address(op: Op) -> Option<Op>
+    ensures { result ≡ opcode_without_address op }
 {
     match op {
         Op::Jump | Op::Call | Op::Unext | Op::Next | Op::If | Op::MinusIf => None,
@@ -75,9 +75,9 @@ pub(crate) fn parse_opcode(text: &[u8]) -> Option<Op>
     ensures { result ≡ opcode_in text.now }
 {
     match other_name(text) {
-        Some(op) => without_address(op),
+        Some(op) => opcode_without_address(op),
         None => match own_name(text) {
-            Some(op) => without_address(op),
+            Some(op) => opcode_without_address(op),
             None => None,
         },
     }
@@ -93,7 +93,7 @@ pub(crate) fn is_reserved(text: &[u8]) -> bool
         || control_named(text).is_some()
         || is_number(number_of(text))
         || parse_directive(text).is_some()
-        || is_sign(text)
+        || is_syntax_word(text)
 }
 
 /// Whether what a word says is a number, in range or not.
@@ -107,7 +107,7 @@ pub(crate) fn is_number(number: Number) -> bool
 }
 
 /// Whether the word begins a node, defines a constant, ends a cell of data, begins a comment, or has an apostrophe in front.
-fn is_sign(text: &[u8]) -> bool
+fn is_syntax_word(text: &[u8]) -> bool
     ensures { result ≡ is_sign_word text.now }
 {
     text == b"node".as_slice()
@@ -151,7 +151,7 @@ pub enum Register {
 impl Register {
     /// The register's values are below this.
     pub fn bound(self) -> u32
-        ensures { result ≡ bound_of self }
+        ensures { result ≡ register_bound self }
     {
         match self {
             Register::P => 0x400,
@@ -162,7 +162,7 @@ impl Register {
 
     /// The register's values.
     pub fn range(self) -> NumberRange
-        ensures { result ≡ range_of self }
+        ensures { result ≡ register_range self }
     {
         match self {
             Register::P => NumberRange::P,
@@ -177,7 +177,7 @@ impl Register {
 pub fn parse_directive(text: &[u8]) -> Option<Directive>
     ensures { result ≡ directive_in text.now }
 {
-    by_name!(text;
+    find_in_table!(text;
         b":" => Directive::Label,
         b"org" => Directive::Address,
         b"/p" => Directive::Register(Register::P),
@@ -194,7 +194,7 @@ pub fn parse_directive(text: &[u8]) -> Option<Directive>
 pub(crate) fn control_named(text: &[u8]) -> Option<Control>
     ensures { result ≡ control_in text.now }
 {
-    by_name!(text;
+    find_in_table!(text;
         b"begin" => Control::Begin,
         b"for" => Control::For,
         b"if" => Control::If(Op::If),
@@ -207,9 +207,9 @@ pub(crate) fn control_named(text: &[u8]) -> Option<Control>
 }
 
 fn closing_named(text: &[u8]) -> Option<Control>
-    ensures { result ≡ by_name closings text.now }
+    ensures { result ≡ find_in_table loop_closing_words text.now }
 {
-    by_name!(text;
+    find_in_table!(text;
         b"again" => Control::Again,
         b"until" => Control::Until(Op::If),
         b"-until" => Control::Until(Op::MinusIf),

@@ -1,25 +1,25 @@
 -- From a session that says nothing to one whose answers are dropped.
 use Rattle.std.proofs.Common.{◌≡◌, Option, ℕ, List, [], ◌∷◌, ◌++◌, false, inl, inr, sym, ap, ◌∙◌, Result, Ok, Err, ◌≢◌, refl, subst, ◌-◌, length, ◌↔◌, Bool, true≢false, IsTrue, Some, arith}
-use Rattle.ga_explorer.specs.Opening.{ExplorerState, OpensFront, IsFront}
+use Rattle.ga_explorer.specs.Opening.{ExplorerState, OpensLeadingText, IsLeadingText}
 use Rattle.ga_console.specs.Run.{status_of}
-use Rattle.ga_console.specs.Session.{Answers, Script, Serves, Written, Answering, Turns}
+use Rattle.ga_console.specs.Session.{Answers, WritesAnswers, ServesCommands, IsWrittenOrPrefix, AnswerRelation, AnswersOrQuits}
 use Rattle.ga_console.specs.declared.commands.CommandsEnd.{CommandsEnd}
 use Rattle.ga_console.specs.declared.commands.CommandsEnd.TheVariants.{Ended, Quit, Past, ReadFailed}
 use Rattle.ga_text.specs.declared.output.WriteError.{WriteError}
 use Rattle.ga_console.specs.declared.run.Status.TheVariants.{Done, StreamFault}
-use Rattle.ga_picture.specs.Following.{Hears, Follows, Declines, Followed, FollowsTo, IsShort}
+use Rattle.ga_picture.specs.Following.{IsSilentAnswer, IsCompleteSilentAnswer, WritesRefusal, IsSilentSession, IsSilentSessionResult, IsOutOfMemoryAnswer}
 use Rattle.ga_picture.specs.inner.{HearsLine, Goes, Ends, Notes}
 use Rattle.ga_picture.specs.declared.silent.SilentSession.{SilentSession}
 use Rattle.ga_lab.specs.declared.fault.LabFault.TheVariants.{Memory}
 use Rattle.ga_console.specs.declared.run.Status.{Status}
 use Rattle.ga_text.specs.Input.{input_limit}
-use Rattle.ga_picture.specs.Following.Unreached.{broken, short}
+use Rattle.ga_picture.specs.Following.HasNoMachine.{broken, short}
 use Rattle.std.proofs.lemmas.List.{append-nil}
 use Rattle.std.proofs.lemmas.Option.{same_Some}
 use Rattle.ga_text.specs.Output.{IsWritten}
 use Rattle.ga_console.specs.declared.responder.LineAction.{LineAction}
 use Rattle.ga_console.specs.declared.responder.LineAction.TheVariants as turns
-use Rattle.ga_explorer.specs.Answers.{Explores}
+use Rattle.ga_explorer.specs.Answers.{AnswersExplorerLine}
 
 -- ---- from a session that says nothing to one whose answers are dropped
 
@@ -27,32 +27,32 @@ use Rattle.ga_explorer.specs.Answers.{Explores}
 abbrev pub Silently : SilentSession → List ℕ → List ℕ → SilentSession → Type 0
 Silently m line said new = HearsLine m.explorer m.short line said new.explorer new.short
 
-answers_heard : (m : SilentSession) (lines : List (List ℕ)) (text : List ℕ) (last : SilentSession) → Answers Silently m lines text last → Answers Hears m.explorer lines text last.explorer
+answers_heard : (m : SilentSession) (lines : List (List ℕ)) (text : List ℕ) (last : SilentSession) → Answers Silently m lines text last → Answers IsSilentAnswer m.explorer lines text last.explorer
 answers_heard m [] text last h = (h.0, ap (λ (x : SilentSession). x.explorer) h.1)
 answers_heard m (line ∷ lines) text last h =
     (h.0, h.1.explorer, h.2, (h.3.0, h.3.1, h.3.2), answers_heard h.1 lines h.2 last h.4, h.5)
 
 -- where no want of memory is noted at the end, there was none
 answers_follow : (m : SilentSession) (lines : List (List ℕ)) (text : List ℕ) (last : SilentSession) → last.short ≡ false → Answers Silently m lines text last
-    → (m.short ≡ false) × Answers Follows m.explorer lines text last.explorer
+    → (m.short ≡ false) × Answers IsCompleteSilentAnswer m.explorer lines text last.explorer
 answers_follow m [] text last e h = (sym (ap (λ (x : SilentSession). x.short) h.1) ∙ e, (h.0, ap (λ (x : SilentSession). x.explorer) h.1))
 answers_follow m (line ∷ lines) text last e h =
     let rest = answers_follow h.1 lines h.2 last e h.4 in
     let noted = h.3.3 rest.0 in
     (noted.0, (h.0, h.1.explorer, h.2, (h.3.0, h.3.1, h.3.2, noted.1), rest.1, h.5))
 
-nothing_said : (s : ExplorerState) (lines : List (List ℕ)) (text : List ℕ) (last : ExplorerState) → Answers Hears s lines text last → text ≡ []
+nothing_said : (s : ExplorerState) (lines : List (List ℕ)) (text : List ℕ) (last : ExplorerState) → Answers IsSilentAnswer s lines text last → text ≡ []
 nothing_said s [] text last h = h.0
 nothing_said s (line ∷ lines) text last h =
     h.5 ∙ ap (λ (t : List ℕ). t ++ h.2) h.3.0 ∙ nothing_said h.1 lines h.2 last h.4
 
-script_heard : (room : ℕ) (m : SilentSession) (read : List ℕ) (lines : List (List ℕ)) (text : List ℕ) (last : SilentSession) → Script Silently room m read lines text last
-    → Script Hears room m.explorer read lines text last.explorer
+script_heard : (room : ℕ) (m : SilentSession) (read : List ℕ) (lines : List (List ℕ)) (text : List ℕ) (last : SilentSession) → WritesAnswers Silently room m read lines text last
+    → WritesAnswers IsSilentAnswer room m.explorer read lines text last.explorer
 script_heard room m read lines text last (inl h) = inl (answers_heard m lines text last h)
 script_heard room m read lines text last (inr h) = inr (h.0, h.1, h.2, answers_heard m lines h.2 last h.3, h.4)
 
-pub serves_heard : (room : ℕ) (m : SilentSession) (read rest text : List ℕ) (last : SilentSession) (ending : Result CommandsEnd WriteError) → Serves Silently room m read rest text last ending
-    → Serves Hears room m.explorer read rest text last.explorer ending
+pub serves_heard : (room : ℕ) (m : SilentSession) (read rest text : List ℕ) (last : SilentSession) (ending : Result CommandsEnd WriteError) → ServesCommands Silently room m read rest text last ending
+    → ServesCommands IsSilentAnswer room m.explorer read rest text last.explorer ending
 serves_heard room m read rest text last (Ok Ended) h = record {
   within = h.within;
   at_end = h.at_end;
@@ -90,7 +90,7 @@ serves_heard room m read rest text last (Err failed) h = record {
 
 -- up to the end of the input or to `quit` nothing is written
 pub serves_silent : (room : ℕ) (m : SilentSession) (read rest text : List ℕ) (last : SilentSession) (ending : Result CommandsEnd WriteError) → status_of ending ≡ Done
-    → Serves Silently room m read rest text last ending → text ≡ []
+    → ServesCommands Silently room m read rest text last ending → text ≡ []
 serves_silent room m read rest text last (Ok Ended) e h = nothing_said m.explorer _ text last.explorer (answers_heard m _ text last h.answers)
 serves_silent room m read rest text last (Ok Quit) e h = nothing_said m.explorer _ text last.explorer (answers_heard m _ text last h.answers)
 serves_silent room m read rest text last (Ok Past) e h = cc
@@ -98,7 +98,7 @@ serves_silent room m read rest text last (Ok ReadFailed) e h = cc
 serves_silent room m read rest text last (Err failed) e h = cc
 
 pub serves_follow : (room : ℕ) (m : SilentSession) (read rest text : List ℕ) (last : SilentSession) (ending : Result CommandsEnd WriteError) → status_of ending ≡ Done → last.short ≡ false
-    → Serves Silently room m read rest text last ending → Serves Follows room m.explorer read rest text last.explorer ending
+    → ServesCommands Silently room m read rest text last ending → ServesCommands IsCompleteSilentAnswer room m.explorer read rest text last.explorer ending
 serves_follow room m read rest text last (Ok Ended) e none h = record {
   within = h.within;
   at_end = h.at_end;
@@ -119,19 +119,19 @@ serves_follow room m read rest text last (Err failed) e none h = cc
 
 -- ---- where a session that says nothing comes to
 
-sent_none : (ending : Result CommandsEnd WriteError) (said sent : List ℕ) → status_of ending ≡ Done → said ≡ [] → Written ending said sent → sent ≡ []
+sent_none : (ending : Result CommandsEnd WriteError) (said sent : List ℕ) → status_of ending ≡ Done → said ≡ [] → IsWrittenOrPrefix ending said sent → sent ≡ []
 sent_none (Ok done) said sent e none written = written ∙ none
 sent_none (Err failed) said sent e none written = cc
 
 -- to the end of the input or to `quit`
 pub goes_ended : (room : ℕ) (m : SilentSession) (read rest said sent : List ℕ) (last : SilentSession) (ending : Result CommandsEnd WriteError) → status_of ending ≡ Done
-    → Serves Silently room m read rest said last ending → Written ending said sent
+    → ServesCommands Silently room m read rest said last ending → IsWrittenOrPrefix ending said sent
     → (text : List ℕ) (result : Result ExplorerState Status) → Ends last.explorer last.short text result → Goes room m.explorer read rest (sent ++ text) result
 goes_ended room m read rest said sent last ending e serves written text (Ok s) ends =
     let quiet : said ≡ [] = serves_silent room m read rest said last ending e serves in
     let none : sent ≡ [] = sent_none ending said sent e quiet written in
-    let P : List ℕ → Type 0 = λ t. Serves Follows room m.explorer read rest t last.explorer ending in
-    let Q : ExplorerState → Type 0 = λ z. Serves Follows room m.explorer read rest [] z ending in (
+    let P : List ℕ → Type 0 = λ t. ServesCommands IsCompleteSilentAnswer room m.explorer read rest t last.explorer ending in
+    let Q : ExplorerState → Type 0 = λ z. ServesCommands IsCompleteSilentAnswer room m.explorer read rest [] z ending in (
       ap (λ (t : List ℕ). t ++ text) none ∙ ends.2,
       ending,
       e,
@@ -140,8 +140,8 @@ goes_ended room m read rest said sent last ending e serves written text (Ok s) e
 goes_ended room m read rest said sent last ending e serves written text (Err status) ends =
     let quiet : said ≡ [] = serves_silent room m read rest said last ending e serves in
     let none : sent ≡ [] = sent_none ending said sent e quiet written in
-    let P : List ℕ → Type 0 = λ t. Serves Hears room m.explorer read rest t last.explorer ending in
-    let Q : List ℕ → Type 0 = λ t. Declines Memory t status in (
+    let P : List ℕ → Type 0 = λ t. ServesCommands IsSilentAnswer room m.explorer read rest t last.explorer ending in
+    let Q : List ℕ → Type 0 = λ t. WritesRefusal Memory t status in (
       last.explorer,
       ending,
       inr (e, subst P quiet (serves_heard room m read rest said last ending serves), subst Q (sym (ap (λ (t : List ℕ). t ++ text) none)) ends),
@@ -149,7 +149,7 @@ goes_ended room m read rest said sent last ending e serves written text (Err sta
 
 -- not so far
 pub goes_broken : (room : ℕ) (m : SilentSession) (read rest said sent : List ℕ) (last : SilentSession) (ending : Result CommandsEnd WriteError) → status_of ending ≡ StreamFault
-    → Serves Silently room m read rest said last ending → Written ending said sent → Goes room m.explorer read rest sent (Err StreamFault)
+    → ServesCommands Silently room m read rest said last ending → IsWrittenOrPrefix ending said sent → Goes room m.explorer read rest sent (Err StreamFault)
 goes_broken room m read rest said sent last ending e serves written =
     (last.explorer, ending, inl (e, refl, said, serves_heard room m read rest said last ending serves, written))
 
@@ -163,9 +163,9 @@ stream_fault (Err failed) h = refl
 
 -- ---- from the parts of a session whose answers are dropped to the whole
 
-followed_in : (A : Answering ExplorerState) (chip : Option (List ℕ)) (limit : ℕ) (text commands rest said written : List ℕ) (machine last : ExplorerState) (ending : Result CommandsEnd WriteError) → IsFront text (commands ++ rest)
-    → OpensFront chip text limit machine → Serves A (input_limit - length text) machine commands rest said last ending → Written ending said written
-    → Followed A chip limit (text ++ commands) rest written last ending
+followed_in : (A : AnswerRelation ExplorerState) (chip : Option (List ℕ)) (limit : ℕ) (text commands rest said written : List ℕ) (machine last : ExplorerState) (ending : Result CommandsEnd WriteError) → IsLeadingText text (commands ++ rest)
+    → OpensLeadingText chip text limit machine → ServesCommands A (input_limit - length text) machine commands rest said last ending → IsWrittenOrPrefix ending said written
+    → IsSilentSession A chip limit (text ++ commands) rest written last ending
 followed_in A chip limit text commands rest said written machine last ending front opens serves out = record {
   text = text;
   commands = commands;
@@ -179,19 +179,19 @@ followed_in A chip limit text commands rest said written machine last ending fro
 }
 
 -- where the input was followed to its end, all that was said was written: nothing
-written_none : (ending : Result CommandsEnd WriteError) → status_of ending ≡ Done → Written ending [] []
+written_none : (ending : Result CommandsEnd WriteError) → status_of ending ≡ Done → IsWrittenOrPrefix ending [] []
 written_none (Ok done) e = refl
 written_none (Err failed) e = cc
 
 -- after a text that opened a machine
-pub reaches_after : (chip : Option (List ℕ)) (limit : ℕ) (text commands rest written : List ℕ) (machine : ExplorerState) (result : Result ExplorerState Status) → IsFront text (commands ++ rest) → OpensFront chip text limit machine
-    → Goes (input_limit - length text) machine commands rest written result → FollowsTo chip limit (text ++ commands) rest written result
+pub reaches_after : (chip : Option (List ℕ)) (limit : ℕ) (text commands rest written : List ℕ) (machine : ExplorerState) (result : Result ExplorerState Status) → IsLeadingText text (commands ++ rest) → OpensLeadingText chip text limit machine
+    → Goes (input_limit - length text) machine commands rest written result → IsSilentSessionResult chip limit (text ++ commands) rest written result
 reaches_after chip limit text commands rest written machine (Ok last) front opens g =
-    (g.0, g.1, g.2, followed_in Follows chip limit text commands rest [] [] machine last g.1 front opens g.3 (written_none g.1 g.2))
+    (g.0, g.1, g.2, followed_in IsCompleteSilentAnswer chip limit text commands rest [] [] machine last g.1 front opens g.3 (written_none g.1 g.2))
 reaches_after chip limit text commands rest written machine (Err status) front opens (last, ending, inl g) =
-    broken last ending g.0 g.1 (followed_in Hears chip limit text commands rest g.2 written machine last ending front opens g.3 g.4)
+    broken last ending g.0 g.1 (followed_in IsSilentAnswer chip limit text commands rest g.2 written machine last ending front opens g.3 g.4)
 reaches_after chip limit text commands rest written machine (Err status) front opens (last, ending, inr g) =
-    short last ending g.0 (followed_in Hears chip limit text commands rest [] [] machine last ending front opens g.1 (written_none ending g.0)) g.2
+    short last ending g.0 (followed_in IsSilentAnswer chip limit text commands rest [] [] machine last ending front opens g.1 (written_none ending g.0)) g.2
 
 -- ---- answers that are dropped
 
@@ -200,17 +200,17 @@ pub heard_whole : (items answer pending : List ℕ) → IsWritten (Some items) [
 heard_whole items answer pending h e =
     same_Some items h.sent h.held ∙ sym (h.splits ∙ ap (λ (t : List ℕ). h.sent ++ t) e ∙ append-nil h.sent)
 
-pub not_short : (told : Bool) (text answer : List ℕ) → (IsTrue told ↔ IsShort text) → told ≡ false → text ≡ answer → ¬ IsShort answer
+pub not_short : (told : Bool) (text answer : List ℕ) → (IsTrue told ↔ IsOutOfMemoryAnswer text) → told ≡ false → text ≡ answer → ¬ IsOutOfMemoryAnswer answer
 not_short told text answer both e same wanting =
-    true≢false (sym (both.1 (subst IsShort (sym same) wanting)) ∙ e)
+    true≢false (sym (both.1 (subst IsOutOfMemoryAnswer (sym same) wanting)) ∙ e)
 
-nothing_short : IsShort [] → ⊥
+nothing_short : IsOutOfMemoryAnswer [] → ⊥
 nothing_short (inl e) = absurd (omega (arith, ap length e))
 nothing_short (inr e) = absurd (omega (arith, ap length e))
 
 -- no answer reports nothing
 pub quiet_notes : (wanting : Bool) (answer : List ℕ) → answer ≡ [] → Notes wanting answer wanting
-quiet_notes wanting answer e same = (same, λ told. nothing_short (subst IsShort e told))
+quiet_notes wanting answer e same = (same, λ told. nothing_short (subst IsOutOfMemoryAnswer e told))
 
 same_silent : (m n : SilentSession) → n.explorer ≡ m.explorer → n.short ≡ m.short → n ≡ m
 same_silent m n e f =
@@ -218,7 +218,7 @@ same_silent m n e f =
     let B : Bool → SilentSession = λ b. record { explorer = m.explorer; short = b } in
     ap A e ∙ ap B f
 
-pub silent_turn : (m n : SilentSession) (line answer : List ℕ) (turn : LineAction) → Turns Explores m.explorer line n.explorer (Ok turn) answer → Notes m.short answer n.short
-    → (turn ≡ turns.Quit → n.short ≡ m.short) → Turns Silently m line n (Ok turn) []
+pub silent_turn : (m n : SilentSession) (line answer : List ℕ) (turn : LineAction) → AnswersOrQuits AnswersExplorerLine m.explorer line n.explorer (Ok turn) answer → Notes m.short answer n.short
+    → (turn ≡ turns.Quit → n.short ≡ m.short) → AnswersOrQuits Silently m line n (Ok turn) []
 silent_turn m n line answer turns.Answered h noted ends = λ part kept. ((refl, answer, (h part kept).0, noted), (h part kept).1)
 silent_turn m n line answer turns.Quit h noted ends = (h.0, same_silent m n h.1 (ends refl), refl)

@@ -7,40 +7,40 @@ use Rattle.ga_grid.specs.declared.node_id.NodeId.{NodeId}
 use Rattle.ga_event.specs.declared.event.Event.{Event}
 use Rattle.ga_event.specs.declared.event.Event.TheVariants.{Own, Pass}
 use Rattle.ga_event.specs.declared.event.Cause.{Cause}
-use Rattle.ga_event.specs.Touches.{nodes_of}
-use Rattle.ga_causal.specs.Dependence.{cause_touches, event_at, no_cause, is_a_pass}
+use Rattle.ga_event.specs.Touches.{event_nodes}
+use Rattle.ga_causal.specs.Dependence.{cause_touches, event_at, default_cause, is_transfer_event}
 use Rattle.ga_picture.specs.declared.item.PictureItem.{PictureItem}
-use Rattle.ga_picture.specs.Items.{at_place, actor, runs_on, is_plain, is_plain_at, Known, item_of, item_at, items_of, IsSimple}
-use Rattle.ga_picture.specs.Drawing.{IsTouched, IsLineOf, IsMark, IsArrow, AreShades, without_nodes}
+use Rattle.ga_picture.specs.Items.{item_at_place, actor, runs_before_events, is_plain, is_plain_at, PictureFacts, picture_item, picture_item_at, picture_items, IsPlainOwnEvent}
+use Rattle.ga_picture.specs.Drawing.{HasDrawnEvent, IsLineOf, IsMark, IsArrow, AreShades, without_nodes}
 use Rattle.std.specs.Prelude.{not, if◌then◌else◌}
 use Rattle.std.proofs.lemmas.List.{drop_more, drop_all, length-map}
 use Rattle.std.proofs.lemmas.Grind.{get_or-set_at}
 use Rattle.std.proofs.lemmas.List.Elements.{All-map}
 use Rattle.std.proofs.lemmas.List.FromFn.{get_or-map-range_with_len, length-map-range_with_len}
 use Rattle.ga_picture.specs.declared.shade.Shade.{Shade}
-use Rattle.ga_picture.specs.declared.view.View.{View}
+use Rattle.ga_picture.specs.declared.view.PictureView.{PictureView}
 use Rattle.ga_picture.specs.declared.independent.IndependentNode.{IndependentNode}
-use Rattle.ga_picture.specs.Picture.{place_for, start_in, end_in, known_of, items_in}
+use Rattle.ga_picture.specs.Picture.{optional_step_place, view_start, view_end, picture_facts, viewed_items}
 use Rattle.ga_picture.specs.inner.{known_by, AreListed, AreItemsOf, IsHeld}
 
 -- ---- the nodes that events touch
 
 pub own_touches : (e : Cause) (node : NodeId) → e.event ≡ Own node → cause_touches e node.number ≡ true
-own_touches e node is = subst (λ z. list_any (λ m. m == node.number) (nodes_of z) ≡ true) (sym is) (or_left (node.number == node.number) false (eq-eqb node.number node.number refl))
+own_touches e node is = subst (λ z. list_any (λ m. m == node.number) (event_nodes z) ≡ true) (sym is) (or_left (node.number == node.number) false (eq-eqb node.number node.number refl))
 
 pub writer_touches : (e : Cause) (w r : NodeId) (side : Side) → e.event ≡ Pass w r side → cause_touches e w.number ≡ true
 writer_touches e w r side is =
-    subst (λ z. list_any (λ m. m == w.number) (nodes_of z) ≡ true) (sym is) (or_left (w.number == w.number) ((r.number == w.number) || false) (eq-eqb w.number w.number refl))
+    subst (λ z. list_any (λ m. m == w.number) (event_nodes z) ≡ true) (sym is) (or_left (w.number == w.number) ((r.number == w.number) || false) (eq-eqb w.number w.number refl))
 
 pub reader_touches : (e : Cause) (w r : NodeId) (side : Side) → e.event ≡ Pass w r side → cause_touches e r.number ≡ true
 reader_touches e w r side is =
-    subst (λ z. list_any (λ m. m == r.number) (nodes_of z) ≡ true) (sym is)
+    subst (λ z. list_any (λ m. m == r.number) (event_nodes z) ≡ true) (sym is)
     (or_right (w.number == r.number) ((r.number == r.number) || false) (or_left (r.number == r.number) false (eq-eqb r.number r.number refl)))
 
 -- what holds of the flags once the events up to a place are looked at
 pub record AreUsed (items : List PictureItem) (place : ℕ) (marks : ℕ → Bool) : Type 0 where
-  pub needed : (n : ℕ) → marks n ≡ true → IsTouched items n
-  pub all : (n at : ℕ) → at < place → (at_place items at).out ≡ false → cause_touches (at_place items at).cause n ≡ true → marks n ≡ true
+  pub needed : (n : ℕ) → marks n ≡ true → HasDrawnEvent items n
+  pub all : (n at : ℕ) → at < place → (item_at_place items at).out ≡ false → cause_touches (item_at_place items at).cause n ≡ true → marks n ≡ true
 
 pub used_none : (items : List PictureItem) (marks : ℕ → Bool) → ((n : ℕ) → marks n ≡ false) → AreUsed items 0 marks
 used_none items marks f = record {
@@ -48,7 +48,7 @@ used_none items marks f = record {
   all = λ n at l o t. absurd (omega (arith, l));
 }
 
-pub used_more : (items : List PictureItem) (place : ℕ) (marks more : ℕ → Bool) (item : PictureItem) → place < length items → AreUsed items place marks → at_place items place ≡ item
+pub used_more : (items : List PictureItem) (place : ℕ) (marks more : ℕ → Bool) (item : PictureItem) → place < length items → AreUsed items place marks → item_at_place items place ≡ item
     → item.out ≡ false → ((n : ℕ) → more n ≡ (marks n || cause_touches item.cause n)) → AreUsed items (place + 1) more
 used_more items place marks more item l u here o m = record {
   needed = λ n t. ⊎_elim (λ s. u.needed n s)
@@ -60,23 +60,23 @@ used_more items place marks more item l u here o m = record {
       })
       (or_cases (marks n) (cause_touches item.cause n) (sym (m n) ∙ t));
   all = λ n at k s t. m n ∙ elim (cases_eq at place) [
-    | inl q ↦ or_right (marks n) (cause_touches item.cause n) (subst (λ (z : PictureItem). cause_touches z.cause n ≡ true) (ap (at_place items) q ∙ here) t)
+    | inl q ↦ or_right (marks n) (cause_touches item.cause n) (subst (λ (z : PictureItem). cause_touches z.cause n ≡ true) (ap (item_at_place items) q ∙ here) t)
     | inr ne ↦ or_left (marks n) (cause_touches item.cause n) (u.all n at (omega (arith, k, ne)) s t)
   ];
 }
 
 -- an event that is left out
-pub used_same : (items : List PictureItem) (place : ℕ) (marks : ℕ → Bool) (item : PictureItem) → AreUsed items place marks → at_place items place ≡ item → item.out ≡ true
+pub used_same : (items : List PictureItem) (place : ℕ) (marks : ℕ → Bool) (item : PictureItem) → AreUsed items place marks → item_at_place items place ≡ item → item.out ≡ true
     → AreUsed items (place + 1) marks
 used_same items place marks item u here o = record {
   needed = u.needed;
   all = λ n at k s t. elim (cases_eq at place) [
-    | inl q ↦ absurd (both_ways (at_place items at).out s (ap (λ (z : PictureItem). z.out) (ap (at_place items) q ∙ here) ∙ o))
+    | inl q ↦ absurd (both_ways (item_at_place items at).out s (ap (λ (z : PictureItem). z.out) (ap (item_at_place items) q ∙ here) ∙ o))
     | inr ne ↦ u.all n at (omega (arith, k, ne)) s t
   ];
 }
 
-pub touched_below : (e : Event) (n : ℕ) → list_any (λ m. m == n) (nodes_of e) ≡ true → n < 144
+pub touched_below : (e : Event) (n : ℕ) → list_any (λ m. m == n) (event_nodes e) ≡ true → n < 144
 touched_below (Own node) n t = ⊎_elim
     (λ u. let q : node.number ≡ n = eqb-true node.number n u in let b : node.number < 144 = node.in_range in omega arith)
     (λ u. absurd (both_ways false refl u))
@@ -114,27 +114,27 @@ arrow_drawn e lines columns w r side k j is at to h = record {
 -- what holds once the events from a place on are gone through
 pub record ArePlain (ready : ℕ → Bool) (events : List Cause) (from : ℕ) (flags : List Bool) (runs : ℕ → Bool) : Type 0 where
   pub size : length flags ≡ length events
-  pub behind : (n : ℕ) → runs n ≡ runs_on ready (drop from events) n
+  pub behind : (n : ℕ) → runs n ≡ runs_before_events ready (drop from events) n
   pub done : (place : ℕ) → from ≤ place → place < length events → get_or flags place false ≡ is_plain_at ready events place
 
 pub plain_none : (ready : ℕ → Bool) (events : List Cause) (flags : List Bool) → length flags ≡ length events → ArePlain ready events (length events) flags ready
 plain_none ready events flags size = record {
   size = size;
-  behind = λ n. ap (λ (z : List Cause). runs_on ready z n) (sym (drop_all (length events) events (omega arith)));
+  behind = λ n. ap (λ (z : List Cause). runs_before_events ready z n) (sym (drop_all (length events) events (omega arith)));
   done = λ place b k. absurd (omega (arith, b, k));
 }
 
 pub plain_more : (ready : ℕ → Bool) (events : List Cause) (at : ℕ) (flags : List Bool) (runs more : ℕ → Bool) (e : Cause) (flag : Bool) → at < length events
     → ArePlain ready events (at + 1) flags runs → event_at events at ≡ e → flag ≡ is_plain runs e
-    → ((n : ℕ) → more n ≡ (if cause_touches e n then not (is_a_pass e.event) else runs n)) → ArePlain ready events at (set flags at flag) more
+    → ((n : ℕ) → more n ≡ (if cause_touches e n then not (is_transfer_event e.event) else runs n)) → ArePlain ready events at (set flags at flag) more
 plain_more ready events at flags runs more e flag within a here is m =
-    let front : drop at events ≡ e ∷ drop (at + 1) events = drop_more events at no_cause within ∙ ap (λ (z : Cause). z ∷ drop (at + 1) events) here in
-    let known : flag ≡ is_plain (runs_on ready (drop (at + 1) events)) e = is ∙ ap (λ (b : Bool). not (is_a_pass e.event) && (not e.look && b)) (a.behind (actor e.event)) in
-    let placed : flag ≡ is_plain_at ready events at = known ∙ ap (λ (z : Cause). is_plain (runs_on ready (drop (at + 1) events)) z) (sym here) in
+    let front : drop at events ≡ e ∷ drop (at + 1) events = drop_more events at default_cause within ∙ ap (λ (z : Cause). z ∷ drop (at + 1) events) here in
+    let known : flag ≡ is_plain (runs_before_events ready (drop (at + 1) events)) e = is ∙ ap (λ (b : Bool). not (is_transfer_event e.event) && (not e.look && b)) (a.behind (actor e.event)) in
+    let placed : flag ≡ is_plain_at ready events at = known ∙ ap (λ (z : Cause). is_plain (runs_before_events ready (drop (at + 1) events)) z) (sym here) in
     let size : length flags ≡ length events = a.size in
     record {
       size = length-set flags at flag ∙ a.size;
-      behind = λ n. m n ∙ ap (λ (b : Bool). if cause_touches e n then not (is_a_pass e.event) else b) (a.behind n) ∙ ap (λ (z : List Cause). runs_on ready z n) (sym front);
+      behind = λ n. m n ∙ ap (λ (b : Bool). if cause_touches e n then not (is_transfer_event e.event) else b) (a.behind n) ∙ ap (λ (z : List Cause). runs_before_events ready z n) (sym front);
       done = λ place b k. elim (cases_eq place at) [
         | inl q ↦ get_or-set_at flags at place flag false q (omega arith) ∙ placed ∙ ap (is_plain_at ready events) (sym q)
         | inr ne ↦ get_or-set_other flags at place flag false ne ∙ a.done place (omega (arith, b, ne)) k
@@ -148,66 +148,66 @@ plain_parts true look runs more e = absurd (true≢false (sym e))
 plain_parts false true runs more e = absurd (true≢false (sym e))
 plain_parts false false runs more e = (refl, refl)
 
-item_simple : (known : Known) (view : View) (place : ℕ) → IsSimple (item_at known view place)
-item_simple known view place = λ e. plain_parts (is_a_pass (event_at known.events place).event) (event_at known.events place).look _ _ e
+item_simple : (known : PictureFacts) (view : PictureView) (place : ℕ) → IsPlainOwnEvent (picture_item_at known view place)
+item_simple known view place = λ e. plain_parts (is_transfer_event (event_at known.events place).event) (event_at known.events place).look _ _ e
 
-pub items_simple : (known : Known) (view : View) (from to : ℕ) → All IsSimple (items_of known view from to)
+pub items_simple : (known : PictureFacts) (view : PictureView) (from to : ℕ) → All IsPlainOwnEvent (picture_items known view from to)
 items_simple known view from to = λ k d l.
-    let size : length (items_of known view from to) ≡ to - from = length-map-range_with_len (item_at known view) from (to - from) in
-    subst IsSimple (sym (get_or-map-range_with_len (item_at known view) from (to - from) k (from + k) d (omega arith) refl))
+    let size : length (picture_items known view from to) ≡ to - from = length-map-range_with_len (picture_item_at known view) from (to - from) in
+    subst IsPlainOwnEvent (sym (get_or-map-range_with_len (picture_item_at known view) from (to - from) k (from + k) d (omega arith) refl))
     (item_simple known view (from + k))
 
-pub item_same : (view : View) (e f : Cause) (s t : Shade) (plain simple named asked silent still : Bool) → e ≡ f → s ≡ t → plain ≡ simple → named ≡ asked → silent ≡ still
-    → item_of view e s plain named silent ≡ item_of view f t simple asked still
+pub item_same : (view : PictureView) (e f : Cause) (s t : Shade) (plain simple named asked silent still : Bool) → e ≡ f → s ≡ t → plain ≡ simple → named ≡ asked → silent ≡ still
+    → picture_item view e s plain named silent ≡ picture_item view f t simple asked still
 item_same view e f s t plain simple named asked silent still p q r u v =
-    ap (λ (z : Cause). item_of view z s plain named silent) p ∙ ap (λ (z : Shade). item_of view f z plain named silent) q
-    ∙ ap (λ (z : Bool). item_of view f t z named silent) r ∙ ap (λ (z : Bool). item_of view f t simple z silent) u
-    ∙ ap (λ (z : Bool). item_of view f t simple asked z) v
+    ap (λ (z : Cause). picture_item view z s plain named silent) p ∙ ap (λ (z : Shade). picture_item view f z plain named silent) q
+    ∙ ap (λ (z : Bool). picture_item view f t z named silent) r ∙ ap (λ (z : Bool). picture_item view f t simple z silent) u
+    ∙ ap (λ (z : Bool). picture_item view f t simple asked z) v
 
-pub items_held : (known : Known) (view : View) (from to : ℕ) → All IsHeld (items_of known view from to)
+pub items_held : (known : PictureFacts) (view : PictureView) (from to : ℕ) → All IsHeld (picture_items known view from to)
 items_held known view from to = λ k d l.
-    let size : length (items_of known view from to) ≡ to - from = length-map-range_with_len (item_at known view) from (to - from) in
-    subst IsHeld (sym (get_or-map-range_with_len (item_at known view) from (to - from) k (from + k) d (omega arith) refl))
+    let size : length (picture_items known view from to) ≡ to - from = length-map-range_with_len (picture_item_at known view) from (to - from) in
+    subst IsHeld (sym (get_or-map-range_with_len (picture_item_at known view) from (to - from) k (from + k) d (omega arith) refl))
     (λ p. or_right _ _ (or_right _ _ (or_left _ _ p)))
 
-without_simple : (alone : ℕ → Bool) (item : PictureItem) → IsSimple item → IsSimple (without_nodes alone item)
+without_simple : (alone : ℕ → Bool) (item : PictureItem) → IsPlainOwnEvent item → IsPlainOwnEvent (without_nodes alone item)
 without_simple alone item h = simple (alone (actor item.cause.event)) item h where
-  simple : (left : Bool) (item : PictureItem) → IsSimple item
-      → IsSimple (if left then record { cause = item.cause; shade = item.shade; plain = false; out = true; holds = item.holds } else item)
+  simple : (left : Bool) (item : PictureItem) → IsPlainOwnEvent item
+      → IsPlainOwnEvent (if left then record { cause = item.cause; shade = item.shade; plain = false; out = true; holds = item.holds } else item)
   simple true item h = λ e. absurd (true≢false (sym e))
   simple false item h = h
 
-pub items_drawn : (events : List Cause) (ready idle : ℕ → Bool) (view : View) (shades list : List Shade) (cause rewind : Option ℕ) (from to : ℕ) (items : List PictureItem) (told : List IndependentNode)
-    → AreShades events cause rewind shades → list ≡ shades → cause ≡ place_for events view.cause → rewind ≡ place_for events view.rewind
-    → from ≡ start_in events view → to ≡ end_in events view → AreListed (items_of (known_by events list ready idle cause rewind) view from to) items told
+pub items_drawn : (events : List Cause) (ready idle : ℕ → Bool) (view : PictureView) (shades list : List Shade) (cause rewind : Option ℕ) (from to : ℕ) (items : List PictureItem) (told : List IndependentNode)
+    → AreShades events cause rewind shades → list ≡ shades → cause ≡ optional_step_place events view.cause → rewind ≡ optional_step_place events view.rewind
+    → from ≡ view_start events view → to ≡ view_end events view → AreListed (picture_items (known_by events list ready idle cause rewind) view from to) items told
     → AreItemsOf events ready idle view items told
 items_drawn events ready idle view shades list cause rewind from to items told a l p q f t e = record {
   shades = shades;
-  shaded = subst (λ (z : Option ℕ). AreShades events z (place_for events view.rewind) shades) p (subst (λ (z : Option ℕ). AreShades events cause z shades) q a);
+  shaded = subst (λ (z : Option ℕ). AreShades events z (optional_step_place events view.rewind) shades) p (subst (λ (z : Option ℕ). AreShades events cause z shades) q a);
   listed = subst (λ (z : List PictureItem). AreListed z items told)
-      (ap (λ (z : List Shade). items_of (known_by events z ready idle cause rewind) view from to) l
-      ∙ ap (λ (z : Option ℕ). items_of (known_by events shades ready idle z rewind) view from to) p
-      ∙ ap (λ (z : Option ℕ). items_of (known_by events shades ready idle (place_for events view.cause) z) view from to) q
-      ∙ ap (λ (z : ℕ). items_of (known_of events ready idle view shades) view z to) f
-      ∙ ap (λ (z : ℕ). items_of (known_of events ready idle view shades) view (start_in events view) z) t)
+      (ap (λ (z : List Shade). picture_items (known_by events z ready idle cause rewind) view from to) l
+      ∙ ap (λ (z : Option ℕ). picture_items (known_by events shades ready idle z rewind) view from to) p
+      ∙ ap (λ (z : Option ℕ). picture_items (known_by events shades ready idle (optional_step_place events view.cause) z) view from to) q
+      ∙ ap (λ (z : ℕ). picture_items (picture_facts events ready idle view shades) view z to) f
+      ∙ ap (λ (z : ℕ). picture_items (picture_facts events ready idle view shades) view (view_start events view) z) t)
       e;
 }
 
-pub drawn_few : (events : List Cause) (ready idle : ℕ → Bool) (view : View) (items : List PictureItem) (told : List IndependentNode) → AreItemsOf events ready idle view items told
+pub drawn_few : (events : List Cause) (ready idle : ℕ → Bool) (view : PictureView) (items : List PictureItem) (told : List IndependentNode) → AreItemsOf events ready idle view items told
     → length items ≤ length events
 drawn_few events ready idle view items told a =
-    let known = known_of events ready idle view a.shades in
-    let looked = items_in events ready idle view a.shades in
-    let size : length items ≡ end_in events view - start_in events view =
+    let known = picture_facts events ready idle view a.shades in
+    let looked = viewed_items events ready idle view a.shades in
+    let size : length items ≡ view_end events view - view_start events view =
     ap (λ (z : List PictureItem). length z) a.listed.are ∙ length-map looked (without_nodes a.listed.alone)
-    ∙ length-map-range_with_len (item_at known view) (start_in events view) (end_in events view - start_in events view) in
-    let within : end_in events view ≤ length events = omega arith in
+    ∙ length-map-range_with_len (picture_item_at known view) (view_start events view) (view_end events view - view_start events view) in
+    let within : view_end events view ≤ length events = omega arith in
     omega arith
 
-pub drawn_simple : (events : List Cause) (ready idle : ℕ → Bool) (view : View) (items : List PictureItem) (told : List IndependentNode) → AreItemsOf events ready idle view items told
-    → All IsSimple items
+pub drawn_simple : (events : List Cause) (ready idle : ℕ → Bool) (view : PictureView) (items : List PictureItem) (told : List IndependentNode) → AreItemsOf events ready idle view items told
+    → All IsPlainOwnEvent items
 drawn_simple events ready idle view items told a =
-    let looked = items_in events ready idle view a.shades in
-    subst (λ (z : List PictureItem). All IsSimple z) (sym a.listed.are)
-    (All-map IsSimple (without_nodes a.listed.alone) looked
-    (λ k d l. without_simple a.listed.alone _ (items_simple (known_of events ready idle view a.shades) view (start_in events view) (end_in events view) k d l)))
+    let looked = viewed_items events ready idle view a.shades in
+    subst (λ (z : List PictureItem). All IsPlainOwnEvent z) (sym a.listed.are)
+    (All-map IsPlainOwnEvent (without_nodes a.listed.alone) looked
+    (λ k d l. without_simple a.listed.alone _ (items_simple (picture_facts events ready idle view a.shades) view (view_start events view) (view_end events view) k d l)))

@@ -14,14 +14,14 @@ use Rattle.ga_grid.proofs.NodeIds.{neighbour_of-back, neighbour_of-other, node_i
 use Rattle.ga_event.specs.declared.event.Event.{Event}
 use Rattle.ga_event.specs.declared.event.Event.TheVariants.{Own, Pass}
 use Rattle.ga_event.specs.declared.event.Cause.{Cause}
-use Rattle.ga_event.specs.Touches.{nodes_of, looked_at, neighbours, seen_by}
+use Rattle.ga_event.specs.Touches.{event_nodes, looked_at_nodes, neighbours, observed_by}
 use Rattle.ga_causal.specs.inner.{any_of}
-use Rattle.ga_causal.specs.Dependence.{cause_touches, is_a_pass, is_marked}
+use Rattle.ga_causal.specs.Dependence.{cause_touches, is_transfer_event, is_marked}
 use Rattle.ga_causal.specs.Equivalence.{observes}
 use Rattle.ga_causal.proofs.Oldest.{any_neighbours}
 use Rattle.ga_picture.specs.declared.item.PictureItem.{PictureItem}
-use Rattle.ga_picture.specs.Items.{at_place, no_item}
-use Rattle.ga_picture.specs.Drawing.{IsTouched, IsDrawnOf, IsFree, IsByItself, steps_made}
+use Rattle.ga_picture.specs.Items.{item_at_place, no_item}
+use Rattle.ga_picture.specs.Drawing.{HasDrawnEvent, IsDrawnEventOf, HasIndependentEvents, IsIndependentNode, drawn_event_count}
 use Rattle.ga_picture.specs.inner.{IsHeld, is_on, is_look, touched_in, held_in, looking_in, is_loose, AreTallied, HasJoined, works_loose, works_joined}
 use Rattle.ga_picture.proofs.Shaded.{any_of_one, any_at}
 use Rattle.ga_picture.proofs.Listed.{touched_below}
@@ -76,7 +76,7 @@ beside_other n m t = let b = beside_of n m t in neighbour_of-other n m b.side b.
 
 -- ---- what one event touches and sees
 
-own_alone : (e : Event) (n m : ℕ) → is_a_pass e ≡ false → Touches.touches e n ≡ true → Touches.touches e m ≡ true → m ≡ n
+own_alone : (e : Event) (n m : ℕ) → is_transfer_event e ≡ false → Touches.touches e n ≡ true → Touches.touches e m ≡ true → m ≡ n
 own_alone (Own node) n m own t u = sym (named node m u) ∙ named node n t where
   named : (node : NodeId) (k : ℕ) → Touches.touches (Own node) k ≡ true → node.number ≡ k
   named node k t = ⊎_elim (λ u. eqb-true node.number k u) (λ u. absurd (both_ways false refl u)) (or_cases (node.number == k) false t)
@@ -87,37 +87,37 @@ pub record IsSeen (e : Cause) (n : ℕ) : Type 0 where
   pub from : ℕ
   pub within : from < 144
   pub touched : cause_touches e from ≡ true
-  pub looks : (not (is_a_pass e.event) && e.look) ≡ true
+  pub looks : (not (is_transfer_event e.event) && e.look) ≡ true
   pub beside : list_any (λ k. k == n) (neighbours from) ≡ true
 
-seen_from : (e : Cause) (v : Event) (look : Bool) (n : ℕ) → e.event ≡ v → e.look ≡ look → list_any (λ k. k == n) (looked_at v look) ≡ true → IsSeen e n
+seen_from : (e : Cause) (v : Event) (look : Bool) (n : ℕ) → e.event ≡ v → e.look ≡ look → list_any (λ k. k == n) (looked_at_nodes v look) ≡ true → IsSeen e n
 seen_from e (Own node) true n is l t = record {
   from = node.number;
   within = node.in_range;
   touched = subst (λ z. Touches.touches z node.number ≡ true) (sym is) (or_left (node.number == node.number) false (eq-eqb node.number node.number refl));
-  looks = and_from _ _ (ap (λ z. not (is_a_pass z)) is) l;
+  looks = and_from _ _ (ap (λ z. not (is_transfer_event z)) is) l;
   beside = t;
 }
 seen_from e (Own node) false n is l t = absurd (both_ways false refl t)
 seen_from e (Pass w r side) look n is l t = absurd (both_ways false refl t)
 
-sees_parts : (e : Cause) (n : ℕ) → observes e n ≡ (cause_touches e n || list_any (λ k. k == n) (looked_at e.event e.look))
-unfolding seen_by
-sees_parts e n = list_any-append (λ k. k == n) (nodes_of e.event) (looked_at e.event e.look)
+sees_parts : (e : Cause) (n : ℕ) → observes e n ≡ (cause_touches e n || list_any (λ k. k == n) (looked_at_nodes e.event e.look))
+unfolding observed_by
+sees_parts e n = list_any-append (λ k. k == n) (event_nodes e.event) (looked_at_nodes e.event e.look)
 
 is_seen : (e : Cause) (n : ℕ) → observes e n ≡ true → cause_touches e n ≡ false → IsSeen e n
 is_seen e n s f = ⊎_elim (λ t. absurd (both_ways (cause_touches e n) f t)) (λ t. seen_from e e.event e.look n refl refl t)
     (or_cases _ _ (sym (sees_parts e n) ∙ s))
 
-looks_at : (v : Event) (look : Bool) (n m : ℕ) → (not (is_a_pass v) && look) ≡ true → Touches.touches v n ≡ true → list_any (λ k. k == m) (neighbours n) ≡ true
-    → list_any (λ k. k == m) (looked_at v look) ≡ true
+looks_at : (v : Event) (look : Bool) (n m : ℕ) → (not (is_transfer_event v) && look) ≡ true → Touches.touches v n ≡ true → list_any (λ k. k == m) (neighbours n) ≡ true
+    → list_any (λ k. k == m) (looked_at_nodes v look) ≡ true
 looks_at (Own node) true n m l t b =
     subst (λ z. list_any (λ k. k == m) (neighbours z) ≡ true)
     (sym (own_alone (Own node) n node.number refl t (or_left (node.number == node.number) false (eq-eqb node.number node.number refl)))) b
 looks_at (Own node) false n m l t b = absurd (both_ways false refl l)
 looks_at (Pass w r side) look n m l t b = absurd (both_ways false refl l)
 
-sees_beside : (e : Cause) (n m : ℕ) → (not (is_a_pass e.event) && e.look) ≡ true → cause_touches e n ≡ true → list_any (λ k. k == m) (neighbours n) ≡ true → observes e m ≡ true
+sees_beside : (e : Cause) (n m : ℕ) → (not (is_transfer_event e.event) && e.look) ≡ true → cause_touches e n ≡ true → list_any (λ k. k == m) (neighbours n) ≡ true → observes e m ≡ true
 sees_beside e n m l t b = sees_parts e m ∙ or_right _ _ (looks_at e.event e.look n m l t b)
 
 -- ---- one event of a list
@@ -125,43 +125,43 @@ sees_beside e n m l t b = sees_parts e m ∙ or_right _ _ (looks_at e.event e.lo
 record IsSomewhere (p : PictureItem → Bool) (items : List PictureItem) : Type 0 where
   pub place : ℕ
   pub within : place < length items
-  pub passes : p (at_place items place) ≡ true
+  pub passes : p (item_at_place items place) ≡ true
 
 somewhere : (p : PictureItem → Bool) (items : List PictureItem) → list_any p items ≡ true → IsSomewhere p items
 somewhere p items t =
     let a = Any-from_list_any p items t in
-    let is : at_place items a.0 ≡ a.1 = get_or_default items a.0 no_item a.1 a.2 ∙ a.3 in
+    let is : item_at_place items a.0 ≡ a.1 = get_or_default items a.0 no_item a.1 a.2 ∙ a.3 in
     record { place = a.0; within = a.2; passes = ap p is ∙ a.4 }
 
-from_somewhere : (p : PictureItem → Bool) (items : List PictureItem) (place : ℕ) → place < length items → p (at_place items place) ≡ true → list_any p items ≡ true
+from_somewhere : (p : PictureItem → Bool) (items : List PictureItem) (place : ℕ) → place < length items → p (item_at_place items place) ≡ true → list_any p items ≡ true
 from_somewhere p items place l t =
-    list_any-from_Any p items (place, at_place items place, l, get_or_default items place (at_place items place) no_item l, t)
+    list_any-from_Any p items (place, item_at_place items place, l, get_or_default items place (item_at_place items place) no_item l, t)
 
-on_of : (items : List PictureItem) (place n : ℕ) → IsDrawnOf items place n → is_on (at_place items place) n ≡ true
+on_of : (items : List PictureItem) (place n : ℕ) → IsDrawnEventOf items place n → is_on (item_at_place items place) n ≡ true
 on_of items place n o = and_from _ _ (not_from_false _ o.drawn) o.touched
 
-of_on : (items : List PictureItem) (place n : ℕ) → place < length items → is_on (at_place items place) n ≡ true → IsDrawnOf items place n
+of_on : (items : List PictureItem) (place n : ℕ) → place < length items → is_on (item_at_place items place) n ≡ true → IsDrawnEventOf items place n
 of_on items place n l t = let parts = and_parts _ _ t in record { within = l; drawn = not-true _ parts.0; touched = parts.1 }
 
-pub touched_from : (items : List PictureItem) (n : ℕ) → touched_in items n ≡ true → IsTouched items n
+pub touched_from : (items : List PictureItem) (n : ℕ) → touched_in items n ≡ true → HasDrawnEvent items n
 touched_from items n t =
     let s = somewhere (λ item. is_on item n) items t in
     let o = of_on items s.place n s.within s.passes in
     record { place = s.place; within = s.within; drawn = o.drawn; touched = o.touched }
 
-of_touched : (items : List PictureItem) (n : ℕ) (t : IsTouched items n) → IsDrawnOf items t.place n
+of_touched : (items : List PictureItem) (n : ℕ) (t : HasDrawnEvent items n) → IsDrawnEventOf items t.place n
 of_touched items n t = record { within = t.within; drawn = t.drawn; touched = t.touched }
 
-touched_of : (items : List PictureItem) (place n : ℕ) → IsDrawnOf items place n → touched_in items n ≡ true
+touched_of : (items : List PictureItem) (place n : ℕ) → IsDrawnEventOf items place n → touched_in items n ≡ true
 touched_of items place n o = from_somewhere (λ item. is_on item n) items place o.within (on_of items place n o)
 
-pub into_touched : (items : List PictureItem) (n : ℕ) → IsTouched items n → touched_in items n ≡ true
+pub into_touched : (items : List PictureItem) (n : ℕ) → HasDrawnEvent items n → touched_in items n ≡ true
 into_touched items n t = touched_of items t.place n (of_touched items n t)
 
-held_of : (items : List PictureItem) (place n : ℕ) → IsDrawnOf items place n → (at_place items place).holds ≡ true → held_in items n ≡ true
+held_of : (items : List PictureItem) (place n : ℕ) → IsDrawnEventOf items place n → (item_at_place items place).holds ≡ true → held_in items n ≡ true
 held_of items place n o h = from_somewhere (λ (item : PictureItem). is_on item n && item.holds) items place o.within (and_from _ _ (on_of items place n o) h)
 
-looking_of : (items : List PictureItem) (place n : ℕ) → IsDrawnOf items place n → is_look (at_place items place) ≡ true → looking_in items n ≡ true
+looking_of : (items : List PictureItem) (place n : ℕ) → IsDrawnEventOf items place n → is_look (item_at_place items place) ≡ true → looking_in items n ≡ true
 looking_of items place n o h = from_somewhere (λ item. is_on item n && is_look item) items place o.within (and_from _ _ (on_of items place n o) h)
 
 -- ---- where nothing holds a node or joins it to another, by what is marked
@@ -184,38 +184,38 @@ unjoined items n t =
       unseen = not-true _ second.1;
     }
 
-own_of : (items : List PictureItem) (place n : ℕ) → All IsHeld items → held_in items n ≡ false → IsDrawnOf items place n
-    → ((at_place items place).holds ≡ false) × (is_a_pass (at_place items place).cause.event ≡ false)
+own_of : (items : List PictureItem) (place n : ℕ) → All IsHeld items → held_in items n ≡ false → IsDrawnEventOf items place n
+    → ((item_at_place items place).holds ≡ false) × (is_transfer_event (item_at_place items place).cause.event ≡ false)
 own_of items place n held f o =
-    let loose : (at_place items place).holds ≡ false = false_from_ne_true _ (λ h. both_ways _ f (held_of items place n o h)) in
+    let loose : (item_at_place items place).holds ≡ false = false_from_ne_true _ (λ h. both_ways _ f (held_of items place n o h)) in
     (loose, false_from_ne_true _ (λ p. both_ways _ loose (held place no_item o.within p)))
 
 -- an event of another node doesn't touch it
-untouched : (items : List PictureItem) (by n other : ℕ) → All IsHeld items → held_in items n ≡ false → IsDrawnOf items by other → other ≢ n
-    → cause_touches (at_place items by).cause n ≡ false
+untouched : (items : List PictureItem) (by n other : ℕ) → All IsHeld items → held_in items n ≡ false → IsDrawnEventOf items by other → other ≢ n
+    → cause_touches (item_at_place items by).cause n ≡ false
 untouched items by n other held f q ne =
     false_from_ne_true _ (λ t.
-    let o : IsDrawnOf items by n = record { within = q.within; drawn = q.drawn; touched = t } in
-    ne (own_alone (at_place items by).cause.event n other (own_of items by n held f o).1 t q.touched))
+    let o : IsDrawnEventOf items by n = record { within = q.within; drawn = q.drawn; touched = t } in
+    ne (own_alone (item_at_place items by).cause.event n other (own_of items by n held f o).1 t q.touched))
 
-pub free_from : (items : List PictureItem) (n : ℕ) → All IsHeld items → loose_in items n ≡ true → IsFree items n
+pub free_from : (items : List PictureItem) (n : ℕ) → All IsHeld items → loose_in items n ≡ true → HasIndependentEvents items n
 free_from items n held t =
     let u = unjoined items n t in
     record {
       loose = λ place o. (own_of items place n held u.unheld o).0;
       apart = λ place by other o q ne.
-          let e = (at_place items place).cause in
-          let f = (at_place items by).cause in
-          let own : is_a_pass e.event ≡ false = (own_of items place n held u.unheld o).1 in
+          let e = (item_at_place items place).cause in
+          let f = (item_at_place items by).cause in
+          let own : is_transfer_event e.event ≡ false = (own_of items place n held u.unheld o).1 in
           let off : cause_touches f n ≡ false = untouched items by n other held u.unheld q ne in
           record {
             first = λ m at s.
                 let here : m ≡ n = own_alone e.event n m own o.touched at in
                 let k = is_seen f n (subst (λ z. observes f z ≡ true) here s) off in
-                let looker : IsDrawnOf items by k.from = record { within = q.within; drawn = q.drawn; touched = k.touched } in
+                let looker : IsDrawnEventOf items by k.from = record { within = q.within; drawn = q.drawn; touched = k.touched } in
                 both_ways _ u.unseen (any_of_one (looking_in items) k.from (looking_of items by k.from looker k.looks) (neighbours n) (beside_back k.from n k.within k.beside));
             second = λ m at s.
-                let there : IsDrawnOf items by m = record { within = q.within; drawn = q.drawn; touched = at } in
+                let there : IsDrawnEventOf items by m = record { within = q.within; drawn = q.drawn; touched = at } in
                 let away : cause_touches e m ≡ false = false_from_ne_true _ (λ v. both_ways _ off (subst (λ z. cause_touches f z ≡ true) (own_alone e.event n m own o.touched v) at)) in
                 let k = is_seen e m s away in
                 let same : k.from ≡ n = own_alone e.event n k.from own o.touched k.touched in
@@ -226,18 +226,18 @@ free_from items n held t =
 
 -- ---- and back
 
-pub loose_from : (items : List PictureItem) (n : ℕ) → All IsHeld items → IsTouched items n → IsFree items n → loose_in items n ≡ true
+pub loose_from : (items : List PictureItem) (n : ℕ) → All IsHeld items → HasDrawnEvent items n → HasIndependentEvents items n → loose_in items n ≡ true
 loose_from items n held t free =
     let o = of_touched items n t in
-    let small : n < 144 = touched_below (at_place items t.place).cause.event n t.touched in
+    let small : n < 144 = touched_below (item_at_place items t.place).cause.event n t.touched in
     and_from _ _ (not_from_false _ (unheld items n free)) (and_from _ _ (not_from_false _ (blind items n free)) (not_from_false _ (unseen items n t.place o small free))) where
-      unheld : (items : List PictureItem) (n : ℕ) → IsFree items n → held_in items n ≡ false
+      unheld : (items : List PictureItem) (n : ℕ) → HasIndependentEvents items n → held_in items n ≡ false
       unheld items n free = false_from_ne_true _ (λ h.
           let s = somewhere (λ (item : PictureItem). is_on item n && item.holds) items h in
           let parts = and_parts _ _ s.passes in
           both_ways _ (free.loose s.place (of_on items s.place n s.within parts.0)) parts.1)
 
-      blind : (items : List PictureItem) (n : ℕ) → IsFree items n → (looking_in items n && list_any (touched_in items) (neighbours n)) ≡ false
+      blind : (items : List PictureItem) (n : ℕ) → HasIndependentEvents items n → (looking_in items n && list_any (touched_in items) (neighbours n)) ≡ false
       blind items n free = false_from_ne_true _ (λ h.
           let both = and_parts _ _ h in
           let s = somewhere (λ item. is_on item n && is_look item) items both.0 in
@@ -245,16 +245,16 @@ loose_from items n held t free =
           let b = any_at (touched_in items) (neighbours n) both.1 in
           let q = touched_from items b.0 b.2 in
           (free.apart s.place q.place b.0 (of_on items s.place n s.within parts.0) (of_touched items b.0 q) (beside_other n b.0 b.1)).second b.0 q.touched
-          (sees_beside (at_place items s.place).cause n b.0 parts.1 (of_on items s.place n s.within parts.0).touched b.1))
+          (sees_beside (item_at_place items s.place).cause n b.0 parts.1 (of_on items s.place n s.within parts.0).touched b.1))
 
-      unseen : (items : List PictureItem) (n place : ℕ) → IsDrawnOf items place n → n < 144 → IsFree items n → list_any (looking_in items) (neighbours n) ≡ false
+      unseen : (items : List PictureItem) (n place : ℕ) → IsDrawnEventOf items place n → n < 144 → HasIndependentEvents items n → list_any (looking_in items) (neighbours n) ≡ false
       unseen items n place o small free = false_from_ne_true _ (λ h.
           let b = any_at (looking_in items) (neighbours n) h in
           let s = somewhere (λ item. is_on item b.0 && is_look item) items b.2 in
           let parts = and_parts _ _ s.passes in
           let q = of_on items s.place b.0 s.within parts.0 in
           (free.apart place s.place b.0 o q (beside_other n b.0 b.1)).first n o.touched
-          (sees_beside (at_place items s.place).cause b.0 n parts.1 q.touched (beside_back n b.0 small b.1)))
+          (sees_beside (item_at_place items s.place).cause b.0 n parts.1 q.touched (beside_back n b.0 small b.1)))
 
 -- ---- which nodes work by themselves
 
@@ -272,22 +272,22 @@ loose_alike items tally a n =
     ∙ ap (λ z. not (held_in items n) && (not (looking_in items n && z) && not (list_any (is_marked tally.looking) (neighbours n)))) on
     ∙ ap (λ z. not (held_in items n) && (not (looking_in items n && list_any (touched_in items) (neighbours n)) && not z)) by
 
-touched_small : (items : List PictureItem) (n : ℕ) → IsTouched items n → n < 144
-touched_small items n t = touched_below (at_place items t.place).cause.event n t.touched
+touched_small : (items : List PictureItem) (n : ℕ) → HasDrawnEvent items n → n < 144
+touched_small items n t = touched_below (item_at_place items t.place).cause.event n t.touched
 
-joined_not_free : (items : List PictureItem) (tally : NodeActivity) (n : ℕ) → AreTallied items tally → All IsHeld items → works_joined tally n ≡ true → IsTouched items n × (¬ IsFree items n)
+joined_not_free : (items : List PictureItem) (tally : NodeActivity) (n : ℕ) → AreTallied items tally → All IsHeld items → works_joined tally n ≡ true → HasDrawnEvent items n × (¬ HasIndependentEvents items n)
 joined_not_free items tally n a held t =
     let parts = and_parts _ _ t in
     let touched = touched_from items n (sym (a.touched n) ∙ parts.0) in
     (touched, λ free. both_ways _ (not-true _ parts.1) (loose_alike items tally a n ∙ loose_from items n held touched free))
 
-not_free_joined : (items : List PictureItem) (tally : NodeActivity) (n : ℕ) → AreTallied items tally → All IsHeld items → IsTouched items n → (¬ IsFree items n) → works_joined tally n ≡ true
+not_free_joined : (items : List PictureItem) (tally : NodeActivity) (n : ℕ) → AreTallied items tally → All IsHeld items → HasDrawnEvent items n → (¬ HasIndependentEvents items n) → works_joined tally n ≡ true
 not_free_joined items tally n a held touched stays =
     and_from _ _ (a.touched n ∙ into_touched items n touched)
     (not_from_false _ (false_from_ne_true _ (λ t. stays (free_from items n held (sym (loose_alike items tally a n) ∙ t)))))
 
 pub alone_joined : (items : List PictureItem) (tally : NodeActivity) (flags : List Bool) → AreTallied items tally → All IsHeld items → HasJoined tally → length flags ≡ 144
-    → ((n : ℕ) → n < 144 → is_marked flags n ≡ works_loose tally n) → (n : ℕ) → IsTrue (is_marked flags n) ↔ IsByItself items n
+    → ((n : ℕ) → n < 144 → is_marked flags n ≡ works_loose tally n) → (n : ℕ) → IsTrue (is_marked flags n) ↔ IsIndependentNode items n
 alone_joined items tally flags a held j size e n = (
   λ t. ⊎_elim (λ l.
       let parts = and_parts _ _ (sym (e n l) ∙ t) in
@@ -306,7 +306,7 @@ alone_joined items tally flags a held j size e n = (
 )
 
 pub alone_none : (items : List PictureItem) (tally : NodeActivity) (flags : List Bool) → AreTallied items tally → All IsHeld items → ((n : ℕ) → n < 144 → works_joined tally n ≡ false)
-    → ((n : ℕ) → is_marked flags n ≡ false) → (n : ℕ) → IsTrue (is_marked flags n) ↔ IsByItself items n
+    → ((n : ℕ) → is_marked flags n ≡ false) → (n : ℕ) → IsTrue (is_marked flags n) ↔ IsIndependentNode items n
 alone_none items tally flags a held none off n = (
   λ t. absurd (both_ways _ (off n) t),
   λ b. absurd (both_ways _ (none b.other (touched_small items b.other b.beside)) (not_free_joined items tally b.other a held b.beside b.joined)),
@@ -315,7 +315,7 @@ alone_none items tally flags a held none off n = (
 -- ---- what the foot has of them
 
 abbrev told_at : List PictureItem → ℕ → IndependentNode
-told_at items n = record { node = node_id n; steps = steps_made items n }
+told_at items n = record { node = node_id n; steps = drawn_event_count items n }
 
 -- of the nodes below a number
 abbrev pub told_below : List PictureItem → (ℕ → Bool) → ℕ → List IndependentNode
@@ -328,7 +328,7 @@ told_next items alone k l =
     filter_of_map_range_with_len_more (λ (it : IndependentNode). alone it.node.number) (told_at items) 0 k k (omega arith)
     ∙ ap (λ z. told_below items alone k ++ (if alone z then told_at items k ∷ [] else [])) small
 
-pub told_more : (items : List PictureItem) (alone : ℕ → Bool) (told : List IndependentNode) (k steps : ℕ) (node : NodeId) → k < 144 → node.number ≡ k → steps ≡ steps_made items k → alone k ≡ true
+pub told_more : (items : List PictureItem) (alone : ℕ → Bool) (told : List IndependentNode) (k steps : ℕ) (node : NodeId) → k < 144 → node.number ≡ k → steps ≡ drawn_event_count items k → alone k ≡ true
     → told ≡ told_below items alone k → told ++ record { node = node; steps = steps } ∷ [] ≡ told_below items alone (k + 1)
 told_more items alone told k steps node l is many t e =
     let named : node ≡ node_id k = sym (node_id-number node) ∙ ap node_id is in

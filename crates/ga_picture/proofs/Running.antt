@@ -7,47 +7,47 @@ use Rattle.std.proofs.lemmas.Bool.{cases_eq, cases_lt, cases_Bool}
 use Rattle.ga_event.specs.declared.event.Event.{Event}
 use Rattle.ga_event.specs.declared.event.Event.TheVariants.{Own, Pass}
 use Rattle.ga_event.specs.declared.event.Cause.{Cause}
-use Rattle.ga_event.specs.Touches.{seen_by}
-use Rattle.ga_causal.specs.Dependence.{cause_touches, is_a_pass}
+use Rattle.ga_event.specs.Touches.{observed_by}
+use Rattle.ga_causal.specs.Dependence.{cause_touches, is_transfer_event}
 use Rattle.ga_causal.specs.Equivalence.{observes}
 use Rattle.ga_picture.specs.declared.shade.Shade.{Shade}
 use Rattle.ga_picture.specs.declared.shade.Shade.TheVariants.{Black, Grey, Red}
 use Rattle.ga_picture.specs.declared.item.PictureItem.{PictureItem}
 use Rattle.ga_picture.specs.declared.runs.Runs.{Runs}
-use Rattle.ga_picture.specs.Items.{actor, at_place, no_item, is_same_run, IsSimple, run_with, run_before, run_in_front, behind_at}
+use Rattle.ga_picture.specs.Items.{actor, item_at_place, no_item, is_same_shade, IsPlainOwnEvent, run_length_with, run_length_before, run_length_ahead, run_events_after}
 use Rattle.ga_picture.specs.inner.{count_in, HasNodes, AreWithin}
 
-before_none : (n : ℕ) (shade : Shade) (items : List PictureItem) → run_before n shade items zero ≡ 0
-unfolding run_before
+before_none : (n : ℕ) (shade : Shade) (items : List PictureItem) → run_length_before n shade items zero ≡ 0
+unfolding run_length_before
 before_none n shade items = refl
 
-before_one : (n : ℕ) (shade : Shade) (items : List PictureItem) (place : ℕ) → run_before n shade items (suc place) ≡ run_with n shade (at_place items place) (run_before n shade items place)
-unfolding run_before
+before_one : (n : ℕ) (shade : Shade) (items : List PictureItem) (place : ℕ) → run_length_before n shade items (suc place) ≡ run_length_with n shade (item_at_place items place) (run_length_before n shade items place)
+unfolding run_length_before
 before_one n shade items place = refl
 
-front_none : (n : ℕ) (shade : Shade) → run_in_front n shade [] ≡ 0
-unfolding run_in_front
+front_none : (n : ℕ) (shade : Shade) → run_length_ahead n shade [] ≡ 0
+unfolding run_length_ahead
 front_none n shade = refl
 
-front_one : (n : ℕ) (shade : Shade) (item : PictureItem) (items : List PictureItem) → run_in_front n shade (item ∷ items) ≡ run_with n shade item (run_in_front n shade items)
-unfolding run_in_front
+front_one : (n : ℕ) (shade : Shade) (item : PictureItem) (items : List PictureItem) → run_length_ahead n shade (item ∷ items) ≡ run_length_with n shade item (run_length_ahead n shade items)
+unfolding run_length_ahead
 front_one n shade item items = refl
 
 -- the runs up to a place
 pub record AreBefore (items : List PictureItem) (place : ℕ) (runs : Runs) : Type 0 where
   pub sizes : HasNodes runs
   pub within : AreWithin runs place
-  pub counts : (n : ℕ) (shade : Shade) → n < 144 → count_in runs n shade ≡ run_before n shade items place
+  pub counts : (n : ℕ) (shade : Shade) → n < 144 → count_in runs n shade ≡ run_length_before n shade items place
 
-pub before_more : (items : List PictureItem) (place : ℕ) (runs more : Runs) (item : PictureItem) → AreBefore items place runs → at_place items place ≡ item → HasNodes more
-    → AreWithin more (place + 1) → ((n : ℕ) (shade : Shade) → n < 144 → count_in more n shade ≡ run_with n shade item (count_in runs n shade))
+pub before_more : (items : List PictureItem) (place : ℕ) (runs more : Runs) (item : PictureItem) → AreBefore items place runs → item_at_place items place ≡ item → HasNodes more
+    → AreWithin more (place + 1) → ((n : ℕ) (shade : Shade) → n < 144 → count_in more n shade ≡ run_length_with n shade item (count_in runs n shade))
     → AreBefore items (place + 1) more
 before_more items place runs more item a here sizes within counts = record {
   sizes = sizes;
   within = within;
-  counts = λ n shade l. counts n shade l ∙ ap (run_with n shade item) (a.counts n shade l)
-      ∙ ap (λ (z : PictureItem). run_with n shade z (run_before n shade items place)) (sym here)
-      ∙ sym (before_one n shade items place) ∙ ap (run_before n shade items) (sym (add-one place));
+  counts = λ n shade l. counts n shade l ∙ ap (run_length_with n shade item) (a.counts n shade l)
+      ∙ ap (λ (z : PictureItem). run_length_with n shade z (run_length_before n shade items place)) (sym here)
+      ∙ sym (before_one n shade items place) ∙ ap (run_length_before n shade items) (sym (add-one place));
 }
 
 -- the runs from a place on, with the number computed for each event from there on
@@ -55,27 +55,27 @@ pub record AreBehind (items : List PictureItem) (from : ℕ) (told : List ℕ) (
   pub size : length told ≡ length items
   pub sizes : HasNodes runs
   pub within : AreWithin runs (length items - from)
-  pub counts : (n : ℕ) (shade : Shade) → n < 144 → count_in runs n shade ≡ run_in_front n shade (drop from items)
-  pub done : (place : ℕ) → from ≤ place → place < length items → get_or told place 0 ≡ behind_at items place
+  pub counts : (n : ℕ) (shade : Shade) → n < 144 → count_in runs n shade ≡ run_length_ahead n shade (drop from items)
+  pub done : (place : ℕ) → from ≤ place → place < length items → get_or told place 0 ≡ run_events_after items place
 
 pub behind_more : (items : List PictureItem) (at : ℕ) (told : List ℕ) (runs more : Runs) (item : PictureItem) (count : ℕ) → at < length items → AreBehind items (at + 1) told runs
-    → at_place items at ≡ item → count ≡ count_in runs (actor item.cause.event) item.shade → actor item.cause.event < 144 → HasNodes more
-    → AreWithin more (length items - at) → ((n : ℕ) (shade : Shade) → n < 144 → count_in more n shade ≡ run_with n shade item (count_in runs n shade))
+    → item_at_place items at ≡ item → count ≡ count_in runs (actor item.cause.event) item.shade → actor item.cause.event < 144 → HasNodes more
+    → AreWithin more (length items - at) → ((n : ℕ) (shade : Shade) → n < 144 → count_in more n shade ≡ run_length_with n shade item (count_in runs n shade))
     → AreBehind items at (set told at count) more
 behind_more items at told runs more item count within a here is node sizes few counts =
     let front : drop at items ≡ item ∷ drop (at + 1) items = drop_more items at no_item within ∙ ap (λ (z : PictureItem). z ∷ drop (at + 1) items) here in
-    let placed : count ≡ behind_at items at =
+    let placed : count ≡ run_events_after items at =
     is ∙ a.counts (actor item.cause.event) item.shade node
-    ∙ ap (λ (z : PictureItem). run_in_front (actor z.cause.event) z.shade (drop (at + 1) items)) (sym here) in
+    ∙ ap (λ (z : PictureItem). run_length_ahead (actor z.cause.event) z.shade (drop (at + 1) items)) (sym here) in
     let size : length told ≡ length items = a.size in
     record {
       size = length-set told at count ∙ a.size;
       sizes = sizes;
       within = few;
-      counts = λ n shade l. counts n shade l ∙ ap (run_with n shade item) (a.counts n shade l) ∙ sym (front_one n shade item (drop (at + 1) items))
-          ∙ ap (run_in_front n shade) (sym front);
+      counts = λ n shade l. counts n shade l ∙ ap (run_length_with n shade item) (a.counts n shade l) ∙ sym (front_one n shade item (drop (at + 1) items))
+          ∙ ap (run_length_ahead n shade) (sym front);
       done = λ place b k. elim (cases_eq place at) [
-        | inl q ↦ get_or-set_at told at place count 0 q (omega arith) ∙ placed ∙ ap (behind_at items) (sym q)
+        | inl q ↦ get_or-set_at told at place count 0 q (omega arith) ∙ placed ∙ ap (run_events_after items) (sym q)
         | inr ne ↦ get_or-set_other told at place count 0 ne ∙ a.done place (omega (arith, b, ne)) k
       ];
     }
@@ -97,7 +97,7 @@ behind_first items told runs size sizes none = record {
   size = size;
   sizes = sizes;
   within = λ n. omega (arith, none n);
-  counts = λ n shade l. zero_within runs n shade none ∙ sym (ap (run_in_front n shade) (drop_all (length items) items (omega arith)) ∙ front_none n shade);
+  counts = λ n shade l. zero_within runs n shade none ∙ sym (ap (run_length_ahead n shade) (drop_all (length items) items (omega arith)) ∙ front_none n shade);
   done = λ place b k. absurd (omega (arith, b, k));
 }
 
@@ -108,25 +108,25 @@ or_false true = refl
 or_false false = refl
 
 -- an own event without a look touches and sees its node alone
-touches_alone : (event : Event) (n : ℕ) → is_a_pass event ≡ false → cause_touches (record { event = event; look = false }) n ≡ (actor event == n)
+touches_alone : (event : Event) (n : ℕ) → is_transfer_event event ≡ false → cause_touches (record { event = event; look = false }) n ≡ (actor event == n)
 touches_alone (Own node) n e = or_false (node.number == n)
 touches_alone (Pass writer reader side) n e = absurd (true≢false e)
 
-sees_alone : (event : Event) (n : ℕ) → is_a_pass event ≡ false → observes (record { event = event; look = false }) n ≡ (actor event == n)
-unfolding seen_by
+sees_alone : (event : Event) (n : ℕ) → is_transfer_event event ≡ false → observes (record { event = event; look = false }) n ≡ (actor event == n)
+unfolding observed_by
 sees_alone (Own node) n e = or_false (node.number == n)
 sees_alone (Pass writer reader side) n e = absurd (true≢false e)
 
 cause_alone : (e : Cause) → e.look ≡ false → e ≡ record { event = e.event; look = false }
 cause_alone e h = ap (λ (b : Bool). let cause : Cause = record { event = e.event; look = b } in cause) h
 
-simple_touches : (item : PictureItem) (n : ℕ) → is_a_pass item.cause.event ≡ false → item.cause.look ≡ false → cause_touches item.cause n ≡ (actor item.cause.event == n)
+simple_touches : (item : PictureItem) (n : ℕ) → is_transfer_event item.cause.event ≡ false → item.cause.look ≡ false → cause_touches item.cause n ≡ (actor item.cause.event == n)
 simple_touches item n p l = ap (λ (e : Cause). cause_touches e n) (cause_alone item.cause l) ∙ touches_alone item.cause.event n p
 
-simple_sees : (item : PictureItem) (n : ℕ) → is_a_pass item.cause.event ≡ false → item.cause.look ≡ false → observes item.cause n ≡ (actor item.cause.event == n)
+simple_sees : (item : PictureItem) (n : ℕ) → is_transfer_event item.cause.event ≡ false → item.cause.look ≡ false → observes item.cause n ≡ (actor item.cause.event == n)
 simple_sees item n p l = ap (λ (e : Cause). observes e n) (cause_alone item.cause l) ∙ sees_alone item.cause.event n p
 
-same_shade : (s t : Shade) → is_same_run s t ≡ true → s ≡ t
+same_shade : (s t : Shade) → is_same_shade s t ≡ true → s ≡ t
 same_shade Black Black e = refl
 same_shade Grey Grey e = refl
 same_shade Red Red e = refl
@@ -145,45 +145,45 @@ eqb_false : (m n : ℕ) → (m ≡ n → ⊥) → (m == n) ≡ false
 eqb_false m n h = ⊎_elim (λ t. absurd (h (eqb-true m n t))) (λ f. f) (cases_Bool (m == n))
 
 -- one more of a run
-pub with_added : (runs more : Runs) (item : PictureItem) (m n : ℕ) (shade : Shade) → HasNodes runs → n < 144 → m < 144 → m ≡ actor item.cause.event → IsSimple item → item.plain ≡ true
+pub with_added : (runs more : Runs) (item : PictureItem) (m n : ℕ) (shade : Shade) → HasNodes runs → n < 144 → m < 144 → m ≡ actor item.cause.event → IsPlainOwnEvent item → item.plain ≡ true
     → more.counts ≡ set runs.counts m (count_in runs m item.shade + 1)
-    → more.shades ≡ set runs.shades m item.shade → count_in more n shade ≡ run_with n shade item (count_in runs n shade)
+    → more.shades ≡ set runs.shades m item.shade → count_in more n shade ≡ run_length_with n shade item (count_in runs n shade)
 with_added runs more item m n shade sizes l k at simple plain counts shades =
     let alone = simple plain in
     let touches : cause_touches item.cause n ≡ (m == n) = simple_touches item n alone.0 alone.1 ∙ ap (λ (z : ℕ). z == n) (sym at) in
     let seen : observes item.cause n ≡ (m == n) = simple_sees item n alone.0 alone.1 ∙ ap (λ (z : ℕ). z == n) (sym at) in
-    let asked : run_with n shade item (count_in runs n shade) ≡ step_by true (m == n) (is_same_run item.shade shade) (m == n) (count_in runs n shade) =
-    ap (λ (b : Bool). step_by b (cause_touches item.cause n) (is_same_run item.shade shade) (observes item.cause n) (count_in runs n shade)) plain
-    ∙ ap (λ (b : Bool). step_by true b (is_same_run item.shade shade) (observes item.cause n) (count_in runs n shade)) touches
-    ∙ ap (λ (b : Bool). step_by true (m == n) (is_same_run item.shade shade) b (count_in runs n shade)) seen in
+    let asked : run_length_with n shade item (count_in runs n shade) ≡ step_by true (m == n) (is_same_shade item.shade shade) (m == n) (count_in runs n shade) =
+    ap (λ (b : Bool). step_by b (cause_touches item.cause n) (is_same_shade item.shade shade) (observes item.cause n) (count_in runs n shade)) plain
+    ∙ ap (λ (b : Bool). step_by true b (is_same_shade item.shade shade) (observes item.cause n) (count_in runs n shade)) touches
+    ∙ ap (λ (b : Bool). step_by true (m == n) (is_same_shade item.shade shade) b (count_in runs n shade)) seen in
     let wide : length runs.counts ≡ 144 = sizes.0 in
     let long : length runs.shades ≡ 144 = sizes.1 in
-    let had : count_in more n shade ≡ (if is_same_run (get_or (set runs.shades m item.shade) n Black) shade then get_or (set runs.counts m (count_in runs m item.shade + 1)) n 0 else 0) =
-    ap (λ (z : List Shade). if is_same_run (get_or z n Black) shade then get_or more.counts n 0 else 0) shades
-    ∙ ap (λ (z : List ℕ). if is_same_run (get_or (set runs.shades m item.shade) n Black) shade then get_or z n 0 else 0) counts in
+    let had : count_in more n shade ≡ (if is_same_shade (get_or (set runs.shades m item.shade) n Black) shade then get_or (set runs.counts m (count_in runs m item.shade + 1)) n 0 else 0) =
+    ap (λ (z : List Shade). if is_same_shade (get_or z n Black) shade then get_or more.counts n 0 else 0) shades
+    ∙ ap (λ (z : List ℕ). if is_same_shade (get_or (set runs.shades m item.shade) n Black) shade then get_or z n 0 else 0) counts in
     elim (cases_eq n m) [
       | inl q ↦ (
           let one : get_or (set runs.shades m item.shade) n Black ≡ item.shade = get_or-set_at runs.shades m n item.shade Black q (omega arith) in
           let two : get_or (set runs.counts m (count_in runs m item.shade + 1)) n 0 ≡ count_in runs m item.shade + 1 = get_or-set_at runs.counts m n (count_in runs m item.shade + 1) 0 q (omega arith) in
           let is : (m == n) ≡ true = eq-eqb m n (sym q) in
-          let left : count_in more n shade ≡ (if is_same_run item.shade shade then count_in runs m item.shade + 1 else 0) =
-          had ∙ ap (λ (z : Shade). if is_same_run z shade then get_or (set runs.counts m (count_in runs m item.shade + 1)) n 0 else 0) one
-          ∙ ap (λ (z : ℕ). if is_same_run item.shade shade then z else 0) two in
-          let right : run_with n shade item (count_in runs n shade) ≡ (if is_same_run item.shade shade then count_in runs n shade + 1 else 0) =
-          asked ∙ ap (λ (b : Bool). step_by true b (is_same_run item.shade shade) b (count_in runs n shade)) is in
+          let left : count_in more n shade ≡ (if is_same_shade item.shade shade then count_in runs m item.shade + 1 else 0) =
+          had ∙ ap (λ (z : Shade). if is_same_shade z shade then get_or (set runs.counts m (count_in runs m item.shade + 1)) n 0 else 0) one
+          ∙ ap (λ (z : ℕ). if is_same_shade item.shade shade then z else 0) two in
+          let right : run_length_with n shade item (count_in runs n shade) ≡ (if is_same_shade item.shade shade then count_in runs n shade + 1 else 0) =
+          asked ∙ ap (λ (b : Bool). step_by true b (is_same_shade item.shade shade) b (count_in runs n shade)) is in
           left ∙ ⊎_elim
           (λ t. ap (λ (b : Bool). if b then count_in runs m item.shade + 1 else 0) t
           ∙ ap (λ (z : ℕ). count_in runs z item.shade + 1) (sym q) ∙ ap (λ (z : Shade). count_in runs n z + 1) (same_shade item.shade shade t)
           ∙ sym (ap (λ (b : Bool). if b then count_in runs n shade + 1 else 0) t))
           (λ f. ap (λ (b : Bool). if b then count_in runs m item.shade + 1 else 0) f ∙ sym (ap (λ (b : Bool). if b then count_in runs n shade + 1 else 0) f))
-          (cases_Bool (is_same_run item.shade shade)) ∙ sym right)
+          (cases_Bool (is_same_shade item.shade shade)) ∙ sym right)
       | inr ne ↦ (
           let one : get_or (set runs.shades m item.shade) n Black ≡ get_or runs.shades n Black = get_or-set_other runs.shades m n item.shade Black ne in
           let two : get_or (set runs.counts m (count_in runs m item.shade + 1)) n 0 ≡ get_or runs.counts n 0 = get_or-set_other runs.counts m n (count_in runs m item.shade + 1) 0 ne in
           let is : (m == n) ≡ false = eqb_false m n (λ q. ne (sym q)) in
-          had ∙ ap (λ (z : Shade). if is_same_run z shade then get_or (set runs.counts m (count_in runs m item.shade + 1)) n 0 else 0) one
-          ∙ ap (λ (z : ℕ). if is_same_run (get_or runs.shades n Black) shade then z else 0) two
-          ∙ sym (asked ∙ ap (λ (b : Bool). step_by true b (is_same_run item.shade shade) b (count_in runs n shade)) is))
+          had ∙ ap (λ (z : Shade). if is_same_shade z shade then get_or (set runs.counts m (count_in runs m item.shade + 1)) n 0 else 0) one
+          ∙ ap (λ (z : ℕ). if is_same_shade (get_or runs.shades n Black) shade then z else 0) two
+          ∙ sym (asked ∙ ap (λ (b : Bool). step_by true b (is_same_shade item.shade shade) b (count_in runs n shade)) is))
     ]
 
 both_ended : (same seen : Bool) (k : ℕ) → (if same then (if seen then 0 else k) else 0) ≡ (if seen then 0 else (if same then k else 0))
@@ -194,12 +194,12 @@ both_ended false false k = refl
 
 -- runs end
 pub with_ended : (runs more : Runs) (item : PictureItem) (n : ℕ) (shade : Shade) → item.plain ≡ false → more.shades ≡ runs.shades
-    → get_or more.counts n 0 ≡ (if observes item.cause n then 0 else get_or runs.counts n 0) → count_in more n shade ≡ run_with n shade item (count_in runs n shade)
+    → get_or more.counts n 0 ≡ (if observes item.cause n then 0 else get_or runs.counts n 0) → count_in more n shade ≡ run_length_with n shade item (count_in runs n shade)
 with_ended runs more item n shade plain shades counts =
-    ap (λ (z : List Shade). if is_same_run (get_or z n Black) shade then get_or more.counts n 0 else 0) shades
-    ∙ ap (λ (z : ℕ). if is_same_run (get_or runs.shades n Black) shade then z else 0) counts
-    ∙ both_ended (is_same_run (get_or runs.shades n Black) shade) (observes item.cause n) (get_or runs.counts n 0)
-    ∙ sym (ap (λ (b : Bool). step_by b (cause_touches item.cause n) (is_same_run item.shade shade) (observes item.cause n) (count_in runs n shade)) plain)
+    ap (λ (z : List Shade). if is_same_shade (get_or z n Black) shade then get_or more.counts n 0 else 0) shades
+    ∙ ap (λ (z : ℕ). if is_same_shade (get_or runs.shades n Black) shade then z else 0) counts
+    ∙ both_ended (is_same_shade (get_or runs.shades n Black) shade) (observes item.cause n) (get_or runs.counts n 0)
+    ∙ sym (ap (λ (b : Bool). step_by b (cause_touches item.cause n) (is_same_shade item.shade shade) (observes item.cause n) (count_in runs n shade)) plain)
 
 none_past : (n : ℕ) → 144 ≤ n → get_or (replicate 144 0) n 0 ≤ 0
 none_past n g =
@@ -219,7 +219,7 @@ pub count_few : (runs : Runs) (n : ℕ) (shade : Shade) (bound : ℕ) → AreWit
 count_few runs n shade bound h = ⊎_elim
     (λ t. subst (λ (b : Bool). (if b then get_or runs.counts n 0 else 0) ≤ bound) (sym t) (h n))
     (λ f. subst (λ (b : Bool). (if b then get_or runs.counts n 0 else 0) ≤ bound) (sym f) (omega arith))
-    (cases_Bool (is_same_run (get_or runs.shades n Black) shade))
+    (cases_Bool (is_same_shade (get_or runs.shades n Black) shade))
 
 pub within_added : (runs more : Runs) (m : ℕ) (shade : Shade) (bound : ℕ) → HasNodes runs → m < 144 → AreWithin runs bound
     → more.counts ≡ set runs.counts m (count_in runs m shade + 1) → AreWithin more (bound + 1)
@@ -282,15 +282,15 @@ ended_within old now e number bound a h = λ n. ⊎_elim
 
 -- ---- how many there are
 
-front_few : (n : ℕ) (shade : Shade) (items : List PictureItem) → run_in_front n shade items ≤ length items
+front_few : (n : ℕ) (shade : Shade) (items : List PictureItem) → run_length_ahead n shade items ≤ length items
 front_few n shade [] = omega (arith, front_none n shade)
 front_few n shade (item ∷ items) =
-    let more : run_with n shade item (run_in_front n shade items) ≤ run_in_front n shade items + 1 = with_few n shade item (run_in_front n shade items) in
+    let more : run_length_with n shade item (run_length_ahead n shade items) ≤ run_length_ahead n shade items + 1 = with_few n shade item (run_length_ahead n shade items) in
     omega (arith, front_one n shade item items, front_few n shade items, more) where
-      with_few : (n : ℕ) (shade : Shade) (item : PictureItem) (count : ℕ) → run_with n shade item count ≤ count + 1
+      with_few : (n : ℕ) (shade : Shade) (item : PictureItem) (count : ℕ) → run_length_with n shade item count ≤ count + 1
       with_few n shade item count = grind arith
 
-pub behind_few : (items : List PictureItem) (place : ℕ) → place < length items → behind_at items place + place + 1 ≤ length items
+pub behind_few : (items : List PictureItem) (place : ℕ) → place < length items → run_events_after items place + place + 1 ≤ length items
 behind_few items place l =
     let size : length (drop (place + 1) items) ≡ length items - (place + 1) = length-drop (place + 1) items in
-    omega (arith, front_few (actor (at_place items place).cause.event) (at_place items place).shade (drop (place + 1) items))
+    omega (arith, front_few (actor (item_at_place items place).cause.event) (item_at_place items place).shade (drop (place + 1) items))

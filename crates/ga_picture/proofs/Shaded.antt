@@ -5,8 +5,8 @@ use Rattle.std.proofs.lemmas.Bool.{or_left, or_right, or_cases, both_ways, cases
 use Rattle.ga_causal.proofs.Exact.{any-mono, rule_meets, meets_rule}
 use Rattle.std.proofs.lemmas.List.{length-replicate}
 use Rattle.ga_event.specs.declared.event.Cause.{Cause}
-use Rattle.ga_event.specs.Touches.{seen_by}
-use Rattle.ga_causal.specs.Dependence.{cause_nodes, cause_touches, event_at, IsDirect, DependsOn, itself, through}
+use Rattle.ga_event.specs.Touches.{observed_by}
+use Rattle.ga_causal.specs.Dependence.{touched_nodes, cause_touches, event_at, DependsDirectly, DependsOn, itself, through}
 use Rattle.ga_causal.specs.Equivalence.{observes}
 use Rattle.ga_causal.proofs.Oldest.{none_marked, DependsOn-order as ordered}
 use Rattle.std.proofs.lemmas.Option.{same_Some, slice_get_within}
@@ -15,7 +15,7 @@ use Rattle.ga_grid.specs.declared.node_id.NodeId.{NodeId}
 use Rattle.ga_picture.specs.inner.{AreLines}
 use Rattle.ga_picture.specs.declared.shade.Shade.{Shade}
 use Rattle.ga_picture.specs.declared.shade.Shade.TheVariants.{Black, Grey, Red}
-use Rattle.ga_picture.specs.Drawing.{Goes, DependsOnPlace, IsShade}
+use Rattle.ga_picture.specs.Drawing.{Goes, IsCauseOfStep, IsShade}
 
 -- ---- the events on which one depends, found from the newest on
 
@@ -35,17 +35,17 @@ any_at p (m ∷ ms) t = ⊎_elim
 -- the first link of a chain of dependence
 pub record First (es : List Cause) (i j : ℕ) : Type 0 where
   pub middle : ℕ
-  pub direct : IsDirect es i middle
+  pub direct : DependsDirectly es i middle
   pub more : DependsOn es middle j
 
 pub first_link : (es : List Cause) (i j : ℕ) → DependsOn es i j → (i ≡ j) ⊎ First es i j
 first_link es i j itself = inl refl
 first_link es i j (through {middle} d s) = ⊎_elim
-    (λ e. inr (record { middle = j; direct = subst (λ z. IsDirect es z j) (sym e) s; more = itself }))
+    (λ e. inr (record { middle = j; direct = subst (λ z. DependsDirectly es z j) (sym e) s; more = itself }))
     (λ f. inr (record { middle = f.middle; direct = f.direct; more = through {middle = middle} f.more s }))
     (first_link es i middle d)
 
-pub joined : (es : List Cause) (i m j : ℕ) → IsDirect es i m → DependsOn es m j → DependsOn es i j
+pub joined : (es : List Cause) (i m j : ℕ) → DependsDirectly es i m → DependsOn es m j → DependsOn es i j
 joined es i m j s itself = through {middle = i} itself s
 joined es i m j s (through {middle} d t) = through {middle = middle} (joined es i m middle s d) t
 
@@ -66,26 +66,26 @@ pub record AreGrounds (es : List Cause) (last at : ℕ) (flags : List Bool) (mar
 
 -- an event that touches a wanted node
 direct_to : (es : List Cause) (last at n : ℕ) → last < length es → IsWanted es last (at + 1) n → cause_touches (event_at es at) n ≡ true → DependsOn es at last
-unfolding seen_by
+unfolding observed_by
 direct_to es last at n within w t = joined es at w.middle last
     (record {
       before = omega (arith, w.behind);
       within = omega (arith, ordered es w.middle last w.depends);
-      by_rule = meets_rule (event_at es at) (event_at es w.middle) (any_of_one (cause_touches (event_at es at)) n t (seen_by (event_at es w.middle)) w.seen);
+      by_rule = meets_rule (event_at es at) (event_at es w.middle) (any_of_one (cause_touches (event_at es at)) n t (observed_by (event_at es w.middle)) w.seen);
     })
     w.depends
 
-pub met_depends : (es : List Cause) (last at : ℕ) (flags : List Bool) (marks : ℕ → Bool) → last < length es → AreGrounds es last (at + 1) flags marks → list_any marks (cause_nodes (event_at es at)) ≡ true → DependsOn es at last
+pub met_depends : (es : List Cause) (last at : ℕ) (flags : List Bool) (marks : ℕ → Bool) → last < length es → AreGrounds es last (at + 1) flags marks → list_any marks (touched_nodes (event_at es at)) ≡ true → DependsOn es at last
 met_depends es last at flags marks within g t =
-    let r = any_at marks (cause_nodes (event_at es at)) t in
+    let r = any_at marks (touched_nodes (event_at es at)) t in
     direct_to es last at r.0 within (g.into r.0 r.2) r.1
 
-pub depends_met : (es : List Cause) (last at : ℕ) (flags : List Bool) (marks : ℕ → Bool) → at < last → AreGrounds es last (at + 1) flags marks → DependsOn es at last → list_any marks (cause_nodes (event_at es at)) ≡ true
-unfolding seen_by
+pub depends_met : (es : List Cause) (last at : ℕ) (flags : List Bool) (marks : ℕ → Bool) → at < last → AreGrounds es last (at + 1) flags marks → DependsOn es at last → list_any marks (touched_nodes (event_at es at)) ≡ true
+unfolding observed_by
 depends_met es last at flags marks under g d = ⊎_elim
     (λ e. absurd (omega (arith, e)))
-    (λ f. let r = any_at (cause_touches (event_at es at)) (seen_by (event_at es f.middle)) (rule_meets (event_at es at) (event_at es f.middle) f.direct.by_rule) in
-    any_of_one marks r.0 (g.back r.0 (record { middle = f.middle; behind = omega (arith, f.direct.before); depends = f.more; seen = r.1 })) (cause_nodes (event_at es at)) r.2)
+    (λ f. let r = any_at (cause_touches (event_at es at)) (observed_by (event_at es f.middle)) (rule_meets (event_at es at) (event_at es f.middle) f.direct.by_rule) in
+    any_of_one marks r.0 (g.back r.0 (record { middle = f.middle; behind = omega (arith, f.direct.before); depends = f.more; seen = r.1 })) (touched_nodes (event_at es at)) r.2)
     (first_link es at last d)
 
 -- the last one is a ground of itself
@@ -109,7 +109,7 @@ grounds_first es last marks l m =
     }
 
 -- one event more, which touches a wanted node
-pub grounds_met : (es : List Cause) (last at : ℕ) (flags : List Bool) (marks more : ℕ → Bool) → last < length es → at < last → AreGrounds es last (at + 1) flags marks → list_any marks (cause_nodes (event_at es at)) ≡ true → ((n : ℕ) → more n ≡ (marks n || observes (event_at es at) n)) → AreGrounds es last at (set flags at true) more
+pub grounds_met : (es : List Cause) (last at : ℕ) (flags : List Bool) (marks more : ℕ → Bool) → last < length es → at < last → AreGrounds es last (at + 1) flags marks → list_any marks (touched_nodes (event_at es at)) ≡ true → ((n : ℕ) → more n ≡ (marks n || observes (event_at es at) n)) → AreGrounds es last at (set flags at true) more
 grounds_met es last at flags marks more l u g t m =
     let here : DependsOn es at last = met_depends es last at flags marks l g t in
     let size : length flags ≡ length es = g.size in
@@ -132,9 +132,9 @@ grounds_met es last at flags marks more l u g t m =
     }
 
 -- one event more, which touches none
-pub grounds_not : (es : List Cause) (last at : ℕ) (flags : List Bool) (marks : ℕ → Bool) → last < length es → at < last → AreGrounds es last (at + 1) flags marks → list_any marks (cause_nodes (event_at es at)) ≡ false → AreGrounds es last at flags marks
+pub grounds_not : (es : List Cause) (last at : ℕ) (flags : List Bool) (marks : ℕ → Bool) → last < length es → at < last → AreGrounds es last (at + 1) flags marks → list_any marks (touched_nodes (event_at es at)) ≡ false → AreGrounds es last at flags marks
 grounds_not es last at flags marks l u g f =
-    let free : ¬ DependsOn es at last = λ d. both_ways (list_any marks (cause_nodes (event_at es at))) f (depends_met es last at flags marks u g d) in
+    let free : ¬ DependsOn es at last = λ d. both_ways (list_any marks (touched_nodes (event_at es at))) f (depends_met es last at flags marks u g d) in
     record {
       size = g.size;
       done = λ j b k. elim (cases_eq j at) [
@@ -228,7 +228,7 @@ lines_more used lines columns k node l is a t =
 
 -- ---- colours put one after another
 
-pub is_shade : (es : List Cause) (cause rewind : Option ℕ) (place : ℕ) (goes leads : Bool) (s : Shade) → IsTrue goes ↔ Goes es rewind place → IsTrue leads ↔ DependsOnPlace es cause place
+pub is_shade : (es : List Cause) (cause rewind : Option ℕ) (place : ℕ) (goes leads : Bool) (s : Shade) → IsTrue goes ↔ Goes es rewind place → IsTrue leads ↔ IsCauseOfStep es cause place
     → (goes ≡ true → s ≡ Red) → (goes ≡ false → leads ≡ true → s ≡ Black) → (goes ≡ false → leads ≡ false → s ≡ Grey) → IsShade es cause rewind place s
 is_shade es cause rewind place goes leads s g l red black grey = ⊎_elim
     (λ t. subst (λ z. IsShade es cause rewind place z) (sym (red t)) (g.0 t))

@@ -8,12 +8,12 @@ use Rattle.ga_ports.specs.declared.side.Side.{Side}
 use Rattle.ga_causal.specs.Dependence.{cause_touches, DependsOn}
 use Rattle.ga_picture.specs.declared.shade.Shade.{Shade}
 use Rattle.ga_picture.specs.declared.shade.Shade.TheVariants.{Black, Grey, Red}
-use Rattle.ga_picture.specs.declared.placing.Shape.{Shape}
-use Rattle.ga_picture.specs.declared.placing.Shape.TheVariants.{Mark, Arrow}
+use Rattle.ga_picture.specs.declared.placing.DrawnShape.{DrawnShape}
+use Rattle.ga_picture.specs.declared.placing.DrawnShape.TheVariants.{Mark, Arrow}
 use Rattle.ga_picture.specs.declared.placing.PictureRow.{PictureRow}
 use Rattle.ga_picture.specs.declared.placing.Drawing.{Drawing}
 use Rattle.ga_picture.specs.declared.item.PictureItem.{PictureItem}
-use Rattle.ga_picture.specs.Items.{at_place, steps_at, rows_in, actor}
+use Rattle.ga_picture.specs.Items.{item_at_place, folded_count_at, row_places, actor}
 use Rattle.ga_grid.specs.Grid.{node_id}
 use Rattle.ga_causal.specs.Equivalence.{AreIndependent}
 use Rattle.ga_picture.specs.declared.independent.IndependentNode.{IndependentNode}
@@ -26,15 +26,15 @@ Goes events None place = ⊥
 Goes events (Some step) place = DependsOn events step place
 
 -- the step depends on the event at the place; without such a step all are as good
-abbrev pub DependsOnPlace : List Cause → Option ℕ → ℕ → Type 0
-DependsOnPlace events None place = Unit {0}
-DependsOnPlace events (Some step) place = DependsOn events place step
+abbrev pub IsCauseOfStep : List Cause → Option ℕ → ℕ → Type 0
+IsCauseOfStep events None place = Unit {0}
+IsCauseOfStep events (Some step) place = DependsOn events place step
 
 -- the colour of the event at a place, where the causes of one step were asked for, and what a rollback of another takes
 abbrev pub IsShade : List Cause → Option ℕ → Option ℕ → ℕ → Shade → Type 0
 IsShade events cause rewind place Red = Goes events rewind place
-IsShade events cause rewind place Black = (¬ Goes events rewind place) × DependsOnPlace events cause place
-IsShade events cause rewind place Grey = (¬ Goes events rewind place) × (¬ DependsOnPlace events cause place)
+IsShade events cause rewind place Black = (¬ Goes events rewind place) × IsCauseOfStep events cause place
+IsShade events cause rewind place Grey = (¬ Goes events rewind place) × (¬ IsCauseOfStep events cause place)
 
 -- one colour for each event
 pub record AreShades (events : List Cause) (cause rewind : Option ℕ) (shades : List Shade) : Type 0 where
@@ -63,38 +63,38 @@ pub record IsArrow (event : Cause) (lines : List NodeId) (from to : ℕ) : Type 
   pub head : IsLineOf lines to reader.number
 
 -- the event is drawn so on these lines
-abbrev pub IsShape : Cause → List NodeId → Shape → Type 0
-IsShape event lines (Mark line look steps shade) = IsMark event lines line × (event.look ≡ look)
-IsShape event lines (Arrow from to shade) = IsArrow event lines from to
+abbrev pub IsDrawnShape : Cause → List NodeId → DrawnShape → Type 0
+IsDrawnShape event lines (Mark line look steps shade) = IsMark event lines line × (event.look ≡ look)
+IsDrawnShape event lines (Arrow from to shade) = IsArrow event lines from to
 
-abbrev pub shade_of : Shape → Shade
+abbrev pub shade_of : DrawnShape → Shade
 shade_of (Mark line look steps shade) = shade
 shade_of (Arrow from to shade) = shade
 
 -- how many events it represents
-abbrev pub steps_drawn : Shape → ℕ
-steps_drawn (Mark line look steps shade) = steps
-steps_drawn (Arrow from to shade) = 1
+abbrev pub represented_events : DrawnShape → ℕ
+represented_events (Mark line look steps shade) = steps
+represented_events (Arrow from to shade) = 1
 
 -- an event that isn't left out touches the node
-pub record IsTouched (items : List PictureItem) (node : ℕ) : Type 0 where
+pub record HasDrawnEvent (items : List PictureItem) (node : ℕ) : Type 0 where
   pub place : ℕ
   pub within : place < length items
-  pub drawn : (at_place items place).out ≡ false
-  pub touched : cause_touches (at_place items place).cause node ≡ true
+  pub drawn : (item_at_place items place).out ≡ false
+  pub touched : cause_touches (item_at_place items place).cause node ≡ true
 
 -- a row shows its event, in its colour, and with it the run that begins with it
-pub record IsRow (items : List PictureItem) (fold : ℕ) (lines : List NodeId) (row : PictureRow) : Type 0 where
-  pub shape : IsShape (at_place items row.place).cause lines row.shape
-  pub shaded : shade_of row.shape ≡ (at_place items row.place).shade
-  pub steps : steps_drawn row.shape ≡ steps_at items fold row.place
+pub record IsPictureRow (items : List PictureItem) (fold : ℕ) (lines : List NodeId) (row : PictureRow) : Type 0 where
+  pub shape : IsDrawnShape (item_at_place items row.place).cause lines row.shape
+  pub shaded : shade_of row.shape ≡ (item_at_place items row.place).shade
+  pub steps : represented_events row.shape ≡ folded_count_at items fold row.place
 
 -- The picture of some events: a row for each that isn't left out, in their order, but one for each run that is drawn together; each on
 -- the lines of its nodes. There are lines for the nodes that these events touch and for no others, by their numbers.
 pub record IsDrawing (items : List PictureItem) (fold : ℕ) (drawing : Drawing) : Type 0 where
-  pub places : map (λ row. row.place) drawing.rows.items ≡ rows_in items fold
-  pub drawn : All (IsRow items fold drawing.lines.items) drawing.rows.items
-  pub needed : (line : ℕ) (node : NodeId) → slice_get drawing.lines.items line ≡ Some node → IsTouched items node.number
+  pub places : map (λ row. row.place) drawing.rows.items ≡ row_places items fold
+  pub drawn : All (IsPictureRow items fold drawing.lines.items) drawing.rows.items
+  pub needed : (line : ℕ) (node : NodeId) → slice_get drawing.lines.items line ≡ Some node → HasDrawnEvent items node.number
   pub rising : (line other : ℕ) (node next : NodeId) → slice_get drawing.lines.items line ≡ Some node
       → slice_get drawing.lines.items other ≡ Some next → line < other → node.number < next.number
 
@@ -104,24 +104,24 @@ pub record IsDrawing (items : List PictureItem) (fold : ℕ) (drawing : Drawing)
 -- "Reversible Communicating Systems", 2004), so the picture of the others shows as much without them.
 
 -- the event at the place touches the node, and isn't left out
-pub record IsDrawnOf (items : List PictureItem) (place node : ℕ) : Type 0 where
+pub record IsDrawnEventOf (items : List PictureItem) (place node : ℕ) : Type 0 where
   pub within : place < length items
-  pub drawn : (at_place items place).out ≡ false
-  pub touched : cause_touches (at_place items place).cause node ≡ true
+  pub drawn : (item_at_place items place).out ≡ false
+  pub touched : cause_touches (item_at_place items place).cause node ≡ true
 
 -- The node has to be drawn for none of its events, and each of them is apart from each event of another node.
-pub record IsFree (items : List PictureItem) (node : ℕ) : Type 0 where
-  pub loose : (place : ℕ) → IsDrawnOf items place node → (at_place items place).holds ≡ false
-  pub apart : (place by other : ℕ) → IsDrawnOf items place node → IsDrawnOf items by other → other ≢ node
-      → AreIndependent (at_place items place).cause (at_place items by).cause
+pub record HasIndependentEvents (items : List PictureItem) (node : ℕ) : Type 0 where
+  pub loose : (place : ℕ) → IsDrawnEventOf items place node → (item_at_place items place).holds ≡ false
+  pub apart : (place by other : ℕ) → IsDrawnEventOf items place node → IsDrawnEventOf items by other → other ≢ node
+      → AreIndependent (item_at_place items place).cause (item_at_place items by).cause
 
 -- The node is independent, and not all nodes are.
-pub record IsByItself (items : List PictureItem) (node : ℕ) : Type 0 where
-  pub works : IsTouched items node
-  pub free : IsFree items node
+pub record IsIndependentNode (items : List PictureItem) (node : ℕ) : Type 0 where
+  pub works : HasDrawnEvent items node
+  pub free : HasIndependentEvents items node
   pub other : ℕ
-  pub beside : IsTouched items other
-  pub joined : ¬ IsFree items other
+  pub beside : HasDrawnEvent items other
+  pub joined : ¬ HasIndependentEvents items other
 
 -- an event of these nodes is left out
 abbrev pub without_nodes : (ℕ → Bool) → PictureItem → PictureItem
@@ -129,10 +129,10 @@ without_nodes alone item =
     if alone (actor item.cause.event) then record { cause = item.cause; shade = item.shade; plain = false; out = true; holds = item.holds } else item
 
 -- how many events the node makes that aren't left out
-abbrev pub steps_made : List PictureItem → ℕ → ℕ
-steps_made items n = count_by (λ (item : PictureItem). not item.out && (actor item.cause.event == n)) items
+abbrev pub drawn_event_count : List PictureItem → ℕ → ℕ
+drawn_event_count items n = count_by (λ (item : PictureItem). not item.out && (actor item.cause.event == n)) items
 
 -- these nodes, each with how many events it makes that aren't left out
-abbrev pub told_nodes : List PictureItem → (ℕ → Bool) → List IndependentNode
-told_nodes items alone =
-    filter (λ (it : IndependentNode). alone it.node.number) (map (λ n. record { node = node_id n; steps = steps_made items n }) (range_with_len 0 144))
+abbrev pub independent_nodes_of : List PictureItem → (ℕ → Bool) → List IndependentNode
+independent_nodes_of items alone =
+    filter (λ (it : IndependentNode). alone it.node.number) (map (λ n. record { node = node_id n; steps = drawn_event_count items n }) (range_with_len 0 144))

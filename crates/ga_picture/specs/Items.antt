@@ -4,11 +4,11 @@ use Rattle.std.specs.List.{range_with_len}
 use Rattle.ga_event.specs.declared.event.Event.{Event}
 use Rattle.ga_event.specs.declared.event.Event.TheVariants.{Own, Pass}
 use Rattle.ga_event.specs.declared.event.Cause.{Cause}
-use Rattle.ga_event.specs.Apply.{is_number}
-use Rattle.ga_causal.specs.Dependence.{cause_touches, event_at, is_a_pass, no_cause}
+use Rattle.ga_event.specs.Apply.{equals_some}
+use Rattle.ga_causal.specs.Dependence.{cause_touches, event_at, is_transfer_event, default_cause}
 use Rattle.ga_picture.specs.declared.shade.Shade.{Shade}
 use Rattle.ga_picture.specs.declared.shade.Shade.TheVariants.{Black, Grey, Red}
-use Rattle.ga_picture.specs.declared.view.View.{View}
+use Rattle.ga_picture.specs.declared.view.PictureView.{PictureView}
 use Rattle.ga_picture.specs.declared.item.PictureItem.{PictureItem}
 use Rattle.ga_causal.specs.Equivalence.{observes}
 
@@ -20,50 +20,50 @@ actor (Own node) = node.number
 actor (Pass writer reader side) = writer.number
 
 -- The node runs before these events: the next of them that touches it is one of its own; where none does, it is ready.
-abbrev pub runs_on : (ℕ → Bool) → List Cause → ℕ → Bool
-runs_on ready [] n = ready n
-runs_on ready (e ∷ es) n = if cause_touches e n then not (is_a_pass e.event) else runs_on ready es n
+abbrev pub runs_before_events : (ℕ → Bool) → List Cause → ℕ → Bool
+runs_before_events ready [] n = ready n
+runs_before_events ready (e ∷ es) n = if cause_touches e n then not (is_transfer_event e.event) else runs_before_events ready es n
 
 -- an own event that is no look, of a node that runs after it: a fetch or an opcode, and neither a wait nor a stop
 abbrev pub is_plain : (ℕ → Bool) → Cause → Bool
-is_plain runs e = not (is_a_pass e.event) && (not e.look && runs (actor e.event))
+is_plain runs e = not (is_transfer_event e.event) && (not e.look && runs (actor e.event))
 
 abbrev pub is_plain_at : (ℕ → Bool) → List Cause → ℕ → Bool
-is_plain_at ready events place = is_plain (runs_on ready (drop (place + 1) events)) (event_at events place)
+is_plain_at ready events place = is_plain (runs_before_events ready (drop (place + 1) events)) (event_at events place)
 
 -- one of the steps that are asked for
-abbrev pub is_asked_step : Option ℕ → Option ℕ → ℕ → Bool
-is_asked_step cause rewind place = is_number cause place || is_number rewind place
+abbrev pub is_requested_step : Option ℕ → Option ℕ → ℕ → Bool
+is_requested_step cause rewind place = equals_some cause place || equals_some rewind place
 
 -- the colour is that of a requested event
-abbrev pub is_asked_shade : View → Shade → Bool
-is_asked_shade view Red = true
-is_asked_shade view Black = is_some view.cause
-is_asked_shade view Grey = false
+abbrev pub is_requested_shade : PictureView → Shade → Bool
+is_requested_shade view Red = true
+is_requested_shade view Black = is_some view.cause
+is_requested_shade view Grey = false
 
 -- what isn't asked for is left out
-abbrev pub is_narrow : View → Bool
-is_narrow view = view.only && (is_some view.cause || is_some view.rewind)
+abbrev pub shows_requested_only : PictureView → Bool
+shows_requested_only view = view.only && (is_some view.cause || is_some view.rewind)
 
 -- an event of an idle node, or where nothing else is wanted any event, that isn't asked for
-abbrev pub is_left_out : View → Bool → Shade → Bool
-is_left_out view idle shade = (not view.all && (idle && not (is_asked_shade view shade))) || (is_narrow view && not (is_asked_shade view shade))
+abbrev pub is_left_out : PictureView → Bool → Shade → Bool
+is_left_out view idle shade = (not view.all && (idle && not (is_requested_shade view shade))) || (shows_requested_only view && not (is_requested_shade view shade))
 
 -- The node of an event must be drawn for it: the event is requested, or is a pass, a wait or a stop. If races are requested, so
 -- must that of a look.
-abbrev pub holds_node : View → Cause → Shade → Bool → Bool
-holds_node view e shade plain =
-    view.all || (is_asked_shade view shade || (is_a_pass e.event || not (plain || (e.look && not view.races))))
+abbrev pub requires_node_line : PictureView → Cause → Shade → Bool → Bool
+requires_node_line view e shade plain =
+    view.all || (is_requested_shade view shade || (is_transfer_event e.event || not (plain || (e.look && not view.races))))
 
 -- an event of a colour, which is plain, one of the steps that are asked for, or of an idle node
-abbrev pub item_of : View → Cause → Shade → Bool → Bool → Bool → PictureItem
-item_of view e shade plain named idle =
+abbrev pub picture_item : PictureView → Cause → Shade → Bool → Bool → Bool → PictureItem
+picture_item view e shade plain named idle =
     let out = is_left_out view idle shade in
-    record { cause = e; shade = shade; plain = plain && (not named && not out); out = out; holds = holds_node view e shade plain }
+    record { cause = e; shade = shade; plain = plain && (not named && not out); out = out; holds = requires_node_line view e shade plain }
 
 -- what is known of the history: its events, their colours, the nodes that are ready after them, the idle ones, and the places
 -- of the requested steps
-pub record Known : Type 0 where
+pub record PictureFacts : Type 0 where
   pub events : List Cause
   pub shades : List Shade
   pub ready : ℕ → Bool
@@ -72,76 +72,76 @@ pub record Known : Type 0 where
   pub rewind : Option ℕ
 
 -- the event at a place, and those from one place on and up to another
-abbrev pub item_at : Known → View → ℕ → PictureItem
-item_at known view place =
+abbrev pub picture_item_at : PictureFacts → PictureView → ℕ → PictureItem
+picture_item_at known view place =
     let e = event_at known.events place in
-    item_of view e (slice_index_or known.shades place Black) (is_plain_at known.ready known.events place) (is_asked_step known.cause known.rewind place)
+    picture_item view e (slice_index_or known.shades place Black) (is_plain_at known.ready known.events place) (is_requested_step known.cause known.rewind place)
     (known.idle (actor e.event))
 
-abbrev pub items_of : Known → View → ℕ → ℕ → List PictureItem
-items_of known view from to = map (item_at known view) (range_with_len from (to - from))
+abbrev pub picture_items : PictureFacts → PictureView → ℕ → ℕ → List PictureItem
+picture_items known view from to = map (picture_item_at known view) (range_with_len from (to - from))
 
 -- ---- runs of fetches and opcodes of a node, which are drawn as one mark
 
 -- What happens between two events of a run doesn't involve their node, so they can be drawn together: no event there touches
 -- the node or looks at it.
 
-abbrev pub is_same_run : Shade → Shade → Bool
-is_same_run Black Black = true
-is_same_run Grey Grey = true
-is_same_run Red Red = true
-is_same_run one other = false
+abbrev pub is_same_shade : Shade → Shade → Bool
+is_same_shade Black Black = true
+is_same_shade Grey Grey = true
+is_same_shade Red Red = true
+is_same_shade one other = false
 
 -- an event that may be folded is an own one that doesn't look
-abbrev pub IsSimple : PictureItem → Type 0
-IsSimple item = item.plain ≡ true → (is_a_pass item.cause.event ≡ false) × (item.cause.look ≡ false)
+abbrev pub IsPlainOwnEvent : PictureItem → Type 0
+IsPlainOwnEvent item = item.plain ≡ true → (is_transfer_event item.cause.event ≡ false) × (item.cause.look ≡ false)
 
 -- what is read past the end of a list
 abbrev pub no_item : PictureItem
-no_item = record { cause = no_cause; shade = Black; plain = false; out = true; holds = false }
+no_item = record { cause = default_cause; shade = Black; plain = false; out = true; holds = false }
 
-abbrev pub at_place : List PictureItem → ℕ → PictureItem
-at_place items place = slice_index_or items place no_item
+abbrev pub item_at_place : List PictureItem → ℕ → PictureItem
+item_at_place items place = slice_index_or items place no_item
 
 -- how many events a run of the node in this colour has with this one, if it had `n` without it
-abbrev pub run_with : ℕ → Shade → PictureItem → ℕ → ℕ
-run_with n shade item count =
-    if item.plain && (cause_touches item.cause n && is_same_run item.shade shade) then count + 1
+abbrev pub run_length_with : ℕ → Shade → PictureItem → ℕ → ℕ
+run_length_with n shade item count =
+    if item.plain && (cause_touches item.cause n && is_same_shade item.shade shade) then count + 1
     else if observes item.cause n then 0
     else count
 
 -- how many events of a run come right before a place, and how many are the first of these
-unfoldable pub run_before : ℕ → Shade → List PictureItem → ℕ → ℕ
-run_before n shade items zero = 0
-run_before n shade items (suc place) = run_with n shade (at_place items place) (run_before n shade items place)
+unfoldable pub run_length_before : ℕ → Shade → List PictureItem → ℕ → ℕ
+run_length_before n shade items zero = 0
+run_length_before n shade items (suc place) = run_length_with n shade (item_at_place items place) (run_length_before n shade items place)
 
-unfoldable pub run_in_front : ℕ → Shade → List PictureItem → ℕ
-run_in_front n shade [] = 0
-run_in_front n shade (item ∷ items) = run_with n shade item (run_in_front n shade items)
+unfoldable pub run_length_ahead : ℕ → Shade → List PictureItem → ℕ
+run_length_ahead n shade [] = 0
+run_length_ahead n shade (item ∷ items) = run_length_with n shade item (run_length_ahead n shade items)
 
 -- how many events of the run of the event at a place come before it, and how many after it
-abbrev pub before_at : List PictureItem → ℕ → ℕ
-before_at items place = run_before (actor (at_place items place).cause.event) (at_place items place).shade items place
+abbrev pub run_events_before : List PictureItem → ℕ → ℕ
+run_events_before items place = run_length_before (actor (item_at_place items place).cause.event) (item_at_place items place).shade items place
 
-abbrev pub behind_at : List PictureItem → ℕ → ℕ
-behind_at items place = run_in_front (actor (at_place items place).cause.event) (at_place items place).shade (drop (place + 1) items)
+abbrev pub run_events_after : List PictureItem → ℕ → ℕ
+run_events_after items place = run_length_ahead (actor (item_at_place items place).cause.event) (item_at_place items place).shade (drop (place + 1) items)
 
 -- how many events are drawn together with the one at a place: its run, if that has at least `fold` events
-abbrev pub drawn_with : PictureItem → ℕ → ℕ → ℕ → ℕ
-drawn_with item before behind fold =
+abbrev pub folded_count : PictureItem → ℕ → ℕ → ℕ → ℕ
+folded_count item before behind fold =
     let run = before + behind + 1 in if item.plain && (not (fold == 0) && nat_le fold run) then run else 1
 
-abbrev pub steps_at : List PictureItem → ℕ → ℕ → ℕ
-steps_at items fold place = drawn_with (at_place items place) (before_at items place) (behind_at items place) fold
+abbrev pub folded_count_at : List PictureItem → ℕ → ℕ → ℕ
+folded_count_at items fold place = folded_count (item_at_place items place) (run_events_before items place) (run_events_after items place) fold
 
 -- an event that isn't left out has a row, of a run that is drawn together the first alone
 abbrev pub has_row : List PictureItem → ℕ → ℕ → Bool
-has_row items fold place = not (at_place items place).out && ((steps_at items fold place == 1) || (before_at items place == 0))
+has_row items fold place = not (item_at_place items place).out && ((folded_count_at items fold place == 1) || (run_events_before items place == 0))
 
 -- the places that have rows, of the first `n`
-unfoldable pub rows_below : List PictureItem → ℕ → ℕ → List ℕ
-rows_below items fold zero = []
-rows_below items fold (suc place) = rows_below items fold place ++ (if has_row items fold place then place ∷ [] else [])
+unfoldable pub row_places_below : List PictureItem → ℕ → ℕ → List ℕ
+row_places_below items fold zero = []
+row_places_below items fold (suc place) = row_places_below items fold place ++ (if has_row items fold place then place ∷ [] else [])
 
-abbrev pub rows_in : List PictureItem → ℕ → List ℕ
-rows_in items fold = rows_below items fold (length items)
+abbrev pub row_places : List PictureItem → ℕ → List ℕ
+row_places items fold = row_places_below items fold (length items)

@@ -1,13 +1,13 @@
 //! A whole session whose answers are dropped.
-ghost use Rattle.ga_text.specs.Output.{WritesText, ReadsAndWrites, ReadsOnAndWrites};
+ghost use Rattle.ga_text.specs.Output.{WritesText, ReadsAndWrites, ReadsAheadAndWrites};
 ghost use Rattle.std.specs.Prelude.{◌-◌};
-ghost use Rattle.ga_text.specs.Input.{IsWithin, input_limit};
-ghost use Rattle.ga_explorer.specs.Opening.{image_of};
-ghost use Rattle.ga_picture.specs.Following.{FollowsTo, Declines};
+ghost use Rattle.ga_text.specs.Input.{IsWithinInputLimit, input_limit};
+ghost use Rattle.ga_explorer.specs.Opening.{image_text_of};
+ghost use Rattle.ga_picture.specs.Following.{IsSilentSessionResult, WritesRefusal};
 ghost use Rattle.ga_picture.specs.inner.{Goes, Ends};
 
 use super::silent::SilentSession;
-use ga_console::{Status, serve, status_of};
+use ga_console::{Status, serve_commands, status_of};
 use ga_display::refusal_text;
 use ga_explorer::{Explorer, open_lab};
 use ga_lab::LabFault;
@@ -30,7 +30,7 @@ pub fn run_silent_session<R: Read, W: Write, E: Write>(
     chip: Option<Vec<u8>>,
     limit: u32,
 ) -> Result<Explorer, Status>
-    ensures { ReadsAndWrites (λ read rest text. FollowsTo (image_of chip) limit read rest text result)
+    ensures { ReadsAndWrites (λ read rest text. IsSilentSessionResult (image_text_of chip) limit read rest text result)
         (R.remaining reader.old) (R.remaining reader.new) (W.contents writer.old) (W.contents writer.new) }
 {
     let mut input = Input::new();
@@ -48,8 +48,8 @@ fn follow<R: Read, W: Write>(
     writer: &mut W,
     explorer: Explorer,
 ) -> Result<Explorer, Status>
-    requires { IsWithin input.old }
-    ensures { ReadsOnAndWrites input.old.bytes (λ read rest text. Goes (input_limit - input.old.taken) explorer read rest text result)
+    requires { IsWithinInputLimit input.old }
+    ensures { ReadsAheadAndWrites input.old.bytes (λ read rest text. Goes (input_limit - input.old.taken) explorer read rest text result)
         (R.remaining reader.old) (R.remaining reader.new) (W.contents writer.old) (W.contents writer.new) }
 {
     let mut session = SilentSession {
@@ -57,7 +57,7 @@ fn follow<R: Read, W: Write>(
         short: false,
     };
     let mut said = Writer::new(writer);
-    let ending = serve(alloc, input, reader, &mut said, &mut session);
+    let ending = serve_commands(alloc, input, reader, &mut said, &mut session);
     match status_of(ending) {
         Status::Done => reached(writer, session),
         _ => Err(Status::StreamFault),
@@ -76,7 +76,7 @@ fn reached<W: Write>(writer: &mut W, session: SilentSession) -> Result<Explorer,
 
 /// Writes a refusal.
 pub(crate) fn write_refusal<W: Write>(writer: &mut W, fault: LabFault) -> Status
-    ensures { WritesText (λ text. Declines fault text result) (W.contents writer.old) (W.contents writer.new) }
+    ensures { WritesText (λ text. WritesRefusal fault text result) (W.contents writer.old) (W.contents writer.new) }
 {
     match write_all(writer, refusal_text(fault)) {
         Ok(()) => Status::ImageRefused,

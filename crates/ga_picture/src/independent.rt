@@ -6,14 +6,14 @@ ghost use Rattle.ga_grid.specs.Grid.{neighbour_of};
 ghost use Rattle.ga_event.specs.Touches.{neighbours};
 ghost use Rattle.ga_causal.specs.Dependence.{cause_touches, is_marked};
 ghost use Rattle.ga_causal.specs.inner.{any_of};
-ghost use Rattle.ga_picture.specs.Items.{actor, items_of};
-ghost use Rattle.ga_picture.specs.Drawing.{IsByItself, told_nodes};
+ghost use Rattle.ga_picture.specs.Items.{actor, picture_items};
+ghost use Rattle.ga_picture.specs.Drawing.{IsIndependentNode, independent_nodes_of};
 ghost use Rattle.ga_picture.specs.inner.{AreKnownBetween, ArePlainAs, known_in, AreTallied, HasFew, HasJoined, IsHeld, is_look, is_loose_by, works_loose, works_joined};
 
-use crate::item::{EventFacts, PictureItem, actor, is_pass, item_at};
-use crate::view::View;
-use ga_causal::{Memory, Nodes};
-use ga_grid::{NODES, NodeId, neighbour};
+use crate::item::{EventFacts, PictureItem, actor, is_pass, picture_item_at};
+use crate::view::PictureView;
+use ga_causal::{Memory, NodeSet};
+use ga_grid::{CHIP_NODES, NodeId, neighbour};
 use ga_ports::Side;
 use std::alloc::Global;
 
@@ -32,22 +32,27 @@ pub(crate) struct NodeActivity {
     /// How many events a node makes.
     steps: [u32; 144],
     /// Whether an event touches a node.
-    touched: Nodes,
+    touched: NodeSet,
     /// Whether a node has to be drawn for an event.
-    held: Nodes,
+    held: NodeSet,
     /// Whether a node looks by an event.
-    looking: Nodes,
+    looking: NodeSet,
 }
 
 /// What the events from one place on and up to another are like.
-pub(crate) fn tally_of(facts: EventFacts<'_>, view: View, from: usize, to: usize) -> NodeActivity
+pub(crate) fn tally_of(
+    facts: EventFacts<'_>,
+    view: PictureView,
+    from: usize,
+    to: usize,
+) -> NodeActivity
     requires { AreKnownBetween facts from to }
     ensures { (ready : ℕ → Bool) → ArePlainAs ready facts.entry →
-        AreTallied (items_of (known_in facts.entry ready) view from to) result }
+        AreTallied (picture_items (known_in facts.entry ready) view from to) result }
 {
     let mut tally = NodeActivity::new();
     'events: for place in from..to {
-        tally.add(&item_at(facts, view, place));
+        tally.add(&picture_item_at(facts, view, place));
     }
     tally
 }
@@ -59,10 +64,10 @@ impl NodeActivity {
         ensures few { HasFew result 0 }
     {
         NodeActivity {
-            steps: [0; NODES],
-            touched: Nodes::none(),
-            held: Nodes::none(),
-            looking: Nodes::none(),
+            steps: [0; CHIP_NODES],
+            touched: NodeSet::none(),
+            held: NodeSet::none(),
+            looking: NodeSet::none(),
         }
     }
 
@@ -96,14 +101,14 @@ impl NodeActivity {
     }
 
     /// The nodes that work by themselves, beside nodes of which that can't be said.
-    pub(crate) fn by_itself(&self) -> [bool; 144]
+    pub(crate) fn independent_nodes(&self) -> [bool; 144]
         ensures { (items : List PictureItem) → AreTallied items self.now → All IsHeld items →
-            (n : ℕ) → IsTrue (is_marked result n) ↔ IsByItself items n }
+            (n : ℕ) → IsTrue (is_marked result n) ↔ IsIndependentNode items n }
     {
         if self.has_joined() {
             self.loose_nodes()
         } else {
-            [false; NODES]
+            [false; CHIP_NODES]
         }
     }
 
@@ -112,8 +117,8 @@ impl NodeActivity {
         ensures size { length result ≡ 144 }
         ensures exact { (n : ℕ) → n < 144 → is_marked result n ≡ works_loose self.now n }
     {
-        let mut loose = [false; NODES];
-        'nodes: for number in 0..NODES as u8 {
+        let mut loose = [false; CHIP_NODES];
+        'nodes: for number in 0..CHIP_NODES as u8 {
             loose[number as usize] = self.works_loose(NodeId::new(number));
         }
         loose
@@ -124,7 +129,7 @@ impl NodeActivity {
         ensures some { result ≡ true → HasJoined self.now }
         ensures none { result ≡ false → (n : ℕ) → n < 144 → works_joined self.now n ≡ false }
     {
-        'nodes: for number in 0..NODES as u8 {
+        'nodes: for number in 0..CHIP_NODES as u8 {
             if self.works_joined(NodeId::new(number)) {
                 return true;
             }
@@ -161,10 +166,10 @@ impl NodeActivity {
         alone: &[bool; 144],
     ) -> Result<Vec<IndependentNode>, Memory>
         ensures { (items : List PictureItem) → AreTallied items self.now →
-            IfOk result (λ told. told.items ≡ told_nodes items (is_marked alone.now)) }
+            IfOk result (λ told. told.items ≡ independent_nodes_of items (is_marked alone.now)) }
     {
         let mut told = Vec::new(alloc);
-        'nodes: for number in 0..NODES as u8 {
+        'nodes: for number in 0..CHIP_NODES as u8 {
             if alone[number as usize] {
                 told.push(IndependentNode {
                     node: NodeId::new(number),
@@ -178,7 +183,7 @@ impl NodeActivity {
 
 /// Whether a neighbour of a node is one of these nodes.
 #[tactic(auto, using(ga_causal::proofs::Oldest::any_neighbours))]
-fn has_beside(nodes: &Nodes, node: NodeId) -> bool
+fn has_beside(nodes: &NodeSet, node: NodeId) -> bool
     ensures { result ≡ list_any (is_marked nodes.now) (neighbours node.number) }
 {
     let right = has_on(nodes, node, Side::Right);
@@ -189,7 +194,7 @@ fn has_beside(nodes: &Nodes, node: NodeId) -> bool
 }
 
 /// Whether the neighbour on a side is one of these nodes.
-fn has_on(nodes: &Nodes, node: NodeId, side: Side) -> bool
+fn has_on(nodes: &NodeSet, node: NodeId, side: Side) -> bool
     ensures { result ≡ any_of (is_marked nodes.now) (neighbour_of node.number side) }
 {
     match neighbour(node, side) {

@@ -1,14 +1,14 @@
 //! The kept events as a picture takes them.
 
 ghost use Rattle.std.specs.Prelude.{◌≡◌, ◌≤◌, ◌<◌, ◌&&◌, ◌||◌, not, ℕ, Bool, false, length, map, is_some, slice_index_or, IfOk, if◌then◌else◌};
-ghost use Rattle.ga_event.specs.Apply.{is_number};
-ghost use Rattle.ga_causal.specs.Dependence.{is_marked, is_a_pass, cause_touches};
-ghost use Rattle.ga_picture.specs.Items.{actor, is_plain_at, is_asked_step, is_asked_shade, is_narrow, is_left_out, holds_node, item_of, item_at, items_of, is_plain};
+ghost use Rattle.ga_event.specs.Apply.{equals_some};
+ghost use Rattle.ga_causal.specs.Dependence.{is_marked, is_transfer_event, cause_touches};
+ghost use Rattle.ga_picture.specs.Items.{actor, is_plain_at, is_requested_step, is_requested_shade, shows_requested_only, is_left_out, requires_node_line, picture_item, picture_item_at, picture_items, is_plain};
 ghost use Rattle.ga_picture.specs.Drawing.{without_nodes};
 ghost use Rattle.ga_picture.specs.inner.{ArePlainAs, known_in};
 
 use crate::shade::Shade;
-use crate::view::View;
+use crate::view::PictureView;
 use ga_causal::{Cause, Memory};
 use ga_event::Event;
 use ga_grid::NodeId;
@@ -50,7 +50,7 @@ pub(crate) fn items(
     alloc: Global,
     facts: EventFacts<'_>,
     alone: &[bool; 144],
-    view: View,
+    view: PictureView,
     from: usize,
     to: usize,
 ) -> Result<Vec<PictureItem>, Memory>
@@ -59,11 +59,11 @@ pub(crate) fn items(
     requires shades { length facts.shades.now ≡ length facts.events.now }
     requires plain { length facts.plain.now ≡ length facts.events.now }
     ensures { (ready : ℕ → Bool) → ArePlainAs ready facts.entry →
-        IfOk result (λ items. items.items ≡ map (without_nodes (is_marked alone.now)) (items_of (known_in facts.entry ready) view from to)) }
+        IfOk result (λ items. items.items ≡ map (without_nodes (is_marked alone.now)) (picture_items (known_in facts.entry ready) view from to)) }
 {
     let mut items = Vec::with_capacity(alloc, to - from)?;
     'events: for place in from..to {
-        items.push(without_nodes(alone, item_at(facts, view, place)))?;
+        items.push(without_nodes(alone, picture_item_at(facts, view, place)))?;
     }
     Ok(items)
 }
@@ -85,32 +85,32 @@ fn without_nodes(alone: &[bool; 144], item: PictureItem) -> PictureItem
 
 /// The event at a place.
 #[inline(always)]
-pub(crate) fn item_at(facts: EventFacts<'_>, view: View, place: usize) -> PictureItem
+pub(crate) fn picture_item_at(facts: EventFacts<'_>, view: PictureView, place: usize) -> PictureItem
     requires within { place < length facts.events.now }
     requires shades { length facts.shades.now ≡ length facts.events.now }
     requires plain { length facts.plain.now ≡ length facts.events.now }
     ensures { (ready : ℕ → Bool) →
         slice_index_or facts.entry.plain.now place false ≡ is_plain_at ready facts.entry.events.now place →
-        result ≡ item_at (known_in facts.entry ready) view place }
+        result ≡ picture_item_at (known_in facts.entry ready) view place }
 {
     let cause = facts.events[place];
     let shade = facts.shades[place];
     let plain = facts.plain[place];
     let named = is_named(facts.cause, facts.rewind, place);
     let silent = has(facts.idle, actor(cause.event));
-    item_of(view, cause, shade, plain, named, silent)
+    picture_item(view, cause, shade, plain, named, silent)
 }
 
 /// An event of a colour, which is plain, one of the steps that are asked for, or of an idle node.
-fn item_of(
-    view: View,
+fn picture_item(
+    view: PictureView,
     cause: Cause,
     shade: Shade,
     plain: bool,
     named: bool,
     idle: bool,
 ) -> PictureItem
-    ensures { result ≡ item_of view cause shade plain named idle }
+    ensures { result ≡ picture_item view cause shade plain named idle }
 {
     let out = is_left_out(view, idle, shade);
     PictureItem {
@@ -118,13 +118,13 @@ fn item_of(
         shade,
         plain: plain && (!named && !out),
         out,
-        holds: holds_node(view, cause, shade, plain),
+        holds: requires_node_line(view, cause, shade, plain),
     }
 }
 
 /// Whether an event's node has to be drawn for it.
-fn holds_node(view: View, cause: Cause, shade: Shade, plain: bool) -> bool
-    ensures { result ≡ holds_node view cause shade plain }
+fn requires_node_line(view: PictureView, cause: Cause, shade: Shade, plain: bool) -> bool
+    ensures { result ≡ requires_node_line view cause shade plain }
 {
     let works = plain || (cause.look && !view.races);
     view.all || (is_asked(view, shade) || (is_pass(cause.event) || !works))
@@ -132,7 +132,7 @@ fn holds_node(view: View, cause: Cause, shade: Shade, plain: bool) -> bool
 
 /// Whether an event is a pass.
 pub(crate) fn is_pass(event: Event) -> bool
-    ensures { result ≡ is_a_pass event }
+    ensures { result ≡ is_transfer_event event }
 {
     match event {
         Event::Own(_) => false,
@@ -141,23 +141,23 @@ pub(crate) fn is_pass(event: Event) -> bool
 }
 
 /// Whether an event is left out.
-fn is_left_out(view: View, idle: bool, shade: Shade) -> bool
+fn is_left_out(view: PictureView, idle: bool, shade: Shade) -> bool
     ensures { result ≡ is_left_out view idle shade }
 {
     let asked = is_asked(view, shade);
-    (!view.all && (idle && !asked)) || (is_narrow(view) && !asked)
+    (!view.all && (idle && !asked)) || (shows_requested_only(view) && !asked)
 }
 
 /// Whether one of the steps that are asked for is at this place.
 fn is_named(cause: Option<u32>, rewind: Option<u32>, place: usize) -> bool
-    ensures { result ≡ is_asked_step cause rewind place }
+    ensures { result ≡ is_requested_step cause rewind place }
 {
     is_at(cause, place) || is_at(rewind, place)
 }
 
 /// Whether a step is at this place.
 fn is_at(step: Option<u32>, place: usize) -> bool
-    ensures { result ≡ is_number step place }
+    ensures { result ≡ equals_some step place }
 {
     match step {
         Some(at) => at as usize == place,
@@ -173,15 +173,15 @@ fn has(nodes: &[bool; 144], node: NodeId) -> bool
 }
 
 /// Whether what isn't asked for is left out.
-fn is_narrow(view: View) -> bool
-    ensures { result ≡ is_narrow view }
+fn shows_requested_only(view: PictureView) -> bool
+    ensures { result ≡ shows_requested_only view }
 {
     view.only && (view.cause.is_some() || view.rewind.is_some())
 }
 
 /// Whether the colour is that of a requested event.
-fn is_asked(view: View, shade: Shade) -> bool
-    ensures { result ≡ is_asked_shade view shade }
+fn is_asked(view: PictureView, shade: Shade) -> bool
+    ensures { result ≡ is_requested_shade view shade }
 {
     match shade {
         Shade::Red => true,
@@ -234,7 +234,7 @@ fn is_plain(event: Cause, runs: &[bool; 144]) -> bool
 
 /// Which nodes ran before an event: that of an own event, and none of a pass.
 fn go_back(runs: &mut [bool; 144], event: Cause)
-    ensures { (n : ℕ) → is_marked runs.new n ≡ (if cause_touches event n then not (is_a_pass event.event) else is_marked runs.old n) }
+    ensures { (n : ℕ) → is_marked runs.new n ≡ (if cause_touches event n then not (is_transfer_event event.event) else is_marked runs.old n) }
 {
     match event.event {
         Event::Own(node) => runs[node.index()] = true,

@@ -1,10 +1,10 @@
 //! The content of an event's group: its title, its mark or arrow, and its label.
 
-use crate::placing::{Drawing, Shape};
+use crate::placing::{Drawing, DrawnShape};
 use crate::text::x_of;
 use ga_event::Made;
 use ga_grid::{NodeId, neighbour};
-use ga_node::Kind;
+use ga_node::OwnEventKind;
 use ga_ports::Side;
 use ga_slots::Op;
 use ga_word::Word18;
@@ -15,11 +15,11 @@ pub(crate) fn push_event(
     text: &mut String,
     drawing: &Drawing,
     y: u64,
-    shape: Shape,
+    shape: DrawnShape,
     made: Option<&Made>,
 ) -> Result<(), AllocError> {
     match shape {
-        Shape::Mark {
+        DrawnShape::Mark {
             line,
             look,
             steps,
@@ -31,7 +31,7 @@ pub(crate) fn push_event(
                 push_own(text, drawing, (x_of(line), y), look, made)
             }
         }
-        Shape::Arrow { from, to, .. } => push_pass(text, x_of(from), x_of(to), y, made),
+        DrawnShape::Arrow { from, to, .. } => push_pass(text, x_of(from), x_of(to), y, made),
     }
 }
 
@@ -59,7 +59,7 @@ fn push_own(
             };
             push_label(text, x, base, *step, *kind)
         }
-        _ => push_mark(text, x, y, Kind::Run(0)),
+        _ => push_mark(text, x, y, OwnEventKind::Run(0)),
     }
 }
 
@@ -124,19 +124,23 @@ fn push_pass(
 }
 
 /// What an own event was, in a word: an opcode by its name.
-fn word_of(kind: Kind) -> &'static str {
+fn word_of(kind: OwnEventKind) -> &'static str {
     match kind {
-        Kind::Fetch => "fetch",
-        Kind::Run(code) => Op::from_code(code % 32).name(),
-        Kind::Wait => "wait",
-        Kind::Stop(_) => "stop",
+        OwnEventKind::Fetch => "fetch",
+        OwnEventKind::Run(code) => Op::from_code(code % 32).name(),
+        OwnEventKind::Wait => "wait",
+        OwnEventKind::Stop(_) => "stop",
     }
 }
 
 /// Adds the text of an own event as a session prints it, with the opcode's name.
-fn push_own_title(text: &mut String, made: Option<&Made>, kind: Kind) -> Result<(), AllocError> {
+fn push_own_title(
+    text: &mut String,
+    made: Option<&Made>,
+    kind: OwnEventKind,
+) -> Result<(), AllocError> {
     match (made, kind) {
-        (Some(made), Kind::Run(_)) => {
+        (Some(made), OwnEventKind::Run(_)) => {
             let word = word_of(kind);
             write!(text, "<title>{made} {word}</title>")
         }
@@ -153,12 +157,12 @@ fn push_title(text: &mut String, made: Option<&Made>) -> Result<(), AllocError> 
 }
 
 /// Adds the mark of an own event: a ring for a fetch, a dot for an opcode, a bar for a wait, a cross for a stop.
-fn push_mark(text: &mut String, x: u32, y: u64, kind: Kind) -> Result<(), AllocError> {
+fn push_mark(text: &mut String, x: u32, y: u64, kind: OwnEventKind) -> Result<(), AllocError> {
     match kind {
-        Kind::Fetch => write!(text, "<circle class='o' cx='{x}' cy='{y}' r='3.4'/>"),
-        Kind::Run(_) => write!(text, "<circle class='f' cx='{x}' cy='{y}' r='3'/>"),
-        Kind::Wait => write!(text, "<path d='M{x} {y}m-6 0h12'/>"),
-        Kind::Stop(_) => write!(text, "<path d='M{x} {y}m-5 -5l10 10m-10 0l10 -10'/>"),
+        OwnEventKind::Fetch => write!(text, "<circle class='o' cx='{x}' cy='{y}' r='3.4'/>"),
+        OwnEventKind::Run(_) => write!(text, "<circle class='f' cx='{x}' cy='{y}' r='3'/>"),
+        OwnEventKind::Wait => write!(text, "<path d='M{x} {y}m-6 0h12'/>"),
+        OwnEventKind::Stop(_) => write!(text, "<path d='M{x} {y}m-5 -5l10 10m-10 0l10 -10'/>"),
     }
 }
 
@@ -168,12 +172,12 @@ fn push_label(
     x: u32,
     base: u64,
     step: u32,
-    kind: Kind,
+    kind: OwnEventKind,
 ) -> Result<(), AllocError> {
     let left = x.saturating_add(10);
     let word = word_of(kind);
     match kind {
-        Kind::Stop(number) => write!(
+        OwnEventKind::Stop(number) => write!(
             text,
             "<text x='{left}' y='{base}'>{step} stop {number}</text>"
         ),

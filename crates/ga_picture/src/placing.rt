@@ -3,9 +3,9 @@
 ghost use Rattle.std.specs.Prelude.{◌==◌, ◌&&◌, ◌||◌, not, ◌≡◌, ◌<◌, ◌^◌, ℕ, true, false, List, length, slice_index, IfOk, ◌+◌};
 ghost use Rattle.std.specs.List.{All};
 ghost use Rattle.ga_grid.specs.declared.node_id.NodeId.{NodeId};
-ghost use Rattle.ga_picture.specs.Drawing.{IsDrawing, IsShape, IsLineOf, shade_of, steps_drawn};
-ghost use Rattle.ga_picture.specs.Items.{drawn_with, IsSimple};
-ghost use Rattle.ga_causal.specs.Dependence.{cause_touches, is_a_pass};
+ghost use Rattle.ga_picture.specs.Drawing.{IsDrawing, IsDrawnShape, IsLineOf, shade_of, represented_events};
+ghost use Rattle.ga_picture.specs.Items.{folded_count, IsPlainOwnEvent};
+ghost use Rattle.ga_causal.specs.Dependence.{cause_touches, is_transfer_event};
 
 use crate::independent::IndependentNode;
 use crate::item::{PictureItem, actor};
@@ -19,7 +19,7 @@ use std::alloc::Global;
 
 /// What is drawn of an event, on lines that are named by their index from the left, 0 for the first.
 #[derive(Clone, Copy, PartialEq, Eq)]
-pub enum Shape {
+pub enum DrawnShape {
     /// `steps` own events of a node, one or a run of them: a mark on its line. A look also has dashed lines to the lines of the
     /// node's neighbours.
     Mark {
@@ -36,14 +36,14 @@ pub enum Shape {
     },
 }
 
-impl Shape {
+impl DrawnShape {
     /// In which colour a shape is drawn.
     pub fn shade(&self) -> Shade
         ensures { result ≡ shade_of self.now }
     {
         match self {
-            Shape::Mark { shade, .. } => *shade,
-            Shape::Arrow { shade, .. } => *shade,
+            DrawnShape::Mark { shade, .. } => *shade,
+            DrawnShape::Arrow { shade, .. } => *shade,
         }
     }
 }
@@ -54,7 +54,7 @@ pub struct PictureRow {
     /// The place of its event among those that are looked at, of many the first.
     pub place: u32,
     /// What is drawn.
-    pub shape: Shape,
+    pub shape: DrawnShape,
 }
 
 /// A picture of some events.
@@ -65,7 +65,7 @@ pub struct Drawing {
     /// What is drawn, from top to bottom.
     pub rows: Vec<PictureRow>,
     /// The nodes that work by themselves, which have no lines.
-    pub by_itself: Vec<IndependentNode>,
+    pub independent_nodes: Vec<IndependentNode>,
 }
 
 /// Lays out the events that are not left out: each has a row, but a run of at least `fold` events of a node has one together,
@@ -76,12 +76,12 @@ pub struct Drawing {
 pub fn layout(
     alloc: Global,
     items: &[PictureItem],
-    by_itself: Vec<IndependentNode>,
+    independent_nodes: Vec<IndependentNode>,
     fold: u32,
 ) -> Result<Drawing, Memory>
-    requires simple { All IsSimple items.now }
+    requires simple { All IsPlainOwnEvent items.now }
     ensures drawn { IfOk result (λ drawing. IsDrawing items.now fold drawing) }
-    ensures told { IfOk result (λ drawing. drawing.by_itself.items ≡ by_itself.items) }
+    ensures told { IfOk result (λ drawing. drawing.independent_nodes.items ≡ independent_nodes.items) }
 {
     if items.len() > u32::MAX as usize {
         return Err(Memory);
@@ -93,7 +93,7 @@ pub fn layout(
     'items: for place in 0..items.len() {
         let item = items[place];
         let before = runs.count(actor(item.cause.event), item.shade);
-        let steps = drawn_with(&item, before, behind[place], fold);
+        let steps = folded_count(&item, before, behind[place], fold);
         if has_row(&item, steps, before) {
             rows.push(PictureRow {
                 place: place as u32,
@@ -105,7 +105,7 @@ pub fn layout(
     Ok(Drawing {
         lines: nodes,
         rows,
-        by_itself,
+        independent_nodes,
     })
 }
 
@@ -117,9 +117,9 @@ fn has_row(item: &PictureItem, steps: u32, before: u32) -> bool
 }
 
 /// How many events are drawn together with this one, which has `before` events of its run before and `behind` after it.
-fn drawn_with(item: &PictureItem, before: u32, behind: u32, fold: u32) -> u32
+fn folded_count(item: &PictureItem, before: u32, behind: u32, fold: u32) -> u32
     requires { before + behind + 1 < 2 ^ 32 }
-    ensures { result ≡ drawn_with item.now before behind fold }
+    ensures { result ≡ folded_count item.now before behind fold }
 {
     let run = before + behind + 1;
     if item.plain && (fold != 0 && run >= fold) {
@@ -130,21 +130,21 @@ fn drawn_with(item: &PictureItem, before: u32, behind: u32, fold: u32) -> u32
 }
 
 /// What is drawn of an event, or of a run that it begins.
-fn shape_of(item: &PictureItem, steps: u32, columns: &[u8; 144]) -> Shape
+fn shape_of(item: &PictureItem, steps: u32, columns: &[u8; 144]) -> DrawnShape
     ensures drawn { (lines : List NodeId) →
-        ((n : ℕ) → cause_touches item.now.cause n ≡ true → IsLineOf lines (slice_index columns.now n) n) → IsShape item.now.cause lines result }
+        ((n : ℕ) → cause_touches item.now.cause n ≡ true → IsLineOf lines (slice_index columns.now n) n) → IsDrawnShape item.now.cause lines result }
     ensures shaded { shade_of result ≡ item.now.shade }
-    ensures steps { is_a_pass item.now.cause.event ≡ false → steps_drawn result ≡ steps }
-    ensures one { is_a_pass item.now.cause.event ≡ true → steps_drawn result ≡ 1 }
+    ensures steps { is_transfer_event item.now.cause.event ≡ false → represented_events result ≡ steps }
+    ensures one { is_transfer_event item.now.cause.event ≡ true → represented_events result ≡ 1 }
 {
     match item.cause.event {
-        Event::Own(node) => Shape::Mark {
+        Event::Own(node) => DrawnShape::Mark {
             line: columns[node.index()],
             look: item.cause.look,
             steps,
             shade: item.shade,
         },
-        Event::Pass { writer, reader, .. } => Shape::Arrow {
+        Event::Pass { writer, reader, .. } => DrawnShape::Arrow {
             from: columns[writer.index()],
             to: columns[reader.index()],
             shade: item.shade,

@@ -1,9 +1,9 @@
 //! Marks of races, and the content of their groups.
 
 ghost use Rattle.std.specs.Prelude.{◌≡◌, ◌+◌, ◌==◌, ◌++◌, ◌<◌, ◌^◌, length, IfOk, OnOk};
-ghost use Rattle.ga_picture.specs.Picture.{step_of, row_from, mark_at, mark_of_race, marks_of};
+ghost use Rattle.ga_picture.specs.Picture.{step_of_race, row_index_from, race_mark_at_row, mark_of_race, all_race_marks};
 
-use crate::placing::{Drawing, PictureRow, Shape};
+use crate::placing::{Drawing, DrawnShape, PictureRow};
 use crate::text::{x_of, y_of};
 use ga_causal::{Cause, Memory, position_of_step};
 use ga_grid::NodeId;
@@ -39,14 +39,14 @@ pub(crate) struct VisibleRows<'k> {
 
 /// A mark for each of these passes and looks whose event has a row.
 #[tactic(auto, using(crate::proofs::Laid::marked_next, crate::proofs::Laid::marked_all))]
-pub(crate) fn marks_of(
+pub(crate) fn all_race_marks(
     alloc: Global,
     shown: VisibleRows<'_>,
     races: &[Race],
     readings: &[LookRace],
 ) -> Result<Vec<RaceMark>, Memory>
     requires { length shown.events.now < 2 ^ 32 }
-    ensures { IfOk result (λ marks. marks.items ≡ marks_of shown.entry.events.now shown.entry.start shown.entry.rows.now races.now readings.now) }
+    ensures { IfOk result (λ marks. marks.items ≡ all_race_marks shown.entry.events.now shown.entry.start shown.entry.rows.now races.now readings.now) }
 {
     let mut marks = Vec::new(alloc);
     'races: for race in races {
@@ -64,7 +64,7 @@ fn add(marks: &mut Vec<RaceMark>, shown: VisibleRows<'_>, what: RacingStep) -> R
     ensures { OnOk result (marks.new.items ≡ marks.old.items
         ++ mark_of_race shown.entry.events.now shown.entry.start shown.entry.rows.now what) }
 {
-    let (node, step) = step_of(&what);
+    let (node, step) = step_of_race(&what);
     match position_of_step(shown.events, node, step) {
         Some(place) => add_at(marks, what, row_of(shown.rows, shown.start, place)),
         None => Ok(()),
@@ -73,7 +73,7 @@ fn add(marks: &mut Vec<RaceMark>, shown: VisibleRows<'_>, what: RacingStep) -> R
 
 /// Adds the mark of a step at a row, where there is one.
 fn add_at(marks: &mut Vec<RaceMark>, what: RacingStep, row: Option<usize>) -> Result<(), Memory>
-    ensures { OnOk result (marks.new.items ≡ marks.old.items ++ mark_at what row) }
+    ensures { OnOk result (marks.new.items ≡ marks.old.items ++ race_mark_at_row what row) }
 {
     if let Some(row) = row {
         marks.push(RaceMark { row, what })?;
@@ -82,8 +82,8 @@ fn add_at(marks: &mut Vec<RaceMark>, what: RacingStep, row: Option<usize>) -> Re
 }
 
 /// The step that could have come out otherwise.
-fn step_of(what: &RacingStep) -> (NodeId, u32)
-    ensures { result ≡ step_of what.now }
+fn step_of_race(what: &RacingStep) -> (NodeId, u32)
+    ensures { result ≡ step_of_race what.now }
 {
     match what {
         RacingStep::Pass(race) => (race.reader, race.step),
@@ -94,7 +94,7 @@ fn step_of(what: &RacingStep) -> (NodeId, u32)
 /// The index of the row of the event at a place, where it has one.
 #[tactic(auto, using(crate::proofs::Laid::row_next, crate::proofs::Laid::row_none))]
 fn row_of(rows: &[PictureRow], start: u32, place: u32) -> Option<usize>
-    ensures { result ≡ row_from rows.now start place 0 }
+    ensures { result ≡ row_index_from rows.now start place 0 }
 {
     'rows: for at in 0..rows.len() {
         let row = rows[at];
@@ -153,8 +153,8 @@ fn push_label(text: &mut String, at: (u32, u64), what: &RacingStep) -> Result<()
 /// The line of a row's event, from the left: for a pass the reader's.
 fn line_of(row: &PictureRow) -> u32 {
     match row.shape {
-        Shape::Mark { line, .. } => x_of(line),
-        Shape::Arrow { to, .. } => x_of(to),
+        DrawnShape::Mark { line, .. } => x_of(line),
+        DrawnShape::Arrow { to, .. } => x_of(to),
     }
 }
 
@@ -218,10 +218,14 @@ fn push_look_title(text: &mut String, reading: &LookRace) -> Result<(), AllocErr
     text.push_str("<title>")?;
     push_step(text, reading.node, reading.step)?;
     write!(text, " reads {word:06x}, or {other:06x} ")?;
-    text.push_str(if reading.early { "behind " } else { "before " })?;
+    text.push_str(if reading.is_look_first {
+        "behind "
+    } else {
+        "before "
+    })?;
     push_step(text, reading.neighbour, reading.change)?;
     text.push_str(": rewind ")?;
-    if reading.early {
+    if reading.is_look_first {
         push_step(text, reading.node, reading.step)?;
     } else {
         push_step(text, reading.neighbour, reading.change)?;

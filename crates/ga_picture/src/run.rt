@@ -1,10 +1,10 @@
 //! A whole session that ends with a picture.
 ghost use Rattle.ga_text.specs.Output.{WritesText, ReadsAndWrites};
-ghost use Rattle.ga_explorer.specs.Opening.{image_of};
-ghost use Rattle.ga_picture.specs.Following.{Draws, Pictures, IsOut};
+ghost use Rattle.ga_explorer.specs.Opening.{image_text_of};
+ghost use Rattle.ga_picture.specs.Following.{WritesSessionPicture, WritesPicture, IsPictureOutput};
 
 use super::follow::{run_silent_session, write_refusal};
-use super::view::{View, picture};
+use super::view::{PictureView, picture};
 use ga_console::Status;
 use ga_lab::Lab;
 use ga_text::write_all;
@@ -20,12 +20,12 @@ pub fn draw_session<R: Read, W: Write, E: Write>(
     reader: &mut R,
     writer: &mut W,
     errors: &mut E,
-    view: View,
+    view: PictureView,
     chip: Option<Vec<u8>>,
     limit: u32,
 ) -> Status
     // Where the streams tell their bytes: what was read, and what was written for it by the status.
-    ensures { ReadsAndWrites (λ read rest text. Draws (image_of chip) limit view read rest text result)
+    ensures { ReadsAndWrites (λ read rest text. WritesSessionPicture (image_text_of chip) limit view read rest text result)
         (R.remaining reader.old) (R.remaining reader.new) (W.contents writer.old) (W.contents writer.new) }
 {
     match run_silent_session(alloc, reader, writer, errors, chip, limit) {
@@ -35,8 +35,8 @@ pub fn draw_session<R: Read, W: Write, E: Write>(
 }
 
 /// Writes the picture of a lab's kept events, or why there is none.
-fn write_picture<W: Write>(writer: &mut W, lab: &mut Lab, view: View) -> Status
-    ensures { WritesText (λ text. Pictures lab.old view text result) (W.contents writer.old) (W.contents writer.new) }
+fn write_picture<W: Write>(writer: &mut W, lab: &mut Lab, view: PictureView) -> Status
+    ensures { WritesText (λ text. WritesPicture lab.old view text result) (W.contents writer.old) (W.contents writer.new) }
 {
     match picture(lab, view) {
         Ok(text) => write_out(writer, text.as_bytes()),
@@ -46,7 +46,7 @@ fn write_picture<W: Write>(writer: &mut W, lab: &mut Lab, view: View) -> Status
 
 /// Writes a picture.
 fn write_out<W: Write>(writer: &mut W, picture: &[u8]) -> Status
-    ensures { WritesText (λ text. IsOut picture.now text result) (W.contents writer.old) (W.contents writer.new) }
+    ensures { WritesText (λ text. IsPictureOutput picture.now text result) (W.contents writer.old) (W.contents writer.new) }
 {
     match write_all(writer, picture) {
         Ok(()) => Status::Done,

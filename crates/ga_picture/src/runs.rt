@@ -4,13 +4,13 @@ ghost use Rattle.std.specs.Prelude.{◌≡◌, ◌<◌, ◌+◌, ◌^◌, ℕ, i
 ghost use Rattle.std.specs.List.{All};
 ghost use Rattle.ga_causal.specs.Equivalence.{observes};
 ghost use Rattle.ga_picture.specs.declared.shade.Shade.{Shade};
-ghost use Rattle.ga_picture.specs.Items.{run_with, behind_at, is_same_run, IsSimple};
+ghost use Rattle.ga_picture.specs.Items.{run_length_with, run_events_after, is_same_shade, IsPlainOwnEvent};
 ghost use Rattle.ga_picture.specs.inner.{count_in, HasNodes, AreWithin};
 
 use crate::item::{PictureItem, actor};
 use crate::shade::Shade;
-use ga_causal::{Memory, Nodes};
-use ga_grid::{NODES, NodeId};
+use ga_causal::{Memory, NodeSet};
+use ga_grid::{CHIP_NODES, NodeId};
 use std::alloc::Global;
 
 /// The run of each node that reaches up to the event gone past last: how many events it has, and in which colour.
@@ -27,8 +27,8 @@ impl Runs {
         ensures none { AreWithin result 0 }
     {
         Runs {
-            counts: [0; NODES],
-            shades: [Shade::Black; NODES],
+            counts: [0; CHIP_NODES],
+            shades: [Shade::Black; CHIP_NODES],
         }
     }
 
@@ -49,9 +49,9 @@ impl Runs {
     pub(crate) fn pass(&mut self, item: &PictureItem)
         requires sizes { HasNodes self.old }
         requires few { AreWithin self.old 4294967294 }
-        requires simple { IsSimple item.now }
+        requires simple { IsPlainOwnEvent item.now }
         ensures sizes { HasNodes self.new }
-        ensures counts { (n : ℕ) (shade : Shade) → n < 144 → count_in self.new n shade ≡ run_with n shade item.now (count_in self.old n shade) }
+        ensures counts { (n : ℕ) (shade : Shade) → n < 144 → count_in self.new n shade ≡ run_length_with n shade item.now (count_in self.old n shade) }
         ensures within { (bound : ℕ) → AreWithin self.old bound → AreWithin self.new (bound + 1) }
     {
         if item.plain {
@@ -83,9 +83,9 @@ impl Runs {
         ensures shades { self.new.shades ≡ self.old.shades }
         ensures within { (bound : ℕ) → AreWithin self.old bound → AreWithin self.new bound }
     {
-        let mut seen = Nodes::none();
-        seen.add_seen(&item.cause);
-        'nodes: for number in 0..NODES as u8 {
+        let mut seen = NodeSet::none();
+        seen.add_observed(&item.cause);
+        'nodes: for number in 0..CHIP_NODES as u8 {
             if seen.has(NodeId::new(number)) {
                 self.counts[number as usize] = 0;
             }
@@ -95,7 +95,7 @@ impl Runs {
 
 /// Whether two colours are one.
 fn is_same(one: Shade, other: Shade) -> bool
-    ensures { result ≡ is_same_run one other }
+    ensures { result ≡ is_same_shade one other }
 {
     match (one, other) {
         (Shade::Black, Shade::Black) => true,
@@ -108,10 +108,10 @@ fn is_same(one: Shade, other: Shade) -> bool
 /// For each event, the number of later events in its run.
 pub(crate) fn runs_behind(alloc: Global, items: &[PictureItem]) -> Result<Vec<u32>, Memory>
     requires few { length items.now < 2 ^ 32 }
-    requires simple { All IsSimple items.now }
+    requires simple { All IsPlainOwnEvent items.now }
     ensures size { IfOk result (λ counts. length counts.items ≡ length items.now) }
     ensures exact { IfOk result (λ counts. (place : ℕ) → place < length items.now →
-        slice_index counts.items place ≡ behind_at items.now place) }
+        slice_index counts.items place ≡ run_events_after items.now place) }
 {
     let mut runs = Runs::new();
     let mut counts = vec![in alloc; 0; items.len()]?;

@@ -1,10 +1,10 @@
 //! The colours of the events.
 
 ghost use Rattle.std.specs.Prelude.{◌≡◌, ◌↔◌, ◌<◌, ℕ, true, false, length, Option, Some, IfOk, IfSome, IsTrue, slice_index_or};
-ghost use Rattle.ga_picture.specs.Drawing.{AreShades, Goes, DependsOnPlace};
+ghost use Rattle.ga_picture.specs.Drawing.{AreShades, Goes, IsCauseOfStep};
 ghost use Rattle.ga_causal.specs.Dependence.{DependsOn};
 
-use ga_causal::{Cause, Memory, Nodes, closure};
+use ga_causal::{Cause, Memory, NodeSet, find_dependents};
 use std::alloc::Global;
 
 /// How an event is emphasized. In print each colour has its weight too.
@@ -44,7 +44,7 @@ fn leading(alloc: Global, events: &[Cause], cause: Option<u32>) -> Result<Vec<bo
     requires { IfSome cause (λ place. place < length events.now) }
     ensures size { IfOk result (λ flags. length flags.items ≡ length events.now) }
     ensures exact { IfOk result (λ flags.
-        (j : ℕ) → j < length events.now → (IsTrue (slice_index_or flags.items j false) ↔ DependsOnPlace events.now cause j)) }
+        (j : ℕ) → j < length events.now → (IsTrue (slice_index_or flags.items j false) ↔ IsCauseOfStep events.now cause j)) }
 {
     match cause {
         Some(place) => find_causes(alloc, events, place),
@@ -60,7 +60,7 @@ fn going(alloc: Global, events: &[Cause], rewind: Option<u32>) -> Result<Vec<boo
         (j : ℕ) → j < length events.now → (IsTrue (slice_index_or flags.items j false) ↔ Goes events.now rewind j)) }
 {
     match rewind {
-        Some(place) => closure(alloc, events, place),
+        Some(place) => find_dependents(alloc, events, place),
         None => Ok(vec![in alloc; false; events.len()]?),
     }
 }
@@ -90,15 +90,15 @@ pub fn find_causes(alloc: Global, events: &[Cause], place: u32) -> Result<Vec<bo
 {
     let last = place as usize;
     let mut flags = vec![in alloc; false; events.len()]?;
-    let mut wanted = Nodes::none();
+    let mut wanted = NodeSet::none();
     flags[last] = true;
-    wanted.add_seen(&events[last]);
+    wanted.add_observed(&events[last]);
     'events: for back in 0..last {
         let at = last - 1 - back;
         let event = &events[at];
         if wanted.is_touched_by(event) {
             flags[at] = true;
-            wanted.add_seen(event);
+            wanted.add_observed(event);
         }
     }
     Ok(flags)

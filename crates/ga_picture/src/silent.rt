@@ -3,14 +3,14 @@ ghost use Rattle.std.specs.Prelude.{◌≡◌, ◌↔◌, [], Some, Ok, IsTrue};
 ghost use Rattle.ga_text.specs.Lines.{Bytes};
 ghost use Rattle.ga_text.specs.Output.{IsWritten};
 ghost use Rattle.ga_console.specs.declared.responder.LineAction.TheVariants.{Quit};
-ghost use Rattle.ga_console.specs.Session.{Turns};
+ghost use Rattle.ga_console.specs.Session.{AnswersOrQuits};
 ghost use Rattle.ga_console.specs.inner.Run.{AnswersCommand};
-ghost use Rattle.ga_picture.specs.Following.{IsShort};
+ghost use Rattle.ga_picture.specs.Following.{IsOutOfMemoryAnswer};
 ghost use Rattle.ga_picture.specs.inner.{Notes};
-ghost use Rattle.ga_explorer.specs.Answers.{Explores};
+ghost use Rattle.ga_explorer.specs.Answers.{AnswersExplorerLine};
 
 use ga_console::{Command, LineAction, Responder};
-use ga_display::advised_text;
+use ga_display::advised_refusal_text;
 use ga_explorer::Explorer;
 use ga_lab::{Lab, LabFault};
 use ga_text::{WriteError, WriteResult, Writer};
@@ -29,7 +29,7 @@ pub struct SilentSession {
 impl SilentSession {
     /// Answers a line, of which at least the first 201 bytes are here, and says nothing.
     fn hear(&mut self, alloc: Global, line: &[u8]) -> LineAction
-        ensures heard { (answer : Bytes) × Turns Explores self.old.explorer line.now self.new.explorer (Ok result) answer
+        ensures heard { (answer : Bytes) × AnswersOrQuits AnswersExplorerLine self.old.explorer line.now self.new.explorer (Ok result) answer
             × Notes self.old.short answer self.new.short }
         ensures ends { result ≡ Quit → self.new.short ≡ self.old.short }
     {
@@ -50,7 +50,7 @@ impl SilentSession {
 
     /// Answers a line that spells a command of the debugger, and says nothing.
     fn hear_command(&mut self, alloc: Global, command: Command)
-        ensures { (answer : Bytes) × AnswersCommand Explores self.old.explorer command self.new.explorer answer
+        ensures { (answer : Bytes) × AnswersCommand AnswersExplorerLine self.old.explorer command self.new.explorer answer
             × Notes self.old.short answer self.new.short }
     {
         let mut answer = Vec::new(alloc);
@@ -75,13 +75,13 @@ impl SilentSession {
 
 /// Whether an answer reports out of memory.
 fn is_short(answer: &[u8]) -> bool
-    ensures { IsTrue result ↔ IsShort answer.now }
+    ensures { IsTrue result ↔ IsOutOfMemoryAnswer answer.now }
 {
     if answer.len() < 7 {
         return false;
     }
     let (front, _) = answer.split_at(7);
-    front == b"memory ".as_slice() || answer == advised_text(LabFault::Memory)
+    front == b"memory ".as_slice() || answer == advised_refusal_text(LabFault::Memory)
 }
 
 impl Responder for SilentSession {

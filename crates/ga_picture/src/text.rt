@@ -2,16 +2,16 @@
 
 ghost use Rattle.std.specs.Prelude.{◌≡◌, IfOk, string_bytes};
 ghost use Rattle.ga_picture.specs.Drawing.{shade_of};
-ghost use Rattle.ga_picture.specs.Picture.{IsSvg, IsGroup, AreGroups, class_of, race_class, race_classes};
+ghost use Rattle.ga_picture.specs.Picture.{IsSvg, IsSvgGroup, AreSvgGroups, shade_group_tag, race_group_tag, race_group_tags};
 ghost use Rattle.ga_picture.specs.inner.{BeginsSvg};
 
 use crate::marks::push_event;
-use crate::placing::{Drawing, Shape};
+use crate::placing::{Drawing, DrawnShape};
 use crate::race_marks::{RaceMark, push_race};
 use crate::shade::Shade;
 use ga_event::Made;
 use ga_grid::NodeId;
-use ga_node::Kind;
+use ga_node::OwnEventKind;
 use std::alloc::{AllocError, Global};
 
 /// The widths left of the first line and right of the last one, and between two lines.
@@ -87,7 +87,7 @@ fn events(alloc: Global, drawing: &Drawing, mades: &[Made]) -> Result<String, Al
 
 /// A group for each mark.
 fn races(alloc: Global, drawing: &Drawing, marks: &[RaceMark]) -> Result<String, AllocError>
-    ensures { IfOk result (λ text. AreGroups (race_classes marks.now) (string_bytes text)) }
+    ensures { IfOk result (λ text. AreSvgGroups (race_group_tags marks.now) (string_bytes text)) }
 {
     let mut text = String::new(alloc);
     'marks: for mark in marks {
@@ -102,10 +102,10 @@ fn group(
     alloc: Global,
     drawing: &Drawing,
     row: usize,
-    shape: Shape,
+    shape: DrawnShape,
     made: Option<&Made>,
 ) -> Result<String, AllocError>
-    ensures { IfOk result (λ text. IsGroup (class_of (shade_of shape)) (string_bytes text)) }
+    ensures { IfOk result (λ text. IsSvgGroup (shade_group_tag (shade_of shape)) (string_bytes text)) }
 {
     let mut text = String::with_capacity(alloc, EVENT_ROOM)?;
     text.push_str(class(shape.shade()))?;
@@ -118,7 +118,7 @@ fn group(
 
 /// What is drawn of a step that could have come out otherwise.
 fn race_group(alloc: Global, drawing: &Drawing, mark: &RaceMark) -> Result<String, AllocError>
-    ensures { IfOk result (λ text. IsGroup race_class (string_bytes text)) }
+    ensures { IfOk result (λ text. IsSvgGroup race_group_tag (string_bytes text)) }
 {
     let mut text = String::new(alloc);
     text.push_str("<g class='c'>")?;
@@ -131,7 +131,7 @@ fn race_group(alloc: Global, drawing: &Drawing, mark: &RaceMark) -> Result<Strin
 
 /// Begins a group of this colour.
 fn class(shade: Shade) -> &'static str
-    ensures { result.now ≡ class_of shade }
+    ensures { result.now ≡ shade_group_tag shade }
 {
     match shade {
         Shade::Black => "<g class='k'>",
@@ -155,7 +155,12 @@ fn head(alloc: Global, drawing: &Drawing, mades: &[Made]) -> Result<String, Allo
     let mut text = String::new(alloc);
     let width = x_of(drawing.lines.len().min(144) as u8).saturating_add(20);
     let height = y_of(drawing.rows.len());
-    let whole = y_of(drawing.rows.len().saturating_add(drawing.by_itself.len()));
+    let whole = y_of(
+        drawing
+            .rows
+            .len()
+            .saturating_add(drawing.independent_nodes.len()),
+    );
     write!(
         text,
         "<svg xmlns='http://www.w3.org/2000/svg' viewBox='0 0 {width} {whole}' width='{width}' height='{whole}'>\n"
@@ -172,7 +177,7 @@ fn head(alloc: Global, drawing: &Drawing, mades: &[Made]) -> Result<String, Allo
 
 /// Adds a line for each independent node.
 fn push_foot(text: &mut String, drawing: &Drawing) -> Result<(), AllocError> {
-    for (at, lone) in drawing.by_itself.iter().enumerate() {
+    for (at, lone) in drawing.independent_nodes.iter().enumerate() {
         let y = y_of(drawing.rows.len().saturating_add(at)).saturating_add(4);
         let (name, steps) = (lone.node.yxx(), lone.steps);
         let word = if steps == 1 { "step" } else { "steps" };
@@ -205,17 +210,17 @@ fn push_tracks(
     let mut tracks = Tracks::new(alloc, drawing.lines.len())?;
     for (at, row) in drawing.rows.iter().enumerate() {
         match row.shape {
-            Shape::Mark { line, .. } => {
+            DrawnShape::Mark { line, .. } => {
                 let waits = matches!(
                     mades.get(row.place as usize),
                     Some(Made::Own {
-                        kind: Kind::Wait,
+                        kind: OwnEventKind::Wait,
                         ..
                     })
                 );
                 tracks.own(text, line, y_of(at), waits)?;
             }
-            Shape::Arrow { from, to, .. } => {
+            DrawnShape::Arrow { from, to, .. } => {
                 tracks.passed(text, from, y_of(at))?;
                 tracks.passed(text, to, y_of(at))?;
             }

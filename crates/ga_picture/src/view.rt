@@ -5,21 +5,21 @@ ghost use Rattle.std.specs.List.{All};
 ghost use Rattle.ga_grid.specs.Chip.{records_of};
 ghost use Rattle.ga_causal.specs.Dependence.{is_marked};
 ghost use Rattle.ga_lab.specs.Machine.{causes_of};
-ghost use Rattle.ga_race_detector.specs.Races.{races_asked};
-ghost use Rattle.ga_race_detector.specs.Readings.{IsTold, NoneMissed};
-ghost use Rattle.ga_picture.specs.Picture.{IsPicture, IsPictureText, AreRaceMarks, is_ready, all_stand, stands_for, place_for};
-ghost use Rattle.ga_picture.specs.Items.{items_of};
+ghost use Rattle.ga_race_detector.specs.Races.{requested_races};
+ghost use Rattle.ga_race_detector.specs.Readings.{IsReportedLookRace, HasAllNearLookRaces};
+ghost use Rattle.ga_picture.specs.Picture.{IsPicture, IsPictureText, AreRaceMarks, is_ready, has_requested_steps, has_optional_step, optional_step_place};
+ghost use Rattle.ga_picture.specs.Items.{picture_items};
 ghost use Rattle.ga_picture.specs.inner.{AreItemsOf, AreKnownBetween, AreListed, ArePlainAs, known_in};
 
 use crate::independent::{IndependentNode, tally_of};
 use crate::item::{EventFacts, PictureItem, items, plain_events};
 use crate::placing::{Drawing, PictureRow, layout};
-use crate::race_marks::{RaceMark, VisibleRows, marks_of};
+use crate::race_marks::{RaceMark, VisibleRows, all_race_marks};
 use crate::shade::shades;
 use crate::text::svg;
 use ga_causal::{Cause, Memory, position_of_step};
 use ga_event::Event;
-use ga_grid::{Chip, NODES, NodeId};
+use ga_grid::{CHIP_NODES, Chip, NodeId};
 use ga_lab::{Lab, LabFault, Made};
 use ga_race_detector::{Races, find_races};
 use ga_scheduler::find_idle;
@@ -30,7 +30,7 @@ pub type Step = (NodeId, u32);
 
 /// What a picture is to show of the kept events.
 #[derive(Clone, Copy, PartialEq, Eq)]
-pub struct View {
+pub struct PictureView {
     /// The step whose causes stand out.
     pub cause: Option<Step>,
     /// The step of which all is marked that a rollback would take.
@@ -53,12 +53,12 @@ pub struct View {
 ///
 /// # Errors
 /// `NoStep`, where a node has no such step; then `Memory`.
-pub fn draw(lab: &Lab, view: View) -> Result<Drawing, LabFault>
+pub fn draw(lab: &Lab, view: PictureView) -> Result<Drawing, LabFault>
     ensures ok { IfOk result (λ drawing. IsPicture lab.now view drawing) }
-    ensures refused { (result ≡ Err LabFault.NoStep) ↔ (all_stand lab.now view ≡ false) }
+    ensures refused { (result ≡ Err LabFault.NoStep) ↔ (has_requested_steps lab.now view ≡ false) }
     ensures err { IfErr result (λ why. (why ≡ LabFault.NoStep) ⊎ (why ≡ LabFault.Memory)) }
 {
-    if !all_stand(lab, view) {
+    if !has_requested_steps(lab, view) {
         return Err(LabFault::NoStep);
     }
     match drawn(lab, view) {
@@ -71,13 +71,13 @@ pub fn draw(lab: &Lab, view: View) -> Result<Drawing, LabFault>
 ///
 /// # Errors
 /// `NoStep`, where a node has no such step; then `Memory`.
-pub fn picture(lab: &mut Lab, view: View) -> Result<String, LabFault>
+pub fn picture(lab: &mut Lab, view: PictureView) -> Result<String, LabFault>
     ensures ok { IfOk result (λ text. IsPictureText lab.old view (string_bytes text)) }
-    ensures refused { (result ≡ Err LabFault.NoStep) ↔ (all_stand lab.old view ≡ false) }
+    ensures refused { (result ≡ Err LabFault.NoStep) ↔ (has_requested_steps lab.old view ≡ false) }
     ensures err { IfErr result (λ why. (why ≡ LabFault.NoStep) ⊎ (why ≡ LabFault.Memory)) }
     ensures same { lab.new ≡ lab.old }
 {
-    if !all_stand(lab, view) {
+    if !has_requested_steps(lab, view) {
         return Err(LabFault::NoStep);
     }
     match written(lab, view) {
@@ -87,15 +87,15 @@ pub fn picture(lab: &mut Lab, view: View) -> Result<String, LabFault>
 }
 
 /// Whether the steps that are asked for stand.
-fn all_stand(lab: &Lab, view: View) -> bool
-    ensures { result ≡ all_stand lab.now view }
+fn has_requested_steps(lab: &Lab, view: PictureView) -> bool
+    ensures { result ≡ has_requested_steps lab.now view }
 {
     stands(lab, view.cause) && stands(lab, view.rewind)
 }
 
 /// Whether a step exists, if one is given.
 fn stands(lab: &Lab, step: Option<Step>) -> bool
-    ensures { result ≡ stands_for lab.now step }
+    ensures { result ≡ has_optional_step lab.now step }
 {
     match step {
         Some(step) => lab.has_step(step),
@@ -104,15 +104,18 @@ fn stands(lab: &Lab, step: Option<Step>) -> bool
 }
 
 /// The picture of the kept events of a lab.
-fn drawn(lab: &Lab, view: View) -> Result<Drawing, Memory>
+fn drawn(lab: &Lab, view: PictureView) -> Result<Drawing, Memory>
     ensures { IfOk result (λ drawing. IsPicture lab.now view drawing) }
 {
     let causes = kept_causes(lab)?;
     let alloc = *causes.allocator();
     let idle = find_idle(lab);
     let ready = ready_nodes(lab.chip());
-    let Listed { items, by_itself } = items_of(alloc, causes.as_slice(), &idle, ready, view)?;
-    layout(alloc, items.as_slice(), by_itself, view.fold)
+    let Listed {
+        items,
+        independent_nodes,
+    } = picture_items(alloc, causes.as_slice(), &idle, ready, view)?;
+    layout(alloc, items.as_slice(), independent_nodes, view.fold)
 }
 
 /// The kept events, so few that a place has room in 32 bits.
@@ -140,7 +143,7 @@ fn ready_nodes(chip: &Chip) -> [bool; 144]
 }
 
 /// The text of the picture of a lab's kept events.
-fn written(lab: &mut Lab, view: View) -> Result<String, Memory>
+fn written(lab: &mut Lab, view: PictureView) -> Result<String, Memory>
     ensures ok { IfOk result (λ text. IsPictureText lab.old view (string_bytes text)) }
     ensures same { lab.new ≡ lab.old }
 {
@@ -159,7 +162,11 @@ fn written(lab: &mut Lab, view: View) -> Result<String, Memory>
 }
 
 /// The marks of the steps that could have come out otherwise, where they are asked for.
-fn race_marks(lab: &mut Lab, rows: &[PictureRow], view: View) -> Result<Vec<RaceMark>, Memory>
+fn race_marks(
+    lab: &mut Lab,
+    rows: &[PictureRow],
+    view: PictureView,
+) -> Result<Vec<RaceMark>, Memory>
     ensures ok { IfOk result (λ marks. AreRaceMarks lab.old view rows.now marks.items) }
     ensures same { lab.new ≡ lab.old }
 {
@@ -174,7 +181,7 @@ fn race_marks(lab: &mut Lab, rows: &[PictureRow], view: View) -> Result<Vec<Race
         start: span(causes.len(), view).0 as u32,
         rows,
     };
-    marks_of(
+    all_race_marks(
         alloc,
         shown,
         races.list.as_slice(),
@@ -184,9 +191,9 @@ fn race_marks(lab: &mut Lab, rows: &[PictureRow], view: View) -> Result<Vec<Race
 
 /// The passes and looks that could have come out otherwise.
 fn found_races(alloc: Global, lab: &mut Lab) -> Result<Races, Memory>
-    ensures list { IfOk result (λ races. races.list.items ≡ races_asked lab.old None) }
-    ensures readings { IfOk result (λ races. All (IsTold lab.old None) races.readings.items) }
-    ensures none_missed { IfOk result (λ races. NoneMissed lab.old None races.readings.items) }
+    ensures list { IfOk result (λ races. races.list.items ≡ requested_races lab.old None) }
+    ensures readings { IfOk result (λ races. All (IsReportedLookRace lab.old None) races.readings.items) }
+    ensures none_missed { IfOk result (λ races. HasAllNearLookRaces lab.old None races.readings.items) }
     ensures same { lab.new ≡ lab.old }
 {
     match find_races(alloc, lab, None) {
@@ -199,19 +206,19 @@ fn found_races(alloc: Global, lab: &mut Lab) -> Result<Races, Memory>
 #[derive(Drop)]
 struct Listed {
     items: Vec<PictureItem>,
-    by_itself: Vec<IndependentNode>,
+    independent_nodes: Vec<IndependentNode>,
 }
 
 /// These events as the picture takes them.
-fn items_of(
+fn picture_items(
     alloc: Global,
     events: &[Cause],
     idle: &[bool; 144],
     ready: [bool; 144],
-    view: View,
+    view: PictureView,
 ) -> Result<Listed, Memory>
     requires { length events.now < 2 ^ 32 }
-    ensures { IfOk result (λ listed. AreItemsOf events.now (is_marked ready) (is_marked idle.now) view listed.items.items listed.by_itself.items) }
+    ensures { IfOk result (λ listed. AreItemsOf events.now (is_marked ready) (is_marked idle.now) view listed.items.items listed.independent_nodes.items) }
 {
     let cause = place(events, view.cause);
     let rewind = place(events, view.rewind);
@@ -233,23 +240,26 @@ fn items_of(
 fn listed_between(
     alloc: Global,
     facts: EventFacts<'_>,
-    view: View,
+    view: PictureView,
     from: usize,
     to: usize,
 ) -> Result<Listed, Memory>
     requires { AreKnownBetween facts from to }
     ensures { (ready : ℕ → Bool) → ArePlainAs ready facts.entry →
-        IfOk result (λ listed. AreListed (items_of (known_in facts.entry ready) view from to) listed.items.items listed.by_itself.items) }
+        IfOk result (λ listed. AreListed (picture_items (known_in facts.entry ready) view from to) listed.items.items listed.independent_nodes.items) }
 {
     let tally = tally_of(facts, view, from, to);
-    let alone = tally.by_itself();
+    let alone = tally.independent_nodes();
     let items = items(alloc, facts, &alone, view, from, to)?;
-    let by_itself = tally.told(alloc, &alone)?;
-    Ok(Listed { items, by_itself })
+    let independent_nodes = tally.told(alloc, &alone)?;
+    Ok(Listed {
+        items,
+        independent_nodes,
+    })
 }
 
 /// The first and the last event to draw, of `count`.
-fn span(count: usize, view: View) -> (usize, usize)
+fn span(count: usize, view: PictureView) -> (usize, usize)
     ensures end { result.1 ≡ min count view.to }
     ensures start { result.0 ≡ min result.1 view.from }
     ensures order { result.0 ≤ result.1 }
@@ -262,7 +272,7 @@ fn span(count: usize, view: View) -> (usize, usize)
 /// The place of a step, where one is given.
 fn place(events: &[Cause], step: Option<Step>) -> Option<u32>
     requires { length events.now < 2 ^ 32 }
-    ensures value { result ≡ place_for events.now step }
+    ensures value { result ≡ optional_step_place events.now step }
     ensures within { IfSome result (λ place. place < length events.now) }
 {
     match step {
@@ -284,13 +294,13 @@ fn reports(
     to: usize,
 ) -> Result<Vec<Made>, LabFault> {
     let mut told = Vec::new(alloc);
-    for number in 0..NODES as u8 {
+    for number in 0..CHIP_NODES as u8 {
         let history = lab.history(NodeId::new(number))?;
         if told.push(history).is_err() {
             return Err(LabFault::Memory);
         }
     }
-    let mut steps = [0u32; NODES];
+    let mut steps = [0u32; CHIP_NODES];
     let mut reports = Vec::new(alloc);
     for (place, event) in events.iter().take(to).enumerate() {
         let (node, step) = next_step(&mut steps, event.event);

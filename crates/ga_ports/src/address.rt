@@ -1,7 +1,7 @@
 //! What an address names, and the address after it.
 
 ghost use Rattle.std.specs.Prelude.{◌≡◌, ◌<◌, ◌^◌};
-ghost use Rattle.ga_ports.specs.Address.{classified, advanced, IsTarget};
+ghost use Rattle.ga_ports.specs.Address.{address_target, advanced_address, IsTarget};
 
 use crate::side::PortSet;
 use ga_word::Word18;
@@ -23,8 +23,8 @@ pub enum Target {
 
 /// What the low nine bits of a number name.
 #[inline(always)]
-pub fn classify(address: u32) -> Target
-    ensures value { result ≡ classified address }
+pub fn classify_address(address: u32) -> Target
+    ensures value { result ≡ address_target address }
     ensures in_range { IsTarget result }
 {
     let low = address % 512;
@@ -47,7 +47,7 @@ pub fn classify(address: u32) -> Target
 /// P after a word was read or written there: its low seven bits count up. An address with bit 8 set (a port, `io`, or
 /// nothing) stays.
 pub fn advance_p(p: u32) -> u32
-    ensures value { result ≡ advanced p }
+    ensures value { result ≡ advanced_address p }
     ensures in_range { p < 2 ^ 10 → result < 2 ^ 10 }
 {
     if p / 256 % 2 == 1 {
@@ -59,7 +59,7 @@ pub fn advance_p(p: u32) -> u32
 
 /// A after a word was read or written there, by the rule for P on A's own bits (this project's own choice).
 pub fn advance_a(a: Word18) -> Word18
-    ensures { result ≡ advanced a }
+    ensures { result ≡ advanced_address a }
 {
-    Word18::truncated(advance_p(a.get()))
+    Word18::from_low_bits(advance_p(a.get()))
 }

@@ -1,7 +1,7 @@
 //! Sets of sides as texts.
 
 ghost use Rattle.std.specs.Prelude.{◌≡◌, ◌≤◌, IfSome};
-ghost use Rattle.ga_ports.specs.Address.{side_value, set_number};
+ghost use Rattle.ga_ports.specs.Address.{side_value, parse_side_set};
 
 /// The value of a letter of a set: the value of its side, or 0 for a hyphen.
 fn side_value(name: u8, value: u32, byte: u8) -> Option<u32>
@@ -18,9 +18,9 @@ fn side_value(name: u8, value: u32, byte: u8) -> Option<u32>
 }
 
 /// The number of a set of sides: right 8, down 4, left 2, up 1.
-#[tactic(auto, unfolding(crate::specs::Address::set_number))]
-pub fn set_number(text: &[u8]) -> Option<u32>
-    ensures value { result ≡ set_number text.now }
+#[tactic(auto, unfolding(crate::specs::Address::parse_side_set))]
+pub fn parse_side_set(text: &[u8]) -> Option<u32>
+    ensures value { result ≡ parse_side_set text.now }
     ensures in_range { IfSome result (λ sides. sides ≤ 15) }
 {
     match text {

@@ -1,7 +1,7 @@
 //! Sides, and the sets of sides that an address names.
 
 ghost use Rattle.std.specs.Prelude.{◌≡◌, ◌<◌, ◌≤◌, IfSome, IsSome, ◌↔◌, IsTrue};
-ghost use Rattle.ga_ports.specs.Address.{only, has_side, side_of, matched, IsSingle};
+ghost use Rattle.ga_ports.specs.Address.{only, has_side, side_of, sides_match, IsSingleSide};
 
 use std::marker::Model;
 
@@ -96,7 +96,7 @@ impl PortSet {
     pub fn single(self) -> Option<Side>
         ensures found { IfSome result (λ side. self ≡ only side) }
         ensures side { IfSome result (λ side. side ≡ side_of self) }
-        ensures none { IsSome result ↔ IsSingle self }
+        ensures none { IsSome result ↔ IsSingleSide self }
     {
         match self.sides {
             8 => Some(Side::Right),
@@ -110,7 +110,7 @@ impl PortSet {
 
 /// Whether a node that waits reading a set and one that waits writing a side can transfer over a side.
 pub fn matches(reads: PortSet, writes: Side, side: Side) -> bool
-    ensures { result ≡ matched reads writes side }
+    ensures { result ≡ sides_match reads writes side }
 {
     reads.has(side) && writes == side
 }

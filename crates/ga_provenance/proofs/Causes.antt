@@ -13,34 +13,34 @@ use Rattle.ga_event.specs.declared.event.Event.TheVariants as event
 use Rattle.ga_event.specs.declared.event.Cause.{Cause}
 use Rattle.ga_event.specs.declared.made.Made.{Made}
 use Rattle.ga_event.specs.declared.made.Made.TheVariants as made
-use Rattle.ga_event.specs.Apply.{EventOutcome, Did, Carried, after, refusal_of, cause_of, when_allowed, run}
+use Rattle.ga_event.specs.Apply.{EventOutcome, ExecutedOwn, PassedWord, after, refusal_of, cause_of, some_if_allowed, run}
 use Rattle.ga_event.specs.Touches.{touches}
-use Rattle.ga_event.specs.Told.{causes_told, steps_of, made_after, mades_after}
+use Rattle.ga_event.specs.Told.{causes_without_outcomes, count_steps, made_event_after, made_events_after}
 use Rattle.ga_causal.specs.Dependence.{cause_touches, position_of_step, DependsOn, itself, through}
 use Rattle.ga_causal.proofs.LocalHistories.{place-first, place-touched, place-other}
-use Rattle.ga_lab.specs.Machine.{State, told_by, outcomes_of_kept, causes_of, history_of}
+use Rattle.ga_lab.specs.Machine.{State, outcomes_of_run, outcomes_of_kept, causes_of, history_of}
 use Rattle.ga_provenance.proofs.Ran.{empty_some}
 use Rattle.ga_provenance.specs.declared.asked.QueriedPart.{QueriedPart}
-use Rattle.ga_provenance.specs.declared.asked.QueriedPart.TheVariants.{Behind, Before, Nothing}
+use Rattle.ga_provenance.specs.declared.asked.QueriedPart.TheVariants.{PartAfter, PartBefore, Nothing}
 use Rattle.ga_provenance.specs.declared.value.Value.{Value}
-use Rattle.ga_provenance.specs.Origins.{node_after, value_of_step, flow_at, moved_at, told_part, origin_from, origin_of}
-use Rattle.ga_provenance.specs.Asked.{told_asked, value_asked, queried_value}
+use Rattle.ga_provenance.specs.Origins.{node_after, value_of_step, flow_at, moved_source_part_at, listed_part, origin_after_steps, origin_of}
+use Rattle.ga_provenance.specs.Asked.{queried_event_part, queried_part_value, queried_value}
 use Rattle.std.proofs.lemmas.List.Elements.{All-nil, All-cons, All-append, All-map, All-head, All-tail}
 use Rattle.ga_causal.proofs.Places.{stands_exact, older_step}
-use Rattle.ga_event.specs.declared.flow.part.Part.{Part}
-use Rattle.ga_event.specs.declared.flow.part.Part.TheVariants.{Data, Return, Ram, Rom, A, B, P, I, Io, Carry, Slot, Wait, Stop, Outside}
+use Rattle.ga_event.specs.declared.flow.part.NodePart.{NodePart}
+use Rattle.ga_event.specs.declared.flow.part.NodePart.TheVariants.{Data, Return, Ram, Rom, A, B, P, I, Io, Carry, Slot, Wait, Stop, Outside}
 use Rattle.ga_event.specs.Flow.{Flow, Same, From, top}
 use Rattle.ga_provenance.specs.declared.listing.ProvenanceRow.{ProvenanceRow}
-use Rattle.ga_provenance.specs.Rows.{sender_in, source_values, sources_from, sources_of, row_at, made_row, below, AreRows, all, again, next, cut, IsCause, IsNamedFor}
+use Rattle.ga_provenance.specs.Rows.{sent_value, source_values, value_sources_after, value_sources, row_at_depth, origin_row, below, AreProvenanceRows, all, again, next, cut, IsCause, IsLoadedOrCause}
 
 -- ---- a node's step that is a pass is a step of the writer too
 
 -- the outcome of an event is of its kind
 is_fit : Event → EventOutcome → Bool
-is_fit (event.Own node) (Did kind) = true
-is_fit (event.Own node) (Carried word) = false
-is_fit (event.Pass w r side) (Did kind) = false
-is_fit (event.Pass w r side) (Carried word) = true
+is_fit (event.Own node) (ExecutedOwn kind) = true
+is_fit (event.Own node) (PassedWord word) = false
+is_fit (event.Pass w r side) (ExecutedOwn kind) = false
+is_fit (event.Pass w r side) (PassedWord word) = true
 
 abbrev AreFit : List (Cause × EventOutcome) → Type 0
 AreFit [] = Unit {0}
@@ -62,7 +62,7 @@ run_fits chip (x ∷ xs) done e = at_first (refusal_of chip x) (λ rest is. run_
     at_rest (Some rest) f fit h = subst AreFit (ap (λ (z : List NodeRecord × List (Cause × EventOutcome)). z.1) (same_Some _ _ h)) (fit, f rest refl)
 
     at_first : (why : Option NotReady) → ((rest : List NodeRecord × List (Cause × EventOutcome)) → run (after chip x).0 xs ≡ Some rest → AreFit rest.1) → is_fit x (after chip x).1 ≡ true
-        → option_and_then {U = List NodeRecord × List (Cause × EventOutcome)} (λ first. option_map {U = List NodeRecord × List (Cause × EventOutcome)} (λ rest. (rest.0, (cause_of chip x, first.1) ∷ rest.1)) (run first.0 xs)) (when_allowed why (after chip x)) ≡ Some done
+        → option_and_then {U = List NodeRecord × List (Cause × EventOutcome)} (λ first. option_map {U = List NodeRecord × List (Cause × EventOutcome)} (λ rest. (rest.0, (cause_of chip x, first.1) ∷ rest.1)) (run first.0 xs)) (some_if_allowed why (after chip x)) ≡ Some done
         → AreFit done.1
     at_first None f fit h = at_rest (run (after chip x).0 xs) f fit h
     at_first (Some why) f fit h = absurd (cc)
@@ -70,7 +70,7 @@ run_fits chip (x ∷ xs) done e = at_first (refusal_of chip x) (λ rest is. run_
 told_fits : (s : State) → AreFit (outcomes_of_kept s)
 told_fits s = go (run s.load s.kept) (λ done is. run_fits s.load s.kept done is)
   where
-    go : (o : Option (List NodeRecord × List (Cause × EventOutcome))) → ((done : List NodeRecord × List (Cause × EventOutcome)) → o ≡ Some done → AreFit done.1) → AreFit (told_by o)
+    go : (o : Option (List NodeRecord × List (Cause × EventOutcome))) → ((done : List NodeRecord × List (Cause × EventOutcome)) → o ≡ Some done → AreFit done.1) → AreFit (outcomes_of_run o)
     go None f = tt
     go (Some done) f = f done refl
 
@@ -80,7 +80,7 @@ told_fits s = go (run s.load s.kept) (λ done is. run_fits s.load s.kept done is
 record IsSent (causes : List Cause) (before : List Event) (n k w i : ℕ) : Type 0 where
   place : ℕ
   steps : ℕ
-  number : i ≡ steps_of w before + suc steps
+  number : i ≡ count_steps w before + suc steps
   own : position_of_step causes n (suc k) ≡ Some place
   writers : position_of_step causes w (suc steps) ≡ Some place
 
@@ -91,7 +91,7 @@ own_later c cs n k place touched is = place-touched c cs n k touched ∙ ap (opt
 own_past : (c : Cause) (cs : List Cause) (n k place : ℕ) → cause_touches c n ≡ false → position_of_step cs n (suc k) ≡ Some place → position_of_step (c ∷ cs) n (suc k) ≡ Some (suc place)
 own_past c cs n k place other is = place-other c cs n k other ∙ ap (option_map suc) is
 
-one_more : (before : List Event) (e : Event) (w : ℕ) → steps_of w (before ++ e ∷ []) ≡ steps_of w before + (0 + cond (touches e w) 1 0)
+one_more : (before : List Event) (e : Event) (w : ℕ) → count_steps w (before ++ e ∷ []) ≡ count_steps w before + (0 + cond (touches e w) 1 0)
 one_more before e w = sum_by-append (λ (x : Event). cond (touches x w) 1 0) before (e ∷ [])
 
 -- of the writer, whose steps may be one more
@@ -99,7 +99,7 @@ later : (before : List Event) (c : Cause) (cs : List Cause) (n k j w i : ℕ) �
     → ((place : ℕ) → position_of_step cs n (suc k) ≡ Some place → position_of_step (c ∷ cs) n (suc j) ≡ Some (suc place)) → IsSent (c ∷ cs) before n j w i
 later before c cs n k j w i sent on = go (cause_touches c w) refl (one_more before c.event w)
   where
-    go : (b : Bool) → cause_touches c w ≡ b → steps_of w (before ++ c.event ∷ []) ≡ steps_of w before + (0 + cond b 1 0) → IsSent (c ∷ cs) before n j w i
+    go : (b : Bool) → cause_touches c w ≡ b → count_steps w (before ++ c.event ∷ []) ≡ count_steps w before + (0 + cond b 1 0) → IsSent (c ∷ cs) before n j w i
     go true is steps = record {
       place = suc sent.place;
       steps = suc sent.steps;
@@ -121,34 +121,34 @@ touches_writer w r = ap (λ b. b || ((r == w) || false)) (eq-eqb w w refl)
 -- the first of some events, and those after it
 first_told : (before : List Event) (c : Cause) (cs : List Cause) (t : EventOutcome) (rest : List Made) (n k : ℕ) (w r : NodeId) (i j word : ℕ) (b : Bool) → cause_touches c n ≡ b → is_fit c.event t ≡ true
     → ((h : ℕ) → slice_get rest h ≡ Some (made.Pass w i r j word) → IsSent cs (before ++ c.event ∷ []) n h w.number i)
-    → slice_get ((cond b (option_to_list (made_after before c.event t)) []) ++ rest) k ≡ Some (made.Pass w i r j word) → IsSent (c ∷ cs) before n k w.number i
+    → slice_get ((cond b (option_to_list (made_event_after before c.event t)) []) ++ rest) k ≡ Some (made.Pass w i r j word) → IsSent (c ∷ cs) before n k w.number i
 unfolding is_fit
 first_told before c cs t rest n k w r i j word false other fit after h =
     later before c cs n k k w.number i (after k h) (λ place is. own_past c cs n k place other is)
 first_told before c cs t rest n k w r i j word true touched fit after h = go c.event refl t fit k h
   where
-    go : (e : Event) → c.event ≡ e → (t : EventOutcome) → is_fit e t ≡ true → (k : ℕ) → slice_get (option_to_list (made_after before e t) ++ rest) k ≡ Some (made.Pass w i r j word) → IsSent (c ∷ cs) before n k w.number i
-    go (event.Own node) is (Did kind) fit zero h = absurd (cc)
-    go (event.Own node) is (Did kind) fit (suc k) h = later before c cs n k (suc k) w.number i (after k h) (λ place at. own_later c cs n k place touched at)
-    go (event.Own node) is (Carried other) fit k h = absurd (cc)
-    go (event.Pass from to side) is (Did kind) fit k h = absurd (cc)
-    go (event.Pass from to side) is (Carried other) fit zero h =
+    go : (e : Event) → c.event ≡ e → (t : EventOutcome) → is_fit e t ≡ true → (k : ℕ) → slice_get (option_to_list (made_event_after before e t) ++ rest) k ≡ Some (made.Pass w i r j word) → IsSent (c ∷ cs) before n k w.number i
+    go (event.Own node) is (ExecutedOwn kind) fit zero h = absurd (cc)
+    go (event.Own node) is (ExecutedOwn kind) fit (suc k) h = later before c cs n k (suc k) w.number i (after k h) (λ place at. own_later c cs n k place touched at)
+    go (event.Own node) is (PassedWord other) fit k h = absurd (cc)
+    go (event.Pass from to side) is (ExecutedOwn kind) fit k h = absurd (cc)
+    go (event.Pass from to side) is (PassedWord other) fit zero h =
         let writer : from ≡ w = cc in
-        let number : steps_of from.number before + 1 ≡ i = cc in
+        let number : count_steps from.number before + 1 ≡ i = cc in
         record {
           place = 0;
           steps = 0;
-          number = sym number ∙ ap (λ (z : NodeId). steps_of z.number before + 1) writer;
+          number = sym number ∙ ap (λ (z : NodeId). count_steps z.number before + 1) writer;
           own = place-first c cs n touched;
           writers = place-first c cs w.number (ap (λ z. touches z w.number) is ∙ ap (λ (z : NodeId). touches (event.Pass z to side) w.number) writer ∙ touches_writer w.number to.number);
         }
-    go (event.Pass from to side) is (Carried other) fit (suc k) h = later before c cs n k (suc k) w.number i (after k h) (λ place at. own_later c cs n k place touched at)
+    go (event.Pass from to side) is (PassedWord other) fit (suc k) h = later before c cs n k (suc k) w.number i (after k h) (λ place at. own_later c cs n k place touched at)
 
-sent_behind : (before : List Event) (xs : List (Cause × EventOutcome)) (n k : ℕ) (w r : NodeId) (i j word : ℕ) → AreFit xs → slice_get (mades_after before xs n) k ≡ Some (made.Pass w i r j word)
-    → IsSent (causes_told xs) before n k w.number i
+sent_behind : (before : List Event) (xs : List (Cause × EventOutcome)) (n k : ℕ) (w r : NodeId) (i j word : ℕ) → AreFit xs → slice_get (made_events_after before xs n) k ≡ Some (made.Pass w i r j word)
+    → IsSent (causes_without_outcomes xs) before n k w.number i
 sent_behind before [] n k w r i j word fit h = absurd (empty_some k (made.Pass w i r j word) h)
 sent_behind before (x ∷ xs) n k w r i j word fit h =
-    first_told before x.0 (causes_told xs) x.1 (mades_after (before ++ x.0.event ∷ []) xs n) n k w r i j word (touches x.0.event n) refl fit.0
+    first_told before x.0 (causes_without_outcomes xs) x.1 (made_events_after (before ++ x.0.event ∷ []) xs n) n k w r i j word (touches x.0.event n) refl fit.0
     (λ g at. sent_behind (before ++ x.0.event ∷ []) xs n g w r i j word fit.1 at) h
 
 -- a step that is a pass is step i of the writer, and i isn't 0
@@ -170,20 +170,20 @@ sent_is s n k w r i j word h =
 -- ---- the value that a step selects
 
 pub asked_here : (s : State) (node : NodeId) (step k : ℕ) (told : Made) (before : NodeRecord) (asked : QueriedPart) (value : Option Value) → suc k ≡ step
-    → Some told ≡ slice_get (history_of s node.number) k → before ≡ node_after s node.number k → asked ≡ told_asked told before node.number → value ≡ value_asked node k asked
+    → Some told ≡ slice_get (history_of s node.number) k → before ≡ node_after s node.number k → asked ≡ queried_event_part told before node.number → value ≡ queried_part_value node k asked
     → value ≡ queried_value s node step
 asked_here s node step k told before asked value is tells stood means e =
     e
-    ∙ ap (value_asked node k) (means ∙ ap (λ (n : NodeRecord). told_asked told n node.number) stood)
-    ∙ ap (option_and_then (λ (t : Made). value_asked node k (told_asked t (node_after s node.number k) node.number))) tells
+    ∙ ap (queried_part_value node k) (means ∙ ap (λ (n : NodeRecord). queried_event_part told n node.number) stood)
+    ∙ ap (option_and_then (λ (t : Made). queried_part_value node k (queried_event_part t (node_after s node.number k) node.number))) tells
     ∙ ap (queried_value s node) is
 
 -- it was in the node, after the step or before it
-at_or_before : (node : NodeId) (k : ℕ) (asked : QueriedPart) (value : Value) → value_asked node k asked ≡ Some value → (value.node ≡ node) × (value.step ≤ suc k)
-at_or_before node k (Behind at) value e =
+at_or_before : (node : NodeId) (k : ℕ) (asked : QueriedPart) (value : Value) → queried_part_value node k asked ≡ Some value → (value.node ≡ node) × (value.step ≤ suc k)
+at_or_before node k (PartAfter at) value e =
     let is = same_Some (value_of_step node (suc k) at) value e in
     (sym (ap (λ (z : Value). z.node) is), let t : suc k ≡ value.step = ap (λ (z : Value). z.step) is in omega (arith, t))
-at_or_before node k (Before at) value e =
+at_or_before node k (PartBefore at) value e =
     let is = same_Some (value_of_step node k at) value e in
     (sym (ap (λ (z : Value). z.node) is), let t : k ≡ value.step = ap (λ (z : Value). z.step) is in omega (arith, t))
 at_or_before node k Nothing value e = absurd (cc)
@@ -192,10 +192,10 @@ pub asked_near : (s : State) (node : NodeId) (step : ℕ) (value : Value) → qu
 asked_near s node zero value e = absurd (cc)
 asked_near s node (suc k) value e = go (slice_get (history_of s node.number) k) e
   where
-    go : (o : Option Made) → option_and_then (λ (told : Made). value_asked node k (told_asked told (node_after s node.number k) node.number)) o ≡ Some value
+    go : (o : Option Made) → option_and_then (λ (told : Made). queried_part_value node k (queried_event_part told (node_after s node.number k) node.number)) o ≡ Some value
         → (value.node ≡ node) × (value.step ≤ suc k)
     go None h = absurd (cc)
-    go (Some told) h = at_or_before node k (told_asked told (node_after s node.number k) node.number) value h
+    go (Some told) h = at_or_before node k (queried_event_part told (node_after s node.number k) node.number) value h
 
 joined : (events : List Cause) (a b c : ℕ) → DependsOn events a b → DependsOn events b c → DependsOn events a c
 joined events a b c first itself = first
@@ -219,44 +219,44 @@ earlier_step s asked value other k is node less cause =
       depends = joined (causes_of s) at.0 cause.cause cause.effect (older_step (causes_of s) value.node.number other.step value.step at.0 cause.cause at.1 cause.cause_place less) cause.depends;
     }
 
-pub earlier : (s : State) (asked value other : Value) → other.node ≡ value.node → other.step ≤ value.step → IsNamedFor s asked value → IsNamedFor s asked other
+pub earlier : (s : State) (asked value other : Value) → other.node ≡ value.node → other.step ≤ value.step → IsLoadedOrCause s asked value → IsLoadedOrCause s asked other
 earlier s asked value other node less named = go other.step refl named
   where
-    go : (k : ℕ) → other.step ≡ k → IsNamedFor s asked value → IsNamedFor s asked other
+    go : (k : ℕ) → other.step ≡ k → IsLoadedOrCause s asked value → IsLoadedOrCause s asked other
     go zero is named = inl is
     go (suc k) is (inl none) = absurd (omega (arith, is, less, none))
     go (suc k) is (inr cause) = inr (earlier_step s asked value other k is node less cause)
 
 -- where a value was made
-made_before : (s : State) (node : NodeId) (k : ℕ) (at : Part) → ((origin_from s node k at).node ≡ node) × ((origin_from s node k at).step ≤ k)
+made_before : (s : State) (node : NodeId) (k : ℕ) (at : NodePart) → ((origin_after_steps s node k at).node ≡ node) × ((origin_after_steps s node k at).step ≤ k)
 made_before s node zero at = (refl, omega arith)
-made_before s node (suc k) at = go (moved_at s node.number k at) (made_before s node k)
+made_before s node (suc k) at = go (moved_source_part_at s node.number k at) (made_before s node k)
   where
-    go : (o : Option Part) → ((from : Part) → ((origin_from s node k from).node ≡ node) × ((origin_from s node k from).step ≤ k))
-        → let value : Value = unwrap_or (option_map (origin_from s node k) o) (value_of_step node (suc k) (told_part (flow_at s node.number k at) at)) in (value.node ≡ node) × (value.step ≤ suc k)
+    go : (o : Option NodePart) → ((from : NodePart) → ((origin_after_steps s node k from).node ≡ node) × ((origin_after_steps s node k from).step ≤ k))
+        → let value : Value = unwrap_or (option_map (origin_after_steps s node k) o) (value_of_step node (suc k) (listed_part (flow_at s node.number k at) at)) in (value.node ≡ node) × (value.step ≤ suc k)
     go None before = (refl, omega arith)
     go (Some from) before = let b = before from in (b.0, omega (arith, b.1))
 
-pub named_origin : (s : State) (asked value : Value) → IsNamedFor s asked value → IsNamedFor s asked (origin_of s value)
+pub named_origin : (s : State) (asked value : Value) → IsLoadedOrCause s asked value → IsLoadedOrCause s asked (origin_of s value)
 named_origin s asked value named =
     let before = made_before s value.node value.step value.part in earlier s asked value (origin_of s value) before.0 before.1 named
 
 -- what it came from: parts of the node, and T of the writer
-named_parts : (s : State) (asked value : Value) (k : ℕ) → k ≤ value.step → IsNamedFor s asked value → (parts : List Part) → All (IsNamedFor s asked) (map (value_of_step value.node k) parts)
-named_parts s asked value k less named [] = All-nil (IsNamedFor s asked)
+named_parts : (s : State) (asked value : Value) (k : ℕ) → k ≤ value.step → IsLoadedOrCause s asked value → (parts : List NodePart) → All (IsLoadedOrCause s asked) (map (value_of_step value.node k) parts)
+named_parts s asked value k less named [] = All-nil (IsLoadedOrCause s asked)
 named_parts s asked value k less named (at ∷ rest) =
-    All-cons (IsNamedFor s asked) (value_of_step value.node k at) (map (value_of_step value.node k) rest)
+    All-cons (IsLoadedOrCause s asked) (value_of_step value.node k at) (map (value_of_step value.node k) rest)
     (earlier s asked value (value_of_step value.node k at) refl less named)
     (named_parts s asked value k less named rest)
 
-pub named_sender : (s : State) (asked value : Value) (k : ℕ) → value.step ≡ suc k → IsNamedFor s asked value
-    → (told : Option Made) → slice_get (history_of s value.node.number) k ≡ told → All (IsNamedFor s asked) (option_to_list (sender_in told))
-named_sender s asked value k is named None h = All-nil (IsNamedFor s asked)
-named_sender s asked value k is named (Some (made.Own node step kind)) h = All-nil (IsNamedFor s asked)
+pub named_sender : (s : State) (asked value : Value) (k : ℕ) → value.step ≡ suc k → IsLoadedOrCause s asked value
+    → (told : Option Made) → slice_get (history_of s value.node.number) k ≡ told → All (IsLoadedOrCause s asked) (option_to_list (sent_value told))
+named_sender s asked value k is named None h = All-nil (IsLoadedOrCause s asked)
+named_sender s asked value k is named (Some (made.Own node step kind)) h = All-nil (IsLoadedOrCause s asked)
 named_sender s asked value k is named (Some (made.Pass w i r j word)) h =
-    All-cons (IsNamedFor s asked) (value_of_step w (i - 1) top) [] (at_writer (sent_is s value.node.number k w r i j word h) named) (All-nil (IsNamedFor s asked))
+    All-cons (IsLoadedOrCause s asked) (value_of_step w (i - 1) top) [] (at_writer (sent_is s value.node.number k w r i j word h) named) (All-nil (IsLoadedOrCause s asked))
   where
-    at_writer : IsOne s value.node.number k w.number i → IsNamedFor s asked value → IsNamedFor s asked (value_of_step w (i - 1) top)
+    at_writer : IsOne s value.node.number k w.number i → IsLoadedOrCause s asked value → IsLoadedOrCause s asked (value_of_step w (i - 1) top)
     at_writer one (inl none) = absurd (omega (arith, is, none))
     at_writer one (inr cause) =
         let q = one.number in
@@ -264,8 +264,8 @@ named_sender s asked value k is named (Some (made.Pass w i r j word)) h =
         earlier s asked (value_of_step w i top) (value_of_step w (i - 1) top) refl (omega (arith, q))
         (inr (record { cause = one.place; effect = cause.effect; cause_place = one.writers; effect_place = cause.effect_place; depends = subst (λ (z : ℕ). DependsOn (causes_of s) z cause.effect) (sym same) cause.depends }))
 
-named_by : (s : State) (asked value : Value) (k : ℕ) → value.step ≡ suc k → IsNamedFor s asked value → (told : Option Made) → slice_get (history_of s value.node.number) k ≡ told
-    → (flow : Flow) → All (IsNamedFor s asked) (source_values value.node k told flow)
+named_by : (s : State) (asked value : Value) (k : ℕ) → value.step ≡ suc k → IsLoadedOrCause s asked value → (told : Option Made) → slice_get (history_of s value.node.number) k ≡ told
+    → (flow : Flow) → All (IsLoadedOrCause s asked) (source_values value.node k told flow)
 named_by s asked value k is named told h (Same Outside) = named_sender s asked value k is named told h
 named_by s asked value k is named told h (Same (Data at)) = named_parts s asked value k (omega (arith, is)) named (Data at ∷ [])
 named_by s asked value k is named told h (Same (Return at)) = named_parts s asked value k (omega (arith, is)) named (Return at ∷ [])
@@ -282,24 +282,24 @@ named_by s asked value k is named told h (Same Wait) = named_parts s asked value
 named_by s asked value k is named told h (Same Stop) = named_parts s asked value k (omega (arith, is)) named (Stop ∷ [])
 named_by s asked value k is named told h (From parts) = named_parts s asked value k (omega (arith, is)) named parts
 
-named_sources : (s : State) (asked value : Value) → IsNamedFor s asked value → All (IsNamedFor s asked) (sources_of s value)
+named_sources : (s : State) (asked value : Value) → IsLoadedOrCause s asked value → All (IsLoadedOrCause s asked) (value_sources s value)
 named_sources s asked value named = go value.step refl
   where
-    go : (k : ℕ) → value.step ≡ k → All (IsNamedFor s asked) (sources_from s value.node k value.part)
-    go zero is = All-nil (IsNamedFor s asked)
+    go : (k : ℕ) → value.step ≡ k → All (IsLoadedOrCause s asked) (value_sources_after s value.node k value.part)
+    go zero is = All-nil (IsLoadedOrCause s asked)
     go (suc k) is = named_by s asked value k is named (slice_get (history_of s value.node.number) k) refl (flow_at s value.node.number k value.part)
 
-named_below : (s : State) (asked : Value) (row : ProvenanceRow) → IsNamedFor s asked row.value → All (λ (x : ProvenanceRow). IsNamedFor s asked x.value) (below s row)
-named_below s asked row named = All-map (λ (x : ProvenanceRow). IsNamedFor s asked x.value) (row_at (row.depth + 1)) (sources_of s row.value) (named_sources s asked row.value named)
+named_below : (s : State) (asked : Value) (row : ProvenanceRow) → IsLoadedOrCause s asked row.value → All (λ (x : ProvenanceRow). IsLoadedOrCause s asked x.value) (below s row)
+named_below s asked row named = All-map (λ (x : ProvenanceRow). IsLoadedOrCause s asked x.value) (row_at_depth (row.depth + 1)) (value_sources s row.value) (named_sources s asked row.value named)
 
-pub rows_named : (s : State) (asked : Value) (named todo rows : List ProvenanceRow) (whole : Bool) → AreRows s named todo rows whole
-    → All (λ (x : ProvenanceRow). IsNamedFor s asked x.value) todo → All (λ (x : ProvenanceRow). IsNamedFor s asked x.value) rows
-rows_named s asked named todo rows whole all ready = All-nil (λ (x : ProvenanceRow). IsNamedFor s asked x.value)
+pub rows_named : (s : State) (asked : Value) (named todo rows : List ProvenanceRow) (whole : Bool) → AreProvenanceRows s named todo rows whole
+    → All (λ (x : ProvenanceRow). IsLoadedOrCause s asked x.value) todo → All (λ (x : ProvenanceRow). IsLoadedOrCause s asked x.value) rows
+rows_named s asked named todo rows whole all ready = All-nil (λ (x : ProvenanceRow). IsLoadedOrCause s asked x.value)
 rows_named s asked named todo rows whole (again {named = n} {todo = t} row is rest) ready =
-    rows_named s asked n t rows whole rest (All-tail (λ (x : ProvenanceRow). IsNamedFor s asked x.value) row t ready)
+    rows_named s asked n t rows whole rest (All-tail (λ (x : ProvenanceRow). IsLoadedOrCause s asked x.value) row t ready)
 rows_named s asked named todo rows whole (next {named = n} {todo = t} {rows = r} row is rest) ready =
-    let here = named_origin s asked row.value (All-head (λ (x : ProvenanceRow). IsNamedFor s asked x.value) row t ready) in
-    All-cons (λ (x : ProvenanceRow). IsNamedFor s asked x.value) (made_row s row) r here
-    (rows_named s asked (n ++ made_row s row ∷ []) (below s (made_row s row) ++ t) r whole rest
-    (All-append (λ (x : ProvenanceRow). IsNamedFor s asked x.value) (below s (made_row s row)) t (named_below s asked (made_row s row) here) (All-tail (λ (x : ProvenanceRow). IsNamedFor s asked x.value) row t ready)))
-rows_named s asked named todo rows whole (cut row is) ready = All-nil (λ (x : ProvenanceRow). IsNamedFor s asked x.value)
+    let here = named_origin s asked row.value (All-head (λ (x : ProvenanceRow). IsLoadedOrCause s asked x.value) row t ready) in
+    All-cons (λ (x : ProvenanceRow). IsLoadedOrCause s asked x.value) (origin_row s row) r here
+    (rows_named s asked (n ++ origin_row s row ∷ []) (below s (origin_row s row) ++ t) r whole rest
+    (All-append (λ (x : ProvenanceRow). IsLoadedOrCause s asked x.value) (below s (origin_row s row)) t (named_below s asked (origin_row s row) here) (All-tail (λ (x : ProvenanceRow). IsLoadedOrCause s asked x.value) row t ready)))
+rows_named s asked named todo rows whole (cut row is) ready = All-nil (λ (x : ProvenanceRow). IsLoadedOrCause s asked x.value)

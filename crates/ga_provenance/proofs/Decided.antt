@@ -4,20 +4,20 @@ use Rattle.std.specs.Prelude.{Option, option_map, option_and_then, option_to_lis
 use Rattle.std.specs.List.{slice_get, All}
 use Rattle.std.proofs.lemmas.List.Elements.{All-head}
 use Rattle.std.proofs.lemmas.Option.{same_Some, none-some}
-use Rattle.ga_node.specs.declared.kind.Kind.{Kind}
+use Rattle.ga_node.specs.declared.kind.OwnEventKind.{OwnEventKind}
 use Rattle.ga_grid.specs.declared.node_id.NodeId.{NodeId}
 use Rattle.ga_event.specs.declared.made.Made.{Made}
 use Rattle.ga_event.specs.declared.made.Made.TheVariants.{Own, Pass}
 use Rattle.ga_causal.specs.Dependence.{itself, position_of_step}
 use Rattle.ga_lab.specs.Machine.{State, causes_of, history_of}
-use Rattle.ga_event.specs.declared.flow.part.Part.{Part}
-use Rattle.ga_event.specs.declared.flow.part.Part.TheVariants as part
-use Rattle.ga_event.specs.Flow.{Flow, Same, From, top, part_of}
+use Rattle.ga_event.specs.declared.flow.part.NodePart.{NodePart}
+use Rattle.ga_event.specs.declared.flow.part.NodePart.TheVariants as part
+use Rattle.ga_event.specs.Flow.{Flow, Same, From, top, part_value}
 use Rattle.ga_provenance.specs.declared.value.Value.{Value}
 use Rattle.ga_provenance.specs.declared.deciding.Decision.{Decision}
 use Rattle.ga_provenance.specs.Origins.{value_of_step, node_after, flow_at, origin_of}
-use Rattle.ga_provenance.specs.Rows.{sender_in, IsCause, IsNamedFor}
-use Rattle.ga_provenance.specs.Deciding.{code_by, brought_at, came_over, kind_tested, tested_at, decision, decided_by, decided_at, newer, newest_decided}
+use Rattle.ga_provenance.specs.Rows.{sent_value, IsCause, IsLoadedOrCause}
+use Rattle.ga_provenance.specs.Deciding.{port_code_source, is_incoming_code_at, has_port_code, tested_kind_part, tested_value_at, decision, step_decision, decision_at, newer_decision, newest_decision}
 use Rattle.ga_provenance.specs.inner.{IsOwn}
 use Rattle.ga_provenance.proofs.Causes.{earlier, earlier_step, named_origin, named_sender}
 
@@ -25,34 +25,34 @@ abbrev some_decision : ℕ → Made → Value → ℕ → Value → Option Decis
 some_decision step told tested word source = Some (record { step = step; made = told; tested = tested; word = word; source = source })
 
 -- a step of the node's own, with the word that it tested
-pub own_so : (s : State) (node : NodeId) (k step word : ℕ) (told : Made) (kind : Kind) (at : Part) (source : Value) → IsOwn kind told → Some at ≡ kind_tested s node k kind
-    → step ≡ suc k → word ≡ part_of 0 (node_after s node.number k) at → source ≡ origin_of s (value_of_step node k at)
-    → Some (record { step = step; made = told; tested = value_of_step node k at; word = word; source = source }) ≡ decided_by s node k told
+pub own_so : (s : State) (node : NodeId) (k step word : ℕ) (told : Made) (kind : OwnEventKind) (at : NodePart) (source : Value) → IsOwn kind told → Some at ≡ tested_kind_part s node k kind
+    → step ≡ suc k → word ≡ part_value 0 (node_after s node.number k) at → source ≡ origin_of s (value_of_step node k at)
+    → Some (record { step = step; made = told; tested = value_of_step node k at; word = word; source = source }) ≡ step_decision s node k told
 own_so s node k step word (Own other j ran) kind at source own tested is held from =
     let told : Made = Own other j ran in
     ap (λ (x : ℕ). some_decision x told (value_of_step node k at) word source) is
     ∙ ap (λ (y : ℕ). some_decision (suc k) told (value_of_step node k at) y source) held
-    ∙ ap (λ (z : Value). some_decision (suc k) told (value_of_step node k at) (part_of 0 (node_after s node.number k) at) z) from
-    ∙ ap (λ (o : Option Part). option_map (decision s k told) (option_map (value_of_step node k) o)) (tested ∙ ap (kind_tested s node k) (sym own))
+    ∙ ap (λ (z : Value). some_decision (suc k) told (value_of_step node k at) (part_value 0 (node_after s node.number k) at) z) from
+    ∙ ap (λ (o : Option NodePart). option_map (decision s k told) (option_map (value_of_step node k) o)) (tested ∙ ap (tested_kind_part s node k) (sym own))
 own_so s node k step word (Pass w i r j passed) kind at source own tested is held from = absurd own
 
 -- the newest step that brought an instruction word, or an earlier one
-pub came_last : (s : State) (n left k : ℕ) (came : Bool) → suc k ≡ left → Some came ≡ brought_at s n k → came ≡ came_over s n left
-came_last s n left k came is e = ap (λ (o : Option Bool). unwrap_or o (came_over s n k)) e ∙ ap (came_over s n) is
+pub came_last : (s : State) (n left k : ℕ) (came : Bool) → suc k ≡ left → Some came ≡ is_incoming_code_at s n k → came ≡ has_port_code s n left
+came_last s n left k came is e = ap (λ (o : Option Bool). unwrap_or o (has_port_code s n k)) e ∙ ap (has_port_code s n) is
 
-pub came_before : (s : State) (n left k : ℕ) → suc k ≡ left → None ≡ brought_at s n k → came_over s n k ≡ came_over s n left
-came_before s n left k is e = ap (λ (o : Option Bool). unwrap_or o (came_over s n k)) e ∙ ap (came_over s n) is
+pub came_before : (s : State) (n left k : ℕ) → suc k ≡ left → None ≡ is_incoming_code_at s n k → has_port_code s n k ≡ has_port_code s n left
+came_before s n left k is e = ap (λ (o : Option Bool). unwrap_or o (has_port_code s n k)) e ∙ ap (has_port_code s n) is
 
 -- the last of some steps is it, or an earlier one
-pub decided_last : (s : State) (node : NodeId) (left k : ℕ) (d : Decision) → suc k ≡ left → Some d ≡ decided_at s node k → Some d ≡ newest_decided s node left
-decided_last s node left k d is e = ap (λ (o : Option Decision). newer o (newest_decided s node k)) e ∙ ap (newest_decided s node) is
+pub decided_last : (s : State) (node : NodeId) (left k : ℕ) (d : Decision) → suc k ≡ left → Some d ≡ decision_at s node k → Some d ≡ newest_decision s node left
+decided_last s node left k d is e = ap (λ (o : Option Decision). newer_decision o (newest_decision s node k)) e ∙ ap (newest_decision s node) is
 
-pub decided_before : (s : State) (node : NodeId) (left k : ℕ) → suc k ≡ left → None ≡ decided_at s node k → newest_decided s node k ≡ newest_decided s node left
-decided_before s node left k is e = ap (λ (o : Option Decision). newer o (newest_decided s node k)) e ∙ ap (newest_decided s node) is
+pub decided_before : (s : State) (node : NodeId) (left k : ℕ) → suc k ≡ left → None ≡ decision_at s node k → newest_decision s node k ≡ newest_decision s node left
+decided_before s node left k is e = ap (λ (o : Option Decision). newer_decision o (newest_decision s node k)) e ∙ ap (newest_decision s node) is
 
 -- ---- causes
 
-code_sent : (told : Option Made) (flow : Flow) (value : Value) → code_by told flow ≡ Some value → sender_in told ≡ Some value
+code_sent : (told : Option Made) (flow : Flow) (value : Value) → port_code_source told flow ≡ Some value → sent_value told ≡ Some value
 code_sent told (Same part.Outside) value h = h
 code_sent told (Same (part.Data at)) value h = absurd (none-some _ h)
 code_sent told (Same (part.Return at)) value h = absurd (none-some _ h)
@@ -70,48 +70,48 @@ code_sent told (Same part.Stop) value h = absurd (none-some _ h)
 code_sent told (From parts) value h = absurd (none-some _ h)
 
 -- the step itself, and the value before it
-step_named : (s : State) (node : NodeId) (step k place : ℕ) (at : Part) → position_of_step (causes_of s) node.number step ≡ Some place → k ≤ step
-    → IsNamedFor s (value_of_step node step top) (value_of_step node k at)
+step_named : (s : State) (node : NodeId) (step k place : ℕ) (at : NodePart) → position_of_step (causes_of s) node.number step ≡ Some place → k ≤ step
+    → IsLoadedOrCause s (value_of_step node step top) (value_of_step node k at)
 step_named s node step k place at is less =
     let asked = value_of_step node step top in
     earlier s asked asked (value_of_step node k at) refl less (inr (record { cause = place; effect = place; cause_place = is; effect_place = is; depends = itself }))
 
 -- the value by which it was decided
 tested_named : (s : State) (node : NodeId) (step k place : ℕ) (told : Made) (value : Value) → position_of_step (causes_of s) node.number step ≡ Some place → suc k ≤ step
-    → slice_get (history_of s node.number) k ≡ Some told → tested_at s node k told ≡ Some value → IsNamedFor s (value_of_step node step top) value
-tested_named s node step k place (Own other j kind) value is less at h = go (kind_tested s node k kind) h
+    → slice_get (history_of s node.number) k ≡ Some told → tested_value_at s node k told ≡ Some value → IsLoadedOrCause s (value_of_step node step top) value
+tested_named s node step k place (Own other j kind) value is less at h = go (tested_kind_part s node k kind) h
   where
-    go : (o : Option Part) → option_map (value_of_step node k) o ≡ Some value → IsNamedFor s (value_of_step node step top) value
+    go : (o : Option NodePart) → option_map (value_of_step node k) o ≡ Some value → IsLoadedOrCause s (value_of_step node step top) value
     go None e = absurd (none-some _ e)
-    go (Some tested) e = subst (IsNamedFor s (value_of_step node step top)) (same_Some _ _ e) (step_named s node step k place tested is (omega (arith, less)))
+    go (Some tested) e = subst (IsLoadedOrCause s (value_of_step node step top)) (same_Some _ _ e) (step_named s node step k place tested is (omega (arith, less)))
 tested_named s node step k place (Pass w i r j word) value is less at h =
     let asked = value_of_step node step top in
     let told = slice_get (history_of s node.number) k in
     let sent = code_sent told (flow_at s node.number k part.I) value h in
     let all = named_sender s asked (value_of_step node (suc k) top) k refl (step_named s node step (suc k) place top is less) told refl in
-    All-head (IsNamedFor s asked) value [] (subst (λ (o : Option Value). All (IsNamedFor s asked) (option_to_list o)) sent all)
+    All-head (IsLoadedOrCause s asked) value [] (subst (λ (o : Option Value). All (IsLoadedOrCause s asked) (option_to_list o)) sent all)
 
 -- a step as made, and the value that decided it
 record IsToldSo (s : State) (node : NodeId) (k : ℕ) (d : Decision) : Type 0 where
   made : Made
   value : Value
   there : slice_get (history_of s node.number) k ≡ Some made
-  tested : tested_at s node k made ≡ Some value
+  tested : tested_value_at s node k made ≡ Some value
   same : decision s k made value ≡ d
 
 told_so : (s : State) (node : NodeId) (k : ℕ) (d : Decision) (told : Made) → slice_get (history_of s node.number) k ≡ Some told
-    → (o : Option Value) → tested_at s node k told ≡ o → option_map (decision s k told) o ≡ Some d → IsToldSo s node k d
+    → (o : Option Value) → tested_value_at s node k told ≡ o → option_map (decision s k told) o ≡ Some d → IsToldSo s node k d
 told_so s node k d told at None tested e = absurd (none-some _ e)
 told_so s node k d told at (Some value) tested e = record { made = told; value = value; there = at; tested = tested; same = same_Some _ _ e }
 
-told_decided : (s : State) (node : NodeId) (k : ℕ) (d : Decision) → decided_at s node k ≡ Some d → IsToldSo s node k d
+told_decided : (s : State) (node : NodeId) (k : ℕ) (d : Decision) → decision_at s node k ≡ Some d → IsToldSo s node k d
 told_decided s node k d h = go (slice_get (history_of s node.number) k) refl h
   where
-    go : (o : Option Made) → slice_get (history_of s node.number) k ≡ o → option_and_then (decided_by s node k) o ≡ Some d → IsToldSo s node k d
+    go : (o : Option Made) → slice_get (history_of s node.number) k ≡ o → option_and_then (step_decision s node k) o ≡ Some d → IsToldSo s node k d
     go None at e = absurd (none-some _ e)
-    go (Some told) at e = told_so s node k d told at (tested_at s node k told) refl e
+    go (Some told) at e = told_so s node k d told at (tested_value_at s node k told) refl e
 
-pub step_cause : (s : State) (node : NodeId) (step k place : ℕ) (d : Decision) → position_of_step (causes_of s) node.number step ≡ Some place → k < step → decided_at s node k ≡ Some d
+pub step_cause : (s : State) (node : NodeId) (step k place : ℕ) (d : Decision) → position_of_step (causes_of s) node.number step ≡ Some place → k < step → decision_at s node k ≡ Some d
     → IsCause s (value_of_step node d.step top) (value_of_step node step top)
 step_cause s node step k place d is less h =
     let asked = value_of_step node step top in
@@ -119,10 +119,10 @@ step_cause s node step k place d is less h =
     let cause = earlier_step s asked asked (value_of_step node (suc k) top) k refl refl (omega (arith, less)) (record { cause = place; effect = place; cause_place = is; effect_place = is; depends = itself }) in
     subst (λ (x : Decision). IsCause s (value_of_step node x.step top) asked) told.same cause
 
-pub source_cause : (s : State) (node : NodeId) (step k place : ℕ) (d : Decision) → position_of_step (causes_of s) node.number step ≡ Some place → k < step → decided_at s node k ≡ Some d
-    → IsNamedFor s (value_of_step node step top) d.source
+pub source_cause : (s : State) (node : NodeId) (step k place : ℕ) (d : Decision) → position_of_step (causes_of s) node.number step ≡ Some place → k < step → decision_at s node k ≡ Some d
+    → IsLoadedOrCause s (value_of_step node step top) d.source
 source_cause s node step k place d is less h =
     let asked = value_of_step node step top in
     let told = told_decided s node k d h in
     let named = named_origin s asked told.value (tested_named s node step k place told.made told.value is (omega (arith, less)) told.there told.tested) in
-    subst (λ (x : Decision). IsNamedFor s asked x.source) told.same named
+    subst (λ (x : Decision). IsLoadedOrCause s asked x.source) told.same named

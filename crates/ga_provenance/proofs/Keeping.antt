@@ -4,24 +4,24 @@ use Rattle.std.specs.List.{slice_get}
 use Rattle.ga_lab.specs.Machine.{State, history_of}
 use Rattle.ga_provenance.specs.declared.value.Value.{Value}
 use Rattle.ga_provenance.specs.declared.listing.ProvenanceRow.{ProvenanceRow}
-use Rattle.ga_provenance.specs.Origins.{origin_of, node_after, flow_at, flow_told, moved_from, moved_at}
-use Rattle.ga_provenance.specs.Rows.{has_value, row_at, made_row, AreRows, all, again, next, cut}
+use Rattle.ga_provenance.specs.Origins.{origin_of, node_after, flow_at, optional_event_flow, moved_source_part, moved_source_part_at}
+use Rattle.ga_provenance.specs.Rows.{has_value, row_at_depth, origin_row, AreProvenanceRows, all, again, next, cut}
 use Rattle.std.specs.Prelude.{Option, option_map, slice_index}
 use Rattle.std.proofs.lemmas.Option.{same_Some}
 use Rattle.ga_event.specs.declared.made.Made.{Made}
-use Rattle.ga_event.specs.declared.flow.part.Part.TheVariants.{Ram, P, A}
+use Rattle.ga_event.specs.declared.flow.part.NodePart.TheVariants.{Ram, P, A}
 use Rattle.ga_provenance.specs.declared.writes.CellWrite.{CellWrite}
-use Rattle.ga_provenance.specs.Writes.{is_written, cell_write, written_at, either, newest_written}
+use Rattle.ga_provenance.specs.Writes.{is_write_flow, cell_write, cell_write_at, newer_write, newest_cell_write}
 use Rattle.ga_slots.specs.declared.op.Op.{Op}
 use Rattle.ga_slots.specs.declared.op.Op.TheVariants as op
-use Rattle.ga_ports.specs.Address.{classified, is_single}
+use Rattle.ga_ports.specs.Address.{address_target, is_single_side}
 use Rattle.ga_ports.specs.declared.address.Target.{Target}
 use Rattle.ga_ports.specs.declared.address.Target.TheVariants as target
 use Rattle.ga_node.specs.Record.{NodeRecord}
 use Rattle.ga_node.specs.Changes.{Change}
-use Rattle.ga_node.specs.Table.{t, r, is_extended, next_action_of, stored, followed, with_kind, done_by, own_event, own}
-use Rattle.ga_node.specs.declared.kind.Kind.{Kind}
-use Rattle.ga_node.specs.declared.kind.Kind.TheVariants as kind
+use Rattle.ga_node.specs.Table.{t, r, is_extended, next_action_of, stored, followed, with_kind, action_result, own_event, own}
+use Rattle.ga_node.specs.declared.kind.OwnEventKind.{OwnEventKind}
+use Rattle.ga_node.specs.declared.kind.OwnEventKind.TheVariants as kind
 use Rattle.ga_node.specs.declared.seen.Seen.{Seen}
 use Rattle.ga_node.specs.declared.due.NextAction.{NextAction}
 use Rattle.ga_node.specs.declared.due.NextAction.TheVariants as due
@@ -29,12 +29,12 @@ use Rattle.ga_node.specs.declared.wait.Wait.{Wait}
 use Rattle.ga_node.specs.declared.wait.Wait.TheVariants as wait
 use Rattle.ga_grid.specs.declared.node_id.NodeId.{NodeId}
 use Rattle.ga_event.specs.declared.made.Made.TheVariants as made
-use Rattle.ga_event.specs.Flow.{Flow, Same, Move, PushData, SetP, SetA, SetI, GoOn, StartAgain, from, read_moves, write_moves, moves, moves_by, moved_all, own_flow, send_flow, take_flow, PopData, SetWait, SetStop, top}
+use Rattle.ga_event.specs.Flow.{Flow, Same, Move, PushData, SetP, SetA, SetI, GoOn, StartAgain, from, read_moves, write_moves, moves, action_moves, flows_after_moves, own_flow, send_flow, take_flow, PopData, SetWait, SetStop, top}
 use Rattle.ga_provenance.specs.inner.{is_store, ran_store, stored_at, misses_at, misses}
 use Rattle.ga_provenance.proofs.Ran.{WasNext, ran_so, due_told}
 use Rattle.std.proofs.lemmas.Bool.{eqb-true, eq-eqb}
 use Rattle.ga_slots.specs.Codes.{op_of}
-use Rattle.ga_event.specs.declared.flow.part.Part.{Part}
+use Rattle.ga_event.specs.declared.flow.part.NodePart.{NodePart}
 use Rattle.ga_provenance.specs.declared.kept.Registers.{Registers}
 
 -- ---- the newest step that wrote a cell
@@ -44,26 +44,26 @@ use Rattle.ga_provenance.specs.declared.kept.Registers.{Registers}
 -- if the next value wasn't listed, and a listing that is cut has some row, the next value's row is the first
 FirstIs : State → List ProvenanceRow → List ProvenanceRow → List ProvenanceRow → Bool → Type 0
 FirstIs s named [] rows whole = Unit {0}
-FirstIs s named (row ∷ todo) rows whole = has_value named (origin_of s row.value) ≡ false → (whole ≡ false → 0 < length rows) → slice_get rows 0 ≡ Some (made_row s row)
+FirstIs s named (row ∷ todo) rows whole = has_value named (origin_of s row.value) ≡ false → (whole ≡ false → 0 < length rows) → slice_get rows 0 ≡ Some (origin_row s row)
 
-first_is : (s : State) (named todo rows : List ProvenanceRow) (whole : Bool) → AreRows s named todo rows whole → FirstIs s named todo rows whole
+first_is : (s : State) (named todo rows : List ProvenanceRow) (whole : Bool) → AreProvenanceRows s named todo rows whole → FirstIs s named todo rows whole
 unfolding FirstIs
 first_is s named todo rows whole all = tt
 first_is s named todo rows whole (again row is rest) = λ other some. absurd (cc)
 first_is s named todo rows whole (next row is rest) = λ other some. refl
 first_is s named todo rows whole (cut row is) = λ other some. absurd (let l = some refl in omega (arith, l))
 
-pub first_told : (s : State) (value : Value) (rows : List ProvenanceRow) (whole : Bool) → AreRows s [] (row_at 0 value ∷ []) rows whole → (whole ≡ false → 0 < length rows)
-    → slice_get rows 0 ≡ Some (made_row s (row_at 0 value))
+pub first_told : (s : State) (value : Value) (rows : List ProvenanceRow) (whole : Bool) → AreProvenanceRows s [] (row_at_depth 0 value ∷ []) rows whole → (whole ≡ false → 0 < length rows)
+    → slice_get rows 0 ≡ Some (origin_row s (row_at_depth 0 value))
 unfolding FirstIs
-first_told s value rows whole told some = first_is s [] (row_at 0 value ∷ []) rows whole told refl some
+first_told s value rows whole told some = first_is s [] (row_at_depth 0 value ∷ []) rows whole told refl some
 
 -- the last of some steps wrote it, or an earlier one
-pub wrote_last : (s : State) (n cell left k : ℕ) (wrote : CellWrite) → suc k ≡ left → Some wrote ≡ written_at s n cell k → Some wrote ≡ newest_written s n cell left
-wrote_last s n cell left k wrote is e = ap (λ (o : Option CellWrite). either o (newest_written s n cell k)) e ∙ ap (newest_written s n cell) is
+pub wrote_last : (s : State) (n cell left k : ℕ) (wrote : CellWrite) → suc k ≡ left → Some wrote ≡ cell_write_at s n cell k → Some wrote ≡ newest_cell_write s n cell left
+wrote_last s n cell left k wrote is e = ap (λ (o : Option CellWrite). newer_write o (newest_cell_write s n cell k)) e ∙ ap (newest_cell_write s n cell) is
 
-pub wrote_before : (s : State) (n cell left k : ℕ) → suc k ≡ left → None ≡ written_at s n cell k → newest_written s n cell k ≡ newest_written s n cell left
-wrote_before s n cell left k is e = ap (λ (o : Option CellWrite). either o (newest_written s n cell k)) e ∙ ap (newest_written s n cell) is
+pub wrote_before : (s : State) (n cell left k : ℕ) → suc k ≡ left → None ≡ cell_write_at s n cell k → newest_cell_write s n cell k ≡ newest_cell_write s n cell left
+wrote_before s n cell left k is e = ap (λ (o : Option CellWrite). newer_write o (newest_cell_write s n cell k)) e ∙ ap (newest_cell_write s n cell) is
 
 -- a found write has the number of its step
 step_of : (s : State) (n cell k : ℕ) (b : Bool) (o : Option Made) (wrote : CellWrite)
@@ -72,15 +72,15 @@ step_of s n cell k true (Some made) wrote h = ap (λ (w : CellWrite). w.step) (s
 step_of s n cell k true None wrote h = absurd (cc)
 step_of s n cell k false o wrote h = absurd (cc)
 
-pub written_step : (s : State) (n cell k : ℕ) (wrote : CellWrite) → Some wrote ≡ written_at s n cell k → wrote.step ≡ k + 1
-written_step s n cell k wrote h = step_of s n cell k (is_written (flow_at s n k (Ram cell))) (slice_get (history_of s n) k) wrote h
+pub written_step : (s : State) (n cell k : ℕ) (wrote : CellWrite) → Some wrote ≡ cell_write_at s n cell k → wrote.step ≡ k + 1
+written_step s n cell k wrote h = step_of s n cell k (is_write_flow (flow_at s n k (Ram cell))) (slice_get (history_of s n) k) wrote h
 
 -- it is one of them
-pub newest_within : (s : State) (n cell left : ℕ) (wrote : CellWrite) → Some wrote ≡ newest_written s n cell left → (0 < wrote.step) × (wrote.step ≤ left)
+pub newest_within : (s : State) (n cell left : ℕ) (wrote : CellWrite) → Some wrote ≡ newest_cell_write s n cell left → (0 < wrote.step) × (wrote.step ≤ left)
 newest_within s n cell zero wrote h = absurd (cc)
-newest_within s n cell (suc k) wrote h = go (written_at s n cell k) refl (λ before. newest_within s n cell k wrote before) h
+newest_within s n cell (suc k) wrote h = go (cell_write_at s n cell k) refl (λ before. newest_within s n cell k wrote before) h
   where
-    go : (o : Option CellWrite) → written_at s n cell k ≡ o → (Some wrote ≡ newest_written s n cell k → (0 < wrote.step) × (wrote.step ≤ k)) → Some wrote ≡ either o (newest_written s n cell k)
+    go : (o : Option CellWrite) → cell_write_at s n cell k ≡ o → (Some wrote ≡ newest_cell_write s n cell k → (0 < wrote.step) × (wrote.step ≤ k)) → Some wrote ≡ newer_write o (newest_cell_write s n cell k)
         → (0 < wrote.step) × (wrote.step ≤ suc k)
     go None is before e = let earlier = before e in (earlier.0, let less = earlier.1 in omega (arith, less))
     go (Some other) is before e = let step = written_step s n cell k wrote (e ∙ sym is) in (omega (arith, step), omega (arith, step))
@@ -89,7 +89,7 @@ newest_within s n cell (suc k) wrote h = go (written_at s n cell k) refl (λ bef
 
 -- after these moves the cell holds what it held
 abbrev Keep : ℕ → List Move → Type 0
-Keep k moves = moved_all moves Same (Ram k) ≡ Same (Ram k)
+Keep k moves = flows_after_moves moves Same (Ram k) ≡ Same (Ram k)
 
 by_test : (k : ℕ) (test : Bool) (some others : List Move) → Keep k some → Keep k others → Keep k (cond test some others)
 by_test k true some others first second = first
@@ -109,10 +109,10 @@ unfolding stored followed
 by_write code k (target.Ram c) n more rest first second = absurd (cc)
 by_write code k (target.Rom c) n more rest first second = absurd (cc)
 by_write code k target.Io n more rest first second = absurd (cc)
-by_write code k (target.Ports sides) n more rest first second = by_test k (is_single sides) _ _ refl refl
+by_write code k (target.Ports sides) n more rest first second = by_test k (is_single_side sides) _ _ refl refl
 by_write code k target.Bad n more rest first second = refl
 
-op_keeps : (o : Op) (seen : Seen) (n : NodeRecord) (k : ℕ) → is_store (done_by (due.Run o) seen n).0 ≡ false → Keep k (moves o n)
+op_keeps : (o : Op) (seen : Seen) (n : NodeRecord) (k : ℕ) → is_store (action_result (due.Run o) seen n).0 ≡ false → Keep k (moves o n)
 op_keeps op.Return seen n k is = refl
 op_keeps op.Execute seen n k is = refl
 op_keeps op.Jump seen n k is = refl
@@ -121,14 +121,14 @@ op_keeps op.Unext seen n k is = by_test k (r n == 0) _ _ refl refl
 op_keeps op.Next seen n k is = by_test k (r n == 0) _ _ refl refl
 op_keeps op.If seen n k is = by_test k (t n == 0) _ _ refl refl
 op_keeps op.MinusIf seen n k is = by_test k (t n / 2 ^ 17 == 0) _ _ refl refl
-op_keeps op.FetchP seen n k is = by_read k (classified n.p) (λ word. PushData word ∷ SetP (from P) ∷ GoOn ∷ []) (λ word. refl)
-op_keeps op.FetchPlus seen n k is = by_read k (classified n.a) (λ word. PushData word ∷ SetA (from A) ∷ GoOn ∷ []) (λ word. refl)
-op_keeps op.FetchB seen n k is = by_read k (classified n.b) (λ word. PushData word ∷ GoOn ∷ []) (λ word. refl)
-op_keeps op.Fetch seen n k is = by_read k (classified n.a) (λ word. PushData word ∷ GoOn ∷ []) (λ word. refl)
-op_keeps op.StoreP seen n k is = by_write 12 k (classified n.p) n _ _ refl is
-op_keeps op.StorePlus seen n k is = by_write 13 k (classified n.a) n _ _ refl is
-op_keeps op.StoreB seen n k is = by_write 14 k (classified n.b) n _ _ refl is
-op_keeps op.Store seen n k is = by_write 15 k (classified n.a) n _ _ refl is
+op_keeps op.FetchP seen n k is = by_read k (address_target n.p) (λ word. PushData word ∷ SetP (from P) ∷ GoOn ∷ []) (λ word. refl)
+op_keeps op.FetchPlus seen n k is = by_read k (address_target n.a) (λ word. PushData word ∷ SetA (from A) ∷ GoOn ∷ []) (λ word. refl)
+op_keeps op.FetchB seen n k is = by_read k (address_target n.b) (λ word. PushData word ∷ GoOn ∷ []) (λ word. refl)
+op_keeps op.Fetch seen n k is = by_read k (address_target n.a) (λ word. PushData word ∷ GoOn ∷ []) (λ word. refl)
+op_keeps op.StoreP seen n k is = by_write 12 k (address_target n.p) n _ _ refl is
+op_keeps op.StorePlus seen n k is = by_write 13 k (address_target n.a) n _ _ refl is
+op_keeps op.StoreB seen n k is = by_write 14 k (address_target n.b) n _ _ refl is
+op_keeps op.Store seen n k is = by_write 15 k (address_target n.a) n _ _ refl is
 op_keeps op.MultiplyStep seen n k is = refl
 op_keeps op.TwoStar seen n k is = refl
 op_keeps op.TwoSlash seen n k is = refl
@@ -146,8 +146,8 @@ op_keeps op.Push seen n k is = refl
 op_keeps op.BStore seen n k is = refl
 op_keeps op.AStore seen n k is = refl
 
-due_keeps : (what : NextAction) (seen : Seen) (n : NodeRecord) (k : ℕ) → is_store (done_by what seen n).0 ≡ false → Keep k (moves_by what n)
-due_keeps due.Fetch seen n k is = by_read k (classified n.p) (λ word. SetI word ∷ SetP (from P) ∷ StartAgain ∷ []) (λ word. refl)
+due_keeps : (what : NextAction) (seen : Seen) (n : NodeRecord) (k : ℕ) → is_store (action_result what seen n).0 ≡ false → Keep k (action_moves what n)
+due_keeps due.Fetch seen n k is = by_read k (address_target n.p) (λ word. SetI word ∷ SetP (from P) ∷ StartAgain ∷ []) (λ word. refl)
 due_keeps (due.Run o) seen n k is = op_keeps o seen n k is
 
 own_keeps : (seen : Seen) (n : NodeRecord) (k : ℕ) → is_store (own seen n).0 ≡ false → own_flow n (Ram k) ≡ Same (Ram k)
@@ -169,24 +169,24 @@ by_end : (test : Bool) (some others : Flow) (k : ℕ) → some ≡ Same (Ram k) 
 by_end true some others k first second = first
 by_end false some others k first second = second
 
-told_keeps : (told : Option Made) (before : NodeRecord) (n k : ℕ) → ((m : NodeId) (step : ℕ) (kind : Kind) → told ≡ Some (made.Own m step kind) → WasNext before kind) → ran_store told ≡ false
-    → flow_told told before n (Ram k) ≡ Same (Ram k)
+told_keeps : (told : Option Made) (before : NodeRecord) (n k : ℕ) → ((m : NodeId) (step : ℕ) (kind : OwnEventKind) → told ≡ Some (made.Own m step kind) → WasNext before kind) → ran_store told ≡ false
+    → optional_event_flow told before n (Ram k) ≡ Same (Ram k)
 told_keeps None before n k ran is = refl
 told_keeps (Some (made.Own m step kind)) before n k ran is = let was = ran m step kind refl in own_keeps was.seen before k (ap is_store was.is ∙ is)
 told_keeps (Some (made.Pass writer i reader j word)) before n k ran is = by_end (n == reader.number) _ _ k (take_keeps before.wait k) (send_keeps k)
 
 -- a step that ran no store wrote no cell
-pub none_written : (s : State) (n cell k : ℕ) (told : Option Made) → told ≡ slice_get (history_of s n) k → ran_store told ≡ false → None ≡ written_at s n cell k
+pub none_written : (s : State) (n cell k : ℕ) (told : Option Made) → told ≡ slice_get (history_of s n) k → ran_store told ≡ false → None ≡ cell_write_at s n cell k
 none_written s n cell k told tells is =
     let none : ran_store (slice_get (history_of s n) k) ≡ false = ap ran_store (sym tells) ∙ is in
     let same : flow_at s n k (Ram cell) ≡ Same (Ram cell) = told_keeps (slice_get (history_of s n) k) (node_after s n k) n cell (λ m step kind at. ran_so s n k step m kind at) none in
-    ap (λ (b : Bool). cond b (option_map (cell_write (k + 1) (slice_index (node_after s n (k + 1)).ram cell)) (slice_get (history_of s n) k)) None) (sym (ap is_written same))
+    ap (λ (b : Bool). cond b (option_map (cell_write (k + 1) (slice_index (node_after s n (k + 1)).ram cell)) (slice_get (history_of s n) k)) None) (sym (ap is_write_flow same))
 
 -- ---- a store that names another cell leaves a cell as it was
 
 -- a cell keeps its own word where what came after the store leaves it
 abbrev Keeps : List Move → ℕ → Type 0
-Keeps moves cell = moved_all moves Same (Ram cell) ≡ Same (Ram cell)
+Keeps moves cell = flows_after_moves moves Same (Ram cell) ≡ Same (Ram cell)
 
 apart : (other cell : ℕ) → not (other == cell) ≡ true → (cell == other) ≡ false
 apart other cell h = go (cell == other) refl
@@ -202,7 +202,7 @@ plain : (at : Target) (cell : ℕ) → misses_at (Some at) cell ≡ true → Kee
 plain (target.Ram other) cell h = ap (λ (b : Bool). cond b (Same top) (Same (Ram cell))) (apart other cell h)
 plain (target.Rom other) cell h = refl
 plain target.Io cell h = refl
-plain (target.Ports sides) cell h = single (is_single sides)
+plain (target.Ports sides) cell h = single (is_single_side sides)
   where
     single : (b : Bool) → Keeps (cond b (SetWait ∷ []) (SetStop ∷ [])) cell
     single true = refl
@@ -213,7 +213,7 @@ plus : (at : Target) (cell : ℕ) → misses_at (Some at) cell ≡ true → Keep
 plus (target.Ram other) cell h = ap (λ (b : Bool). cond b (Same top) (Same (Ram cell))) (apart other cell h)
 plus (target.Rom other) cell h = refl
 plus target.Io cell h = refl
-plus (target.Ports sides) cell h = single (is_single sides)
+plus (target.Ports sides) cell h = single (is_single_side sides)
   where
     single : (b : Bool) → Keeps (cond b (SetWait ∷ []) (SetStop ∷ [])) cell
     single true = refl
@@ -224,12 +224,12 @@ plus target.Bad cell h = refl
 abbrev Stays : NodeRecord → ℕ → Type 0
 Stays n cell = own_flow n (Ram cell) ≡ Same (Ram cell)
 
-by_due : (n : NodeRecord) (cell : ℕ) (what : NextAction) → next_action_of n ≡ what → Keeps (moves_by what n) cell → Stays n cell
+by_due : (n : NodeRecord) (cell : ℕ) (what : NextAction) → next_action_of n ≡ what → Keeps (action_moves what n) cell → Stays n cell
 unfolding own_flow
-by_due n cell what is keeps = ap (λ (d : NextAction). moved_all (moves_by d n) Same (Ram cell)) is ∙ keeps
+by_due n cell what is keeps = ap (λ (d : NextAction). flows_after_moves (action_moves d n) Same (Ram cell)) is ∙ keeps
 
-named_so : (address other cell : ℕ) → address ≡ other → misses_at (Some (classified other)) cell ≡ true → misses_at (Some (classified address)) cell ≡ true
-named_so address other cell is h = ap (λ (z : ℕ). misses_at (Some (classified z)) cell) is ∙ h
+named_so : (address other cell : ℕ) → address ≡ other → misses_at (Some (address_target other)) cell ≡ true → misses_at (Some (address_target address)) cell ≡ true
+named_so address other cell is h = ap (λ (z : ℕ). misses_at (Some (address_target z)) cell) is ∙ h
 
 own_misses : (n : NodeRecord) (code cell : ℕ) (before : Registers) → n.a ≡ before.a → n.b ≡ before.b → next_action_of n ≡ due.Run (op_of code) → misses_at (stored_at code before) cell ≡ true → Stays n cell
 own_misses n code cell before a b comes h = go (code == 13) (code == 15) (code == 14) refl refl refl h
@@ -238,10 +238,10 @@ own_misses n code cell before a b comes h = go (code == 13) (code == 15) (code =
     so k is = comes ∙ ap (λ (z : ℕ). due.Run (op_of z)) (eqb-true code k is)
 
     go : (x y z : Bool) → (code == 13) ≡ x → (code == 15) ≡ y → (code == 14) ≡ z
-        → misses_at (cond (x || y) (Some (classified before.a)) (cond z (Some (classified before.b)) None)) cell ≡ true → Stays n cell
-    go true y z first second third g = by_due n cell (due.Run op.StorePlus) (so 13 first) (plus (classified n.a) cell (named_so n.a before.a cell a g))
-    go false true z first second third g = by_due n cell (due.Run op.Store) (so 15 second) (plain (classified n.a) cell (named_so n.a before.a cell a g))
-    go false false true first second third g = by_due n cell (due.Run op.StoreB) (so 14 third) (plain (classified n.b) cell (named_so n.b before.b cell b g))
+        → misses_at (cond (x || y) (Some (address_target before.a)) (cond z (Some (address_target before.b)) None)) cell ≡ true → Stays n cell
+    go true y z first second third g = by_due n cell (due.Run op.StorePlus) (so 13 first) (plus (address_target n.a) cell (named_so n.a before.a cell a g))
+    go false true z first second third g = by_due n cell (due.Run op.Store) (so 15 second) (plain (address_target n.a) cell (named_so n.a before.a cell a g))
+    go false false true first second third g = by_due n cell (due.Run op.StoreB) (so 14 third) (plain (address_target n.b) cell (named_so n.b before.b cell b g))
     go false false false first second third g = absurd (cc)
 
 false_true : false ≡ true → ⊥
@@ -251,7 +251,7 @@ false_true h = cc
 misses_flow : (s : State) (n k cell : ℕ) (told : Option Made) (before : Registers) → told ≡ slice_get (history_of s n) k
     → (node_after s n k).a ≡ before.a → (node_after s n k).b ≡ before.b → misses told before (Ram cell) ≡ true → flow_at s n k (Ram cell) ≡ Same (Ram cell)
 misses_flow s n k cell (Some (made.Own m step (kind.Run code))) before tells a b h =
-    ap (λ (o : Option Made). flow_told o (node_after s n k) n (Ram cell)) (sym tells)
+    ap (λ (o : Option Made). optional_event_flow o (node_after s n k) n (Ram cell)) (sym tells)
     ∙ own_misses (node_after s n k) code cell before a b (due_told s n k step m (kind.Run code) (due.Run (op_of code)) (sym tells) refl) h
 misses_flow s n k cell (Some (made.Own m step kind.Fetch)) before tells a b h = absurd (false_true h)
 misses_flow s n k cell (Some (made.Own m step kind.Wait)) before tells a b h = absurd (false_true h)
@@ -259,9 +259,9 @@ misses_flow s n k cell (Some (made.Own m step (kind.Stop code))) before tells a 
 misses_flow s n k cell (Some (made.Pass writer i reader j word)) before tells a b h = absurd (false_true h)
 misses_flow s n k cell None before tells a b h = absurd (false_true h)
 
-pub misses_stays : (s : State) (n k : ℕ) (at : Part) (told : Option Made) (before : Registers) → told ≡ slice_get (history_of s n) k
-    → (node_after s n k).a ≡ before.a → (node_after s n k).b ≡ before.b → misses told before at ≡ true → moved_at s n k at ≡ Some at
-misses_stays s n k (Ram cell) told before tells a b h = ap (λ z. moved_from z (Ram cell)) (misses_flow s n k cell told before tells a b h)
+pub misses_stays : (s : State) (n k : ℕ) (at : NodePart) (told : Option Made) (before : Registers) → told ≡ slice_get (history_of s n) k
+    → (node_after s n k).a ≡ before.a → (node_after s n k).b ≡ before.b → misses told before at ≡ true → moved_source_part_at s n k at ≡ Some at
+misses_stays s n k (Ram cell) told before tells a b h = ap (λ z. moved_source_part z (Ram cell)) (misses_flow s n k cell told before tells a b h)
 misses_stays s n k at (Some (made.Own m step (kind.Run code))) before tells a b h = absurd (false_true h)
 misses_stays s n k at (Some (made.Own m step kind.Fetch)) before tells a b h = absurd (false_true h)
 misses_stays s n k at (Some (made.Own m step kind.Wait)) before tells a b h = absurd (false_true h)
@@ -271,7 +271,7 @@ misses_stays s n k at None before tells a b h = absurd (false_true h)
 
 -- and the cell was not written
 pub misses_writes : (s : State) (n k cell : ℕ) (told : Option Made) (before : Registers) → told ≡ slice_get (history_of s n) k
-    → (node_after s n k).a ≡ before.a → (node_after s n k).b ≡ before.b → misses told before (Ram cell) ≡ true → None ≡ written_at s n cell k
+    → (node_after s n k).a ≡ before.a → (node_after s n k).b ≡ before.b → misses told before (Ram cell) ≡ true → None ≡ cell_write_at s n cell k
 misses_writes s n k cell told before tells a b h =
     ap (λ (z : Bool). cond z (option_map (cell_write (k + 1) (slice_index (node_after s n (k + 1)).ram cell)) (slice_get (history_of s n) k)) None)
-    (sym (ap is_written (misses_flow s n k cell told before tells a b h)))
+    (sym (ap is_write_flow (misses_flow s n k cell told before tells a b h)))

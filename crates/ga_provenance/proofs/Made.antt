@@ -8,35 +8,35 @@ use Rattle.ga_node.specs.Record.{NodeRecord}
 use Rattle.ga_event.specs.declared.event.Event.{Event}
 use Rattle.ga_event.specs.declared.made.Made.{Made}
 use Rattle.ga_event.specs.Touches.{touches}
-use Rattle.ga_event.specs.Told.{steps_of}
+use Rattle.ga_event.specs.Told.{count_steps}
 use Rattle.ga_grid.specs.Chip.{record_at}
 use Rattle.ga_lab.specs.Machine.{State, NodeAtStep, node_at_step, chip_of, earlier, history_of}
-use Rattle.ga_event.specs.declared.flow.part.Part.{Part}
-use Rattle.ga_event.specs.declared.flow.part.Part.TheVariants.{Data, Return, Ram, Rom, A, B, P, I, Io, Carry, Slot, Wait, Stop, Outside}
-use Rattle.ga_event.specs.Flow.{Flow, Same, IsPart, IsSource}
+use Rattle.ga_event.specs.declared.flow.part.NodePart.{NodePart}
+use Rattle.ga_event.specs.declared.flow.part.NodePart.TheVariants.{Data, Return, Ram, Rom, A, B, P, I, Io, Carry, Slot, Wait, Stop, Outside}
+use Rattle.ga_event.specs.Flow.{Flow, Same, IsNodePart, IsSource}
 use Rattle.ga_provenance.specs.declared.value.Value.{Value}
-use Rattle.ga_provenance.specs.Origins.{place_after, node_after, told_flow, flow_told, flow_at, moved_from, moved_at, told_part, value_of_step, origin_from, origin_of}
+use Rattle.ga_provenance.specs.Origins.{place_after_steps, node_after, event_flow, optional_event_flow, flow_at, moved_source_part, moved_source_part_at, listed_part, value_of_step, origin_after_steps, origin_of}
 use Rattle.std.proofs.lemmas.Option.{none-some}
 
-steps-cons : (n : ℕ) (e : Event) (es : List Event) → steps_of n (e ∷ es) ≡ cond (touches e n) 1 0 + steps_of n es
+steps-cons : (n : ℕ) (e : Event) (es : List Event) → count_steps n (e ∷ es) ≡ cond (touches e n) 1 0 + count_steps n es
 steps-cons n e es = sum_by-cons (λ (x : Event). cond (touches x n) 1 0) e es
 
 -- the first events that contain k steps of a node contain exactly k
-pub place_holds : (events : List Event) (n k : ℕ) → k ≤ steps_of n events → steps_of n (take (place_after events n k) events) ≡ k
+pub place_holds : (events : List Event) (n k : ℕ) → k ≤ count_steps n events → count_steps n (take (place_after_steps events n k) events) ≡ k
 place_holds [] n k l = omega (arith, l)
 place_holds (e ∷ es) n zero l = refl
 place_holds (e ∷ es) n (suc k) l = go (touches e n) (place_holds es n) (steps-cons n e)
   where
-    go : (b : Bool) → ((j : ℕ) → j ≤ steps_of n es → steps_of n (take (place_after es n j) es) ≡ j) → ((xs : List Event) → steps_of n (e ∷ xs) ≡ cond b 1 0 + steps_of n xs)
-        → steps_of n (e ∷ take (place_after es n (cond b k (suc k))) es) ≡ suc k
+    go : (b : Bool) → ((j : ℕ) → j ≤ count_steps n es → count_steps n (take (place_after_steps es n j) es) ≡ j) → ((xs : List Event) → count_steps n (e ∷ xs) ≡ cond b 1 0 + count_steps n xs)
+        → count_steps n (e ∷ take (place_after_steps es n (cond b k (suc k))) es) ≡ suc k
     go true holds cons =
         let all = cons es in
         let held = holds k (omega (arith, l, all)) in
-        let front = cons (take (place_after es n k) es) in omega (arith, held, front)
+        let front = cons (take (place_after_steps es n k) es) in omega (arith, held, front)
     go false holds cons =
         let all = cons es in
         let held = holds (suc k) (omega (arith, l, all)) in
-        let front = cons (take (place_after es n (suc k)) es) in omega (arith, held, front)
+        let front = cons (take (place_after_steps es n (suc k)) es) in omega (arith, held, front)
 
 -- what is read past the end
 pub none_past : (list : List Made) (i : ℕ) → length list ≤ i → slice_get list i ≡ None
@@ -51,7 +51,7 @@ some_within (x ∷ xs) zero l h = none-some _ h
 some_within (x ∷ xs) (suc i) l h = some_within xs i (omega (arith, l)) h
 
 -- a part of a node is a source
-pub is_source : (at : Part) → IsPart at → IsSource at
+pub is_source : (at : NodePart) → IsNodePart at → IsSource at
 is_source (Data k) is = is
 is_source (Return k) is = is
 is_source (Ram k) is = is
@@ -68,42 +68,42 @@ is_source Stop is = is
 is_source Outside is = absurd is
 
 -- past the steps of a node its parts stay
-pub flow_past : (s : State) (n k : ℕ) (at : Part) → length (history_of s n) ≤ k → Same at ≡ flow_at s n k at
-flow_past s n k at l = sym (ap (λ told. flow_told told (node_after s n k) n at) (none_past (history_of s n) k l))
+pub flow_past : (s : State) (n k : ℕ) (at : NodePart) → length (history_of s n) ≤ k → Same at ≡ flow_at s n k at
+flow_past s n k at l = sym (ap (λ told. optional_event_flow told (node_after s n k) n at) (none_past (history_of s n) k l))
 
 -- the flow at a step that exists
-pub flow_within : (s : State) (n k : ℕ) (at : Part) (told : Made) (before : NodeRecord) (flow : Flow) → Some told ≡ slice_get (history_of s n) k → before ≡ node_after s n k
-    → flow ≡ told_flow told before n at → flow ≡ flow_at s n k at
+pub flow_within : (s : State) (n k : ℕ) (at : NodePart) (told : Made) (before : NodeRecord) (flow : Flow) → Some told ≡ slice_get (history_of s n) k → before ≡ node_after s n k
+    → flow ≡ event_flow told before n at → flow ≡ flow_at s n k at
 flow_within s n k at told before flow is node e =
-    e ∙ ap (λ (z : NodeRecord). told_flow told z n at) node ∙ ap (λ o. flow_told o (node_after s n k) n at) is
+    e ∙ ap (λ (z : NodeRecord). event_flow told z n at) node ∙ ap (λ o. optional_event_flow o (node_after s n k) n at) is
 
 -- a step that moved the value, and one that made it
-pub moved_on : (s : State) (node : NodeId) (k : ℕ) (at from : Part) → moved_at s node.number k at ≡ Some from → origin_from s node (suc k) at ≡ origin_from s node k from
-moved_on s node k at from e = ap (λ o. unwrap_or (option_map (origin_from s node k) o) (value_of_step node (suc k) (told_part (flow_at s node.number k at) at))) e
+pub moved_on : (s : State) (node : NodeId) (k : ℕ) (at from : NodePart) → moved_source_part_at s node.number k at ≡ Some from → origin_after_steps s node (suc k) at ≡ origin_after_steps s node k from
+moved_on s node k at from e = ap (λ o. unwrap_or (option_map (origin_after_steps s node k) o) (value_of_step node (suc k) (listed_part (flow_at s node.number k at) at))) e
 
-pub made_there : (s : State) (node : NodeId) (k : ℕ) (at : Part) → moved_at s node.number k at ≡ None → origin_from s node (suc k) at ≡ value_of_step node (suc k) (told_part (flow_at s node.number k at) at)
-made_there s node k at e = ap (λ o. unwrap_or (option_map (origin_from s node k) o) (value_of_step node (suc k) (told_part (flow_at s node.number k at) at))) e
+pub made_there : (s : State) (node : NodeId) (k : ℕ) (at : NodePart) → moved_source_part_at s node.number k at ≡ None → origin_after_steps s node (suc k) at ≡ value_of_step node (suc k) (listed_part (flow_at s node.number k at) at)
+made_there s node k at e = ap (λ o. unwrap_or (option_map (origin_after_steps s node k) o) (value_of_step node (suc k) (listed_part (flow_at s node.number k at) at))) e
 
-pub moved_so : (s : State) (n k : ℕ) (at : Part) (flow : Flow) (o : Option Part) → flow ≡ flow_at s n k at → o ≡ moved_from flow at → moved_at s n k at ≡ o
-moved_so s n k at flow o is e = ap (λ (z : Flow). moved_from z at) (sym is) ∙ sym e
+pub moved_so : (s : State) (n k : ℕ) (at : NodePart) (flow : Flow) (o : Option NodePart) → flow ≡ flow_at s n k at → o ≡ moved_source_part flow at → moved_source_part_at s n k at ≡ o
+moved_so s n k at flow o is e = ap (λ (z : Flow). moved_source_part z at) (sym is) ∙ sym e
 
 -- the walk back continues, and ends at the step or at the load
-pub back_on : (s : State) (node : NodeId) (step k : ℕ) (at from : Part) (value : Value) → suc k ≡ step → Some from ≡ moved_at s node.number k at
-    → origin_from s node step at ≡ value → origin_from s node k from ≡ value
-back_on s node step k at from value is moved same = sym (moved_on s node k at from (sym moved)) ∙ ap (λ (z : ℕ). origin_from s node z at) is ∙ same
+pub back_on : (s : State) (node : NodeId) (step k : ℕ) (at from : NodePart) (value : Value) → suc k ≡ step → Some from ≡ moved_source_part_at s node.number k at
+    → origin_after_steps s node step at ≡ value → origin_after_steps s node k from ≡ value
+back_on s node step k at from value is moved same = sym (moved_on s node k at from (sym moved)) ∙ ap (λ (z : ℕ). origin_after_steps s node z at) is ∙ same
 
-pub back_end : (s : State) (node : NodeId) (step k : ℕ) (at told : Part) (flow : Flow) (value : Value) → suc k ≡ step → flow ≡ flow_at s node.number k at → None ≡ moved_at s node.number k at
-    → told ≡ told_part flow at → origin_from s node step at ≡ value → value_of_step node step told ≡ value
+pub back_end : (s : State) (node : NodeId) (step k : ℕ) (at told : NodePart) (flow : Flow) (value : Value) → suc k ≡ step → flow ≡ flow_at s node.number k at → None ≡ moved_source_part_at s node.number k at
+    → told ≡ listed_part flow at → origin_after_steps s node step at ≡ value → value_of_step node step told ≡ value
 back_end s node step k at told flow value is e moved part same =
     ap (λ (z : ℕ). value_of_step node z told) (sym is)
-    ∙ ap (value_of_step node (suc k)) (part ∙ ap (λ (z : Flow). told_part z at) e)
+    ∙ ap (value_of_step node (suc k)) (part ∙ ap (λ (z : Flow). listed_part z at) e)
     ∙ sym (made_there s node k at (sym moved))
-    ∙ ap (λ (z : ℕ). origin_from s node z at) is ∙ same
+    ∙ ap (λ (z : ℕ). origin_after_steps s node z at) is ∙ same
 
-pub told_so : (s : State) (node : NodeId) (value told made : Value) → value.node ≡ node → told.node ≡ value.node → origin_of s told ≡ origin_of s value → origin_from s node value.step value.part ≡ made
-    → origin_from s node told.step told.part ≡ made
+pub told_so : (s : State) (node : NodeId) (value told made : Value) → value.node ≡ node → told.node ≡ value.node → origin_of s told ≡ origin_of s value → origin_after_steps s node value.step value.part ≡ made
+    → origin_after_steps s node told.step told.part ≡ made
 told_so s node value told made is same e there =
-    ap (λ (m : NodeId). origin_from s m told.step told.part) (sym (same ∙ is)) ∙ e ∙ ap (λ (m : NodeId). origin_from s m value.step value.part) is ∙ there
+    ap (λ (m : NodeId). origin_after_steps s m told.step told.part) (sym (same ∙ is)) ∙ e ∙ ap (λ (m : NodeId). origin_after_steps s m value.step value.part) is ∙ there
 
 -- a node that is walked back to a number of its steps
 pub has_step_so : (s : State) (node : NodeId) (step : ℕ) (walk : NodeAtStep) → walk ≡ node_at_step s node step → walk ≡ node_at_step s node walk.step
@@ -113,33 +113,33 @@ has_step_so s node step walk e = e ∙ ap (node_at_step s node) (sym (ap (λ (z 
 pub stays_so : (s : State) (node : NodeId) (old new : NodeAtStep) → old ≡ node_at_step s node old.step → new ≡ old → new ≡ node_at_step s node new.step
 stays_so s node old new e same = same ∙ e ∙ ap (λ (z : NodeAtStep). node_at_step s node z.step) (sym same)
 
-pub within_so : (s : State) (node : NodeId) (walk : NodeAtStep) (k : ℕ) → walk ≡ node_at_step s node walk.step → k ≤ steps_of walk.node.number walk.machine.kept
-    → k ≤ steps_of node.number s.kept
-within_so s node walk k e within = subst (λ (z : NodeAtStep). k ≤ steps_of z.node.number z.machine.kept) e within
+pub within_so : (s : State) (node : NodeId) (walk : NodeAtStep) (k : ℕ) → walk ≡ node_at_step s node walk.step → k ≤ count_steps walk.node.number walk.machine.kept
+    → k ≤ count_steps node.number s.kept
+within_so s node walk k e within = subst (λ (z : NodeAtStep). k ≤ count_steps z.node.number z.machine.kept) e within
 
 pub back_so : (s : State) (node : NodeId) (old new : NodeAtStep) → old ≡ node_at_step s node old.step → new ≡ record old { step = old.step - 1 } → new ≡ node_at_step s node (old.step - 1)
 back_so s node old new e f = f ∙ ap (λ (z : NodeAtStep). record z { step = old.step - 1 }) e
 
-pub then_of : (s : State) (node : NodeId) (walk : NodeAtStep) (behind : NodeRecord) → walk ≡ node_at_step s node walk.step → walk.step ≤ steps_of walk.node.number walk.machine.kept
-    → ((place : ℕ) → steps_of walk.node.number (take place walk.machine.kept) ≡ walk.step → behind ≡ record_at (chip_of (earlier walk.machine place)) walk.node.number)
+pub then_of : (s : State) (node : NodeId) (walk : NodeAtStep) (behind : NodeRecord) → walk ≡ node_at_step s node walk.step → walk.step ≤ count_steps walk.node.number walk.machine.kept
+    → ((place : ℕ) → count_steps walk.node.number (take place walk.machine.kept) ≡ walk.step → behind ≡ record_at (chip_of (earlier walk.machine place)) walk.node.number)
     → behind ≡ node_after s node.number walk.step
 then_of s node walk behind e within h =
-    h (place_after walk.machine.kept walk.node.number walk.step) (place_holds walk.machine.kept walk.node.number walk.step within)
+    h (place_after_steps walk.machine.kept walk.node.number walk.step) (place_holds walk.machine.kept walk.node.number walk.step within)
     ∙ ap (λ (z : NodeAtStep). node_after z.machine z.node.number walk.step) e
 
 -- the same for a walk at this step
-pub stood_of : (s : State) (node : NodeId) (walk : NodeAtStep) (step : ℕ) (behind : NodeRecord) → walk ≡ node_at_step s node step → step ≤ steps_of node.number s.kept
-    → ((place : ℕ) → steps_of walk.node.number (take place walk.machine.kept) ≡ walk.step → behind ≡ record_at (chip_of (earlier walk.machine place)) walk.node.number)
+pub stood_of : (s : State) (node : NodeId) (walk : NodeAtStep) (step : ℕ) (behind : NodeRecord) → walk ≡ node_at_step s node step → step ≤ count_steps node.number s.kept
+    → ((place : ℕ) → count_steps walk.node.number (take place walk.machine.kept) ≡ walk.step → behind ≡ record_at (chip_of (earlier walk.machine place)) walk.node.number)
     → behind ≡ node_after s node.number step
 stood_of s node walk step behind e within h =
-    subst (λ (z : NodeAtStep). (place : ℕ) → steps_of z.node.number (take place z.machine.kept) ≡ z.step → behind ≡ record_at (chip_of (earlier z.machine place)) z.node.number) e h
-    (place_after s.kept node.number step) (place_holds s.kept node.number step within)
+    subst (λ (z : NodeAtStep). (place : ℕ) → count_steps z.node.number (take place z.machine.kept) ≡ z.step → behind ≡ record_at (chip_of (earlier z.machine place)) z.node.number) e h
+    (place_after_steps s.kept node.number step) (place_holds s.kept node.number step within)
 
-pub flow_none : (s : State) (n k j : ℕ) (at : Part) → None ≡ slice_get (history_of s n) j → j ≡ k → Same at ≡ flow_at s n k at
-flow_none s n k j at h e = ap (λ told. flow_told told (node_after s n k) n at) (h ∙ ap (slice_get (history_of s n)) e)
+pub flow_none : (s : State) (n k j : ℕ) (at : NodePart) → None ≡ slice_get (history_of s n) j → j ≡ k → Same at ≡ flow_at s n k at
+flow_none s n k j at h e = ap (λ told. optional_event_flow told (node_after s n k) n at) (h ∙ ap (slice_get (history_of s n)) e)
 
 -- what stays is passed over, and so is all past the steps of a node
-stays : (at : Part) → IsPart at → Some at ≡ moved_from (Same at) at
+stays : (at : NodePart) → IsNodePart at → Some at ≡ moved_source_part (Same at) at
 stays (Data k) is = refl
 stays (Return k) is = refl
 stays (Ram k) is = refl
@@ -155,16 +155,16 @@ stays Wait is = refl
 stays Stop is = refl
 stays Outside is = absurd is
 
-origin_past : (s : State) (node : NodeId) (steps : ℕ) (at : Part) → IsPart at → steps ≡ length (history_of s node.number) → (more : ℕ)
-    → origin_from s node steps at ≡ origin_from s node (more + steps) at
-origin_past s node steps at is e zero = ap (λ (z : ℕ). origin_from s node z at) (let f : steps ≡ 0 + steps = omega arith in f)
+origin_past : (s : State) (node : NodeId) (steps : ℕ) (at : NodePart) → IsNodePart at → steps ≡ length (history_of s node.number) → (more : ℕ)
+    → origin_after_steps s node steps at ≡ origin_after_steps s node (more + steps) at
+origin_past s node steps at is e zero = ap (λ (z : ℕ). origin_after_steps s node z at) (let f : steps ≡ 0 + steps = omega arith in f)
 origin_past s node steps at is e (suc more) =
     origin_past s node steps at is e more
     ∙ sym (moved_on s node (more + steps) at at (moved_so s node.number (more + steps) at (Same at) (Some at) (flow_past s node.number (more + steps) at (omega (arith, e))) (stays at is)))
-    ∙ ap (λ (z : ℕ). origin_from s node z at) (let f : suc (more + steps) ≡ suc more + steps = omega arith in f)
+    ∙ ap (λ (z : ℕ). origin_after_steps s node z at) (let f : suc (more + steps) ≡ suc more + steps = omega arith in f)
 
-pub origin_last : (s : State) (node : NodeId) (step steps : ℕ) (at : Part) → IsPart at → steps ≡ length (history_of s node.number) → steps ≤ step
-    → origin_from s node steps at ≡ origin_from s node step at
+pub origin_last : (s : State) (node : NodeId) (step steps : ℕ) (at : NodePart) → IsNodePart at → steps ≡ length (history_of s node.number) → steps ≤ step
+    → origin_after_steps s node steps at ≡ origin_after_steps s node step at
 origin_last s node step steps at is e l =
     origin_past s node steps at is e (step - steps)
-    ∙ ap (λ (z : ℕ). origin_from s node z at) (let f : (step - steps) + steps ≡ step = omega (arith, l) in f)
+    ∙ ap (λ (z : ℕ). origin_after_steps s node z at) (let f : (step - steps) + steps ≡ step = omega (arith, l) in f)

@@ -5,8 +5,8 @@ use Rattle.std.specs.List.{slice_get}
 use Rattle.std.proofs.lemmas.Option.{same_Some, none-some}
 use Rattle.std.proofs.lemmas.Bool.{eqb-true}
 use Rattle.ga_node.specs.Record.{NodeRecord}
-use Rattle.ga_node.specs.Table.{own, Access, Plain, Reads, Writes, found, stored, followed, carried_out, opcode_effect, fetches, next_action_of, posts, stop_effect, with_kind, done_by, own_event}
-use Rattle.ga_node.specs.declared.kind.Kind.{Kind}
+use Rattle.ga_node.specs.Table.{own, Access, Plain, Reads, Writes, found, stored, followed, access_result, opcode_effect, fetch_access, next_action_of, wait_effect, stop_effect, with_kind, action_result, own_event}
+use Rattle.ga_node.specs.declared.kind.OwnEventKind.{OwnEventKind}
 use Rattle.ga_node.specs.declared.kind.NotReady.{NotReady}
 use Rattle.ga_node.specs.declared.seen.Seen.{Seen}
 use Rattle.ga_grid.specs.declared.node_id.NodeId.{NodeId}
@@ -16,27 +16,27 @@ use Rattle.ga_event.specs.declared.event.Event.TheVariants as event
 use Rattle.ga_event.specs.declared.event.Cause.{Cause}
 use Rattle.ga_event.specs.declared.made.Made.{Made}
 use Rattle.ga_event.specs.declared.made.Made.TheVariants as made
-use Rattle.ga_event.specs.Apply.{EventOutcome, neighbour_states, after, refusal_of, cause_of, when_allowed, run, replay, Agree}
+use Rattle.ga_event.specs.Apply.{EventOutcome, neighbour_states, after, refusal_of, cause_of, some_if_allowed, run, replay, AgreeOutsideMarks}
 use Rattle.ga_event.specs.Touches.{touches}
-use Rattle.ga_event.specs.Told.{made_after, mades_after}
+use Rattle.ga_event.specs.Told.{made_event_after, made_events_after}
 use Rattle.ga_event.proofs.Locality.{apply_keeps}
-use Rattle.ga_lab.specs.Machine.{State, told_by, history_of}
-use Rattle.ga_provenance.specs.Origins.{place_after, node_after}
+use Rattle.ga_lab.specs.Machine.{State, outcomes_of_run, history_of}
+use Rattle.ga_provenance.specs.Origins.{place_after_steps, node_after}
 use Rattle.ga_slots.specs.Codes.{code_of, op_of}
 use Rattle.ga_slots.proofs.Encoding.{op_of-code_of}
-use Rattle.ga_ports.specs.Address.{classified, is_single, side_of}
+use Rattle.ga_ports.specs.Address.{address_target, is_single_side, side_of}
 use Rattle.ga_ports.specs.declared.address.Target.{Target}
 use Rattle.ga_ports.specs.declared.address.Target.TheVariants as target
 use Rattle.ga_node.specs.Changes.{Change}
-use Rattle.ga_node.specs.declared.kind.Kind.TheVariants as kind
+use Rattle.ga_node.specs.declared.kind.OwnEventKind.TheVariants as kind
 use Rattle.ga_node.specs.declared.due.NextAction.{NextAction}
 use Rattle.ga_node.specs.declared.due.NextAction.TheVariants as due
 use Rattle.ga_node.specs.declared.wait.Wait.TheVariants as wait
-use Rattle.ga_node.specs.declared.wait.Reader.{Reader}
-use Rattle.ga_node.specs.declared.wait.Reader.TheVariants.{Instruction, Stack}
+use Rattle.ga_node.specs.declared.wait.ReadKind.{ReadKind}
+use Rattle.ga_node.specs.declared.wait.ReadKind.TheVariants.{Instruction, Stack}
 use Rattle.ga_event.specs.declared.flow.choice.Choice.{Choice}
-use Rattle.ga_event.specs.declared.flow.part.Part.{Part}
-use Rattle.ga_event.specs.Flow.{Same, choice, moves_where, moves_by, moved_all, flow_where, own_flow}
+use Rattle.ga_event.specs.declared.flow.part.NodePart.{NodePart}
+use Rattle.ga_event.specs.Flow.{Same, choice, moves_by_choice, action_moves, flows_after_moves, flow_by_choice, own_flow}
 use Rattle.ga_provenance.specs.inner.{IsDueBy}
 
 -- ---- a step of a node's own, as made, is what its next event was in the node before it
@@ -61,7 +61,7 @@ begins chip e es done h = at_first (refusal_of chip e) refl h
     at_rest (Some rest) can runs is = record { rest = rest; can = can; runs = runs; is = sym (ap (λ (z : Ended). z.1) (same_Some _ _ is)); ends = sym (ap (λ (z : Ended). z.0) (same_Some _ _ is)) }
 
     at_first : (why : Option NotReady) → refusal_of chip e ≡ why
-        → option_and_then {U = Ended} (λ first. option_map {U = Ended} (λ rest. (rest.0, (cause_of chip e, first.1) ∷ rest.1)) (run first.0 es)) (when_allowed why (after chip e)) ≡ Some done
+        → option_and_then {U = Ended} (λ first. option_map {U = Ended} (λ rest. (rest.0, (cause_of chip e, first.1) ∷ rest.1)) (run first.0 es)) (some_if_allowed why (after chip e)) ≡ Some done
         → Begins chip e es done
     at_first None can is = at_rest (run (after chip e).0 es) can refl is
     at_first (Some why) can is = absurd (cc)
@@ -74,17 +74,17 @@ front_of x (Some rest) = refl
 replay_on : (chip : List NodeRecord) (e : Event) (xs : List Event) → refusal_of chip e ≡ None → replay chip (e ∷ xs) ≡ replay (after chip e).0 xs
 replay_on chip e xs can =
     ap (λ (why : Option NotReady). option_map (λ (z : Ended). z.0)
-    (option_and_then {U = Ended} (λ first. option_map {U = Ended} (λ rest. (rest.0, (cause_of chip e, first.1) ∷ rest.1)) (run first.0 xs)) (when_allowed why (after chip e)))) can
+    (option_and_then {U = Ended} (λ first. option_map {U = Ended} (λ rest. (rest.0, (cause_of chip e, first.1) ∷ rest.1)) (run first.0 xs)) (some_if_allowed why (after chip e)))) can
     ∙ front_of (cause_of chip e, (after chip e).1) (run (after chip e).0 xs)
 
 -- a node that an event doesn't touch stays
 stays : (chip : List NodeRecord) (e : Event) (n : ℕ) → refusal_of chip e ≡ None → touches e n ≡ false → record_at chip n ≡ record_at (after chip e).0 n
 stays chip e n can other =
-    let keeps : Agree (touches e) chip (after chip e).0 =
-    subst (λ (why : Option NotReady). IfSome (when_allowed why (after chip e)) (λ (done : List NodeRecord × EventOutcome). Agree (touches e) chip done.0)) can (apply_keeps chip e) in
+    let keeps : AgreeOutsideMarks (touches e) chip (after chip e).0 =
+    subst (λ (why : Option NotReady). IfSome (some_if_allowed why (after chip e)) (λ (done : List NodeRecord × EventOutcome). AgreeOutsideMarks (touches e) chip done.0)) can (apply_keeps chip e) in
     keeps.same n other
 
-none_first : (es : List Event) (n : ℕ) → place_after es n zero ≡ zero
+none_first : (es : List Event) (n : ℕ) → place_after_steps es n zero ≡ zero
 none_first [] n = refl
 none_first (e ∷ es) n = refl
 
@@ -93,14 +93,14 @@ empty_some zero x h = none-some _ h
 empty_some (suc i) x h = none-some _ h
 
 -- a node that held this made an event of this kind, and then held that, on a chip of all nodes
-record Went (nodes : ℕ) (before behind : NodeRecord) (kind : Kind) : Type 0 where
+record Went (nodes : ℕ) (before behind : NodeRecord) (kind : OwnEventKind) : Type 0 where
   seen : Seen
   ran : (own seen before).0 ≡ kind
   next : nodes ≡ 144 → behind ≡ (own seen before).1
 
 -- an event that touches the node
-touched_first : (chip : List NodeRecord) (e : Event) (before : List Event) (rest : List Made) (n step : ℕ) (m : NodeId) (kind : Kind) → touches e n ≡ true
-    → slice_get (option_to_list (made_after before e (after chip e).1) ++ rest) zero ≡ Some (made.Own m step kind) → Went (length chip) (record_at chip n) (record_at (after chip e).0 n) kind
+touched_first : (chip : List NodeRecord) (e : Event) (before : List Event) (rest : List Made) (n step : ℕ) (m : NodeId) (kind : OwnEventKind) → touches e n ≡ true
+    → slice_get (option_to_list (made_event_after before e (after chip e).1) ++ rest) zero ≡ Some (made.Own m step kind) → Went (length chip) (record_at chip n) (record_at (after chip e).0 n) kind
 touched_first chip (event.Own node) before rest n step m kind touched h =
     let at : node.number ≡ n = number (node.number == n) refl touched in
     let seen : Seen = neighbour_states chip node.number in
@@ -119,7 +119,7 @@ touched_first chip (event.Own node) before rest n step m kind touched h =
 touched_first chip (event.Pass from to side) before rest n step m kind touched h = absurd (cc)
 
 touched_next : (chip : List NodeRecord) (e : Event) (before : List Event) (rest : List Made) (k : ℕ) (x : Made)
-    → slice_get (option_to_list (made_after before e (after chip e).1) ++ rest) (suc k) ≡ Some x → slice_get rest k ≡ Some x
+    → slice_get (option_to_list (made_event_after before e (after chip e).1) ++ rest) (suc k) ≡ Some x → slice_get rest k ≡ Some x
 touched_next chip (event.Own node) before rest k x h = h
 touched_next chip (event.Pass from to side) before rest k x h = h
 
@@ -131,15 +131,15 @@ abbrev chip_at : List NodeRecord → List Event → ℕ → List NodeRecord
 chip_at chip events place = unwrap_or (replay chip (take place events)) []
 
 -- a node's step after k of its steps, in a list of events
-abbrev WentAt : List NodeRecord → List Event → ℕ → ℕ → Kind → Type 0
-WentAt chip events n k kind = Went (length chip) (record_at (chip_at chip events (place_after events n k)) n) (record_at (chip_at chip events (place_after events n (suc k))) n) kind
+abbrev WentAt : List NodeRecord → List Event → ℕ → ℕ → OwnEventKind → Type 0
+WentAt chip events n k kind = Went (length chip) (record_at (chip_at chip events (place_after_steps events n k)) n) (record_at (chip_at chip events (place_after_steps events n (suc k))) n) kind
 
 -- a place of a list, with an event more in front
 moved_on : (chip : List NodeRecord) (e : Event) (es : List Event) (n place : ℕ) → refusal_of chip e ≡ None
     → record_at (chip_at (after chip e).0 es place) n ≡ record_at (chip_at chip (e ∷ es) (suc place)) n
 moved_on chip e es n place can = ap (λ (z : Option (List NodeRecord)). record_at (unwrap_or z []) n) (sym (replay_on chip e (take place es) can))
 
-went_on : (chip : List NodeRecord) (e : Event) (es : List Event) (n first last : ℕ) (kind : Kind) → refusal_of chip e ≡ None
+went_on : (chip : List NodeRecord) (e : Event) (es : List Event) (n first last : ℕ) (kind : OwnEventKind) → refusal_of chip e ≡ None
     → Went (length (after chip e).0) (record_at (chip_at (after chip e).0 es first) n) (record_at (chip_at (after chip e).0 es last) n) kind
     → Went (length chip) (record_at (chip_at chip (e ∷ es) (suc first)) n) (record_at (chip_at chip (e ∷ es) (suc last)) n) kind
 went_on chip e es n first last kind can went =
@@ -148,50 +148,50 @@ went_on chip e es n first last kind can went =
     (subst (λ (z : NodeRecord). Went (length (after chip e).0) (record_at (chip_at (after chip e).0 es first) n) z kind) (moved_on chip e es n last can) went))
 
 -- if the step is the first event, or a later one
-at_first : (chip : List NodeRecord) (e : Event) (es before : List Event) (told : List Made) (n step : ℕ) (m : NodeId) (kind : Kind) → refusal_of chip e ≡ None
+at_first : (chip : List NodeRecord) (e : Event) (es before : List Event) (told : List Made) (n step : ℕ) (m : NodeId) (kind : OwnEventKind) → refusal_of chip e ≡ None
     → (slice_get told zero ≡ Some (made.Own m step kind) → WentAt (after chip e).0 es n zero kind)
-    → (b : Bool) → touches e n ≡ b → slice_get (cond b (option_to_list (made_after before e (after chip e).1)) [] ++ told) zero ≡ Some (made.Own m step kind)
-    → Went (length chip) (record_at chip n) (record_at (chip_at chip (e ∷ es) (suc (place_after es n (cond b zero (suc zero))))) n) kind
+    → (b : Bool) → touches e n ≡ b → slice_get (cond b (option_to_list (made_event_after before e (after chip e).1)) [] ++ told) zero ≡ Some (made.Own m step kind)
+    → Went (length chip) (record_at chip n) (record_at (chip_at chip (e ∷ es) (suc (place_after_steps es n (cond b zero (suc zero))))) n) kind
 at_first chip e es before told n step m kind can next true touched at =
     subst (λ (z : NodeRecord). Went (length chip) (record_at chip n) z kind)
     (moved_on chip e es n zero can ∙ ap (λ (p : ℕ). record_at (chip_at chip (e ∷ es) (suc p)) n) (sym (none_first es n)))
     (touched_first chip e before told n step m kind touched at)
 at_first chip e es before told n step m kind can next false other at =
-    let there = went_on chip e es n (place_after es n zero) (place_after es n (suc zero)) kind can (next at) in
-    subst (λ (z : NodeRecord). Went (length chip) z (record_at (chip_at chip (e ∷ es) (suc (place_after es n (suc zero)))) n) kind)
-    (sym (moved_on chip e es n (place_after es n zero) can) ∙ ap (λ (p : ℕ). record_at (chip_at (after chip e).0 es p) n) (none_first es n) ∙ sym (stays chip e n can other))
+    let there = went_on chip e es n (place_after_steps es n zero) (place_after_steps es n (suc zero)) kind can (next at) in
+    subst (λ (z : NodeRecord). Went (length chip) z (record_at (chip_at chip (e ∷ es) (suc (place_after_steps es n (suc zero)))) n) kind)
+    (sym (moved_on chip e es n (place_after_steps es n zero) can) ∙ ap (λ (p : ℕ). record_at (chip_at (after chip e).0 es p) n) (none_first es n) ∙ sym (stays chip e n can other))
     there
 
-at_later : (chip : List NodeRecord) (e : Event) (es before : List Event) (told : List Made) (n k step : ℕ) (m : NodeId) (kind : Kind) → refusal_of chip e ≡ None
+at_later : (chip : List NodeRecord) (e : Event) (es before : List Event) (told : List Made) (n k step : ℕ) (m : NodeId) (kind : OwnEventKind) → refusal_of chip e ≡ None
     → ((j : ℕ) → slice_get told j ≡ Some (made.Own m step kind) → WentAt (after chip e).0 es n j kind)
-    → (b : Bool) → slice_get (cond b (option_to_list (made_after before e (after chip e).1)) [] ++ told) (suc k) ≡ Some (made.Own m step kind)
-    → Went (length chip) (record_at (chip_at chip (e ∷ es) (suc (place_after es n (cond b k (suc k))))) n)
-    (record_at (chip_at chip (e ∷ es) (suc (place_after es n (cond b (suc k) (suc (suc k)))))) n) kind
+    → (b : Bool) → slice_get (cond b (option_to_list (made_event_after before e (after chip e).1)) [] ++ told) (suc k) ≡ Some (made.Own m step kind)
+    → Went (length chip) (record_at (chip_at chip (e ∷ es) (suc (place_after_steps es n (cond b k (suc k))))) n)
+    (record_at (chip_at chip (e ∷ es) (suc (place_after_steps es n (cond b (suc k) (suc (suc k)))))) n) kind
 at_later chip e es before told n k step m kind can next true at =
-    went_on chip e es n (place_after es n k) (place_after es n (suc k)) kind can (next k (touched_next chip e before told k (made.Own m step kind) at))
+    went_on chip e es n (place_after_steps es n k) (place_after_steps es n (suc k)) kind can (next k (touched_next chip e before told k (made.Own m step kind) at))
 at_later chip e es before told n k step m kind can next false at =
-    went_on chip e es n (place_after es n (suc k)) (place_after es n (suc (suc k))) kind can (next (suc k) at)
+    went_on chip e es n (place_after_steps es n (suc k)) (place_after_steps es n (suc (suc k))) kind can (next (suc k) at)
 
-went : (chip : List NodeRecord) (events before : List Event) (done : Ended) (n k step : ℕ) (m : NodeId) (kind : Kind) → run chip events ≡ Some done
-    → slice_get (mades_after before done.1 n) k ≡ Some (made.Own m step kind) → WentAt chip events n k kind
+went : (chip : List NodeRecord) (events before : List Event) (done : Ended) (n k step : ℕ) (m : NodeId) (kind : OwnEventKind) → run chip events ≡ Some done
+    → slice_get (made_events_after before done.1 n) k ≡ Some (made.Own m step kind) → WentAt chip events n k kind
 went chip [] before done n k step m kind is h =
-    absurd (empty_some k (made.Own m step kind) (subst (λ (z : Ended). slice_get (mades_after before z.1 n) k ≡ Some (made.Own m step kind)) (sym (same_Some _ _ is)) h))
+    absurd (empty_some k (made.Own m step kind) (subst (λ (z : Ended). slice_get (made_events_after before z.1 n) k ≡ Some (made.Own m step kind)) (sym (same_Some _ _ is)) h))
 went chip (e ∷ es) before done n zero step m kind is h =
     let first = begins chip e es done is in
-    at_first chip e es before (mades_after (before ++ e ∷ []) first.rest.1 n) n step m kind first.can
+    at_first chip e es before (made_events_after (before ++ e ∷ []) first.rest.1 n) n step m kind first.can
     (λ at. went (after chip e).0 es (before ++ e ∷ []) first.rest n zero step m kind first.runs at)
-    (touches e n) refl (subst (λ z. slice_get (mades_after before z n) zero ≡ Some (made.Own m step kind)) first.is h)
+    (touches e n) refl (subst (λ z. slice_get (made_events_after before z n) zero ≡ Some (made.Own m step kind)) first.is h)
 went chip (e ∷ es) before done n (suc k) step m kind is h =
     let first = begins chip e es done is in
-    at_later chip e es before (mades_after (before ++ e ∷ []) first.rest.1 n) n k step m kind first.can
+    at_later chip e es before (made_events_after (before ++ e ∷ []) first.rest.1 n) n k step m kind first.can
     (λ j at. went (after chip e).0 es (before ++ e ∷ []) first.rest n j step m kind first.runs at)
-    (touches e n) (subst (λ z. slice_get (mades_after before z n) (suc k) ≡ Some (made.Own m step kind)) first.is h)
+    (touches e n) (subst (λ z. slice_get (made_events_after before z n) (suc k) ≡ Some (made.Own m step kind)) first.is h)
 
-went_so : (s : State) (n k step : ℕ) (m : NodeId) (kind : Kind) → slice_get (history_of s n) k ≡ Some (made.Own m step kind)
+went_so : (s : State) (n k step : ℕ) (m : NodeId) (kind : OwnEventKind) → slice_get (history_of s n) k ≡ Some (made.Own m step kind)
     → Went (length s.load) (node_after s n k) (node_after s n (suc k)) kind
 went_so s n k step m kind h = go (run s.load s.kept) refl h
   where
-    go : (o : Option Ended) → run s.load s.kept ≡ o → slice_get (mades_after [] (told_by o) n) k ≡ Some (made.Own m step kind)
+    go : (o : Option Ended) → run s.load s.kept ≡ o → slice_get (made_events_after [] (outcomes_of_run o) n) k ≡ Some (made.Own m step kind)
         → Went (length s.load) (node_after s n k) (node_after s n (suc k)) kind
     go None is at = absurd (empty_some k (made.Own m step kind) at)
     go (Some done) is at = went s.load s.kept [] done n k step m kind is at
@@ -211,21 +211,21 @@ whole_machine s chip leads size = go (run s.load s.kept) refl leads
     go (Some done) is h = sym (length_run s.load s.kept done is) ∙ ap length (same_Some _ _ h) ∙ size
 
 -- the next event of a node that held this was of this kind
-pub record WasNext (node : NodeRecord) (kind : Kind) : Type 0 where
+pub record WasNext (node : NodeRecord) (kind : OwnEventKind) : Type 0 where
   pub seen : Seen
   pub is : (own seen node).0 ≡ kind
 
 -- the kind of a node's step, as made
-pub ran_so : (s : State) (n k step : ℕ) (m : NodeId) (kind : Kind) → slice_get (history_of s n) k ≡ Some (made.Own m step kind) → WasNext (node_after s n k) kind
+pub ran_so : (s : State) (n k step : ℕ) (m : NodeId) (kind : OwnEventKind) → slice_get (history_of s n) k ≡ Some (made.Own m step kind) → WasNext (node_after s n k) kind
 ran_so s n k step m kind h = let step_is = went_so s n k step m kind h in record { seen = step_is.seen; is = step_is.ran }
 
 -- and the node after it
-pub record Became (before behind : NodeRecord) (kind : Kind) : Type 0 where
+pub record Became (before behind : NodeRecord) (kind : OwnEventKind) : Type 0 where
   pub seen : Seen
   pub ran : (own seen before).0 ≡ kind
   pub next : behind ≡ (own seen before).1
 
-pub became_so : (s : State) (n k step : ℕ) (m : NodeId) (kind : Kind) → length s.load ≡ 144 → slice_get (history_of s n) k ≡ Some (made.Own m step kind)
+pub became_so : (s : State) (n k step : ℕ) (m : NodeId) (kind : OwnEventKind) → length s.load ≡ 144 → slice_get (history_of s n) k ≡ Some (made.Own m step kind)
     → Became (node_after s n k) (node_after s n (k + 1)) kind
 became_so s n k step m kind whole h =
     let step_is = went_so s n k step m kind h in
@@ -238,13 +238,13 @@ became_so s n k step m kind whole h =
 -- ---- what came next in a node, by the kind of its event
 
 -- an event that neither waits nor stops its node did what it was for
-is_done : Kind → Bool
+is_done : OwnEventKind → Bool
 is_done kind.Fetch = true
 is_done (kind.Run code) = true
 is_done kind.Wait = false
 is_done (kind.Stop code) = false
 
-read_done : (ran did : Kind) (at : Target) (reader : Reader) (seen : Seen) (n : NodeRecord) (more : ℕ → List Change) → is_done did ≡ true
+read_done : (ran did : OwnEventKind) (at : Target) (reader : ReadKind) (seen : Seen) (n : NodeRecord) (more : ℕ → List Change) → is_done did ≡ true
     → (with_kind ran (followed (found at reader seen n) more)).0 ≡ did → ran ≡ did
 unfolding is_done found followed
 read_done ran did (target.Ram c) reader seen n more done h = h
@@ -253,38 +253,38 @@ read_done ran did target.Io reader seen n more done h = h
 read_done ran did (target.Ports sides) reader seen n more done h = absurd (cc)
 read_done ran did target.Bad reader seen n more done h = absurd (cc)
 
-write_done : (ran did : Kind) (at : Target) (n : NodeRecord) (more : List Change) → is_done did ≡ true
+write_done : (ran did : OwnEventKind) (at : Target) (n : NodeRecord) (more : List Change) → is_done did ≡ true
     → (with_kind ran (followed (stored at n) (λ changes. changes ++ more))).0 ≡ did → ran ≡ did
 unfolding is_done stored followed
 write_done ran did (target.Ram c) n more done h = h
 write_done ran did (target.Rom c) n more done h = h
 write_done ran did target.Io n more done h = h
-write_done ran did (target.Ports sides) n more done h = absurd (at_port (is_single sides) h)
+write_done ran did (target.Ports sides) n more done h = absurd (at_port (is_single_side sides) h)
   where
-    at_port : (single : Bool) → (cond single (posts (wait.Write (side_of sides))) (stop_effect 1)).0 ≡ did → ⊥
+    at_port : (single : Bool) → (cond single (wait_effect (wait.Write (side_of sides))) (stop_effect 1)).0 ≡ did → ⊥
     at_port true g = cc
     at_port false g = cc
 write_done ran did target.Bad n more done h = absurd (cc)
 
-all_done : (ran did : Kind) (reader : Reader) (access : Access) (seen : Seen) (n : NodeRecord) → is_done did ≡ true → (with_kind ran (carried_out reader access seen n)).0 ≡ did → ran ≡ did
+all_done : (ran did : OwnEventKind) (reader : ReadKind) (access : Access) (seen : Seen) (n : NodeRecord) → is_done did ≡ true → (with_kind ran (access_result reader access seen n)).0 ≡ did → ran ≡ did
 all_done ran did reader (Plain changes) seen n done h = h
-all_done ran did reader (Reads address more) seen n done h = read_done ran did (classified address) reader seen n more done h
-all_done ran did reader (Writes address more) seen n done h = write_done ran did (classified address) n more done h
+all_done ran did reader (Reads address more) seen n done h = read_done ran did (address_target address) reader seen n more done h
+all_done ran did reader (Writes address more) seen n done h = write_done ran did (address_target address) n more done h
 
 -- what came next is what an event of this kind is for
-code_in : Kind → ℕ
+code_in : OwnEventKind → ℕ
 code_in (kind.Run code) = code
 code_in kind.Fetch = 32
 code_in kind.Wait = 32
 code_in (kind.Stop code) = 32
 
-run_is : (what : NextAction) (seen : Seen) (n : NodeRecord) (code : ℕ) → (done_by what seen n).0 ≡ kind.Run code → what ≡ due.Run (op_of code)
+run_is : (what : NextAction) (seen : Seen) (n : NodeRecord) (code : ℕ) → (action_result what seen n).0 ≡ kind.Run code → what ≡ due.Run (op_of code)
 unfolding is_done code_in
-run_is due.Fetch seen n code h = let is = all_done kind.Fetch (kind.Run code) Instruction (fetches n) seen n refl h in absurd (cc)
+run_is due.Fetch seen n code h = let is = all_done kind.Fetch (kind.Run code) Instruction (fetch_access n) seen n refl h in absurd (cc)
 run_is (due.Run o) seen n code h =
     ap due.Run (sym (op_of-code_of o) ∙ ap op_of (ap code_in (all_done (kind.Run (code_of o)) (kind.Run code) Stack (opcode_effect o n) seen n refl h)))
 
-fetch_is : (what : NextAction) (seen : Seen) (n : NodeRecord) → (done_by what seen n).0 ≡ kind.Fetch → what ≡ due.Fetch
+fetch_is : (what : NextAction) (seen : Seen) (n : NodeRecord) → (action_result what seen n).0 ≡ kind.Fetch → what ≡ due.Fetch
 unfolding is_done
 fetch_is due.Fetch seen n h = refl
 fetch_is (due.Run o) seen n h = let is = all_done (kind.Run (code_of o)) kind.Fetch Stack (opcode_effect o n) seen n refl h in absurd (cc)
@@ -297,22 +297,22 @@ ran_fetch : (n : NodeRecord) → WasNext n kind.Fetch → next_action_of n ≡ d
 unfolding own own_event
 ran_fetch n was = fetch_is (next_action_of n) was.seen n was.is
 
-due_was : (n : NodeRecord) (ran : Kind) (what : NextAction) → WasNext n ran → IsDueBy ran what → next_action_of n ≡ what
+due_was : (n : NodeRecord) (ran : OwnEventKind) (what : NextAction) → WasNext n ran → IsDueBy ran what → next_action_of n ≡ what
 due_was n kind.Fetch what was is = ran_fetch n was ∙ sym is
 due_was n (kind.Run code) what was is = ran_op n code was ∙ sym is
 due_was n kind.Wait what was is = absurd is
 due_was n (kind.Stop code) what was is = absurd is
 
 -- of a step of a node
-pub due_told : (s : State) (n k step : ℕ) (m : NodeId) (ran : Kind) (what : NextAction) → slice_get (history_of s n) k ≡ Some (made.Own m step ran) → IsDueBy ran what → next_action_of (node_after s n k) ≡ what
+pub due_told : (s : State) (n k step : ℕ) (m : NodeId) (ran : OwnEventKind) (what : NextAction) → slice_get (history_of s n) k ≡ Some (made.Own m step ran) → IsDueBy ran what → next_action_of (node_after s n k) ≡ what
 due_told s n k step m ran what told is = due_was (node_after s n k) ran what (ran_so s n k step m ran told) is
 
 -- what decides what came next determines from where its values come
-by_due : (what : NextAction) (n : NodeRecord) (at : Part) → moved_all (moves_where what (choice what n)) Same at ≡ moved_all (moves_by what n) Same at
+by_due : (what : NextAction) (n : NodeRecord) (at : NodePart) → flows_after_moves (moves_by_choice what (choice what n)) Same at ≡ flows_after_moves (action_moves what n) Same at
 by_due due.Fetch n at = refl
 by_due (due.Run o) n at = refl
 
-pub own_where : (n : NodeRecord) (what : NextAction) (known : Choice) (at : Part) → next_action_of n ≡ what → known ≡ choice what n → flow_where what known at ≡ own_flow n at
-unfolding flow_where own_flow
+pub own_where : (n : NodeRecord) (what : NextAction) (known : Choice) (at : NodePart) → next_action_of n ≡ what → known ≡ choice what n → flow_by_choice what known at ≡ own_flow n at
+unfolding flow_by_choice own_flow
 own_where n what known at next is =
-    ap (λ (z : Choice). moved_all (moves_where what z) Same at) is ∙ by_due what n at ∙ ap (λ (d : NextAction). moved_all (moves_by d n) Same at) (sym next)
+    ap (λ (z : Choice). flows_after_moves (moves_by_choice what z) Same at) is ∙ by_due what n at ∙ ap (λ (d : NextAction). flows_after_moves (action_moves d n) Same at) (sym next)

@@ -3,30 +3,30 @@ use Rattle.std.proofs.Common.{◌≡◌, ℕ, ◌+◌, ◌<◌, ◌≤◌, take,
 use Rattle.ga_node.specs.declared.place.Place.{Place}
 use Rattle.ga_node.specs.Record.{NodeRecord}
 use Rattle.ga_grid.specs.Chip.{record_at}
-use Rattle.ga_event.specs.Told.{steps_of}
+use Rattle.ga_event.specs.Told.{count_steps}
 use Rattle.ga_lab.specs.Machine.{State, chip_of, earlier, history_of}
-use Rattle.ga_lab.specs.Holding.{Holds}
+use Rattle.ga_lab.specs.Holding.{HoldsValue}
 use Rattle.ga_provenance.specs.declared.kept.TrackedPlace.{TrackedPlace}
 use Rattle.ga_provenance.specs.declared.kept.TrackedPlace.TheVariants.{A, B, Ram}
-use Rattle.ga_provenance.specs.Origins.{place_after, node_after}
+use Rattle.ga_provenance.specs.Origins.{place_after_steps, node_after}
 use Rattle.ga_provenance.specs.inner.{place_of, word_of, writes, rests_by, is_unchanged_by, IsWhole}
 use Rattle.ga_provenance.proofs.Made.{place_holds}
 use Rattle.std.specs.List.{slice_get}
 use Rattle.ga_slots.specs.declared.op.Op.{Op}
 use Rattle.ga_slots.specs.declared.op.Op.TheVariants as op
-use Rattle.ga_ports.specs.Address.{classified, is_single, side_of}
+use Rattle.ga_ports.specs.Address.{address_target, is_single_side, side_of}
 use Rattle.ga_ports.specs.declared.address.Target.{Target}
 use Rattle.ga_ports.specs.declared.address.Target.TheVariants as target
-use Rattle.ga_node.specs.Changes.{Change, SetA, SetB, SetRam, SetIo, SetWait, SetStop, changed, after_changes}
-use Rattle.ga_node.specs.Table.{t, r, is_extended, next_action_of, found, stored, followed, posts, stop_effect, awaited, with_kind, done_by, own_event, own}
-use Rattle.ga_node.specs.declared.kind.Kind.{Kind}
-use Rattle.ga_node.specs.declared.kind.Kind.TheVariants as kind
+use Rattle.ga_node.specs.Changes.{Change, SetA, SetB, SetRam, SetIo, SetWait, SetStop, node_after_change, after_changes}
+use Rattle.ga_node.specs.Table.{t, r, is_extended, next_action_of, found, stored, followed, wait_effect, stop_effect, reader_wait, with_kind, action_result, own_event, own}
+use Rattle.ga_node.specs.declared.kind.OwnEventKind.{OwnEventKind}
+use Rattle.ga_node.specs.declared.kind.OwnEventKind.TheVariants as kind
 use Rattle.ga_node.specs.declared.seen.Seen.{Seen}
 use Rattle.ga_node.specs.declared.due.NextAction.{NextAction}
 use Rattle.ga_node.specs.declared.due.NextAction.TheVariants as due
 use Rattle.ga_node.specs.declared.wait.Wait.TheVariants as wait
-use Rattle.ga_node.specs.declared.wait.Reader.{Reader}
-use Rattle.ga_node.specs.declared.wait.Reader.TheVariants.{Instruction, Stack}
+use Rattle.ga_node.specs.declared.wait.ReadKind.{ReadKind}
+use Rattle.ga_node.specs.declared.wait.ReadKind.TheVariants.{Instruction, Stack}
 use Rattle.ga_event.specs.declared.made.Made.{Made}
 use Rattle.ga_event.specs.declared.made.Made.TheVariants as made
 use Rattle.ga_provenance.proofs.Ran.{became_so}
@@ -34,25 +34,25 @@ use Rattle.ga_provenance.proofs.Ran.{became_so}
 -- ---- a node's value right before a step, by the step's entry
 
 -- the old value, if the step's entry has it
-pub held_old : (s : State) (n at old : ℕ) (what : Place) → at < steps_of n s.kept
-    → ((place : ℕ) → steps_of n (take place s.kept) ≡ at → Holds (record_at (chip_of (earlier s place)) n) what old) → Holds (node_after s n at) what old
-held_old s n at old what within there = there (place_after s.kept n at) (place_holds s.kept n at (omega (arith, within)))
+pub held_old : (s : State) (n at old : ℕ) (what : Place) → at < count_steps n s.kept
+    → ((place : ℕ) → count_steps n (take place s.kept) ≡ at → HoldsValue (record_at (chip_of (earlier s place)) n) what old) → HoldsValue (node_after s n at) what old
+held_old s n at old what within there = there (place_after_steps s.kept n at) (place_holds s.kept n at (omega (arith, within)))
 
 -- and where the step left it
-pub held_left : (s : State) (n at value : ℕ) (what : Place) → at + 1 ≤ steps_of n s.kept
-    → ((before behind v : ℕ) → steps_of n (take before s.kept) ≡ at → steps_of n (take behind s.kept) ≡ at + 1
-    → Holds (record_at (chip_of (earlier s behind)) n) what v → Holds (record_at (chip_of (earlier s before)) n) what v)
-    → Holds (node_after s n (at + 1)) what value → Holds (node_after s n at) what value
+pub held_left : (s : State) (n at value : ℕ) (what : Place) → at + 1 ≤ count_steps n s.kept
+    → ((before behind v : ℕ) → count_steps n (take before s.kept) ≡ at → count_steps n (take behind s.kept) ≡ at + 1
+    → HoldsValue (record_at (chip_of (earlier s behind)) n) what v → HoldsValue (record_at (chip_of (earlier s before)) n) what v)
+    → HoldsValue (node_after s n (at + 1)) what value → HoldsValue (node_after s n at) what value
 held_left s n at value what within left held =
-    left (place_after s.kept n at) (place_after s.kept n (at + 1)) value (place_holds s.kept n at (omega (arith, within))) (place_holds s.kept n (at + 1) within) held
+    left (place_after_steps s.kept n at) (place_after_steps s.kept n (at + 1)) value (place_holds s.kept n at (omega (arith, within))) (place_holds s.kept n (at + 1) within) held
 
 -- a tracked word is the value of its place
-pub word_held : (kept : TrackedPlace) (node : NodeRecord) (word : ℕ) → Holds node (place_of kept) word → word_of kept node ≡ word
+pub word_held : (kept : TrackedPlace) (node : NodeRecord) (word : ℕ) → HoldsValue node (place_of kept) word → word_of kept node ≡ word
 word_held A node word h = h
 word_held B node word h = h
 word_held (Ram cell) node word h = h
 
-pub held_word : (kept : TrackedPlace) (node : NodeRecord) (word : ℕ) → word_of kept node ≡ word → Holds node (place_of kept) word
+pub held_word : (kept : TrackedPlace) (node : NodeRecord) (word : ℕ) → word_of kept node ≡ word → HoldsValue node (place_of kept) word
 held_word A node word h = h
 held_word B node word h = h
 held_word (Ram cell) node word h = h
@@ -70,7 +70,7 @@ abbrev Spare : List Change → TrackedPlace → Type 0
 Spare [] kept = Unit {0}
 Spare (change ∷ rest) kept = Spares change kept × Spare rest kept
 
-stays : (change : Change) (kept : TrackedPlace) (n : NodeRecord) → Spares change kept → word_of kept (changed change n) ≡ word_of kept n
+stays : (change : Change) (kept : TrackedPlace) (n : NodeRecord) → Spares change kept → word_of kept (node_after_change change n) ≡ word_of kept n
 stays (SetA word) A n spares = absurd spares
 stays (SetB word) B n spares = absurd spares
 stays (SetRam other word) (Ram cell) n spares = absurd spares
@@ -84,35 +84,35 @@ Rest kept changes n = word_of kept (after_changes changes n) ≡ word_of kept n
 
 spared : (kept : TrackedPlace) (n : NodeRecord) (changes : List Change) → Spare changes kept → Rest kept changes n
 spared kept n [] spares = refl
-spared kept n (change ∷ rest) spares = spared kept (changed change n) rest spares.1 ∙ stays change kept n spares.0
+spared kept n (change ∷ rest) spares = spared kept (node_after_change change n) rest spares.1 ∙ stays change kept n spares.0
 
 -- so after an event that came out as this
-abbrev RestBy : TrackedPlace → Kind × List Change → NodeRecord → Type 0
+abbrev RestBy : TrackedPlace → OwnEventKind × List Change → NodeRecord → Type 0
 RestBy kept event n = rests_by kept event.0 ≡ true → Rest kept event.1 n
 
 by_test : (kept : TrackedPlace) (test : Bool) (some others : List Change) (n : NodeRecord) → Spare some kept → Spare others kept → Rest kept (cond test some others) n
 by_test kept true some others n first second = spared kept n some first
 by_test kept false some others n first second = spared kept n others second
 
-by_read : (kept : TrackedPlace) (ran : Kind) (target : Target) (reader : Reader) (seen : Seen) (n : NodeRecord) (more : ℕ → List Change)
+by_read : (kept : TrackedPlace) (ran : OwnEventKind) (target : Target) (reader : ReadKind) (seen : Seen) (n : NodeRecord) (more : ℕ → List Change)
     → ((word : ℕ) → rests_by kept ran ≡ true → Spare (more word) kept) → RestBy kept (with_kind ran (followed (found target reader seen n) more)) n
 unfolding found followed
 by_read kept ran (target.Ram c) reader seen n more gave h = spared kept n _ (gave _ h)
 by_read kept ran (target.Rom c) reader seen n more gave h = spared kept n _ (gave _ h)
 by_read kept ran target.Io reader seen n more gave h = spared kept n _ (gave _ h)
-by_read kept ran (target.Ports sides) reader seen n more gave h = spared kept n (SetWait (awaited reader sides) ∷ []) (tt, tt)
+by_read kept ran (target.Ports sides) reader seen n more gave h = spared kept n (SetWait (reader_wait reader sides) ∷ []) (tt, tt)
 by_read kept ran target.Bad reader seen n more gave h = spared kept n (SetStop 2 ∷ []) (tt, tt)
 
-by_write : (kept : TrackedPlace) (ran : Kind) (target : Target) (n : NodeRecord) (more : List Change)
+by_write : (kept : TrackedPlace) (ran : OwnEventKind) (target : Target) (n : NodeRecord) (more : List Change)
     → ((cell : ℕ) → rests_by kept ran ≡ true → Spares (SetRam cell (t n)) kept) → (rests_by kept ran ≡ true → Spare more kept)
     → RestBy kept (with_kind ran (followed (stored target n) (λ changes. changes ++ more))) n
 unfolding stored followed
 by_write kept ran (target.Ram c) n more ram rest h = spared kept n (SetRam c (t n) ∷ more) (ram c h, rest h)
 by_write kept ran (target.Rom c) n more ram rest h = spared kept n more (rest h)
 by_write kept ran target.Io n more ram rest h = spared kept n (SetIo (t n) ∷ more) (tt, rest h)
-by_write kept ran (target.Ports sides) n more ram rest h = at_port (is_single sides)
+by_write kept ran (target.Ports sides) n more ram rest h = at_port (is_single_side sides)
   where
-    at_port : (single : Bool) → Rest kept (cond single (posts (wait.Write (side_of sides))) (stop_effect 1)).1 n
+    at_port : (single : Bool) → Rest kept (cond single (wait_effect (wait.Write (side_of sides))) (stop_effect 1)).1 n
     at_port true = spared kept n (SetWait (wait.Write (side_of sides)) ∷ []) (tt, tt)
     at_port false = spared kept n (SetStop 1 ∷ []) (tt, tt)
 by_write kept ran target.Bad n more ram rest h = spared kept n (SetStop 2 ∷ []) (tt, tt)
@@ -133,42 +133,42 @@ no_ram A code cell is h = tt
 no_ram B code cell is h = tt
 no_ram (Ram other) code cell is h = absurd (cc)
 
-op_rests : (o : Op) (seen : Seen) (n : NodeRecord) (kept : TrackedPlace) → RestBy kept (done_by (due.Run o) seen n) n
-op_rests op.Return seen n kept h = spared kept n (done_by (due.Run op.Return) seen n).1 (tt, (tt, (tt, tt)))
-op_rests op.Execute seen n kept h = spared kept n (done_by (due.Run op.Execute) seen n).1 (tt, (tt, (tt, tt)))
-op_rests op.Jump seen n kept h = spared kept n (done_by (due.Run op.Jump) seen n).1 (tt, (tt, tt))
-op_rests op.Call seen n kept h = spared kept n (done_by (due.Run op.Call) seen n).1 (tt, (tt, (tt, tt)))
+op_rests : (o : Op) (seen : Seen) (n : NodeRecord) (kept : TrackedPlace) → RestBy kept (action_result (due.Run o) seen n) n
+op_rests op.Return seen n kept h = spared kept n (action_result (due.Run op.Return) seen n).1 (tt, (tt, (tt, tt)))
+op_rests op.Execute seen n kept h = spared kept n (action_result (due.Run op.Execute) seen n).1 (tt, (tt, (tt, tt)))
+op_rests op.Jump seen n kept h = spared kept n (action_result (due.Run op.Jump) seen n).1 (tt, (tt, tt))
+op_rests op.Call seen n kept h = spared kept n (action_result (due.Run op.Call) seen n).1 (tt, (tt, (tt, tt)))
 op_rests op.Unext seen n kept h = by_test kept (r n == 0) _ _ n (tt, (tt, tt)) (tt, (tt, tt))
 op_rests op.Next seen n kept h = by_test kept (r n == 0) _ _ n (tt, (tt, tt)) (tt, (tt, (tt, tt)))
 op_rests op.If seen n kept h = by_test kept (t n == 0) _ _ n (tt, (tt, tt)) (tt, tt)
 op_rests op.MinusIf seen n kept h = by_test kept (t n / 2 ^ 17 == 0) _ _ n (tt, (tt, tt)) (tt, tt)
-op_rests op.FetchP seen n kept h = by_read kept (kind.Run 8) (classified n.p) Stack seen n _ (λ word g. (tt, (tt, (tt, tt)))) h
-op_rests op.FetchPlus seen n kept h = by_read kept (kind.Run 9) (classified n.a) Stack seen n _ (λ word g. (tt, (no_a kept 9 refl g, (tt, tt)))) h
-op_rests op.FetchB seen n kept h = by_read kept (kind.Run 10) (classified n.b) Stack seen n _ (λ word g. (tt, (tt, tt))) h
-op_rests op.Fetch seen n kept h = by_read kept (kind.Run 11) (classified n.a) Stack seen n _ (λ word g. (tt, (tt, tt))) h
-op_rests op.StoreP seen n kept h = by_write kept (kind.Run 12) (classified n.p) n _ (λ c g. no_ram kept 12 c refl g) (λ g. (tt, (tt, (tt, tt)))) h
-op_rests op.StorePlus seen n kept h = by_write kept (kind.Run 13) (classified n.a) n _ (λ c g. no_ram kept 13 c refl g) (λ g. (tt, (no_a kept 13 refl g, (tt, tt)))) h
-op_rests op.StoreB seen n kept h = by_write kept (kind.Run 14) (classified n.b) n _ (λ c g. no_ram kept 14 c refl g) (λ g. (tt, (tt, tt))) h
-op_rests op.Store seen n kept h = by_write kept (kind.Run 15) (classified n.a) n _ (λ c g. no_ram kept 15 c refl g) (λ g. (tt, (tt, tt))) h
-op_rests op.MultiplyStep seen n kept h = spared kept n (done_by (due.Run op.MultiplyStep) seen n).1 (no_a kept 16 refl h, (tt, (tt, tt)))
-op_rests op.TwoStar seen n kept h = spared kept n (done_by (due.Run op.TwoStar) seen n).1 (tt, (tt, tt))
-op_rests op.TwoSlash seen n kept h = spared kept n (done_by (due.Run op.TwoSlash) seen n).1 (tt, (tt, tt))
-op_rests op.Invert seen n kept h = spared kept n (done_by (due.Run op.Invert) seen n).1 (tt, (tt, tt))
+op_rests op.FetchP seen n kept h = by_read kept (kind.Run 8) (address_target n.p) Stack seen n _ (λ word g. (tt, (tt, (tt, tt)))) h
+op_rests op.FetchPlus seen n kept h = by_read kept (kind.Run 9) (address_target n.a) Stack seen n _ (λ word g. (tt, (no_a kept 9 refl g, (tt, tt)))) h
+op_rests op.FetchB seen n kept h = by_read kept (kind.Run 10) (address_target n.b) Stack seen n _ (λ word g. (tt, (tt, tt))) h
+op_rests op.Fetch seen n kept h = by_read kept (kind.Run 11) (address_target n.a) Stack seen n _ (λ word g. (tt, (tt, tt))) h
+op_rests op.StoreP seen n kept h = by_write kept (kind.Run 12) (address_target n.p) n _ (λ c g. no_ram kept 12 c refl g) (λ g. (tt, (tt, (tt, tt)))) h
+op_rests op.StorePlus seen n kept h = by_write kept (kind.Run 13) (address_target n.a) n _ (λ c g. no_ram kept 13 c refl g) (λ g. (tt, (no_a kept 13 refl g, (tt, tt)))) h
+op_rests op.StoreB seen n kept h = by_write kept (kind.Run 14) (address_target n.b) n _ (λ c g. no_ram kept 14 c refl g) (λ g. (tt, (tt, tt))) h
+op_rests op.Store seen n kept h = by_write kept (kind.Run 15) (address_target n.a) n _ (λ c g. no_ram kept 15 c refl g) (λ g. (tt, (tt, tt))) h
+op_rests op.MultiplyStep seen n kept h = spared kept n (action_result (due.Run op.MultiplyStep) seen n).1 (no_a kept 16 refl h, (tt, (tt, tt)))
+op_rests op.TwoStar seen n kept h = spared kept n (action_result (due.Run op.TwoStar) seen n).1 (tt, (tt, tt))
+op_rests op.TwoSlash seen n kept h = spared kept n (action_result (due.Run op.TwoSlash) seen n).1 (tt, (tt, tt))
+op_rests op.Invert seen n kept h = spared kept n (action_result (due.Run op.Invert) seen n).1 (tt, (tt, tt))
 op_rests op.Plus seen n kept h = by_test kept (is_extended n) _ _ n (tt, (tt, (tt, tt))) (tt, (tt, tt))
-op_rests op.And seen n kept h = spared kept n (done_by (due.Run op.And) seen n).1 (tt, (tt, tt))
-op_rests op.Or seen n kept h = spared kept n (done_by (due.Run op.Or) seen n).1 (tt, (tt, tt))
-op_rests op.Drop seen n kept h = spared kept n (done_by (due.Run op.Drop) seen n).1 (tt, (tt, tt))
-op_rests op.Dup seen n kept h = spared kept n (done_by (due.Run op.Dup) seen n).1 (tt, (tt, tt))
-op_rests op.Pop seen n kept h = spared kept n (done_by (due.Run op.Pop) seen n).1 (tt, (tt, (tt, tt)))
-op_rests op.Over seen n kept h = spared kept n (done_by (due.Run op.Over) seen n).1 (tt, (tt, tt))
-op_rests op.A seen n kept h = spared kept n (done_by (due.Run op.A) seen n).1 (tt, (tt, tt))
-op_rests op.Nop seen n kept h = spared kept n (done_by (due.Run op.Nop) seen n).1 (tt, tt)
-op_rests op.Push seen n kept h = spared kept n (done_by (due.Run op.Push) seen n).1 (tt, (tt, (tt, tt)))
-op_rests op.BStore seen n kept h = spared kept n (done_by (due.Run op.BStore) seen n).1 (no_b kept 30 refl h, (tt, (tt, tt)))
-op_rests op.AStore seen n kept h = spared kept n (done_by (due.Run op.AStore) seen n).1 (no_a kept 31 refl h, (tt, (tt, tt)))
+op_rests op.And seen n kept h = spared kept n (action_result (due.Run op.And) seen n).1 (tt, (tt, tt))
+op_rests op.Or seen n kept h = spared kept n (action_result (due.Run op.Or) seen n).1 (tt, (tt, tt))
+op_rests op.Drop seen n kept h = spared kept n (action_result (due.Run op.Drop) seen n).1 (tt, (tt, tt))
+op_rests op.Dup seen n kept h = spared kept n (action_result (due.Run op.Dup) seen n).1 (tt, (tt, tt))
+op_rests op.Pop seen n kept h = spared kept n (action_result (due.Run op.Pop) seen n).1 (tt, (tt, (tt, tt)))
+op_rests op.Over seen n kept h = spared kept n (action_result (due.Run op.Over) seen n).1 (tt, (tt, tt))
+op_rests op.A seen n kept h = spared kept n (action_result (due.Run op.A) seen n).1 (tt, (tt, tt))
+op_rests op.Nop seen n kept h = spared kept n (action_result (due.Run op.Nop) seen n).1 (tt, tt)
+op_rests op.Push seen n kept h = spared kept n (action_result (due.Run op.Push) seen n).1 (tt, (tt, (tt, tt)))
+op_rests op.BStore seen n kept h = spared kept n (action_result (due.Run op.BStore) seen n).1 (no_b kept 30 refl h, (tt, (tt, tt)))
+op_rests op.AStore seen n kept h = spared kept n (action_result (due.Run op.AStore) seen n).1 (no_a kept 31 refl h, (tt, (tt, tt)))
 
-due_rests : (what : NextAction) (seen : Seen) (n : NodeRecord) (kept : TrackedPlace) → RestBy kept (done_by what seen n) n
-due_rests due.Fetch seen n kept h = by_read kept kind.Fetch (classified n.p) Instruction seen n _ (λ word g. (tt, (tt, (tt, tt)))) h
+due_rests : (what : NextAction) (seen : Seen) (n : NodeRecord) (kept : TrackedPlace) → RestBy kept (action_result what seen n) n
+due_rests due.Fetch seen n kept h = by_read kept kind.Fetch (address_target n.p) Instruction seen n _ (λ word g. (tt, (tt, (tt, tt)))) h
 due_rests (due.Run o) seen n kept h = op_rests o seen n kept h
 
 own_rests : (seen : Seen) (n : NodeRecord) (kept : TrackedPlace) → rests_by kept (own seen n).0 ≡ true → word_of kept (own seen n).1 ≡ word_of kept n

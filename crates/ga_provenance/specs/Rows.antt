@@ -1,6 +1,6 @@
 -- The steps whose values went into a value, as a tree whose rows are listed one after another, each before those below it.
 use Rattle.ga_event.specs.declared.made.Made.TheVariants as made
-use Rattle.ga_event.specs.declared.flow.part.Part.TheVariants as part
+use Rattle.ga_event.specs.declared.flow.part.NodePart.TheVariants as part
 use Rattle.std.specs.Prelude.{◌≡◌, ℕ, ◌⊎◌, Some, zero, suc, ◌+◌, ◌-◌, ◌==◌, Bool, true, false, ◌&&◌, List, [], ◌∷◌, ◌++◌, map, Option, None, option_to_list}
 use Rattle.ga_causal.specs.Dependence.{DependsOn, position_of_step}
 use Rattle.ga_lab.specs.Machine.{State, causes_of, history_of}
@@ -8,8 +8,8 @@ use Rattle.ga_provenance.specs.declared.value.Value.{Value}
 use Rattle.std.specs.List.{list_any, slice_get}
 use Rattle.ga_grid.specs.declared.node_id.NodeId.{NodeId}
 use Rattle.ga_event.specs.declared.made.Made.{Made}
-use Rattle.ga_event.specs.declared.flow.part.Part.{Part}
-use Rattle.ga_event.specs.Flow.{Flow, Same, From, top, is_same}
+use Rattle.ga_event.specs.declared.flow.part.NodePart.{NodePart}
+use Rattle.ga_event.specs.Flow.{Flow, Same, From, top, is_equal_to}
 use Rattle.ga_provenance.specs.declared.listing.ProvenanceRow.{ProvenanceRow}
 use Rattle.ga_provenance.specs.Origins.{value_of_step, flow_at, origin_of}
 
@@ -24,47 +24,47 @@ pub record IsCause (s : State) (earlier later : Value) : Type 0 where
   pub depends : DependsOn (causes_of s) cause effect
 
 -- a value that was loaded, or whose step is a cause of the queried one's
-abbrev pub IsNamedFor : State → Value → Value → Type 0
-IsNamedFor s asked value = (value.step ≡ 0) ⊎ IsCause s value asked
+abbrev pub IsLoadedOrCause : State → Value → Value → Type 0
+IsLoadedOrCause s asked value = (value.step ≡ 0) ⊎ IsCause s value asked
 
 -- whether two values are one, and whether a value is among the rows
-abbrev pub is_one : Value → Value → Bool
-is_one value other = (value.node.number == other.node.number) && ((value.step == other.step) && is_same value.part other.part)
+abbrev pub is_same_value : Value → Value → Bool
+is_same_value value other = (value.node.number == other.node.number) && ((value.step == other.step) && is_equal_to value.part other.part)
 
 abbrev pub has_value : List ProvenanceRow → Value → Bool
-has_value rows value = list_any (λ (row : ProvenanceRow). is_one row.value value) rows
+has_value rows value = list_any (λ (row : ProvenanceRow). is_same_value row.value value) rows
 
 -- what a word came from that an event carried: T of the writer before
-abbrev pub sender_in : Option Made → Option Value
-sender_in (Some (made.Pass writer i reader j word)) = Some (value_of_step writer (i - 1) top)
-sender_in (Some (made.Own node step kind)) = None
-sender_in None = None
+abbrev pub sent_value : Option Made → Option Value
+sent_value (Some (made.Pass writer i reader j word)) = Some (value_of_step writer (i - 1) top)
+sent_value (Some (made.Own node step kind)) = None
+sent_value None = None
 
 -- the values from which one comes that the step after k steps of a node made: over a link, or in the node before. A word that a
 -- read of `io` shows comes from none.
 abbrev pub source_values : NodeId → ℕ → Option Made → Flow → List Value
-source_values node k told (Same part.Outside) = option_to_list (sender_in told)
+source_values node k told (Same part.Outside) = option_to_list (sent_value told)
 source_values node k told (Same from) = value_of_step node k from ∷ []
 source_values node k told (From parts) = map (value_of_step node k) parts
 
 -- the values from which that of a part comes after a number of steps of a node, by the last of them; one at load comes from
 -- none
-abbrev pub sources_from : State → NodeId → ℕ → Part → List Value
-sources_from s node zero at = []
-sources_from s node (suc k) at = source_values node k (slice_get (history_of s node.number) k) (flow_at s node.number k at)
+abbrev pub value_sources_after : State → NodeId → ℕ → NodePart → List Value
+value_sources_after s node zero at = []
+value_sources_after s node (suc k) at = source_values node k (slice_get (history_of s node.number) k) (flow_at s node.number k at)
 
-abbrev pub sources_of : State → Value → List Value
-sources_of s value = sources_from s value.node value.step value.part
+abbrev pub value_sources : State → Value → List Value
+value_sources s value = value_sources_after s value.node value.step value.part
 
 -- the row of a value at a depth, and a row by the step that made its value
-abbrev pub row_at : ℕ → Value → ProvenanceRow
-row_at depth value = record { depth = depth; value = value }
+abbrev pub row_at_depth : ℕ → Value → ProvenanceRow
+row_at_depth depth value = record { depth = depth; value = value }
 
-abbrev pub made_row : State → ProvenanceRow → ProvenanceRow
-made_row s row = row_at row.depth (origin_of s row.value)
+abbrev pub origin_row : State → ProvenanceRow → ProvenanceRow
+origin_row s row = row_at_depth row.depth (origin_of s row.value)
 
 abbrev pub below : State → ProvenanceRow → List ProvenanceRow
-below s row = map (row_at (row.depth + 1)) (sources_of s row.value)
+below s row = map (row_at_depth (row.depth + 1)) (value_sources s row.value)
 
 -- the step that made a value is among the rows
 abbrev pub IsInTree : State → List ProvenanceRow → Value → Type 0
@@ -73,11 +73,11 @@ IsInTree s rows value = has_value rows (origin_of s value) ≡ true
 -- With these rows listed already, and the values still to be listed, the next one first, these rows come; all, or cut
 -- somewhere. Each value is listed as the step that made it, unless that was listed before, and then what the step read comes,
 -- one deeper.
-pub data AreRows (s : State) : List ProvenanceRow → List ProvenanceRow → List ProvenanceRow → Bool → Type 0 where
-  all : {named : List ProvenanceRow} → AreRows s named [] [] true
+pub data AreProvenanceRows (s : State) : List ProvenanceRow → List ProvenanceRow → List ProvenanceRow → Bool → Type 0 where
+  all : {named : List ProvenanceRow} → AreProvenanceRows s named [] [] true
   again : {named todo rows : List ProvenanceRow} {whole : Bool} (row : ProvenanceRow) → has_value named (origin_of s row.value) ≡ true
-      → AreRows s named todo rows whole → AreRows s named (row ∷ todo) rows whole
+      → AreProvenanceRows s named todo rows whole → AreProvenanceRows s named (row ∷ todo) rows whole
   next : {named todo rows : List ProvenanceRow} {whole : Bool} (row : ProvenanceRow) → has_value named (origin_of s row.value) ≡ false
-      → AreRows s (named ++ made_row s row ∷ []) (below s (made_row s row) ++ todo) rows whole
-      → AreRows s named (row ∷ todo) (made_row s row ∷ rows) whole
-  cut : {named todo : List ProvenanceRow} (row : ProvenanceRow) → has_value named (origin_of s row.value) ≡ false → AreRows s named (row ∷ todo) [] false
+      → AreProvenanceRows s (named ++ origin_row s row ∷ []) (below s (origin_row s row) ++ todo) rows whole
+      → AreProvenanceRows s named (row ∷ todo) (origin_row s row ∷ rows) whole
+  cut : {named todo : List ProvenanceRow} (row : ProvenanceRow) → has_value named (origin_of s row.value) ≡ false → AreProvenanceRows s named (row ∷ todo) [] false

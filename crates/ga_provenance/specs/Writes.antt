@@ -5,42 +5,42 @@ use Rattle.std.specs.List.{slice_get}
 use Rattle.ga_event.specs.declared.made.Made.{Made}
 use Rattle.ga_grid.specs.declared.node_id.NodeId.{NodeId}
 use Rattle.ga_lab.specs.Machine.{State, history_of}
-use Rattle.ga_event.specs.declared.flow.part.Part.TheVariants as part
+use Rattle.ga_event.specs.declared.flow.part.NodePart.TheVariants as part
 use Rattle.ga_event.specs.Flow.{Flow, Same, From}
 use Rattle.ga_provenance.specs.declared.writes.CellWrite.{CellWrite}
 use Rattle.ga_provenance.specs.Origins.{is_memory_part, node_after, flow_at}
 
 -- the word in a cell comes from elsewhere: a cell that is not written keeps its own
-abbrev pub is_written : Flow → Bool
-is_written (Same from) = not (is_memory_part from)
-is_written (From parts) = true
+abbrev pub is_write_flow : Flow → Bool
+is_write_flow (Same from) = not (is_memory_part from)
+is_write_flow (From parts) = true
 
 abbrev pub cell_write : ℕ → ℕ → Made → CellWrite
 cell_write step word made = record { step = step; made = made; word = word }
 
 -- the step after k steps of a node, if it wrote the cell, with the cell's word after it
-abbrev pub written_at : State → ℕ → ℕ → ℕ → Option CellWrite
-written_at s n cell k =
-    if is_written (flow_at s n k (part.Ram cell))
+abbrev pub cell_write_at : State → ℕ → ℕ → ℕ → Option CellWrite
+cell_write_at s n cell k =
+    if is_write_flow (flow_at s n k (part.Ram cell))
     then option_map (cell_write (k + 1) (slice_index (node_after s n (k + 1)).ram cell)) (slice_get (history_of s n) k)
     else None
 
 -- what the first names, or else the second
-abbrev pub either : Option CellWrite → Option CellWrite → Option CellWrite
-either (Some written) other = Some written
-either None other = other
+abbrev pub newer_write : Option CellWrite → Option CellWrite → Option CellWrite
+newer_write (Some written) other = Some written
+newer_write None other = other
 
 -- the newest that wrote the cell among the first steps of a node
-abbrev pub newest_written : State → ℕ → ℕ → ℕ → Option CellWrite
-newest_written s n cell zero = None
-newest_written s n cell (suc k) = either (written_at s n cell k) (newest_written s n cell k)
+abbrev pub newest_cell_write : State → ℕ → ℕ → ℕ → Option CellWrite
+newest_cell_write s n cell zero = None
+newest_cell_write s n cell (suc k) = newer_write (cell_write_at s n cell k) (newest_cell_write s n cell k)
 
 -- a search for the steps of a node that wrote a cell, among the first `step` of them
-pub record Search : Type 0 where
+pub record CellWriteSearch : Type 0 where
   pub machine : State
   pub node : NodeId
   pub cell : ℕ
   pub step : ℕ
 
-abbrev pub search : State → NodeId → ℕ → ℕ → Search
+abbrev pub search : State → NodeId → ℕ → ℕ → CellWriteSearch
 search s node cell step = record { machine = s; node = node; cell = cell; step = step }

@@ -1,18 +1,18 @@
 -- What private contracts, invariants and bridges cite.
 use Rattle.std.specs.Prelude.{ℕ, ◌+◌, ◌-◌, ◌==◌, ◌||◌, nat_lt, if◌then◌else◌, Bool, true, false, not, Option, Some, None, ◌/◌, ◌≡◌, ◌≤◌, ◌<◌, ◌^◌, length, slice_index}
-use Rattle.ga_ports.specs.Address.{classified}
+use Rattle.ga_ports.specs.Address.{address_target}
 use Rattle.ga_ports.specs.declared.address.Target.{Target}
 use Rattle.ga_ports.specs.declared.address.Target.TheVariants as target
 use Rattle.ga_slots.specs.declared.op.Op.{Op}
 use Rattle.ga_slots.specs.declared.op.Op.TheVariants as op
 use Rattle.ga_slots.specs.Codes.{op_of}
-use Rattle.ga_node.specs.declared.kind.Kind.{Kind}
-use Rattle.ga_node.specs.declared.kind.Kind.TheVariants as kind
+use Rattle.ga_node.specs.declared.kind.OwnEventKind.{OwnEventKind}
+use Rattle.ga_node.specs.declared.kind.OwnEventKind.TheVariants as kind
 use Rattle.ga_event.specs.declared.made.Made.{Made}
 use Rattle.ga_event.specs.declared.made.Made.TheVariants.{Own, Pass}
-use Rattle.ga_event.specs.declared.flow.part.Part.{Part}
-use Rattle.ga_event.specs.declared.flow.part.Part.TheVariants.{Data, Return, Ram, Rom, A, B, P, I, Io, Carry, Slot, Wait, Stop, Outside}
-use Rattle.ga_event.specs.Flow.{top, second, top_return, IsPart}
+use Rattle.ga_event.specs.declared.flow.part.NodePart.{NodePart}
+use Rattle.ga_event.specs.declared.flow.part.NodePart.TheVariants.{Data, Return, Ram, Rom, A, B, P, I, Io, Carry, Slot, Wait, Stop, Outside}
+use Rattle.ga_event.specs.Flow.{top, second, top_return, IsNodePart}
 use Rattle.ga_provenance.specs.declared.kept.Registers.{Registers}
 use Rattle.ga_provenance.specs.declared.moving.StackEffect.{StackEffect}
 use Rattle.ga_provenance.specs.declared.moving.StackEffect.TheVariants.{Stays, Replaces, Pushes, Pops, Combines, Unsure}
@@ -20,7 +20,7 @@ use Rattle.ga_node.specs.declared.place.Place.TheVariants as place
 use Rattle.ga_node.specs.declared.due.NextAction.TheVariants as due
 use Rattle.ga_node.specs.declared.place.Place.{Place}
 use Rattle.ga_node.specs.Record.{NodeRecord}
-use Rattle.ga_event.specs.Told.{steps_of}
+use Rattle.ga_event.specs.Told.{count_steps}
 use Rattle.ga_lab.specs.Machine.{State, NodeAtStep, node_at_step, history_of}
 use Rattle.ga_provenance.specs.declared.kept.TrackedPlace.{TrackedPlace}
 use Rattle.ga_provenance.specs.declared.kept.TrackedPlace.TheVariants as hand
@@ -29,10 +29,10 @@ use Rattle.ga_provenance.specs.declared.value.Value.{Value}
 use Rattle.std.specs.List.{slice_get}
 use Rattle.ga_grid.specs.declared.node_id.NodeId.{NodeId}
 use Rattle.ga_provenance.specs.declared.writes.Reached.{Reached}
-use Rattle.ga_provenance.specs.Writes.{newest_written}
+use Rattle.ga_provenance.specs.Writes.{newest_cell_write}
 use Rattle.ga_node.specs.declared.due.NextAction.{NextAction}
 use Rattle.ga_provenance.specs.declared.asked.QueriedPart.{QueriedPart}
-use Rattle.ga_provenance.specs.declared.asked.QueriedPart.TheVariants.{Behind, Before, Nothing}
+use Rattle.ga_provenance.specs.declared.asked.QueriedPart.TheVariants.{PartAfter, PartBefore, Nothing}
 use Rattle.ga_provenance.specs.declared.listing.ProvenanceRow.{ProvenanceRow}
 
 -- ---- the part from which a step moved a value to another part of the node, if the step as made determines it, whatever the
@@ -78,7 +78,7 @@ on_return op.Push = Pushes  -- 1d push
 on_return _ = Stays
 
 -- the part whose word an opcode pushes; what it reads is that of none
-abbrev pub pushed : Op → Option Part
+abbrev pub pushed : Op → Option NodePart
 pushed op.Call = Some P  -- 03 call
 pushed op.Dup = Some top  -- 18 dup
 pushed op.Pop = Some top_return  -- 19 pop
@@ -88,14 +88,14 @@ pushed op.Push = Some top  -- 1d push
 pushed _ = None
 
 -- the part of a word before a pop, which copies the third word of data and the second return to the last place
-abbrev pub popped_to_data : ℕ → Part
+abbrev pub popped_to_data : ℕ → NodePart
 popped_to_data k = if k == 9 then Data 2 else Data (k + 1)
 
-abbrev pub popped_to_return : ℕ → Part
+abbrev pub popped_to_return : ℕ → NodePart
 popped_to_return k = if k == 8 then Return 1 else Return (k + 1)
 
 -- the part whose word an opcode leaves at a place of a stack
-abbrev pub shifted_data : StackEffect → Option Part → ℕ → Option Part
+abbrev pub shifted_data : StackEffect → Option NodePart → ℕ → Option NodePart
 shifted_data Stays new k = Some (Data k)
 shifted_data Replaces new k = if k == 0 then None else Some (Data k)
 shifted_data Pushes new k = if k == 0 then new else Some (Data (k - 1))
@@ -103,10 +103,10 @@ shifted_data Pops new k = Some (popped_to_data k)
 shifted_data Combines new k = if k == 0 then None else Some (popped_to_data k)
 shifted_data Unsure new k = None
 
-abbrev pub moved_to_data : Op → ℕ → Option Part
+abbrev pub moved_to_data : Op → ℕ → Option NodePart
 moved_to_data o k = shifted_data (on_data o) (pushed o) k
 
-abbrev pub shifted_return : StackEffect → Option Part → ℕ → Option Part
+abbrev pub shifted_return : StackEffect → Option NodePart → ℕ → Option NodePart
 shifted_return Stays new k = Some (Return k)
 shifted_return Replaces new k = if k == 0 then None else Some (Return k)
 shifted_return Pushes new k = if k == 0 then new else Some (Return (k - 1))
@@ -114,27 +114,27 @@ shifted_return Pops new k = Some (popped_to_return k)
 shifted_return Combines new k = None
 shifted_return Unsure new k = None
 
-abbrev pub moved_to_return : Op → ℕ → Option Part
+abbrev pub moved_to_return : Op → ℕ → Option NodePart
 moved_to_return o k = shifted_return (on_return o) (pushed o) k
 
 -- the part whose word an opcode leaves in A, in B and in the carry
-abbrev pub moved_to_a : Op → Option Part
+abbrev pub moved_to_a : Op → Option NodePart
 moved_to_a op.FetchPlus = None
 moved_to_a op.StorePlus = None
 moved_to_a op.MultiplyStep = None
 moved_to_a op.AStore = Some top
 moved_to_a _ = Some A
 
-abbrev pub moved_to_b : Op → Option Part
+abbrev pub moved_to_b : Op → Option NodePart
 moved_to_b op.BStore = None
 moved_to_b _ = Some B
 
-abbrev pub moved_to_carry : Op → Option Part
+abbrev pub moved_to_carry : Op → Option NodePart
 moved_to_carry op.Plus = None
 moved_to_carry _ = Some Carry
 
 -- what a store may write stays under every other opcode
-abbrev pub unless_stored : Op → Part → Option Part
+abbrev pub unless_stored : Op → NodePart → Option NodePart
 unless_stored op.StoreP at = None
 unless_stored op.StorePlus at = None
 unless_stored op.StoreB at = None
@@ -142,7 +142,7 @@ unless_stored op.Store at = None
 unless_stored _ at = Some at
 
 -- the part whose value an opcode leaves in a part, and the one whose value a fetch leaves in it
-abbrev pub by_op : Op → Part → Option Part
+abbrev pub by_op : Op → NodePart → Option NodePart
 by_op o (Data k) = moved_to_data o k
 by_op o (Return k) = moved_to_return o k
 by_op o (Ram k) = unless_stored o (Ram k)
@@ -158,7 +158,7 @@ by_op o Wait = None
 by_op o Stop = None
 by_op o Outside = None
 
-abbrev pub by_fetch : Part → Option Part
+abbrev pub by_fetch : NodePart → Option NodePart
 by_fetch P = None
 by_fetch I = None
 by_fetch Slot = None
@@ -168,20 +168,20 @@ by_fetch Outside = None
 by_fetch at = Some at
 
 -- the part whose value a wait or a stop, which replaces the whole event, leaves in a part
-abbrev pub by_pause : Part → Option Part
+abbrev pub by_pause : NodePart → Option NodePart
 by_pause Wait = None
 by_pause Stop = None
 by_pause Outside = None
 by_pause at = Some at
 
 -- the part whose value an event leaves in a part: an own event by its kind, and any event as made
-abbrev pub by_kind : Kind → Part → Option Part
+abbrev pub by_kind : OwnEventKind → NodePart → Option NodePart
 by_kind kind.Fetch at = by_fetch at
 by_kind (kind.Run code) at = if nat_lt code 32 then by_op (op_of code) at else None
 by_kind kind.Wait at = by_pause at
 by_kind (kind.Stop code) at = by_pause at
 
-abbrev pub moved_by : Option Made → Part → Option Part
+abbrev pub moved_by : Option Made → NodePart → Option NodePart
 moved_by None at = None
 moved_by (Some (Own node step kind)) at = by_kind kind at
 moved_by (Some (Pass writer i reader j word)) at = None
@@ -189,8 +189,8 @@ moved_by (Some (Pass writer i reader j word)) at = None
 -- what the address of a store by A or B names, of the opcode with this code: !+, !b and !
 abbrev pub stored_at : ℕ → Registers → Option Target
 stored_at code before =
-    if code == 13 || code == 15 then Some (classified before.a)
-    else if code == 14 then Some (classified before.b)
+    if code == 13 || code == 15 then Some (address_target before.a)
+    else if code == 14 then Some (address_target before.b)
     else None
 
 -- the address of a store is known to name something else than this cell
@@ -201,11 +201,11 @@ misses_at (Some named) cell = true
 
 -- whether an opcode with this code stored elsewhere than in the cell, where A and B were these before it; and whether a step,
 -- as made, did
-abbrev pub misses_by : ℕ → Registers → Part → Bool
+abbrev pub misses_by : ℕ → Registers → NodePart → Bool
 misses_by code before (Ram cell) = misses_at (stored_at code before) cell
 misses_by code before at = false
 
-abbrev pub misses : Option Made → Registers → Part → Bool
+abbrev pub misses : Option Made → Registers → NodePart → Bool
 misses (Some (Own node step (kind.Run code))) before at = misses_by code before at
 misses told before at = false
 
@@ -233,7 +233,7 @@ writes (hand.Ram cell) code = code / 4 == 3
 
 -- whether an own event of this kind, or in `is_unchanged_by` a step as made, left the register or the cell as it was, whatever the node's
 -- values were
-abbrev pub rests_by : TrackedPlace → Kind → Bool
+abbrev pub rests_by : TrackedPlace → OwnEventKind → Bool
 rests_by kept (kind.Run code) = not (writes kept code)
 rests_by kept _ = true
 
@@ -249,7 +249,7 @@ IsWhole s = length s.load ≡ 144
 -- A and B of a node after a number of its steps
 pub record AreHeld (s : State) (n step : ℕ) (registers : Registers) : Type 0 where
   pub whole : IsWhole s
-  pub within : step ≤ steps_of n s.kept
+  pub within : step ≤ count_steps n s.kept
   pub a : (node_after s n step).a ≡ registers.a
   pub b : (node_after s n step).b ≡ registers.b
   pub a_fits : registers.a < 2 ^ 18
@@ -264,7 +264,7 @@ pub record IsReached (s : State) (n cell : ℕ) (reached : Reached) : Type 0 whe
 -- A, B and the word in a cell of a node, followed back over no step that wrote the cell
 pub record IsFollowedBack (s : State) (n cell : ℕ) (from back : Reached) : Type 0 where
   pub held : IsReached s n cell back
-  pub same : newest_written s n cell back.step ≡ newest_written s n cell from.step
+  pub same : newest_cell_write s n cell back.step ≡ newest_cell_write s n cell from.step
   pub within : back.step ≤ from.step
 
 -- A, B and the word in a cell after the steps that are still to be searched, and a trail of the node that has not been walked
@@ -278,7 +278,7 @@ pub record IsSearch (s : State) (node : NodeId) (cell : ℕ) (walk : NodeAtStep)
 -- ---- what came next in a node, by the kind of its event (F18A Technology Reference DB001, opcodes, by their codes)
 
 -- what came next if the event was of this kind: a fetch or an opcode; none by a wait or a stop, which replaces either
-abbrev pub IsDueBy : Kind → NextAction → Type 0
+abbrev pub IsDueBy : OwnEventKind → NextAction → Type 0
 IsDueBy kind.Fetch what = what ≡ due.Fetch
 IsDueBy (kind.Run code) what = what ≡ due.Run (op_of code)
 IsDueBy _ what = ⊥
@@ -287,18 +287,18 @@ IsDueBy _ what = ⊥
 
 -- the value of a row is that of a part of a node, and the row is no deeper than `deepest`
 abbrev pub IsOpen : ℕ → ProvenanceRow → Type 0
-IsOpen deepest row = IsPart row.value.part × (row.depth ≤ deepest)
+IsOpen deepest row = IsNodePart row.value.part × (row.depth ≤ deepest)
 
 -- the selected value is that of a part of a node, or there is none
 abbrev pub IsAsked : QueriedPart → Type 0
-IsAsked (Behind part) = IsPart part
-IsAsked (Before part) = IsPart part
+IsAsked (PartAfter part) = IsNodePart part
+IsAsked (PartBefore part) = IsNodePart part
 IsAsked Nothing = Unit {0}
 
 -- ---- whether a step, as made, ran a store (F18A Technology Reference DB001, opcodes): nothing else writes memory
 
 -- the step ran a store: the codes of the stores are 0c to 0f
-abbrev pub is_store : Kind → Bool
+abbrev pub is_store : OwnEventKind → Bool
 is_store kind.Fetch = false
 is_store (kind.Run code) = code / 4 == 3
 is_store kind.Wait = false
@@ -312,14 +312,14 @@ ran_store (Some (Pass writer i reader j word)) = false
 -- ---- a part by which a step is decided, and a node whose steps are looked at (F18A Technology Reference DB001, opcodes)
 
 -- a part by which a step is decided: T, R or the instruction word
-abbrev pub IsTested : Part → Type 0
+abbrev pub IsTested : NodePart → Type 0
 IsTested (Data k) = k ≡ 0
 IsTested (Return k) = k ≡ 0
 IsTested I = Unit {0}
 IsTested _ = ⊥
 
 -- the event as made is an own event of this kind
-abbrev pub IsOwn : Kind → Made → Type 0
+abbrev pub IsOwn : OwnEventKind → Made → Type 0
 IsOwn what (Own node step other) = other ≡ what
 IsOwn what (Pass writer i reader j word) = ⊥
 
@@ -327,7 +327,7 @@ IsOwn what (Pass writer i reader j word) = ⊥
 pub record IsDeciding (s : State) (node : NodeId) (walk : NodeAtStep) (step : ℕ) : Type 0 where
   pub trail : walk ≡ node_at_step s node walk.step
   pub order : step ≤ walk.step
-  pub within : step ≤ steps_of node.number s.kept
+  pub within : step ≤ count_steps node.number s.kept
 
 -- ---- a value that is followed back, and the trail by which it is
 
@@ -335,7 +335,7 @@ pub record IsDeciding (s : State) (node : NodeId) (walk : NodeAtStep) (step : �
 -- there, as made, doesn't determine from where.
 pub record IsFollowed (s : State) (from to : Value) : Type 0 where
   pub same : origin_of s to ≡ origin_of s from
-  pub part : IsPart to.part
+  pub part : IsNodePart to.part
   pub node : to.node ≡ from.node
   pub within : to.step ≤ from.step
   pub ends : 0 < to.step → moved_by (slice_get (history_of s from.node.number) (to.step - 1)) to.part ≡ None

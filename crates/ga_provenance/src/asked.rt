@@ -1,29 +1,29 @@
 //! The value that a step selects for a query.
 
 ghost use Rattle.std.specs.Prelude.{◌≡◌, ◌≤◌, ◌<◌, ◌+◌, ◌^◌, IfSome};
-ghost use Rattle.ga_ports.specs.Address.{classified, IsTarget};
+ghost use Rattle.ga_ports.specs.Address.{address_target, IsTarget};
 ghost use Rattle.ga_node.specs.Record.{record_of};
 ghost use Rattle.ga_node.specs.Table.{next_action_of};
 ghost use Rattle.ga_lab.specs.Machine.{node_at_step};
-ghost use Rattle.ga_event.specs.Flow.{IsPart};
-ghost use Rattle.ga_provenance.specs.Asked.{read_asked, write_asked, op_asked, due_asked, take_asked, told_asked, value_asked, queried_value};
+ghost use Rattle.ga_event.specs.Flow.{IsNodePart};
+ghost use Rattle.ga_provenance.specs.Asked.{queried_read_part, queried_write_part, queried_opcode_part, queried_action_part, queried_take_part, queried_event_part, queried_part_value, queried_value};
 ghost use Rattle.ga_provenance.specs.inner.{IsAsked};
 
 use crate::value::Value;
-use ga_event::{Made, Part, due_in};
+use ga_event::{Made, NodePart, next_action_in};
 use ga_grid::NodeId;
-use ga_lab::{Lab, Walk};
+use ga_lab::{Lab, NodeWalk};
 use ga_node::{NextAction, Node, Place, Wait};
-use ga_ports::{Target, classify};
+use ga_ports::{Target, classify_address};
 use ga_slots::Op;
 
 /// The value that a step of a node selects.
 #[derive(Clone, Copy, PartialEq, Eq, Debug)]
 pub(crate) enum QueriedPart {
     /// The value that the step left in this part.
-    Behind(Part),
+    PartAfter(NodePart),
     /// The value of this part before the step, which the step sent or by which it was decided.
-    Before(Part),
+    PartBefore(NodePart),
     /// The step made no value.
     Nothing,
 }
@@ -31,105 +31,107 @@ pub(crate) enum QueriedPart {
 // What P, A and B name.
 #[tactic(auto, unfolding(ga_node::specs::Record::record_of))]
 fn p_target(node: &Node) -> Target
-    ensures value { result ≡ classified (record_of node.now).p }
+    ensures value { result ≡ address_target (record_of node.now).p }
     ensures in_range { IsTarget result }
 {
-    classify(node.get(Place::P))
+    classify_address(node.get(Place::P))
 }
 
 #[tactic(auto, unfolding(ga_node::specs::Record::record_of))]
 fn a_target(node: &Node) -> Target
-    ensures value { result ≡ classified (record_of node.now).a }
+    ensures value { result ≡ address_target (record_of node.now).a }
     ensures in_range { IsTarget result }
 {
-    classify(node.get(Place::A))
+    classify_address(node.get(Place::A))
 }
 
 #[tactic(auto, unfolding(ga_node::specs::Record::record_of))]
 fn b_target(node: &Node) -> Target
-    ensures value { result ≡ classified (record_of node.now).b }
+    ensures value { result ≡ address_target (record_of node.now).b }
     ensures in_range { IsTarget result }
 {
-    classify(node.get(Place::B))
+    classify_address(node.get(Place::B))
 }
 
 // The selected value of a read at what the address in a part names, whose word comes to the part `there`.
-fn asked_of_read(address: Part, there: Part, target: Target) -> QueriedPart
-    requires address { IsPart address }
-    requires there { IsPart there }
-    ensures value { result ≡ read_asked address there target }
+fn asked_of_read(address: NodePart, there: NodePart, target: Target) -> QueriedPart
+    requires address { IsNodePart address }
+    requires there { IsNodePart there }
+    ensures value { result ≡ queried_read_part address there target }
     ensures part { IsAsked result }
 {
     match target {
-        Target::Ram(_) => QueriedPart::Behind(there),
-        Target::Rom(_) => QueriedPart::Behind(there),
-        Target::Io => QueriedPart::Behind(there),
-        Target::Ports(_) => QueriedPart::Before(address),
-        Target::Bad => QueriedPart::Before(address),
+        Target::Ram(_) => QueriedPart::PartAfter(there),
+        Target::Rom(_) => QueriedPart::PartAfter(there),
+        Target::Io => QueriedPart::PartAfter(there),
+        Target::Ports(_) => QueriedPart::PartBefore(address),
+        Target::Bad => QueriedPart::PartBefore(address),
     }
 }
 
 // The selected value of a write at what the address in a part names.
-fn asked_of_write(address: Part, target: Target) -> QueriedPart
-    requires address { IsPart address }
+fn asked_of_write(address: NodePart, target: Target) -> QueriedPart
+    requires address { IsNodePart address }
     requires target { IsTarget target }
-    ensures value { result ≡ write_asked address target }
+    ensures value { result ≡ queried_write_part address target }
     ensures part { IsAsked result }
 {
     match target {
-        Target::Ram(k) => QueriedPart::Behind(Part::Ram(k)),
+        Target::Ram(k) => QueriedPart::PartAfter(NodePart::Ram(k)),
         Target::Rom(_) => QueriedPart::Nothing,
-        Target::Io => QueriedPart::Behind(Part::Io),
-        Target::Ports(_) => QueriedPart::Before(address),
-        Target::Bad => QueriedPart::Before(address),
+        Target::Io => QueriedPart::PartAfter(NodePart::Io),
+        Target::Ports(_) => QueriedPart::PartBefore(address),
+        Target::Bad => QueriedPart::PartBefore(address),
     }
 }
 
 // The selected value of a step that ran an opcode, by the node before.
 fn asked_of_op(op: Op, node: &Node) -> QueriedPart
-    ensures value { result ≡ op_asked op (record_of node.now) }
+    ensures value { result ≡ queried_opcode_part op (record_of node.now) }
     ensures part { IsAsked result }
 {
     match op {
-        Op::Return | Op::Execute => QueriedPart::Behind(Part::P),
-        Op::Jump | Op::Call => QueriedPart::Before(Part::I),
-        Op::Unext | Op::Next => QueriedPart::Before(Part::R),
-        Op::If | Op::MinusIf => QueriedPart::Before(Part::T),
-        Op::FetchP => asked_of_read(Part::P, Part::T, p_target(node)),
-        Op::FetchPlus | Op::Fetch => asked_of_read(Part::A, Part::T, a_target(node)),
-        Op::FetchB => asked_of_read(Part::B, Part::T, b_target(node)),
-        Op::StoreP => asked_of_write(Part::P, p_target(node)),
-        Op::StorePlus | Op::Store => asked_of_write(Part::A, a_target(node)),
-        Op::StoreB => asked_of_write(Part::B, b_target(node)),
-        Op::MultiplyStep | Op::TwoStar | Op::TwoSlash | Op::Invert => QueriedPart::Behind(Part::T),
-        Op::Plus | Op::And | Op::Or => QueriedPart::Behind(Part::T),
-        Op::Dup | Op::Pop | Op::Over | Op::A => QueriedPart::Behind(Part::T),
+        Op::Return | Op::Execute => QueriedPart::PartAfter(NodePart::P),
+        Op::Jump | Op::Call => QueriedPart::PartBefore(NodePart::I),
+        Op::Unext | Op::Next => QueriedPart::PartBefore(NodePart::R),
+        Op::If | Op::MinusIf => QueriedPart::PartBefore(NodePart::T),
+        Op::FetchP => asked_of_read(NodePart::P, NodePart::T, p_target(node)),
+        Op::FetchPlus | Op::Fetch => asked_of_read(NodePart::A, NodePart::T, a_target(node)),
+        Op::FetchB => asked_of_read(NodePart::B, NodePart::T, b_target(node)),
+        Op::StoreP => asked_of_write(NodePart::P, p_target(node)),
+        Op::StorePlus | Op::Store => asked_of_write(NodePart::A, a_target(node)),
+        Op::StoreB => asked_of_write(NodePart::B, b_target(node)),
+        Op::MultiplyStep | Op::TwoStar | Op::TwoSlash | Op::Invert => QueriedPart::PartAfter(
+            NodePart::T,
+        ),
+        Op::Plus | Op::And | Op::Or => QueriedPart::PartAfter(NodePart::T),
+        Op::Dup | Op::Pop | Op::Over | Op::A => QueriedPart::PartAfter(NodePart::T),
         Op::Drop | Op::Nop => QueriedPart::Nothing,
-        Op::Push => QueriedPart::Behind(Part::R),
-        Op::BStore => QueriedPart::Behind(Part::B),
-        Op::AStore => QueriedPart::Behind(Part::A),
+        Op::Push => QueriedPart::PartAfter(NodePart::R),
+        Op::BStore => QueriedPart::PartAfter(NodePart::B),
+        Op::AStore => QueriedPart::PartAfter(NodePart::A),
     }
 }
 
 // The selected value of an event of a node's own, by the node before.
 fn asked_of_own(before: &Node) -> QueriedPart
-    ensures value { result ≡ due_asked (next_action_of (record_of before.now)) (record_of before.now) }
+    ensures value { result ≡ queried_action_part (next_action_of (record_of before.now)) (record_of before.now) }
     ensures part { IsAsked result }
 {
-    match due_in(before) {
-        NextAction::Fetch => asked_of_read(Part::P, Part::I, p_target(before)),
+    match next_action_in(before) {
+        NextAction::Fetch => asked_of_read(NodePart::P, NodePart::I, p_target(before)),
         NextAction::Run(op) => asked_of_op(op, before),
     }
 }
 
 // The selected value of a step that took a word, by what the node waited for.
 fn asked_of_take(wait: Wait) -> QueriedPart
-    ensures value { result ≡ take_asked wait }
+    ensures value { result ≡ queried_take_part wait }
     ensures part { IsAsked result }
 {
     match wait {
-        Wait::Fetch(_) => QueriedPart::Behind(Part::I),
-        Wait::Read(_) => QueriedPart::Behind(Part::T),
+        Wait::Fetch(_) => QueriedPart::PartAfter(NodePart::I),
+        Wait::Read(_) => QueriedPart::PartAfter(NodePart::T),
         Wait::Nothing => QueriedPart::Nothing,
         Wait::Write(_) => QueriedPart::Nothing,
     }
@@ -137,7 +139,7 @@ fn asked_of_take(wait: Wait) -> QueriedPart
 
 // The selected value of an event as made, by the node before.
 fn asked_of_told(made: &Made, before: &Node, node: NodeId) -> QueriedPart
-    ensures value { result ≡ told_asked made.now (record_of before.now) node.number }
+    ensures value { result ≡ queried_event_part made.now (record_of before.now) node.number }
     ensures part { IsAsked result }
 {
     match made {
@@ -146,7 +148,7 @@ fn asked_of_told(made: &Made, before: &Node, node: NodeId) -> QueriedPart
             if node.number == reader.number {
                 asked_of_take(before.wait())
             } else {
-                QueriedPart::Before(Part::T)
+                QueriedPart::PartBefore(NodePart::T)
             }
         }
     }
@@ -156,16 +158,16 @@ fn asked_of_told(made: &Made, before: &Node, node: NodeId) -> QueriedPart
 fn value_of(node: NodeId, place: u32, asked: QueriedPart) -> Option<Value>
     requires fits { place + 1 < 2 ^ 32 }
     requires part { IsAsked asked }
-    ensures value { result ≡ value_asked node place asked }
-    ensures part { IfSome result (λ value. IsPart value.part) }
+    ensures value { result ≡ queried_part_value node place asked }
+    ensures part { IfSome result (λ value. IsNodePart value.part) }
 {
     match asked {
-        QueriedPart::Behind(part) => Some(Value {
+        QueriedPart::PartAfter(part) => Some(Value {
             node,
             step: place + 1,
             part,
         }),
-        QueriedPart::Before(part) => Some(Value {
+        QueriedPart::PartBefore(part) => Some(Value {
             node,
             step: place,
             part,
@@ -180,7 +182,7 @@ fn value_of(node: NodeId, place: u32, asked: QueriedPart) -> Option<Value>
 #[tactic(auto, using(crate::proofs::Made::has_step_so))]
 pub fn queried_value(lab: &Lab, node: NodeId, step: u32) -> Option<Value>
     ensures value { result ≡ queried_value lab.now node step }
-    ensures part { IfSome result (λ value. IsPart value.part) }
+    ensures part { IfSome result (λ value. IsNodePart value.part) }
 {
     if step == 0 {
         return None;
@@ -195,17 +197,17 @@ pub fn queried_value(lab: &Lab, node: NodeId, step: u32) -> Option<Value>
 
 /// The value that the step selects to which a node is walked back, as [`queried_value`] has it; the walk stays where it is. Takes
 /// the same time whatever the history is.
-pub fn queried_value_at(lab: &Lab, walk: &Walk<'_>, node: NodeId) -> Option<Value>
+pub fn queried_value_at(lab: &Lab, walk: &NodeWalk<'_>, node: NodeId) -> Option<Value>
     requires { walk.now ≡ node_at_step lab.now node walk.now.step }
     ensures value { result ≡ queried_value lab.now node walk.now.step }
-    ensures part { IfSome result (λ value. IsPart value.part) }
+    ensures part { IfSome result (λ value. IsNodePart value.part) }
 {
     let step = walk.step();
     if step == 0 {
         return None;
     }
     let place = step - 1;
-    let made = lab.made_by_step(node, place)?;
+    let made = lab.made_event_of_step(node, place)?;
     let mut before = walk.copy();
     before.back();
     value_of(node, place, asked_of_told(&made, before.node(), node))

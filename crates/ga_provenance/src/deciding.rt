@@ -2,21 +2,21 @@
 
 ghost use Rattle.std.specs.Prelude.{◌≡◌, ◌≤◌, ◌+◌, ◌^◌, ◌<◌, true, Some, IfSome, option_map};
 ghost use Rattle.ga_node.specs.Record.{record_of};
-ghost use Rattle.ga_event.specs.Told.{steps_of};
+ghost use Rattle.ga_event.specs.Told.{count_steps};
 ghost use Rattle.ga_lab.specs.Machine.{node_at_step};
-ghost use Rattle.ga_event.specs.Flow.{IsPart, part_of};
+ghost use Rattle.ga_event.specs.Flow.{IsNodePart, part_value};
 ghost use Rattle.ga_provenance.specs.Origins.{origin_of};
-ghost use Rattle.ga_provenance.specs.Deciding.{tested_by, code_at, brought_at, came_over, op_tested, kind_tested, decided_by, decided_at};
+ghost use Rattle.ga_provenance.specs.Deciding.{tested_part, port_code_source_at, is_incoming_code_at, has_port_code, tested_opcode_part, tested_kind_part, step_decision, decision_at};
 ghost use Rattle.ga_provenance.specs.inner.{IsTested, IsOwn, IsTrailTo};
 
-use crate::listing::sender_in;
+use crate::listing::sent_value;
 use crate::origin::{flow_by_trail, kept_step, origin_behind, trail_near};
 use crate::trail::CachedWalk;
 use crate::value::Value;
-use ga_event::{Flow, Made, Part};
+use ga_event::{Flow, Made, NodePart};
 use ga_grid::NodeId;
-use ga_lab::{Lab, Walk};
-use ga_node::{Kind, Node, Place};
+use ga_lab::{Lab, NodeWalk};
+use ga_node::{Node, OwnEventKind, Place};
 use ga_slots::Op;
 use ga_word::Word18;
 use std::marker::Model;
@@ -39,27 +39,27 @@ pub struct Decision {
 
 // The part before it that an opcode tests, or that it makes P of.
 #[inline(always)]
-fn tested_by(op: Op) -> Option<Part>
-    ensures value { result ≡ tested_by op }
+fn tested_part(op: Op) -> Option<NodePart>
+    ensures value { result ≡ tested_part op }
     ensures part { IfSome result IsTested }
 {
     match op {
-        Op::Return | Op::Execute | Op::Unext | Op::Next => Some(Part::R),
-        Op::If | Op::MinusIf => Some(Part::T),
+        Op::Return | Op::Execute | Op::Unext | Op::Next => Some(NodePart::R),
+        Op::If | Op::MinusIf => Some(NodePart::T),
         _ => None,
     }
 }
 
 // The word in a part that is tested.
 #[tactic(auto, unfolding(ga_node::specs::Record::record_of))]
-fn word_in(node: &Node, part: Part) -> u32
+fn word_in(node: &Node, part: NodePart) -> u32
     requires { IsTested part }
-    ensures value { result ≡ part_of 0 (record_of node.now) part }
+    ensures value { result ≡ part_value 0 (record_of node.now) part }
     ensures fits { result < 2 ^ 18 }
 {
     match part {
-        Part::Data(_) => node.d(0),
-        Part::Return(_) => node.r(0),
+        NodePart::Data(_) => node.d(0),
+        NodePart::Return(_) => node.r(0),
         _ => node.get(Place::I),
     }
 }
@@ -67,13 +67,13 @@ fn word_in(node: &Node, part: Part) -> u32
 // The T from which an instruction word came over a port by the step at a place.
 fn code_by_trail(lab: &Lab, trail: &mut CachedWalk<'_>, node: NodeId, place: u32) -> Option<Value>
     requires trail { IsTrailTo lab.now node trail.old place }
-    ensures value { result ≡ code_at lab.now node.number place }
-    ensures part { IfSome result (λ value. IsPart value.part) }
+    ensures value { result ≡ port_code_source_at lab.now node.number place }
+    ensures part { IfSome result (λ value. IsNodePart value.part) }
     ensures trail { trail.new ≡ node_at_step lab.now node trail.new.step }
     ensures order { place ≤ trail.new.step }
 {
-    match flow_by_trail(lab, trail, node, place, Part::I) {
-        Flow::Same(Part::Outside) => sender_in(lab.made_by_step(node, place)),
+    match flow_by_trail(lab, trail, node, place, NodePart::I) {
+        Flow::Same(NodePart::Outside) => sent_value(lab.made_event_of_step(node, place)),
         Flow::Same(_) => None,
         Flow::From(_) => None,
     }
@@ -89,16 +89,16 @@ fn is_incoming_code<'l>(
     place: u32,
 ) -> Option<bool>
     requires trail { trail.now ≡ node_at_step lab.now node trail.now.step }
-    requires within { place ≤ steps_of node.number lab.now.kept }
-    ensures { result ≡ brought_at lab.now node.number place }
+    requires within { place ≤ count_steps node.number lab.now.kept }
+    ensures { result ≡ is_incoming_code_at lab.now node.number place }
 {
-    match lab.made_by_step(node, place) {
+    match lab.made_event_of_step(node, place) {
         Some(made) => match made {
             Made::Own { kind, .. } => match kind {
-                Kind::Fetch => Some(false),
-                Kind::Run(_) => None,
-                Kind::Wait => None,
-                Kind::Stop(_) => None,
+                OwnEventKind::Fetch => Some(false),
+                OwnEventKind::Run(_) => None,
+                OwnEventKind::Wait => None,
+                OwnEventKind::Stop(_) => None,
             },
             Made::Pass { .. } => taken(lab, trail, node, place),
         },
@@ -109,8 +109,8 @@ fn is_incoming_code<'l>(
 // True where the step at a place, a pass, brought its node an instruction word; none where it brought none.
 fn taken<'l>(lab: &'l Lab, trail: &CachedWalk<'l>, node: NodeId, place: u32) -> Option<bool>
     requires trail { trail.now ≡ node_at_step lab.now node trail.now.step }
-    requires within { place ≤ steps_of node.number lab.now.kept }
-    ensures { result ≡ option_map (λ value. true) (code_at lab.now node.number place) }
+    requires within { place ≤ count_steps node.number lab.now.kept }
+    ensures { result ≡ option_map (λ value. true) (port_code_source_at lab.now node.number place) }
 {
     let mut before = trail_near(lab, trail.walk(), node, node, place);
     match code_by_trail(lab, &mut before, node, place) {
@@ -120,10 +120,10 @@ fn taken<'l>(lab: &'l Lab, trail: &CachedWalk<'l>, node: NodeId, place: u32) -> 
 }
 
 // Whether the instruction word in I right before the step at a place came over a port.
-fn came_over<'l>(lab: &'l Lab, trail: &CachedWalk<'l>, node: NodeId, place: u32) -> bool
+fn has_port_code<'l>(lab: &'l Lab, trail: &CachedWalk<'l>, node: NodeId, place: u32) -> bool
     requires trail { trail.now ≡ node_at_step lab.now node trail.now.step }
-    requires within { place ≤ steps_of node.number lab.now.kept }
-    ensures { result ≡ came_over lab.now node.number place }
+    requires within { place ≤ count_steps node.number lab.now.kept }
+    ensures { result ≡ has_port_code lab.now node.number place }
 {
     let mut step = place;
     'going: while step > 0 {
@@ -137,55 +137,61 @@ fn came_over<'l>(lab: &'l Lab, trail: &CachedWalk<'l>, node: NodeId, place: u32)
 
 // The part by which the opcode was decided that the step at a place ran.
 #[inline(always)]
-fn op_tested<'l>(
+fn tested_opcode_part<'l>(
     lab: &'l Lab,
     trail: &CachedWalk<'l>,
     node: NodeId,
     place: u32,
     op: Op,
-) -> Option<Part>
+) -> Option<NodePart>
     requires trail { trail.now ≡ node_at_step lab.now node trail.now.step }
-    requires within { place ≤ steps_of node.number lab.now.kept }
-    ensures value { result ≡ op_tested lab.now node place op }
+    requires within { place ≤ count_steps node.number lab.now.kept }
+    ensures value { result ≡ tested_opcode_part lab.now node place op }
     ensures part { IfSome result IsTested }
 {
     match op {
         Op::Jump | Op::Call => {
-            if came_over(lab, trail, node, place) {
-                Some(Part::I)
+            if has_port_code(lab, trail, node, place) {
+                Some(NodePart::I)
             } else {
                 None
             }
         }
-        _ => tested_by(op),
+        _ => tested_part(op),
     }
 }
 
 // The part by which an own event was decided, which the step at a place was.
 #[inline(always)]
-fn kind_tested<'l>(
+fn tested_kind_part<'l>(
     lab: &'l Lab,
     trail: &CachedWalk<'l>,
     node: NodeId,
     place: u32,
-    kind: Kind,
-) -> Option<Part>
+    kind: OwnEventKind,
+) -> Option<NodePart>
     requires trail { trail.now ≡ node_at_step lab.now node trail.now.step }
-    requires within { place ≤ steps_of node.number lab.now.kept }
-    ensures value { result ≡ kind_tested lab.now node place kind }
+    requires within { place ≤ count_steps node.number lab.now.kept }
+    ensures value { result ≡ tested_kind_part lab.now node place kind }
     ensures part { IfSome result IsTested }
 {
     match kind {
-        Kind::Run(code) => op_tested(lab, trail, node, place, Op::from_code(code % 32)),
-        Kind::Fetch => None,
-        Kind::Wait => None,
-        Kind::Stop(_) => None,
+        OwnEventKind::Run(code) => tested_opcode_part(
+            lab,
+            trail,
+            node,
+            place,
+            Op::from_code(code % 32),
+        ),
+        OwnEventKind::Fetch => None,
+        OwnEventKind::Wait => None,
+        OwnEventKind::Stop(_) => None,
     }
 }
 
 // The step that made a value, found by a trail of a node, which is not walked on.
 fn source_of<'l>(lab: &'l Lab, trail: &CachedWalk<'l>, node: NodeId, value: Value) -> Value
-    requires part { IsPart value.part }
+    requires part { IsNodePart value.part }
     requires trail { trail.now ≡ node_at_step lab.now node trail.now.step }
     ensures { result ≡ origin_of lab.now value }
 {
@@ -203,21 +209,21 @@ fn own_decision<'l>(
     node: NodeId,
     place: u32,
     made: Made,
-    kind: Kind,
-    part: Part,
+    kind: OwnEventKind,
+    part: NodePart,
 ) -> Decision
     requires trail { IsTrailTo lab.now node trail.old place }
-    requires within { place + 1 ≤ steps_of node.number lab.now.kept }
+    requires within { place + 1 ≤ count_steps node.number lab.now.kept }
     requires fits { place + 1 < 2 ^ 32 }
     requires told { IsOwn kind made }
     requires part { IsTested part }
-    requires tested { kind_tested lab.now node place kind ≡ Some part }
-    ensures value { Some result ≡ decided_by lab.now node place made }
+    requires tested { tested_kind_part lab.now node place kind ≡ Some part }
+    ensures value { Some result ≡ step_decision lab.now node place made }
     ensures trail { trail.new ≡ node_at_step lab.now node trail.new.step }
     ensures order { place ≤ trail.new.step }
 {
-    trail.back_to(place);
-    let word = Word18::truncated(word_in(trail.walk().node(), part));
+    trail.walk_back_to(place);
+    let word = Word18::from_low_bits(word_in(trail.walk().node(), part));
     let step = place;
     let tested = Value { node, step, part };
     Decision {
@@ -230,23 +236,23 @@ fn own_decision<'l>(
 }
 
 // The step at a place, where a value decided it.
-fn decided_at<'l>(
+fn decision_at<'l>(
     lab: &'l Lab,
     trail: &mut CachedWalk<'l>,
     node: NodeId,
     place: u32,
 ) -> Option<Decision>
     requires trail { IsTrailTo lab.now node trail.old place }
-    requires within { place + 1 ≤ steps_of node.number lab.now.kept }
+    requires within { place + 1 ≤ count_steps node.number lab.now.kept }
     requires fits { place + 1 < 2 ^ 32 }
-    ensures value { result ≡ decided_at lab.now node place }
+    ensures value { result ≡ decision_at lab.now node place }
     ensures trail { trail.new ≡ node_at_step lab.now node trail.new.step }
     ensures order { place ≤ trail.new.step }
 {
-    match lab.made_by_step(node, place) {
+    match lab.made_event_of_step(node, place) {
         Some(made) => match made {
             Made::Own { kind, .. } => {
-                let part = kind_tested(lab, trail, node, place, kind)?;
+                let part = tested_kind_part(lab, trail, node, place, kind)?;
                 Some(own_decision(lab, trail, node, place, made, kind, part))
             }
             // An instruction word that came over a port.
@@ -290,10 +296,10 @@ impl<'l> Model for Decisions<'l> {
 impl<'l> Decisions<'l> {
     ghost use Rattle.std.specs.Prelude.{◌≡◌, ◌<◌, ◌≤◌, ◌+◌, ◌-◌, IfSome};
     ghost use Rattle.ga_lab.specs.Machine.{node_at_step};
-    ghost use Rattle.ga_provenance.specs.Deciding.{decided_at, newest_decided};
+    ghost use Rattle.ga_provenance.specs.Deciding.{decision_at, newest_decision};
 
     /// All before the step to which a node is walked back.
-    pub fn before(lab: &'l Lab, near: &Walk<'l>, node: NodeId) -> Self
+    pub fn before(lab: &'l Lab, near: &NodeWalk<'l>, node: NodeId) -> Self
         requires { near.now ≡ node_at_step lab.now node near.now.step }
         ensures { result ≡ node_at_step lab.now node (near.now.step - 1) }
     {
@@ -309,7 +315,7 @@ impl<'l> Decisions<'l> {
     /// linear in the number of steps that it passes, and in the number of those between the step and the one that made the
     /// value. The node is walked back to the step if that was an own event, and no further.
     pub fn next(&mut self) -> Option<Decision>
-        ensures value { result ≡ newest_decided self.old.machine self.old.node self.old.step }
+        ensures value { result ≡ newest_decision self.old.machine self.old.node self.old.step }
         ensures step { IfSome result (λ decision. self.new.step + 1 ≡ decision.step) }
         ensures same { self.new ≡ node_at_step self.old.machine self.old.node self.new.step }
     {
@@ -331,12 +337,12 @@ impl<'l> Decisions<'l> {
     // Searches one step further back, and returns it if a value decided it.
     fn back(&mut self) -> Option<Decision>
         requires { 0 < self.old.step }
-        ensures value { result ≡ decided_at self.old.machine self.old.node self.new.step }
+        ensures value { result ≡ decision_at self.old.machine self.old.node self.new.step }
         ensures step { self.new.step + 1 ≡ self.old.step }
         ensures same { self.new ≡ node_at_step self.old.machine self.old.node self.new.step }
     {
         let place = self.step - 1;
         self.step = place;
-        decided_at(self.lab, &mut self.trail, self.node, place)
+        decision_at(self.lab, &mut self.trail, self.node, place)
     }
 }

@@ -3,7 +3,7 @@
 
 ghost use Rattle.std.specs.Prelude.{◌≡◌, ◌<◌, ◌≤◌, ◌+◌, ◌^◌, ◌&&◌};
 ghost use Rattle.std.specs.List.{slice_get};
-ghost use Rattle.ga_event.specs.Told.{steps_of};
+ghost use Rattle.ga_event.specs.Told.{count_steps};
 ghost use Rattle.ga_lab.specs.Machine.{history_of, node_at_step};
 ghost use Rattle.ga_provenance.specs.Origins.{node_after};
 ghost use Rattle.ga_provenance.specs.inner.{place_of, word_of, writes, is_unchanged_by, IsWhole, AreHeld};
@@ -11,8 +11,8 @@ ghost use Rattle.ga_node.specs.Record.{record_of};
 
 use ga_event::Made;
 use ga_grid::NodeId;
-use ga_lab::{Lab, Walk};
-use ga_node::{Kind, Node, Place};
+use ga_lab::{Lab, NodeWalk};
+use ga_node::{Node, OwnEventKind, Place};
 
 /// A register that addresses, or a cell of RAM.
 #[derive(Clone, Copy, PartialEq, Eq, Debug)]
@@ -56,7 +56,7 @@ impl TrackedPlace {
     {
         match told {
             Some(Made::Own { kind, .. }) => match kind {
-                Kind::Run(code) => !self.is_written_by(*code),
+                OwnEventKind::Run(code) => !self.is_written_by(*code),
                 _ => true,
             },
             _ => false,
@@ -71,7 +71,7 @@ pub(crate) fn both_rest(told: &Option<Made>) -> bool
 {
     match told {
         Some(Made::Own { kind, .. }) => match kind {
-            Kind::Run(code) => !TrackedPlace::A.is_written_by(*code)
+            OwnEventKind::Run(code) => !TrackedPlace::A.is_written_by(*code)
                 && !TrackedPlace::B.is_written_by(*code),
             _ => true,
         },
@@ -81,13 +81,13 @@ pub(crate) fn both_rest(told: &Option<Made>) -> bool
 
 /// The tracked word of a node right before the step at a place, if it is `word` after it, by the step's entry.
 pub(crate) fn word_before(lab: &Lab, node: NodeId, at: u32, kept: TrackedPlace, word: u32) -> u32
-    requires within { at + 1 ≤ steps_of node.number lab.now.kept }
+    requires within { at + 1 ≤ count_steps node.number lab.now.kept }
     requires behind { word_of kept (node_after lab.now node.number (at + 1)) ≡ word }
     requires fits { word < 2 ^ 18 }
     ensures value { word_of kept (node_after lab.now node.number at) ≡ result }
     ensures fits { result < 2 ^ 18 }
 {
-    match lab.overwritten(node, at, kept.place()) {
+    match lab.overwritten_value(node, at, kept.place()) {
         Some(old) => old,
         None => word,
     }
@@ -106,7 +106,7 @@ pub(crate) fn value_after(
     word: u32,
 ) -> u32
     requires told { told.now ≡ slice_get (history_of lab.now node.number) at }
-    requires within { at + 1 ≤ steps_of node.number lab.now.kept }
+    requires within { at + 1 ≤ count_steps node.number lab.now.kept }
     requires whole { IsWhole lab.now }
     requires behind { word_of kept (node_after lab.now node.number (at + 1)) ≡ word }
     requires fits { word < 2 ^ 18 }
@@ -144,7 +144,7 @@ fn b_of(node: &Node) -> u32
 }
 
 /// A and B of a node where it is walked back to.
-pub(crate) fn registers_in(lab: &Lab, node: NodeId, walk: &Walk<'_>) -> Registers
+pub(crate) fn registers_in(lab: &Lab, node: NodeId, walk: &NodeWalk<'_>) -> Registers
     requires { walk.now ≡ node_at_step lab.now node walk.now.step }
     ensures { AreHeld lab.now node.number walk.now.step result }
 {
@@ -206,7 +206,7 @@ pub(crate) fn registers_at(
     let mut step = from;
     'going: while step > to {
         step -= 1;
-        let told = lab.made_by_step(node, step);
+        let told = lab.made_event_of_step(node, step);
         registers = registers_before(lab, node, step, &told, registers);
     }
     registers

@@ -6,16 +6,16 @@ ghost use Rattle.ga_node.specs.Table.{next_action_of};
 ghost use Rattle.ga_node.specs.State.{wait_of};
 ghost use Rattle.ga_node.specs.declared.due.NextAction.TheVariants as due;
 ghost use Rattle.ga_lab.specs.Machine.{node_at_step};
-ghost use Rattle.ga_event.specs.Flow.{IsPart, choice, target_of, own_flow, take_flow, flow_of, AreSources};
+ghost use Rattle.ga_event.specs.Flow.{IsNodePart, choice, choice_target, own_flow, take_flow, flow_of, HasValidSources};
 ghost use Rattle.ga_provenance.specs.Origins.{node_after, flow_at};
 ghost use Rattle.ga_provenance.specs.inner.{IsDueBy, IsTrailTo};
 
 use crate::trail::CachedWalk;
-use ga_event::{Choice, Flow, Made, Part, flow_where, send_flow, take_flow};
+use ga_event::{Choice, Flow, Made, NodePart, flow_by_choice, send_flow, take_flow};
 use ga_grid::NodeId;
 use ga_lab::Lab;
-use ga_node::{Kind, NextAction, Place, Wait};
-use ga_ports::{PortSet, classify};
+use ga_node::{NextAction, OwnEventKind, Place, Wait};
+use ga_ports::{PortSet, classify_address};
 use ga_slots::Op;
 
 /// The number of steps that are searched for the old value of P: an instruction word has four slots, and the fetch after them
@@ -29,7 +29,7 @@ pub(crate) fn p_at(lab: &Lab, node: NodeId, place: u32) -> Option<u32>
     let steps = lab.steps(node);
     let mut at = place;
     'looking: while at < steps && at - place < AHEAD {
-        if let Some(p) = lab.overwritten(node, at, Place::P) {
+        if let Some(p) = lab.overwritten_value(node, at, Place::P) {
             return Some(p);
         }
         at += 1;
@@ -47,20 +47,20 @@ fn choice_of(
 ) -> Option<Choice>
     requires trail { IsTrailTo lab.now node trail.old place }
     ensures value { IfSome result (λ known. known ≡ choice (due.Run op) (node_after lab.now node.number place)) }
-    ensures target { IfSome result (λ known. IsTarget (target_of known)) }
+    ensures target { IfSome result (λ known. IsTarget (choice_target known)) }
     ensures same { trail.new ≡ trail.old }
 {
     match op {
         Op::Unext | Op::Next | Op::If | Op::MinusIf => None,
-        Op::FetchP | Op::StoreP => Some(Choice::At(classify(p_at(lab, node, place)?))),
+        Op::FetchP | Op::StoreP => Some(Choice::At(classify_address(p_at(lab, node, place)?))),
         Op::Plus => Some(Choice::Test(p_at(lab, node, place)? / 512 % 2 == 1)),
         Op::FetchPlus | Op::Fetch | Op::StorePlus | Op::Store => {
             let registers = trail.registers(lab, node, place);
-            Some(Choice::At(classify(registers.a)))
+            Some(Choice::At(classify_address(registers.a)))
         }
         Op::FetchB | Op::StoreB => {
             let registers = trail.registers(lab, node, place);
-            Some(Choice::At(classify(registers.b)))
+            Some(Choice::At(classify_address(registers.b)))
         }
         _ => Some(Choice::Plain),
     }
@@ -76,11 +76,11 @@ fn choice_at(
 ) -> Option<Choice>
     requires trail { IsTrailTo lab.now node trail.old place }
     ensures value { IfSome result (λ known. known ≡ choice due (node_after lab.now node.number place)) }
-    ensures target { IfSome result (λ known. IsTarget (target_of known)) }
+    ensures target { IfSome result (λ known. IsTarget (choice_target known)) }
     ensures same { trail.new ≡ trail.old }
 {
     match due {
-        NextAction::Fetch => Some(Choice::At(classify(p_at(lab, node, place)?))),
+        NextAction::Fetch => Some(Choice::At(classify_address(p_at(lab, node, place)?))),
         NextAction::Run(op) => choice_of(lab, trail, node, place, op),
     }
 }
@@ -93,28 +93,28 @@ fn own_flow_at(
     node: NodeId,
     place: u32,
     due: NextAction,
-    part: Part,
+    part: NodePart,
 ) -> Option<Flow>
-    requires part { IsPart part }
+    requires part { IsNodePart part }
     requires trail { IsTrailTo lab.now node trail.old place }
     requires due { next_action_of (node_after lab.now node.number place) ≡ due }
     ensures value { IfSome result (λ flow. flow_of flow ≡ own_flow (node_after lab.now node.number place) part) }
-    ensures sources { IfSome result (λ flow. AreSources (flow_of flow)) }
+    ensures sources { IfSome result (λ flow. HasValidSources (flow_of flow)) }
     ensures same { trail.new ≡ trail.old }
 {
     match choice_at(lab, trail, node, place, due) {
-        Some(choice) => Some(flow_where(due, choice, part)),
+        Some(choice) => Some(flow_by_choice(due, choice, part)),
         None => None,
     }
 }
 
 // What came next in a node whose event was of this kind.
-fn due_by(kind: Kind) -> Option<NextAction>
+fn due_by(kind: OwnEventKind) -> Option<NextAction>
     ensures { IfSome result (λ due. IsDueBy kind due) }
 {
     match kind {
-        Kind::Fetch => Some(NextAction::Fetch),
-        Kind::Run(code) => {
+        OwnEventKind::Fetch => Some(NextAction::Fetch),
+        OwnEventKind::Run(code) => {
             if code < 32 {
                 Some(NextAction::Run(Op::from_code(code)))
             } else {
@@ -137,12 +137,12 @@ fn reading(code: u32) -> Option<Wait>
 }
 
 // What the reader's half of the pass at a place leaves in a part.
-fn taken_flow(lab: &Lab, node: NodeId, place: u32, part: Part) -> Option<Flow>
-    requires { IsPart part }
+fn taken_flow(lab: &Lab, node: NodeId, place: u32, part: NodePart) -> Option<Flow>
+    requires { IsNodePart part }
     ensures value { IfSome result (λ flow. flow_of flow ≡ take_flow (node_after lab.now node.number place).wait part) }
-    ensures sources { IfSome result (λ flow. AreSources (flow_of flow)) }
+    ensures sources { IfSome result (λ flow. HasValidSources (flow_of flow)) }
 {
-    let wait = reading(lab.overwritten(node, place, Place::Wait)?)?;
+    let wait = reading(lab.overwritten_value(node, place, Place::Wait)?)?;
     Some(take_flow(wait, part))
 }
 
@@ -152,15 +152,15 @@ pub(crate) fn known_flow(
     trail: &mut CachedWalk<'_>,
     node: NodeId,
     place: u32,
-    part: Part,
+    part: NodePart,
 ) -> Option<Flow>
-    requires part { IsPart part }
+    requires part { IsNodePart part }
     requires trail { IsTrailTo lab.now node trail.old place }
     ensures value { IfSome result (λ flow. flow_of flow ≡ flow_at lab.now node.number place part) }
-    ensures sources { IfSome result (λ flow. AreSources (flow_of flow)) }
+    ensures sources { IfSome result (λ flow. HasValidSources (flow_of flow)) }
     ensures same { trail.new ≡ trail.old }
 {
-    match lab.made_by_step(node, place)? {
+    match lab.made_event_of_step(node, place)? {
         Made::Own { kind, .. } => own_flow_at(lab, trail, node, place, due_by(kind)?, part),
         Made::Pass { reader, .. } => {
             if node.number == reader.number {

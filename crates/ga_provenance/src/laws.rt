@@ -9,32 +9,32 @@ ghost use Rattle.ga_provenance.specs.declared.value.Value.{Value};
 ghost use Rattle.ga_provenance.specs.declared.listing.ProvenanceRow.{ProvenanceRow};
 ghost use Rattle.ga_provenance.specs.Origins.{value_of_step};
 ghost use Rattle.ga_provenance.specs.Asked.{queried_value};
-ghost use Rattle.ga_provenance.specs.Rows.{row_at, sources_of, IsInTree, AreRows, IsCause, IsNamedFor};
+ghost use Rattle.ga_provenance.specs.Rows.{row_at_depth, value_sources, IsInTree, AreProvenanceRows, IsCause, IsLoadedOrCause};
 ghost use Rattle.ga_provenance.specs.declared.deciding.Decision.{Decision};
-ghost use Rattle.ga_provenance.specs.Deciding.{decided_at};
+ghost use Rattle.ga_provenance.specs.Deciding.{decision_at};
 
 /// Each listed step is one on which the queried step depends, so that `why` leads from it there. The other listed values were
 /// loaded. The queried step must be in the history, as each of a node's is.
-pub fn named_steps_are_causes()
+pub fn listed_steps_are_causes()
     ensures { (s : State) (value : Value) (place : ℕ) (rows : List ProvenanceRow) (whole : Bool) →
         position_of_step (causes_of s) value.node.number value.step ≡ Some place →
-        AreRows s [] (row_at 0 value ∷ []) rows whole → All (λ (row : ProvenanceRow). IsNamedFor s value row.value) rows }
+        AreProvenanceRows s [] (row_at_depth 0 value ∷ []) rows whole → All (λ (row : ProvenanceRow). IsLoadedOrCause s value row.value) rows }
 {}
 
 /// If all rows are listed, none is missing: the step that made the queried value is listed, and with each row the steps that
 /// made the values from which its own came.
 #[tactic(auto, using(crate::proofs::Rows::asked_told, crate::proofs::Rows::sources_told))]
 pub fn complete_trees_miss_nothing()
-    ensures asked { (s : State) (value : Value) (rows : List ProvenanceRow) → AreRows s [] (row_at 0 value ∷ []) rows true → IsInTree s rows value }
-    ensures sources { (s : State) (value : Value) (rows : List ProvenanceRow) → AreRows s [] (row_at 0 value ∷ []) rows true →
-        All (λ (row : ProvenanceRow). All (IsInTree s rows) (sources_of s row.value)) rows }
+    ensures asked { (s : State) (value : Value) (rows : List ProvenanceRow) → AreProvenanceRows s [] (row_at_depth 0 value ∷ []) rows true → IsInTree s rows value }
+    ensures sources { (s : State) (value : Value) (rows : List ProvenanceRow) → AreProvenanceRows s [] (row_at_depth 0 value ∷ []) rows true →
+        All (λ (row : ProvenanceRow). All (IsInTree s rows) (value_sources s row.value)) rows }
 {}
 
 /// For the value that a step selects, each listed step is one on which this step depends. The other listed values were loaded.
 pub fn queried_steps_are_causes()
     ensures { (s : State) (node : NodeId) (step place : ℕ) (value : Value) (rows : List ProvenanceRow) (whole : Bool) →
         position_of_step (causes_of s) node.number step ≡ Some place → queried_value s node step ≡ Some value →
-        AreRows s [] (row_at 0 value ∷ []) rows whole → All (λ (row : ProvenanceRow). IsNamedFor s (value_of_step node step top) row.value) rows }
+        AreProvenanceRows s [] (row_at_depth 0 value ∷ []) rows whole → All (λ (row : ProvenanceRow). IsLoadedOrCause s (value_of_step node step top) row.value) rows }
 {}
 
 /// Each step that a value decided is a cause of every later step of its node, so that `why` leads from it there; and so is the step
@@ -42,9 +42,9 @@ pub fn queried_steps_are_causes()
 #[tactic(auto, using(crate::proofs::Decided::step_cause, crate::proofs::Decided::source_cause))]
 pub fn deciding_steps_are_causes()
     ensures step { (s : State) (node : NodeId) (step k place : ℕ) (decision : Decision) →
-        position_of_step (causes_of s) node.number step ≡ Some place → k < step → decided_at s node k ≡ Some decision →
+        position_of_step (causes_of s) node.number step ≡ Some place → k < step → decision_at s node k ≡ Some decision →
         IsCause s (value_of_step node decision.step top) (value_of_step node step top) }
     ensures source { (s : State) (node : NodeId) (step k place : ℕ) (decision : Decision) →
-        position_of_step (causes_of s) node.number step ≡ Some place → k < step → decided_at s node k ≡ Some decision →
-        IsNamedFor s (value_of_step node step top) decision.source }
+        position_of_step (causes_of s) node.number step ≡ Some place → k < step → decision_at s node k ≡ Some decision →
+        IsLoadedOrCause s (value_of_step node step top) decision.source }
 {}

@@ -1,20 +1,20 @@
 //! The provenance of a value: the steps whose values went into it, as a tree.
 
 ghost use Rattle.std.specs.Prelude.{◌≡◌, ◌⊎◌, ◌↔◌, ◌<◌, ◌≤◌, ◌+◌, ◌-◌, ◌^◌, ◌++◌, ◌∷◌, [], false, Err, IfOk, IfErr, IfSome, OnOk, All, length, map, reverse, option_to_list};
-ghost use Rattle.ga_event.specs.Told.{steps_of};
+ghost use Rattle.ga_event.specs.Told.{count_steps};
 ghost use Rattle.ga_lab.specs.Machine.{node_at_step};
-ghost use Rattle.ga_event.specs.Flow.{IsPart, Same};
+ghost use Rattle.ga_event.specs.Flow.{IsNodePart, Same};
 ghost use Rattle.ga_provenance.specs.Origins.{value_of_step};
-ghost use Rattle.ga_provenance.specs.Rows.{has_value, row_at, sender_in, source_values, below, AreRows};
+ghost use Rattle.ga_provenance.specs.Rows.{has_value, row_at_depth, sent_value, source_values, below, AreProvenanceRows};
 ghost use Rattle.ga_provenance.specs.inner.{IsOpen};
 
 use crate::origin::{Origin, flow_by_trail, origin_at};
 use crate::trail::CachedWalk;
 use crate::value::Value;
 use arrayvec::ArrayVec;
-use ga_event::{Flow, Made, Part};
+use ga_event::{Flow, Made, NodePart};
 use ga_grid::NodeId;
-use ga_lab::{Lab, LabFault, Walk};
+use ga_lab::{Lab, LabFault, NodeWalk};
 use std::alloc::{AllocError, Global};
 
 /// A row of a listing: a value that a step made, or that was loaded.
@@ -39,13 +39,13 @@ pub struct ProvenanceTree {
 fn is_named(rows: &[ProvenanceRow], value: Value) -> bool
     ensures { result ≡ has_value rows.now value }
 {
-    rows.iter().any(|row| row.value.is_same(value))
+    rows.iter().any(|row| row.value.is_equal_to(value))
 }
 
 // What a word came from that an event carried: T of the writer before.
-pub(crate) fn sender_in(made: Option<Made>) -> Option<Value>
-    ensures value { result ≡ sender_in made }
-    ensures part { IfSome result (λ value. IsPart value.part) }
+pub(crate) fn sent_value(made: Option<Made>) -> Option<Value>
+    ensures value { result ≡ sent_value made }
+    ensures part { IfSome result (λ value. IsNodePart value.part) }
 {
     match made {
         Some(
@@ -57,7 +57,7 @@ pub(crate) fn sender_in(made: Option<Made>) -> Option<Value>
         ) => Some(Value {
             node: writer,
             step: writer_step.saturating_sub(1),
-            part: Part::T,
+            part: NodePart::T,
         }),
         Some(Made::Own { .. }) => None,
         None => None,
@@ -65,11 +65,11 @@ pub(crate) fn sender_in(made: Option<Made>) -> Option<Value>
 }
 
 // The value from which one was moved or read, by its part before.
-fn source_in(node: NodeId, step: u32, told: Option<Made>, from: Part) -> Option<Value>
+fn source_in(node: NodeId, step: u32, told: Option<Made>, from: NodePart) -> Option<Value>
     ensures { option_to_list result ≡ source_values node step told (Same from) }
 {
     match from {
-        Part::Outside => sender_in(told),
+        NodePart::Outside => sent_value(told),
         _ => Some(Value {
             node,
             step,
@@ -84,7 +84,7 @@ fn push_some(
     depth: u32,
     value: Option<Value>,
 ) -> Result<(), AllocError>
-    ensures ok { OnOk result (reverse todo.new.items ≡ map (row_at depth) (option_to_list value) ++ reverse todo.old.items) }
+    ensures ok { OnOk result (reverse todo.new.items ≡ map (row_at_depth depth) (option_to_list value) ++ reverse todo.old.items) }
     ensures few { OnOk result (length todo.new.items ≤ length todo.old.items + 3) }
 {
     match value {
@@ -102,10 +102,10 @@ fn push_parts(
     depth: u32,
     node: NodeId,
     step: u32,
-    parts: ArrayVec<Part, 3>,
+    parts: ArrayVec<NodePart, 3>,
 ) -> Result<(), AllocError>
     ensures ok { OnOk result
-        (reverse todo.new.items ≡ map (row_at depth) (map (value_of_step node step) parts.items) ++ reverse todo.old.items) }
+        (reverse todo.new.items ≡ map (row_at_depth depth) (map (value_of_step node step) parts.items) ++ reverse todo.old.items) }
     ensures few { OnOk result (length todo.new.items ≤ length todo.old.items + 3) }
 {
     let count = parts.len();
@@ -125,7 +125,7 @@ fn push_below(
     trail: &mut CachedWalk<'_>,
     row: ProvenanceRow,
 ) -> Result<(), AllocError>
-    requires part { IsPart row.value.part }
+    requires part { IsNodePart row.value.part }
     requires trail { trail.old ≡ node_at_step lab.now row.value.node trail.old.step }
     requires order { row.value.step - 1 ≤ trail.old.step }
     requires deep { row.depth + 1 < 2 ^ 32 }
@@ -142,7 +142,7 @@ fn push_below(
     let depth = row.depth + 1;
     match flow_by_trail(lab, trail, node, place, part) {
         Flow::Same(from) => {
-            let told = lab.made_by_step(node, place);
+            let told = lab.made_event_of_step(node, place);
             push_some(todo, depth, source_in(node, place, told, from))
         }
         Flow::From(parts) => push_parts(todo, depth, node, place, parts),
@@ -161,14 +161,14 @@ fn push_below(
 pub fn find_provenance_at<'l>(
     alloc: Global,
     lab: &'l Lab,
-    near: &Walk<'l>,
+    near: &NodeWalk<'l>,
     at: NodeId,
     value: Value,
     most: u32,
 ) -> Result<ProvenanceTree, AllocError>
-    requires part { IsPart value.part }
+    requires part { IsNodePart value.part }
     requires near { near.now ≡ node_at_step lab.now at near.now.step }
-    ensures rows { IfOk result (λ listing. AreRows lab.now [] (row_at 0 value ∷ []) listing.rows.items listing.is_whole) }
+    ensures rows { IfOk result (λ listing. AreProvenanceRows lab.now [] (row_at_depth 0 value ∷ []) listing.rows.items listing.is_whole) }
     ensures most { IfOk result (λ listing. length listing.rows.items ≤ most) }
     ensures cut { IfOk result (λ listing. listing.is_whole ≡ false → length listing.rows.items ≡ most) }
 {
@@ -213,12 +213,12 @@ pub fn find_provenance(
     value: Value,
     most: u32,
 ) -> Result<ProvenanceTree, LabFault>
-    requires { IsPart value.part }
-    ensures rows { IfOk result (λ listing. AreRows lab.now [] (row_at 0 value ∷ []) listing.rows.items listing.is_whole) }
+    requires { IsNodePart value.part }
+    ensures rows { IfOk result (λ listing. AreProvenanceRows lab.now [] (row_at_depth 0 value ∷ []) listing.rows.items listing.is_whole) }
     ensures most { IfOk result (λ listing. length listing.rows.items ≤ most) }
     ensures cut { IfOk result (λ listing. listing.is_whole ≡ false → length listing.rows.items ≡ most) }
     ensures err { IfErr result (λ why. (why ≡ LabFault.NoStep) ⊎ (why ≡ LabFault.Memory)) }
-    ensures refused { (result ≡ Err LabFault.NoStep) ↔ (steps_of value.node.number lab.now.kept < value.step) }
+    ensures refused { (result ≡ Err LabFault.NoStep) ↔ (count_steps value.node.number lab.now.kept < value.step) }
 {
     if value.step > lab.steps(value.node) {
         return Err(LabFault::NoStep);

@@ -1,13 +1,13 @@
 //! The part from which a step moved a value, if the step as made determines it, whatever the node's values were.
 
 ghost use Rattle.std.specs.Prelude.{◌≡◌, ◌<◌, IfSome};
-ghost use Rattle.ga_event.specs.Flow.{IsPart};
+ghost use Rattle.ga_event.specs.Flow.{IsNodePart};
 ghost use Rattle.ga_provenance.specs.inner.{on_data, on_return, pushed, popped_to_data, moved_to_data, popped_to_return, moved_to_return, moved_to_a, unless_stored, by_op, by_fetch, by_pause, stored_at, misses_by, misses, moved_by};
 
 use crate::kept::Registers;
-use ga_event::{Made, Part};
-use ga_node::Kind;
-use ga_ports::{Target, classify};
+use ga_event::{Made, NodePart};
+use ga_node::OwnEventKind;
+use ga_ports::{Target, classify_address};
 use ga_slots::Op;
 
 /// What an opcode does to the words of a stack.
@@ -61,55 +61,55 @@ fn on_return(op: Op) -> StackEffect
 
 // The part whose word an opcode pushes on either stack. What it reads is that of none.
 #[inline(always)]
-fn pushed(op: Op) -> Option<Part>
+fn pushed(op: Op) -> Option<NodePart>
     ensures value { result ≡ pushed op }
-    ensures part { IfSome result (λ from. IsPart from) }
+    ensures part { IfSome result (λ from. IsNodePart from) }
 {
     match op {
-        Op::Dup | Op::Push => Some(Part::T),
-        Op::Over => Some(Part::S),
-        Op::Pop => Some(Part::R),
-        Op::A => Some(Part::A),
-        Op::Call => Some(Part::P),
+        Op::Dup | Op::Push => Some(NodePart::T),
+        Op::Over => Some(NodePart::S),
+        Op::Pop => Some(NodePart::R),
+        Op::A => Some(NodePart::A),
+        Op::Call => Some(NodePart::P),
         _ => None,
     }
 }
 
 // The place of a word of the data stack before a pop.
 #[inline(always)]
-fn popped_to_data(place: u8) -> Part
+fn popped_to_data(place: u8) -> NodePart
     requires { place < 10 }
     ensures value { result ≡ popped_to_data place }
-    ensures part { IsPart result }
+    ensures part { IsNodePart result }
 {
     if place == 9 {
-        Part::Data(2)
+        NodePart::Data(2)
     } else {
-        Part::Data(place + 1)
+        NodePart::Data(place + 1)
     }
 }
 
 // The part whose word an opcode leaves at a place of the data stack.
 #[inline(always)]
-fn moved_to_data(op: Op, place: u8) -> Option<Part>
+fn moved_to_data(op: Op, place: u8) -> Option<NodePart>
     requires { place < 10 }
     ensures value { result ≡ moved_to_data op place }
-    ensures part { IfSome result (λ from. IsPart from) }
+    ensures part { IfSome result (λ from. IsNodePart from) }
 {
     match on_data(op) {
-        StackEffect::Stays => Some(Part::Data(place)),
+        StackEffect::Stays => Some(NodePart::Data(place)),
         StackEffect::Replaces => {
             if place == 0 {
                 None
             } else {
-                Some(Part::Data(place))
+                Some(NodePart::Data(place))
             }
         }
         StackEffect::Pushes => {
             if place == 0 {
                 pushed(op)
             } else {
-                Some(Part::Data(place - 1))
+                Some(NodePart::Data(place - 1))
             }
         }
         StackEffect::Pops => Some(popped_to_data(place)),
@@ -126,39 +126,39 @@ fn moved_to_data(op: Op, place: u8) -> Option<Part>
 
 // The place of a word of the return stack before a pop.
 #[inline(always)]
-fn popped_to_return(place: u8) -> Part
+fn popped_to_return(place: u8) -> NodePart
     requires { place < 9 }
     ensures value { result ≡ popped_to_return place }
-    ensures part { IsPart result }
+    ensures part { IsNodePart result }
 {
     if place == 8 {
-        Part::Return(1)
+        NodePart::Return(1)
     } else {
-        Part::Return(place + 1)
+        NodePart::Return(place + 1)
     }
 }
 
 // The part whose word an opcode leaves at a place of the return stack.
 #[inline(always)]
-fn moved_to_return(op: Op, place: u8) -> Option<Part>
+fn moved_to_return(op: Op, place: u8) -> Option<NodePart>
     requires { place < 9 }
     ensures value { result ≡ moved_to_return op place }
-    ensures part { IfSome result (λ from. IsPart from) }
+    ensures part { IfSome result (λ from. IsNodePart from) }
 {
     match on_return(op) {
-        StackEffect::Stays => Some(Part::Return(place)),
+        StackEffect::Stays => Some(NodePart::Return(place)),
         StackEffect::Replaces => {
             if place == 0 {
                 None
             } else {
-                Some(Part::Return(place))
+                Some(NodePart::Return(place))
             }
         }
         StackEffect::Pushes => {
             if place == 0 {
                 pushed(op)
             } else {
-                Some(Part::Return(place - 1))
+                Some(NodePart::Return(place - 1))
             }
         }
         StackEffect::Pops => Some(popped_to_return(place)),
@@ -169,23 +169,23 @@ fn moved_to_return(op: Op, place: u8) -> Option<Part>
 
 // The part whose word an opcode leaves in A.
 #[inline(always)]
-fn moved_to_a(op: Op) -> Option<Part>
+fn moved_to_a(op: Op) -> Option<NodePart>
     ensures value { result ≡ moved_to_a op }
-    ensures part { IfSome result (λ from. IsPart from) }
+    ensures part { IfSome result (λ from. IsNodePart from) }
 {
     match op {
         Op::FetchPlus | Op::StorePlus | Op::MultiplyStep => None,
-        Op::AStore => Some(Part::T),
-        _ => Some(Part::A),
+        Op::AStore => Some(NodePart::T),
+        _ => Some(NodePart::A),
     }
 }
 
 // What a store may write stays under every other opcode.
 #[inline(always)]
-fn unless_stored(op: Op, part: Part) -> Option<Part>
-    requires { IsPart part }
+fn unless_stored(op: Op, part: NodePart) -> Option<NodePart>
+    requires { IsNodePart part }
     ensures value { result ≡ unless_stored op part }
-    ensures part { IfSome result (λ from. IsPart from) }
+    ensures part { IfSome result (λ from. IsNodePart from) }
 {
     match op {
         Op::StoreP | Op::StorePlus | Op::StoreB | Op::Store => None,
@@ -196,46 +196,51 @@ fn unless_stored(op: Op, part: Part) -> Option<Part>
 // The part whose value an opcode leaves in a part. None for P and the slot, which nearly every step makes anew, nor for the
 // wait, the stop and the word from outside.
 #[inline(always)]
-fn by_op(op: Op, part: Part) -> Option<Part>
-    requires { IsPart part }
+fn by_op(op: Op, part: NodePart) -> Option<NodePart>
+    requires { IsNodePart part }
     ensures value { result ≡ by_op op part }
-    ensures part { IfSome result (λ from. IsPart from) }
+    ensures part { IfSome result (λ from. IsNodePart from) }
 {
     match part {
-        Part::Data(place) => moved_to_data(op, place),
-        Part::Return(place) => moved_to_return(op, place),
-        Part::Ram(_) | Part::Io => unless_stored(op, part),
-        Part::Rom(_) | Part::I => Some(part),
-        Part::A => moved_to_a(op),
-        Part::B => { if op == Op::BStore { None } else { Some(part) } }
-        Part::Carry => { if op == Op::Plus { None } else { Some(part) } }
-        Part::P | Part::Slot | Part::Wait | Part::Stop | Part::Outside => None,
+        NodePart::Data(place) => moved_to_data(op, place),
+        NodePart::Return(place) => moved_to_return(op, place),
+        NodePart::Ram(_) | NodePart::Io => unless_stored(op, part),
+        NodePart::Rom(_) | NodePart::I => Some(part),
+        NodePart::A => moved_to_a(op),
+        NodePart::B => { if op == Op::BStore { None } else { Some(part) } }
+        NodePart::Carry => { if op == Op::Plus { None } else { Some(part) } }
+        NodePart::P | NodePart::Slot | NodePart::Wait | NodePart::Stop | NodePart::Outside => None,
     }
 }
 
 // The part whose value a fetch leaves in a part. None for P, I and the slot, which a fetch makes anew, nor for the wait, the
 // stop and the word from outside.
 #[inline(always)]
-fn by_fetch(part: Part) -> Option<Part>
-    requires { IsPart part }
+fn by_fetch(part: NodePart) -> Option<NodePart>
+    requires { IsNodePart part }
     ensures value { result ≡ by_fetch part }
-    ensures part { IfSome result (λ from. IsPart from) }
+    ensures part { IfSome result (λ from. IsNodePart from) }
 {
     match part {
-        Part::P | Part::I | Part::Slot | Part::Wait | Part::Stop | Part::Outside => None,
+        NodePart::P
+        | NodePart::I
+        | NodePart::Slot
+        | NodePart::Wait
+        | NodePart::Stop
+        | NodePart::Outside => None,
         _ => Some(part),
     }
 }
 
 // The part whose value a wait or a stop, which replaces the whole event, leaves in a part.
 #[inline(always)]
-fn by_pause(part: Part) -> Option<Part>
-    requires { IsPart part }
+fn by_pause(part: NodePart) -> Option<NodePart>
+    requires { IsNodePart part }
     ensures value { result ≡ by_pause part }
-    ensures part { IfSome result (λ from. IsPart from) }
+    ensures part { IfSome result (λ from. IsNodePart from) }
 {
     match part {
-        Part::Wait | Part::Stop | Part::Outside => None,
+        NodePart::Wait | NodePart::Stop | NodePart::Outside => None,
         _ => Some(part),
     }
 }
@@ -246,19 +251,19 @@ fn stored_at(code: u8, before: Registers) -> Option<Target>
     ensures { result ≡ stored_at code before }
 {
     match code {
-        13 | 15 => Some(classify(before.a)),
-        14 => Some(classify(before.b)),
+        13 | 15 => Some(classify_address(before.a)),
+        14 => Some(classify_address(before.b)),
         _ => None,
     }
 }
 
 // Whether an opcode with this code is a store by A or B that leaves a cell as it was, where these hold this before it.
 #[inline(never)]
-fn misses_by(code: u8, before: Registers, part: Part) -> bool
+fn misses_by(code: u8, before: Registers, part: NodePart) -> bool
     ensures { result ≡ misses_by code before part }
 {
     match part {
-        Part::Ram(cell) => match stored_at(code, before) {
+        NodePart::Ram(cell) => match stored_at(code, before) {
             Some(Target::Ram(other)) => other != cell,
             Some(_) => true,
             None => false,
@@ -269,13 +274,13 @@ fn misses_by(code: u8, before: Registers, part: Part) -> bool
 
 /// Whether a step, as made, ran a store by A or B that leaves a cell as it was, where A and B were these before it.
 #[inline(always)]
-pub(crate) fn misses(told: &Option<Made>, before: Registers, part: Part) -> bool
+pub(crate) fn misses(told: &Option<Made>, before: Registers, part: NodePart) -> bool
     ensures { result ≡ misses told.now before part }
 {
     match told {
         Some(
             Made::Own {
-                kind: Kind::Run(code),
+                kind: OwnEventKind::Run(code),
                 ..
             },
         ) => misses_by(*code, before, part),
@@ -285,22 +290,22 @@ pub(crate) fn misses(told: &Option<Made>, before: Registers, part: Part) -> bool
 
 /// The part from which a step moved a value to this one, if the step as made determines it whatever the node's values were.
 #[inline(always)]
-pub(crate) fn moved_by(told: &Option<Made>, part: Part) -> Option<Part>
-    requires { IsPart part }
+pub(crate) fn moved_by(told: &Option<Made>, part: NodePart) -> Option<NodePart>
+    requires { IsNodePart part }
     ensures value { result ≡ moved_by told.now part }
-    ensures part { IfSome result (λ from. IsPart from) }
+    ensures part { IfSome result (λ from. IsNodePart from) }
 {
     match told {
         Some(Made::Own { kind, .. }) => match kind {
-            Kind::Run(code) => {
+            OwnEventKind::Run(code) => {
                 if *code < 32 {
                     by_op(Op::from_code(*code), part)
                 } else {
                     None
                 }
             }
-            Kind::Fetch => by_fetch(part),
-            Kind::Wait | Kind::Stop(_) => by_pause(part),
+            OwnEventKind::Fetch => by_fetch(part),
+            OwnEventKind::Wait | OwnEventKind::Stop(_) => by_pause(part),
         },
         _ => None,
     }
@@ -310,11 +315,11 @@ pub(crate) fn moved_by(told: &Option<Made>, part: Part) -> Option<Part>
 #[inline(always)]
 pub(crate) fn data_place(told: &Option<Made>, place: u8) -> Option<u8>
     requires { place < 10 }
-    ensures value { IfSome result (λ from. moved_by told.now (Part.Data place) ≡ Some (Part.Data from)) }
+    ensures value { IfSome result (λ from. moved_by told.now (NodePart.Data place) ≡ Some (NodePart.Data from)) }
     ensures within { IfSome result (λ from. from < 10) }
 {
-    match moved_by(told, Part::Data(place)) {
-        Some(Part::Data(from)) => Some(from),
+    match moved_by(told, NodePart::Data(place)) {
+        Some(NodePart::Data(from)) => Some(from),
         _ => None,
     }
 }

@@ -2,38 +2,38 @@
 
 ghost use Rattle.std.specs.Prelude.{◌≡◌, ◌<◌, ◌≤◌, ◌-◌, None, IfSome};
 ghost use Rattle.ga_node.specs.Record.{record_of};
-ghost use Rattle.ga_event.specs.Told.{steps_of};
+ghost use Rattle.ga_event.specs.Told.{count_steps};
 ghost use Rattle.ga_lab.specs.Machine.{history_of, node_at_step};
-ghost use Rattle.ga_event.specs.Flow.{IsPart, flow_of, AreSources};
-ghost use Rattle.ga_provenance.specs.Origins.{is_memory_part, crosses, moved_from, is_of_three, told_part, told_flow, flow_at, origin_from, origin_of, node_after};
+ghost use Rattle.ga_event.specs.Flow.{IsNodePart, flow_of, HasValidSources};
+ghost use Rattle.ga_provenance.specs.Origins.{is_memory_part, crosses_memory_border, moved_source_part, is_three_part_flow, listed_part, event_flow, flow_at, origin_after_steps, origin_of, node_after};
 ghost use Rattle.ga_provenance.specs.inner.{moved_by, IsTrailTo};
-ghost use Rattle.ga_ports.specs.Address.{classified};
+ghost use Rattle.ga_ports.specs.Address.{address_target};
 ghost use Rattle.ga_provenance.specs.Fetched.{cell_of_target, fetched_cell};
 
 use crate::known::{known_flow, p_at};
 use crate::moving::moved_by;
 use crate::trail::CachedWalk;
 use crate::value::Value;
-use ga_event::{Flow, Made, Part, own_flow, send_flow, take_flow};
+use ga_event::{Flow, Made, NodePart, own_flow, send_flow, take_flow};
 use ga_grid::NodeId;
-use ga_lab::{Lab, Walk};
+use ga_lab::{Lab, NodeWalk};
 use ga_node::{Node, Place};
-use ga_ports::{Target, classify};
+use ga_ports::{Target, classify_address};
 
 // Whether the part is a cell of memory.
-pub(crate) fn is_cell(part: Part) -> bool
+pub(crate) fn is_cell(part: NodePart) -> bool
     ensures { result ≡ is_memory_part part }
 {
     match part {
-        Part::Ram(_) => true,
-        Part::Rom(_) => true,
+        NodePart::Ram(_) => true,
+        NodePart::Rom(_) => true,
         _ => false,
     }
 }
 
 // Whether a value that moved from a part to another was read from memory or stored there.
-fn crosses(from: Part, to: Part) -> bool
-    ensures { result ≡ crosses from to }
+fn crosses_memory_border(from: NodePart, to: NodePart) -> bool
+    ensures { result ≡ crosses_memory_border from to }
 {
     if is_cell(from) {
         !is_cell(to)
@@ -43,15 +43,15 @@ fn crosses(from: Part, to: Part) -> bool
 }
 
 // The part from which a value was moved to another part of the node alone, where it was.
-pub(crate) fn moved_from(flow: &Flow, to: Part) -> Option<Part>
-    requires { AreSources (flow_of flow.now) }
-    ensures value { result ≡ moved_from (flow_of flow.now) to }
-    ensures part { IfSome result (λ from. IsPart from) }
+pub(crate) fn moved_source_part(flow: &Flow, to: NodePart) -> Option<NodePart>
+    requires { HasValidSources (flow_of flow.now) }
+    ensures value { result ≡ moved_source_part (flow_of flow.now) to }
+    ensures part { IfSome result (λ from. IsNodePart from) }
 {
     match flow {
-        Flow::Same(Part::Outside) => None,
+        Flow::Same(NodePart::Outside) => None,
         Flow::Same(from) => {
-            if crosses(*from, to) {
+            if crosses_memory_border(*from, to) {
                 None
             } else {
                 Some(*from)
@@ -62,8 +62,8 @@ pub(crate) fn moved_from(flow: &Flow, to: Part) -> Option<Part>
 }
 
 // Whether a value is computed from three parts.
-fn is_of_three(flow: &Flow) -> bool
-    ensures { result ≡ is_of_three (flow_of flow.now) }
+fn is_three_part_flow(flow: &Flow) -> bool
+    ensures { result ≡ is_three_part_flow (flow_of flow.now) }
 {
     match flow {
         Flow::Same(_) => false,
@@ -72,23 +72,35 @@ fn is_of_three(flow: &Flow) -> bool
 }
 
 // The part as which a value that a step made is listed.
-fn told_part(flow: &Flow, part: Part) -> Part
-    requires { IsPart part }
-    ensures value { result ≡ told_part (flow_of flow.now) part }
-    ensures part { IsPart result }
+fn listed_part(flow: &Flow, part: NodePart) -> NodePart
+    requires { IsNodePart part }
+    ensures value { result ≡ listed_part (flow_of flow.now) part }
+    ensures part { IsNodePart result }
 {
     match part {
-        Part::A => { if is_of_three(flow) { Part::T } else { part } }
-        Part::Carry => { if is_of_three(flow) { Part::T } else { part } }
+        NodePart::A => {
+            if is_three_part_flow(flow) {
+                NodePart::T
+            } else {
+                part
+            }
+        }
+        NodePart::Carry => {
+            if is_three_part_flow(flow) {
+                NodePart::T
+            } else {
+                part
+            }
+        }
         _ => part,
     }
 }
 
 // The source of the value that an event of a node, as made, leaves in a part.
-fn told_flow(made: &Made, before: &Node, node: NodeId, part: Part) -> Flow
-    requires { IsPart part }
-    ensures value { flow_of result ≡ told_flow made.now (record_of before.now) node.number part }
-    ensures sources { AreSources (flow_of result) }
+fn event_flow(made: &Made, before: &Node, node: NodeId, part: NodePart) -> Flow
+    requires { IsNodePart part }
+    ensures value { flow_of result ≡ event_flow made.now (record_of before.now) node.number part }
+    ensures sources { HasValidSources (flow_of result) }
 {
     match made {
         Made::Own { .. } => own_flow(before, part),
@@ -103,14 +115,14 @@ fn told_flow(made: &Made, before: &Node, node: NodeId, part: Part) -> Flow
 }
 
 // Where the value of a part comes from that a node's next step leaves, from where it is walked back to; past its steps all stays.
-pub(crate) fn flow_behind(lab: &Lab, walk: &Walk<'_>, node: NodeId, part: Part) -> Flow
-    requires part { IsPart part }
+pub(crate) fn flow_behind(lab: &Lab, walk: &NodeWalk<'_>, node: NodeId, part: NodePart) -> Flow
+    requires part { IsNodePart part }
     requires walk { walk.now ≡ node_at_step lab.now node walk.now.step }
     ensures value { flow_of result ≡ flow_at lab.now node.number walk.now.step part }
-    ensures sources { AreSources (flow_of result) }
+    ensures sources { HasValidSources (flow_of result) }
 {
-    match lab.made_by_step(node, walk.step()) {
-        Some(made) => told_flow(&made, walk.node(), node, part),
+    match lab.made_event_of_step(node, walk.step()) {
+        Some(made) => event_flow(&made, walk.node(), node, part),
         None => Flow::Same(part),
     }
 }
@@ -118,9 +130,9 @@ pub(crate) fn flow_behind(lab: &Lab, walk: &Walk<'_>, node: NodeId, part: Part) 
 // The value's step, or the last of the node if it made fewer: after that nothing is made.
 #[tactic(auto, using(crate::proofs::Made::origin_last))]
 pub(crate) fn kept_step(lab: &Lab, value: Value) -> u32
-    requires { IsPart value.part }
-    ensures same { origin_from lab.now value.node result value.part ≡ origin_of lab.now value }
-    ensures within { result ≤ steps_of value.node.number lab.now.kept }
+    requires { IsNodePart value.part }
+    ensures same { origin_after_steps lab.now value.node result value.part ≡ origin_of lab.now value }
+    ensures within { result ≤ count_steps value.node.number lab.now.kept }
 {
     let steps = lab.steps(value.node);
     if value.step < steps {
@@ -134,10 +146,10 @@ pub(crate) fn kept_step(lab: &Lab, value: Value) -> u32
 /// that only moved the value from part to part of the node, as `dup` or `push`, made nothing. Takes time linear in the number
 /// of steps that the node made since.
 pub fn origin_of(lab: &Lab, value: Value) -> Value
-    requires { IsPart value.part }
+    requires { IsNodePart value.part }
     ensures value { result ≡ origin_of lab.now value }
-    ensures part { IsPart result.part }
-    ensures within { result.step ≤ steps_of value.node.number lab.now.kept }
+    ensures part { IsNodePart result.part }
+    ensures within { result.step ≤ count_steps value.node.number lab.now.kept }
 {
     let step = kept_step(lab, value);
     let mut trail = CachedWalk::new(lab, value.node, lab.walk(value.node, step));
@@ -155,12 +167,12 @@ pub(crate) struct Origin<'l> {
 // newest step.
 pub(crate) fn trail_near<'l>(
     lab: &'l Lab,
-    near: &Walk<'l>,
+    near: &NodeWalk<'l>,
     at: NodeId,
     node: NodeId,
     step: u32,
 ) -> CachedWalk<'l>
-    requires within { step ≤ steps_of node.number lab.now.kept }
+    requires within { step ≤ count_steps node.number lab.now.kept }
     requires near { near.now ≡ node_at_step lab.now at near.now.step }
     ensures stands { result ≡ node_at_step lab.now node result.step }
     ensures order { step ≤ result.step }
@@ -175,13 +187,13 @@ pub(crate) fn trail_near<'l>(
 // A trail of a node that has not come past a step: that of the origin found last where it serves, else one as by [`trail_near`].
 fn trail_on<'l>(
     lab: &'l Lab,
-    near: &Walk<'l>,
+    near: &NodeWalk<'l>,
     at: NodeId,
     last: Origin<'l>,
     node: NodeId,
     step: u32,
 ) -> CachedWalk<'l>
-    requires within { step ≤ steps_of node.number lab.now.kept }
+    requires within { step ≤ count_steps node.number lab.now.kept }
     requires near { near.now ≡ node_at_step lab.now at near.now.step }
     requires last { last.trail ≡ node_at_step lab.now last.value.node last.trail.step }
     ensures stands { result ≡ node_at_step lab.now node result.step }
@@ -198,16 +210,16 @@ fn trail_on<'l>(
 // What made a value, found by the trail of the origin that was found last, or by a walk of some node, which is not walked on.
 pub(crate) fn origin_at<'l>(
     lab: &'l Lab,
-    near: &Walk<'l>,
+    near: &NodeWalk<'l>,
     at: NodeId,
     last: Origin<'l>,
     value: Value,
 ) -> Origin<'l>
-    requires part { IsPart value.part }
+    requires part { IsNodePart value.part }
     requires near { near.now ≡ node_at_step lab.now at near.now.step }
     requires last { last.trail ≡ node_at_step lab.now last.value.node last.trail.step }
     ensures value { result.value ≡ origin_of lab.now value }
-    ensures part { IsPart result.value.part }
+    ensures part { IsNodePart result.value.part }
     ensures stands { result.trail ≡ node_at_step lab.now result.value.node result.trail.step }
     ensures order { result.value.step - 1 ≤ result.trail.step }
 {
@@ -227,19 +239,19 @@ pub(crate) fn flow_by_trail(
     trail: &mut CachedWalk<'_>,
     node: NodeId,
     place: u32,
-    part: Part,
+    part: NodePart,
 ) -> Flow
-    requires part { IsPart part }
+    requires part { IsNodePart part }
     requires trail { IsTrailTo lab.now node trail.old place }
     ensures value { flow_of result ≡ flow_at lab.now node.number place part }
-    ensures sources { AreSources (flow_of result) }
+    ensures sources { HasValidSources (flow_of result) }
     ensures trail { trail.new ≡ node_at_step lab.now node trail.new.step }
     ensures order { place ≤ trail.new.step }
 {
     if let Some(flow) = known_flow(lab, trail, node, place, part) {
         return flow;
     }
-    trail.back_to(place);
+    trail.walk_back_to(place);
     flow_behind(lab, trail.walk(), node, part)
 }
 
@@ -251,12 +263,12 @@ pub(crate) fn origin_behind(
     trail: &mut CachedWalk<'_>,
     node: NodeId,
     step: u32,
-    part: Part,
+    part: NodePart,
 ) -> Value
-    requires part { IsPart part }
+    requires part { IsNodePart part }
     requires trail { IsTrailTo lab.now node trail.old step }
-    ensures value { result ≡ origin_from lab.now node step part }
-    ensures part { IsPart result.part }
+    ensures value { result ≡ origin_after_steps lab.now node step part }
+    ensures part { IsNodePart result.part }
     ensures within { result.step ≤ step }
     ensures node { result.node ≡ node }
     ensures trail { trail.new ≡ node_at_step lab.now node trail.new.step }
@@ -266,14 +278,14 @@ pub(crate) fn origin_behind(
     'steps: while value.step > 0 {
         let Value { step, part, .. } = value;
         let flow = flow_by_trail(lab, trail, node, step - 1, part);
-        match moved_from(&flow, part) {
+        match moved_source_part(&flow, part) {
             Some(from) => {
                 let step = step - 1;
                 let part = from;
                 value = trail.trace_by_records(lab, Value { node, step, part });
             }
             None => {
-                let part = told_part(&flow, part);
+                let part = listed_part(&flow, part);
                 return Value { node, step, part };
             }
         }
@@ -283,9 +295,9 @@ pub(crate) fn origin_behind(
 
 /// The cell that an address names.
 fn cell_of(address: u32) -> Option<u8>
-    ensures { result ≡ cell_of_target (classified address) }
+    ensures { result ≡ cell_of_target (address_target address) }
 {
-    match classify(address) {
+    match classify_address(address) {
         Target::Ram(cell) => Some(cell),
         Target::Rom(cell) => Some(128 + cell),
         _ => None,
@@ -303,13 +315,13 @@ fn p_of(node: &Node) -> u32
 /// P right before the step at a place. The node is walked back only if the entries don't determine it.
 fn p_by_trail(lab: &Lab, trail: &mut CachedWalk<'_>, node: NodeId, place: u32) -> u32
     requires trail { IsTrailTo lab.now node trail.old place }
-    requires within { place ≤ steps_of node.number lab.now.kept }
+    requires within { place ≤ count_steps node.number lab.now.kept }
     ensures { (node_after lab.now node.number place).p ≡ result }
 {
     if let Some(p) = p_at(lab, node, place) {
         return p;
     }
-    trail.back_to(place);
+    trail.walk_back_to(place);
     p_of(trail.walk().node())
 }
 
@@ -319,7 +331,7 @@ fn p_by_trail(lab: &Lab, trail: &mut CachedWalk<'_>, node: NodeId, place: u32) -
 /// that is of the same node and not earlier, else from its newest step.
 pub fn fetched_cell_at<'l>(
     lab: &'l Lab,
-    near: &Walk<'l>,
+    near: &NodeWalk<'l>,
     at: NodeId,
     node: NodeId,
     step: u32,
@@ -327,7 +339,7 @@ pub fn fetched_cell_at<'l>(
     requires { near.now ≡ node_at_step lab.now at near.now.step }
     ensures { result ≡ fetched_cell lab.now node step }
 {
-    let part = Part::I;
+    let part = NodePart::I;
     let step = kept_step(lab, Value { node, step, part });
     let mut trail = trail_near(lab, near, at, node, step);
     let made = origin_behind(lab, &mut trail, node, step, part);

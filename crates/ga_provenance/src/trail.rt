@@ -1,16 +1,16 @@
 //! A node that is followed back over its steps, with its tracked registers that address.
 
 ghost use Rattle.std.specs.Prelude.{◌≡◌, ◌≤◌, ◌+◌, true, IfSome};
-ghost use Rattle.ga_event.specs.Flow.{IsPart};
+ghost use Rattle.ga_event.specs.Flow.{IsNodePart};
 ghost use Rattle.ga_provenance.specs.Origins.{origin_of};
 ghost use Rattle.ga_provenance.specs.inner.{AreHeld, IsFollowed};
 
 use crate::kept::{Registers, registers_at, registers_before, registers_in};
 use crate::moving::{data_place, misses, moved_by};
 use crate::value::Value;
-use ga_event::Part;
+use ga_event::NodePart;
 use ga_grid::NodeId;
-use ga_lab::{Lab, Walk};
+use ga_lab::{Lab, NodeWalk};
 use std::marker::Model;
 
 /// A value that was followed back, and A and B after its step.
@@ -24,10 +24,10 @@ struct Followed {
 // value is returned as it is.
 #[inline(always)]
 fn follow_data(lab: &Lab, followed: Followed, along: bool) -> Followed
-    requires part { IsPart followed.value.part }
+    requires part { IsNodePart followed.value.part }
     requires held { along ≡ true → AreHeld lab.now followed.value.node.number followed.value.step followed.registers }
     ensures same { origin_of lab.now result.value ≡ origin_of lab.now followed.value }
-    ensures part { IsPart result.value.part }
+    ensures part { IsNodePart result.value.part }
     ensures node { result.value.node ≡ followed.value.node }
     ensures within { result.value.step ≤ followed.value.step }
     ensures held { along ≡ true → AreHeld lab.now followed.value.node.number result.value.step result.registers }
@@ -36,12 +36,12 @@ fn follow_data(lab: &Lab, followed: Followed, along: bool) -> Followed
         value,
         mut registers,
     } = followed;
-    let Part::Data(mut place) = value.part else {
+    let NodePart::Data(mut place) = value.part else {
         return followed;
     };
     let Value { node, mut step, .. } = value;
     'telling: while step > 0 {
-        let told = lab.made_by_step(node, step - 1);
+        let told = lab.made_event_of_step(node, step - 1);
         match data_place(&told, place) {
             Some(from) => place = from,
             None => break 'telling,
@@ -51,7 +51,7 @@ fn follow_data(lab: &Lab, followed: Followed, along: bool) -> Followed
             registers = registers_before(lab, node, step, &told, registers);
         }
     }
-    let part = Part::Data(place);
+    let part = NodePart::Data(place);
     let value = Value { node, step, part };
     Followed { value, registers }
 }
@@ -60,7 +60,7 @@ fn follow_data(lab: &Lab, followed: Followed, along: bool) -> Followed
 // `along`.
 #[inline(always)]
 fn follow(lab: &Lab, value: Value, along: bool, behind: Registers) -> Followed
-    requires part { IsPart value.part }
+    requires part { IsNodePart value.part }
     requires held { along ≡ true → AreHeld lab.now value.node.number value.step behind }
     ensures followed { IsFollowed lab.now value result.value }
     ensures held { along ≡ true → AreHeld lab.now value.node.number result.value.step result.registers }
@@ -68,7 +68,7 @@ fn follow(lab: &Lab, value: Value, along: bool, behind: Registers) -> Followed
     let mut value = value;
     let mut registers = behind;
     'telling: while value.step > 0 {
-        if let Part::Data(_) = value.part {
+        if let NodePart::Data(_) = value.part {
             let followed = follow_data(lab, Followed { value, registers }, along);
             value = followed.value;
             registers = followed.registers;
@@ -78,7 +78,7 @@ fn follow(lab: &Lab, value: Value, along: bool, behind: Registers) -> Followed
         }
         let Value { node, step, part } = value;
         let step = step - 1;
-        let told = lab.made_by_step(node, step);
+        let told = lab.made_event_of_step(node, step);
         match moved_by(&told, part) {
             Some(part) => value = Value { node, step, part },
             None => return Followed { value, registers },
@@ -92,10 +92,10 @@ fn follow(lab: &Lab, value: Value, along: bool, behind: Registers) -> Followed
 
 // A value of a cell as it was a step before, where the step ran a store by A or B that left it.
 fn passed(lab: &Lab, followed: Followed) -> Option<Followed>
-    requires part { IsPart followed.value.part }
+    requires part { IsNodePart followed.value.part }
     requires held { AreHeld lab.now followed.value.node.number followed.value.step followed.registers }
     ensures same { IfSome result (λ before. origin_of lab.now before.value ≡ origin_of lab.now followed.value) }
-    ensures part { IfSome result (λ before. IsPart before.value.part) }
+    ensures part { IfSome result (λ before. IsNodePart before.value.part) }
     ensures node { IfSome result (λ before. before.value.node ≡ followed.value.node) }
     ensures step { IfSome result (λ before. before.value.step + 1 ≡ followed.value.step) }
     ensures held { IfSome result (λ before. AreHeld lab.now before.value.node.number before.value.step before.registers) }
@@ -106,7 +106,7 @@ fn passed(lab: &Lab, followed: Followed) -> Option<Followed>
         return None;
     }
     let step = step - 1;
-    let told = lab.made_by_step(node, step);
+    let told = lab.made_event_of_step(node, step);
     let registers = registers_before(lab, node, step, &told, registers);
     if !misses(&told, registers, part) {
         return None;
@@ -118,7 +118,7 @@ fn passed(lab: &Lab, followed: Followed) -> Option<Followed>
 // A value followed back along with A and B, and over the stores that left it.
 #[inline(never)]
 fn follow_on(lab: &Lab, value: Value, behind: Registers) -> Followed
-    requires part { IsPart value.part }
+    requires part { IsNodePart value.part }
     requires held { AreHeld lab.now value.node.number value.step behind }
     ensures followed { IsFollowed lab.now value result.value }
     ensures held { AreHeld lab.now value.node.number result.value.step result.registers }
@@ -139,7 +139,7 @@ fn follow_on(lab: &Lab, value: Value, behind: Registers) -> Followed
 /// sees the walk only.
 #[derive(Drop)]
 pub(crate) struct CachedWalk<'l> {
-    walk: Walk<'l>,
+    walk: NodeWalk<'l>,
     // The number of steps after which A and B are known.
     step: u32,
     registers: Registers,
@@ -158,13 +158,13 @@ impl<'l> Model for CachedWalk<'l> {
 
 impl<'l> CachedWalk<'l> {
     ghost use Rattle.std.specs.Prelude.{◌≡◌, ◌≤◌};
-    ghost use Rattle.ga_event.specs.Told.{steps_of};
+    ghost use Rattle.ga_event.specs.Told.{count_steps};
     ghost use Rattle.ga_lab.specs.Machine.{node_at_step};
-    ghost use Rattle.ga_event.specs.Flow.{IsPart};
+    ghost use Rattle.ga_event.specs.Flow.{IsNodePart};
     ghost use Rattle.ga_provenance.specs.inner.{IsWhole, AreHeld, IsFollowed, IsTrailTo};
 
     /// A trail from where a node is walked back to.
-    pub fn new(lab: &'l Lab, node: NodeId, walk: Walk<'l>) -> Self
+    pub fn new(lab: &'l Lab, node: NodeId, walk: NodeWalk<'l>) -> Self
         requires { walk ≡ node_at_step lab.now node walk.step }
         ensures walk { result ≡ walk.entry }
         ensures whole { IsWhole lab.now }
@@ -181,30 +181,30 @@ impl<'l> CachedWalk<'l> {
     /// How far the node is walked back.
     pub fn step(&self) -> u32
         ensures value { result ≡ self.now.step }
-        ensures within { result ≤ steps_of self.now.node.number self.now.machine.kept }
+        ensures within { result ≤ count_steps self.now.node.number self.now.machine.kept }
     {
         self.walk.step()
     }
 
     /// The walk.
-    pub fn walk(&self) -> &Walk<'l>
+    pub fn walk(&self) -> &NodeWalk<'l>
         ensures { result.now ≡ self.now }
     {
         &self.walk
     }
 
     /// Walks the node back to an earlier step.
-    pub fn back_to(&mut self, step: u32)
+    pub fn walk_back_to(&mut self, step: u32)
         requires { step ≤ self.old.step }
         ensures { self.new ≡ record self.old { step = step } }
     {
-        self.walk.back_to(step);
+        self.walk.walk_back_to(step);
     }
 
     /// Follows a value back over the steps of the node that, as made, determine from where they moved it. If A and B are known
     /// after the value's step, they are then known at the returned value's step.
     pub fn trace_by_records(&mut self, lab: &Lab, value: Value) -> Value
-        requires part { IsPart value.part }
+        requires part { IsNodePart value.part }
         requires trail { self.old ≡ node_at_step lab.now value.node self.old.step }
         ensures followed { IsFollowed lab.now value result }
         ensures trail { self.new ≡ self.old }

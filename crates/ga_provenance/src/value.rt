@@ -1,6 +1,6 @@
 //! Values, each by its node, step and part.
 
-use ga_event::Part;
+use ga_event::NodePart;
 use ga_grid::NodeId;
 
 /// The value of a part of a node right after a step of it, or at load for step 0.
@@ -11,19 +11,19 @@ pub struct Value {
     /// How many steps it had made.
     pub step: u32,
     /// The part.
-    pub part: Part,
+    pub part: NodePart,
 }
 
 impl Value {
     ghost use Rattle.std.specs.Prelude.{◌≡◌};
-    ghost use Rattle.ga_provenance.specs.Rows.{is_one};
+    ghost use Rattle.ga_provenance.specs.Rows.{is_same_value};
 
     /// Whether the two are of one part after one step.
-    pub fn is_same(self, other: Value) -> bool
-        ensures { result ≡ is_one self other }
+    pub fn is_equal_to(self, other: Value) -> bool
+        ensures { result ≡ is_same_value self other }
     {
         self.node.number == other.node.number
             && self.step == other.step
-            && self.part.is_same(other.part)
+            && self.part.is_equal_to(other.part)
     }
 }

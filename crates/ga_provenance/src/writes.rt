@@ -2,9 +2,9 @@
 
 ghost use Rattle.std.specs.Prelude.{◌≡◌, ◌<◌, ◌≤◌, ◌+◌, ◌-◌, ◌^◌, IfSome, slice_index};
 ghost use Rattle.ga_node.specs.Record.{record_of};
-ghost use Rattle.ga_event.specs.Told.{steps_of};
+ghost use Rattle.ga_event.specs.Told.{count_steps};
 ghost use Rattle.ga_event.specs.Flow.{flow_of};
-ghost use Rattle.ga_provenance.specs.Writes.{is_written, written_at, newest_written};
+ghost use Rattle.ga_provenance.specs.Writes.{is_write_flow, cell_write_at, newest_cell_write};
 ghost use Rattle.ga_provenance.specs.inner.{IsReached, IsFollowedBack, ran_store};
 
 use crate::kept::{
@@ -13,10 +13,10 @@ use crate::kept::{
 use crate::moving::misses;
 use crate::origin::{flow_by_trail, is_cell};
 use crate::trail::CachedWalk;
-use ga_event::{Flow, Made, Part};
+use ga_event::{Flow, Made, NodePart};
 use ga_grid::NodeId;
 use ga_lab::Lab;
-use ga_node::{Kind, Node, Place};
+use ga_node::{Node, OwnEventKind, Place};
 use ga_word::Word18;
 use std::marker::Model;
 
@@ -32,8 +32,8 @@ pub struct CellWrite {
 }
 
 // Whether the value of a cell was stored there.
-fn is_written(flow: &Flow) -> bool
-    ensures { result ≡ is_written (flow_of flow.now) }
+fn is_write_flow(flow: &Flow) -> bool
+    ensures { result ≡ is_write_flow (flow_of flow.now) }
 {
     match flow {
         Flow::Same(from) => !is_cell(*from),
@@ -58,7 +58,7 @@ fn ran_store(told: &Option<Made>) -> bool
     match told {
         Some(
             Made::Own {
-                kind: Kind::Run(code),
+                kind: OwnEventKind::Run(code),
                 ..
             },
         ) => *code / 4 == 3,
@@ -88,7 +88,7 @@ fn back_to_store(lab: &Lab, node: NodeId, cell: u8, from: Reached) -> Reached
     } = from;
     'going: while step > 0 {
         let at = step - 1;
-        let told = lab.made_by_step(node, at);
+        let told = lab.made_event_of_step(node, at);
         if ran_store(&told) {
             return Reached {
                 step,
@@ -113,8 +113,8 @@ fn back_past_store(lab: &Lab, node: NodeId, cell: u8, from: Reached) -> Option<R
     requires cell { cell < 64 }
     requires held { IsReached lab.now node.number cell from }
     ensures held { IfSome result (λ before. IsReached lab.now node.number cell before) }
-    ensures same { IfSome result (λ before. newest_written lab.now node.number cell before.step
-        ≡ newest_written lab.now node.number cell from.step) }
+    ensures same { IfSome result (λ before. newest_cell_write lab.now node.number cell before.step
+        ≡ newest_cell_write lab.now node.number cell from.step) }
     ensures step { IfSome result (λ before. before.step + 1 ≡ from.step) }
 {
     let Reached {
@@ -126,9 +126,9 @@ fn back_past_store(lab: &Lab, node: NodeId, cell: u8, from: Reached) -> Option<R
         return None;
     }
     let step = step - 1;
-    let told = lab.made_by_step(node, step);
+    let told = lab.made_event_of_step(node, step);
     let registers = registers_before(lab, node, step, &told, registers);
-    if !misses(&told, registers, Part::Ram(cell)) {
+    if !misses(&told, registers, NodePart::Ram(cell)) {
         return None;
     }
     let word = word_before(lab, node, step, TrackedPlace::Ram(cell), word);
@@ -164,10 +164,10 @@ pub struct CellWrites<'l> {
 }
 
 impl<'l> Model for CellWrites<'l> {
-    ghost use Rattle.ga_provenance.specs.Writes.{Search, search};
+    ghost use Rattle.ga_provenance.specs.Writes.{CellWriteSearch, search};
     ghost use Rattle.ga_provenance.specs.inner.{IsSearch};
 
-    ghost Value = { Search };
+    ghost Value = { CellWriteSearch };
 
     ghost view = { λ w. search w.lab.now w.node w.cell w.reached.step };
 
@@ -176,13 +176,13 @@ impl<'l> Model for CellWrites<'l> {
 
 impl<'l> CellWrites<'l> {
     ghost use Rattle.std.specs.Prelude.{◌≡◌, ◌<◌, ◌≤◌, ◌+◌, IfSome};
-    ghost use Rattle.ga_event.specs.Told.{steps_of};
-    ghost use Rattle.ga_provenance.specs.Writes.{written_at, newest_written, search};
+    ghost use Rattle.ga_event.specs.Told.{count_steps};
+    ghost use Rattle.ga_provenance.specs.Writes.{cell_write_at, newest_cell_write, search};
 
     /// All that a node made.
     pub fn new(lab: &'l Lab, node: NodeId, cell: u8) -> Self
         requires { cell < 64 }
-        ensures { result ≡ search lab.now node cell (steps_of node.number lab.now.kept) }
+        ensures { result ≡ search lab.now node cell (count_steps node.number lab.now.kept) }
     {
         let step = lab.steps(node);
         let walk = lab.walk(node, step);
@@ -204,7 +204,7 @@ impl<'l> CellWrites<'l> {
     /// Searches back for the newest step that wrote the cell, and returns it; none if no step did. Takes no memory, and time
     /// linear in the number of steps that it passes.
     pub fn next(&mut self) -> Option<CellWrite>
-        ensures value { result ≡ newest_written self.old.machine self.old.node.number self.old.cell self.old.step }
+        ensures value { result ≡ newest_cell_write self.old.machine self.old.node.number self.old.cell self.old.step }
         ensures step { IfSome result (λ written. self.new.step + 1 ≡ written.step) }
         ensures same { self.new ≡ search self.old.machine self.old.node self.old.cell self.new.step }
     {
@@ -227,8 +227,8 @@ impl<'l> CellWrites<'l> {
 
     // Passes back to the newest step that may have written the cell.
     fn seek(&mut self)
-        ensures newest { newest_written self.old.machine self.old.node.number self.old.cell self.new.step
-            ≡ newest_written self.old.machine self.old.node.number self.old.cell self.old.step }
+        ensures newest { newest_cell_write self.old.machine self.old.node.number self.old.cell self.new.step
+            ≡ newest_cell_write self.old.machine self.old.node.number self.old.cell self.old.step }
         ensures within { self.new.step ≤ self.old.step }
         ensures same { self.new ≡ search self.old.machine self.old.node self.old.cell self.new.step }
     {
@@ -238,7 +238,7 @@ impl<'l> CellWrites<'l> {
     // Searches one step further back, and returns it if it wrote the cell.
     fn back(&mut self) -> Option<CellWrite>
         requires { 0 < self.old.step }
-        ensures value { result ≡ written_at self.old.machine self.old.node.number self.old.cell self.new.step }
+        ensures value { result ≡ cell_write_at self.old.machine self.old.node.number self.old.cell self.new.step }
         ensures step { self.new.step + 1 ≡ self.old.step }
         ensures same { self.new ≡ search self.old.machine self.old.node self.old.cell self.new.step }
     {
@@ -250,19 +250,19 @@ impl<'l> CellWrites<'l> {
             word,
         } = self.reached;
         let place = step - 1;
-        let told = lab.made_by_step(node, place);
+        let told = lab.made_event_of_step(node, place);
         self.trail.note(lab, node, step, registers);
-        let flow = flow_by_trail(lab, &mut self.trail, node, place, Part::Ram(self.cell));
+        let flow = flow_by_trail(lab, &mut self.trail, node, place, NodePart::Ram(self.cell));
         self.reached = Reached {
             step: place,
             registers: self.trail.registers(lab, node, place),
             word: word_before(lab, node, place, TrackedPlace::Ram(self.cell), word),
         };
-        if !is_written(&flow) {
+        if !is_write_flow(&flow) {
             return None;
         }
         let made = told?;
-        let word = Word18::truncated(word);
+        let word = Word18::from_low_bits(word);
         Some(CellWrite { step, made, word })
     }
 }

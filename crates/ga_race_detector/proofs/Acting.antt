@@ -3,8 +3,8 @@ use Rattle.std.proofs.Common.{◌≡◌, ℕ, ◌+◌, ◌<◌, ◌≤◌, inl, 
 use Rattle.std.proofs.lemmas.List.{length-set, get_or-set_same, get_or-map, length-map, map-append, take_more, take_all}
 use Rattle.std.proofs.lemmas.Bool.{cases_eq, or_from}
 use Rattle.ga_event.specs.declared.event.Cause.{Cause}
-use Rattle.ga_causal.specs.Dependence.{event_at, no_cause}
-use Rattle.ga_lab.specs.Machine.{State, chip_of, told_by, causes_of, earlier}
+use Rattle.ga_causal.specs.Dependence.{event_at, default_cause}
+use Rattle.ga_lab.specs.Machine.{State, chip_of, outcomes_of_run, causes_of, earlier}
 use Rattle.ga_race_detector.specs.declared.moments.StepCounts.{StepCounts}
 use Rattle.ga_race_detector.specs.inner.Glances.{IsMoment, AreMomentsFrom, AreMoments, no_moment, StoodSo, AllStood, IsAt, IsActAt}
 use Rattle.std.specs.Prelude.{map, unwrap_or, slice_index}
@@ -21,12 +21,12 @@ use Rattle.ga_event.specs.declared.event.Event.{Event}
 use Rattle.ga_event.specs.declared.event.Event.TheVariants.{Own, Pass}
 use Rattle.ga_event.specs.Touches.{touches}
 use Rattle.ga_event.specs.Apply.{EventOutcome, after, replay}
-use Rattle.ga_event.specs.Told.{steps_of}
+use Rattle.ga_event.specs.Told.{count_steps}
 use Rattle.ga_races.specs.declared.act.EventAccess.{EventAccess}
-use Rattle.ga_races.specs.declared.act.Sides.{Sides}
+use Rattle.ga_races.specs.declared.act.SideSet.{SideSet}
 use Rattle.ga_races.specs.Orders.{IsEnabled}
-use Rattle.ga_races.specs.HappensBefore.{Action, no_action, action_of, actions, action_at, causes_in}
-use Rattle.ga_races.specs.Acts.{action_in, actions_in}
+use Rattle.ga_races.specs.HappensBefore.{Action, no_action, action_of, actions, action_at, causes_of_actions}
+use Rattle.ga_races.specs.Acts.{action_of_access, actions_of_accesses}
 use Rattle.ga_races.specs.inner.{changed_sides, HasChangedSides, AreAlike}
 use Rattle.ga_races.proofs.Independence.{first_of, replay_more, stays, touches_own, touches_writer, touches_reader}
 use Rattle.ga_races.proofs.Exact.{replay_into}
@@ -63,7 +63,7 @@ pub record Made (s : State) (p : ℕ) (e : Event) : Type 0 where
   pub can : IsEnabled (chip_of (earlier s p)) e
   pub then : chip_of (earlier s (p + 1)) ≡ (after (chip_of (earlier s p)) e).0
   pub action : action_at (actions s.load s.kept) p ≡ action_of (chip_of (earlier s p)) e
-  pub steps : (m : ℕ) → steps_of m (take (p + 1) s.kept) ≡ steps_of m (take p s.kept) + cond (touches e m) 1 0
+  pub steps : (m : ℕ) → count_steps m (take (p + 1) s.kept) ≡ count_steps m (take p s.kept) + cond (touches e m) 1 0
 
 -- the chip to which the first p events lead
 chip_led : (s : State) (xs : List Event) (p : ℕ) (now : List NodeRecord) → take p s.kept ≡ xs → replay s.load xs ≡ Some now → chip_of (earlier s p) ≡ now
@@ -83,19 +83,19 @@ made_split s mid y post last is led =
       can = subst (λ (z : List NodeRecord). IsEnabled z y) (sym first) f.can;
       then = second ∙ ap (λ (z : List NodeRecord). (after z y).0) (sym first);
       action = ap (λ (z : List Event). action_at (actions s.load z) (length mid)) is ∙ action_there mid s.load b.0 y post b.1 ∙ ap (λ (z : List NodeRecord). action_of z y) (sym first);
-      steps = λ m. ap (steps_of m) more ∙ sum_by-append (λ (z : Event). cond (touches z m) 1 0) mid (y ∷ []) ∙ ap₂ (λ (a b : ℕ). a + b) (ap (steps_of m) (sym front)) (steps-cons m y [] ∙ none m (cond (touches y m) 1 0));
+      steps = λ m. ap (count_steps m) more ∙ sum_by-append (λ (z : Event). cond (touches z m) 1 0) mid (y ∷ []) ∙ ap₂ (λ (a b : ℕ). a + b) (ap (count_steps m) (sym front)) (steps-cons m y [] ∙ none m (cond (touches y m) 1 0));
     }
   where
-    none : (m x : ℕ) → x + steps_of m [] ≡ x
-    none m x = let z : steps_of m [] ≡ 0 = refl in omega (arith, z)
+    none : (m x : ℕ) → x + count_steps m [] ≡ x
+    none m x = let z : count_steps m [] ≡ 0 = refl in omega (arith, z)
 
-pub causes_are : (s : State) (last : List NodeRecord) → replay s.load s.kept ≡ Some last → causes_in (actions s.load s.kept) ≡ causes_of s
+pub causes_are : (s : State) (last : List NodeRecord) → replay s.load s.kept ≡ Some last → causes_of_actions (actions s.load s.kept) ≡ causes_of s
 causes_are s last led =
     let r : Runs s = runs_of s (is_some_of (replay s.load s.kept) last led) in
-    causes_of_run s.kept s.load r.last r.told r.run_is ∙ sym (ap (λ (o : Option (List NodeRecord × List (Cause × EventOutcome))). map (λ (x : Cause × EventOutcome). x.0) (told_by o)) r.run_is)
+    causes_of_run s.kept s.load r.last r.told r.run_is ∙ sym (ap (λ (o : Option (List NodeRecord × List (Cause × EventOutcome))). map (λ (x : Cause × EventOutcome). x.0) (outcomes_of_run o)) r.run_is)
 
-pub cause_there : (xs : List Action) (i : ℕ) → i < length xs → event_at (causes_in xs) i ≡ (action_at xs i).cause
-cause_there xs i l = get_or-map (λ (a : Action). a.cause) xs i no_action no_cause l
+pub cause_there : (xs : List Action) (i : ℕ) → i < length xs → event_at (causes_of_actions xs) i ≡ (action_at xs i).cause
+cause_there xs i l = get_or-map (λ (a : Action). a.cause) xs i no_action default_cause l
 
 pub made_at : (s : State) (last : List NodeRecord) (p : ℕ) (cause : Cause) → replay s.load s.kept ≡ Some last → IsAt s p cause → Made s p cause.event
 made_at s last p cause led at =
@@ -123,22 +123,22 @@ made_at s last p cause led at =
 
 pub stood_other : (s : State) (p m code count : ℕ) (e : Event) → Made s p e → touches e m ≡ false → StoodSo s m (p + 1) code count → StoodSo s m p code count
 stood_other s p m code count e made out stood =
-    let more : steps_of m (take (p + 1) s.kept) ≡ steps_of m (take p s.kept) + cond (touches e m) 1 0 = made.steps m in
+    let more : count_steps m (take (p + 1) s.kept) ≡ count_steps m (take p s.kept) + cond (touches e m) 1 0 = made.steps m in
     let none : cond {A = ℕ} (touches e m) 1 0 ≡ 0 = ap (λ (b : Bool). cond {A = ℕ} b 1 0) out in
-    let steps : count ≡ steps_of m (take (p + 1) s.kept) = stood.steps in
+    let steps : count ≡ count_steps m (take (p + 1) s.kept) = stood.steps in
     record {
       wait = ap (λ (z : NodeRecord). z.wait) ((stays (chip_of (earlier s p)) e made.can).same m out) ∙ ap (λ (z : List NodeRecord). (record_at z m).wait) (sym made.then) ∙ stood.wait;
       valid = stood.valid;
       steps = omega (arith, more, none, steps);
     }
 
-pub step_more : (s : State) (p m : ℕ) (e : Event) → Made s p e → touches e m ≡ true → steps_of m (take (p + 1) s.kept) ≡ steps_of m (take p s.kept) + 1
-step_more s p m e made on = made.steps m ∙ ap (λ (b : Bool). steps_of m (take p s.kept) + cond {A = ℕ} b 1 0) on
+pub step_more : (s : State) (p m : ℕ) (e : Event) → Made s p e → touches e m ≡ true → count_steps m (take (p + 1) s.kept) ≡ count_steps m (take p s.kept) + 1
+step_more s p m e made on = made.steps m ∙ ap (λ (b : Bool). count_steps m (take p s.kept) + cond {A = ℕ} b 1 0) on
 
 some_steps : (s : State) (p m code count : ℕ) (e : Event) → Made s p e → touches e m ≡ true → StoodSo s m (p + 1) code count → 0 < count
 some_steps s p m code count e made on stood =
-    let more : steps_of m (take (p + 1) s.kept) ≡ steps_of m (take p s.kept) + 1 = step_more s p m e made on in
-    let steps : count ≡ steps_of m (take (p + 1) s.kept) = stood.steps in
+    let more : count_steps m (take (p + 1) s.kept) ≡ count_steps m (take p s.kept) + 1 = step_more s p m e made on in
+    let steps : count ≡ count_steps m (take (p + 1) s.kept) = stood.steps in
     omega (arith, more, steps)
 
 pub stood_same : (s : State) (m p a b x y : ℕ) → a ≡ x → b ≡ y → StoodSo s m p x y → StoodSo s m p a b
@@ -151,7 +151,7 @@ before_node s last p m cause waits steps led at stood on l =
     (some_steps s p m (slice_index waits m) (slice_index steps m) cause.event (made_at s last p cause led at) on (stood m l), (stood m l).valid)
 
 -- the sides of one node
-side_is : (s : State) (p m code old count more : ℕ) (e : Event) (sides : Sides) → Made s p e → StoodSo s m p code count → StoodSo s m (p + 1) old more → sides ≡ changed_sides (wait_of code) (wait_of old)
+side_is : (s : State) (p m code old count more : ℕ) (e : Event) (sides : SideSet) → Made s p e → StoodSo s m p code count → StoodSo s m (p + 1) old more → sides ≡ changed_sides (wait_of code) (wait_of old)
     → sides ≡ changed_sides (record_at (chip_of (earlier s p)) m).wait (record_at (after (chip_of (earlier s p)) e).0 m).wait
 side_is s p m code old count more e sides made now behind is =
     is ∙ ap₂ changed_sides (sym now.wait) (sym behind.wait ∙ ap (λ (z : List NodeRecord). (record_at z m).wait) made.then)
@@ -161,8 +161,8 @@ act_at s p act e made is has n l = act_changes (chip_of (earlier s p)) e act n l
 
 -- ---- an own event
 
-module _ (s : State) (last : List NodeRecord) (led : replay s.load s.kept ≡ Some last) (cause : Cause) (m : NodeId) (own : cause.event ≡ Own m) (waits steps nwaits nsteps : List ℕ) (first second : Sides)
-    (here : (p q : ℕ) → StoodSo s m.number q (slice_index waits m.number) (slice_index steps m.number) → steps_of m.number (take q s.kept) ≡ steps_of m.number (take p s.kept) + 1
+module _ (s : State) (last : List NodeRecord) (led : replay s.load s.kept ≡ Some last) (cause : Cause) (m : NodeId) (own : cause.event ≡ Own m) (waits steps nwaits nsteps : List ℕ) (first second : SideSet)
+    (here : (p q : ℕ) → StoodSo s m.number q (slice_index waits m.number) (slice_index steps m.number) → count_steps m.number (take q s.kept) ≡ count_steps m.number (take p s.kept) + 1
     → StoodSo s m.number p (slice_index nwaits m.number) (slice_index nsteps m.number))
     (sides : first ≡ changed_sides (wait_of (slice_index nwaits m.number)) (wait_of (slice_index waits m.number)))
     (kept_waits : (n : ℕ) → n ≢ m.number → slice_index nwaits n ≡ slice_index waits n) (kept_steps : (n : ℕ) → n ≢ m.number → slice_index nsteps n ≡ slice_index steps n)
@@ -193,10 +193,10 @@ ends_apart s last p cause w r side led at pass =
     let o = open_of (chip_of (earlier s p)) w r side made.can in
     neighbour_of-other w.number r.number side (number_of (neighbour_of w.number side) r.number o.near)
 
-module _ (s : State) (last : List NodeRecord) (led : replay s.load s.kept ≡ Some last) (cause : Cause) (w r : NodeId) (side : Side) (pass : cause.event ≡ Pass w r side) (waits steps mwaits msteps nwaits nsteps : List ℕ) (first second : Sides)
-    (here : (p q : ℕ) → StoodSo s w.number q (slice_index waits w.number) (slice_index steps w.number) → steps_of w.number (take q s.kept) ≡ steps_of w.number (take p s.kept) + 1
+module _ (s : State) (last : List NodeRecord) (led : replay s.load s.kept ≡ Some last) (cause : Cause) (w r : NodeId) (side : Side) (pass : cause.event ≡ Pass w r side) (waits steps mwaits msteps nwaits nsteps : List ℕ) (first second : SideSet)
+    (here : (p q : ℕ) → StoodSo s w.number q (slice_index waits w.number) (slice_index steps w.number) → count_steps w.number (take q s.kept) ≡ count_steps w.number (take p s.kept) + 1
     → StoodSo s w.number p (slice_index mwaits w.number) (slice_index msteps w.number))
-    (there : (p q : ℕ) → StoodSo s r.number q (slice_index mwaits r.number) (slice_index msteps r.number) → steps_of r.number (take q s.kept) ≡ steps_of r.number (take p s.kept) + 1
+    (there : (p q : ℕ) → StoodSo s r.number q (slice_index mwaits r.number) (slice_index msteps r.number) → count_steps r.number (take q s.kept) ≡ count_steps r.number (take p s.kept) + 1
     → StoodSo s r.number p (slice_index nwaits r.number) (slice_index nsteps r.number))
     (one : first ≡ changed_sides (wait_of (slice_index mwaits w.number)) (wait_of (slice_index waits w.number)))
     (two : second ≡ changed_sides (wait_of (slice_index nwaits r.number)) (wait_of (slice_index mwaits r.number)))
@@ -242,37 +242,37 @@ module _ (s : State) (last : List NodeRecord) (led : replay s.load s.kept ≡ So
 
 -- from a place on the acts have what was changed
 abbrev pub AreActsFrom : State → ℕ → List EventAccess → Type 0
-AreActsFrom s place acts = (i n : ℕ) → place ≤ i → i < length acts → n < 144 → (action_at (actions_in acts) i).changes n ≡ (action_at (actions s.load s.kept) i).changes n
+AreActsFrom s place acts = (i n : ℕ) → place ≤ i → i < length acts → n < 144 → (action_at (actions_of_accesses acts) i).changes n ≡ (action_at (actions s.load s.kept) i).changes n
 
 abbrev pub HaveCauses : List EventAccess → List Cause → Type 0
-HaveCauses acts causes = (i : ℕ) → i < length acts → (action_at (actions_in acts) i).cause ≡ event_at causes i
+HaveCauses acts causes = (i : ℕ) → i < length acts → (action_at (actions_of_accesses acts) i).cause ≡ event_at causes i
 
-pub plain_causes : (acts : List EventAccess) (causes : List Cause) → causes_in (actions_in acts) ≡ causes → HaveCauses acts causes
+pub plain_causes : (acts : List EventAccess) (causes : List Cause) → causes_of_actions (actions_of_accesses acts) ≡ causes → HaveCauses acts causes
 plain_causes acts causes is i l =
-    let size : length (actions_in acts) ≡ length acts = length-map acts action_in in
-    sym (cause_there (actions_in acts) i (omega (arith, l, size))) ∙ ap (λ (z : List Cause). event_at z i) is
+    let size : length (actions_of_accesses acts) ≡ length acts = length-map acts action_of_access in
+    sym (cause_there (actions_of_accesses acts) i (omega (arith, l, size))) ∙ ap (λ (z : List Cause). event_at z i) is
 
-pub plain_size : (acts : List EventAccess) (causes : List Cause) → causes_in (actions_in acts) ≡ causes → length acts ≡ length causes
-plain_size acts causes is = sym (length-map acts action_in) ∙ sym (length-map (actions_in acts) (λ (a : Action). a.cause)) ∙ ap length is
+pub plain_size : (acts : List EventAccess) (causes : List Cause) → causes_of_actions (actions_of_accesses acts) ≡ causes → length acts ≡ length causes
+plain_size acts causes is = sym (length-map acts action_of_access) ∙ sym (length-map (actions_of_accesses acts) (λ (a : Action). a.cause)) ∙ ap length is
 
-there : (acts : List EventAccess) (i : ℕ) (d : EventAccess) → i < length acts → action_at (actions_in acts) i ≡ action_in (get_or acts i d)
-there acts i d l = get_or-map action_in acts i d no_action l
+there : (acts : List EventAccess) (i : ℕ) (d : EventAccess) → i < length acts → action_at (actions_of_accesses acts) i ≡ action_of_access (get_or acts i d)
+there acts i d l = get_or-map action_of_access acts i d no_action l
 
-set_here : (acts : List EventAccess) (i : ℕ) (act : EventAccess) → i < length acts → action_at (actions_in (set acts i act)) i ≡ action_in act
+set_here : (acts : List EventAccess) (i : ℕ) (act : EventAccess) → i < length acts → action_at (actions_of_accesses (set acts i act)) i ≡ action_of_access act
 set_here acts i act l =
     let size : length (set acts i act) ≡ length acts = length-set acts i act in
-    there (set acts i act) i act (omega (arith, l, size)) ∙ ap action_in (get_or-set_same acts i act act l)
+    there (set acts i act) i act (omega (arith, l, size)) ∙ ap action_of_access (get_or-set_same acts i act act l)
 
-set_there : (acts : List EventAccess) (i j : ℕ) (act : EventAccess) → j < length acts → j ≢ i → action_at (actions_in (set acts i act)) j ≡ action_at (actions_in acts) j
+set_there : (acts : List EventAccess) (i j : ℕ) (act : EventAccess) → j < length acts → j ≢ i → action_at (actions_of_accesses (set acts i act)) j ≡ action_at (actions_of_accesses acts) j
 set_there acts i j act l ne =
     let size : length (set acts i act) ≡ length acts = length-set acts i act in
-    there (set acts i act) j act (omega (arith, l, size)) ∙ ap action_in (get_or-set_other acts i j act act ne) ∙ sym (there acts j act l)
+    there (set acts i act) j act (omega (arith, l, size)) ∙ ap action_of_access (get_or-set_other acts i j act act ne) ∙ sym (there acts j act l)
 
 pub acts_next : (s : State) (place next : ℕ) (acts : List EventAccess) (act : EventAccess) → place ≤ next + 1 → next < length acts → IsActAt s next act → AreActsFrom s place acts → AreActsFrom s next (set acts next act)
 acts_next s place next acts act up l is made i n k m o =
     let size : length (set acts next act) ≡ length acts = length-set acts next act in
     elim (cases_eq i next) [
-      | inl q ↦ ap (λ (z : ℕ). (action_at (actions_in (set acts next act)) z).changes n) q ∙ ap (λ (a : Action). a.changes n) (set_here acts next act l) ∙ is n o ∙ ap (λ (z : ℕ). (action_at (actions s.load s.kept) z).changes n) (sym q)
+      | inl q ↦ ap (λ (z : ℕ). (action_at (actions_of_accesses (set acts next act)) z).changes n) q ∙ ap (λ (a : Action). a.changes n) (set_here acts next act l) ∙ is n o ∙ ap (λ (z : ℕ). (action_at (actions s.load s.kept) z).changes n) (sym q)
       | inr ne ↦ ap (λ (a : Action). a.changes n) (set_there acts next i act (omega (arith, m, size)) ne) ∙ made i n (omega (arith, k, ne, up)) (omega (arith, m, size)) o
     ]
 
@@ -280,14 +280,14 @@ pub causes_next : (next : ℕ) (acts : List EventAccess) (act : EventAccess) (ca
 causes_next next acts act causes l is have i m =
     let size : length (set acts next act) ≡ length acts = length-set acts next act in
     elim (cases_eq i next) [
-      | inl q ↦ ap (λ (z : ℕ). (action_at (actions_in (set acts next act)) z).cause) q ∙ ap (λ (a : Action). a.cause) (set_here acts next act l) ∙ is ∙ ap (event_at causes) (sym q)
+      | inl q ↦ ap (λ (z : ℕ). (action_at (actions_of_accesses (set acts next act)) z).cause) q ∙ ap (λ (a : Action). a.cause) (set_here acts next act l) ∙ is ∙ ap (event_at causes) (sym q)
       | inr ne ↦ ap (λ (a : Action). a.cause) (set_there acts next i act (omega (arith, m, size)) ne) ∙ have i (omega (arith, m, size))
     ]
 
 pub all_alike : (s : State) (last : List NodeRecord) (place : ℕ) (acts : List EventAccess) (causes : List Cause) → replay s.load s.kept ≡ Some last → causes ≡ causes_of s → length acts ≡ length causes → place ≤ 0 → HaveCauses acts causes → AreActsFrom s place acts
-    → AreAlike (actions_in acts) (actions s.load s.kept)
+    → AreAlike (actions_of_accesses acts) (actions s.load s.kept)
 all_alike s last place acts causes led all count low have made =
-    let size : length (actions_in acts) ≡ length acts = length-map acts action_in in
+    let size : length (actions_of_accesses acts) ≡ length acts = length-map acts action_of_access in
     let long : length (actions s.load s.kept) ≡ length s.kept = actions_length s.load s.kept in
     let kept : length (causes_of s) ≡ length (actions s.load s.kept) = sym (ap length (causes_are s last led)) ∙ length-map (actions s.load s.kept) (λ (a : Action). a.cause) in
     let many : length causes ≡ length (causes_of s) = ap length all in
@@ -322,13 +322,13 @@ is_at s last causes place cause led all l is =
 
 -- nodes in their current state
 pub stood_set : (s : State) (waits steps : List ℕ) (number at code count : ℕ) → length waits ≡ 144 → length steps ≡ 144 → number < 144 → at ≡ number → wait_of code ≡ (record_at (chip_of s) at).wait → IsWaitCode code
-    → count ≡ steps_of at s.kept → (p : ℕ) → take p s.kept ≡ s.kept → ((m : ℕ) → m < number → StoodSo s m p (slice_index waits m) (slice_index steps m))
+    → count ≡ count_steps at s.kept → (p : ℕ) → take p s.kept ≡ s.kept → ((m : ℕ) → m < number → StoodSo s m p (slice_index waits m) (slice_index steps m))
     → (m : ℕ) → m < number + 1 → StoodSo s m p (slice_index (set waits at code) m) (slice_index (set steps at count) m)
 stood_set s waits steps number at code count size long l is wait valid few p whole old m k = elim (cases_eq m at) [
   | inl q ↦ subst (λ (z : ℕ). StoodSo s z p (slice_index (set waits at code) z) (slice_index (set steps at count) z)) (sym q) (record {
     wait = ap (λ (z : List Event). (record_at (unwrap_or (replay s.load z) []) at).wait) whole ∙ sym wait ∙ ap wait_of (sym (get_or-set_same waits at code 0 (omega (arith, size, l, is))));
     valid = subst IsWaitCode (sym (get_or-set_same waits at code 0 (omega (arith, size, l, is)))) valid;
-    steps = get_or-set_same steps at count 0 (omega (arith, long, l, is)) ∙ few ∙ ap (steps_of at) (sym whole);
+    steps = get_or-set_same steps at count 0 (omega (arith, long, l, is)) ∙ few ∙ ap (count_steps at) (sym whole);
   })
   | inr ne ↦ stood_same s m p (slice_index (set waits at code) m) (slice_index (set steps at count) m) (slice_index waits m) (slice_index steps m)
       (get_or-set_other waits at m code 0 ne) (get_or-set_other steps at m count 0 ne) (old m (omega (arith, k, ne, is)))
@@ -336,23 +336,23 @@ stood_set s waits steps number at code count size long l is wait valid few p who
 
 -- a node before its last step
 pub stood_before : (s : State) (m : ℕ) (waits steps nwaits nsteps : List ℕ) (behind before had step : ℕ) → behind ≡ slice_index waits m → had ≡ slice_index steps m → step + 1 ≡ had → slice_index nwaits m ≡ before → slice_index nsteps m ≡ step → IsWaitCode before
-    → ((p q : ℕ) → steps_of m (take p s.kept) ≡ step → steps_of m (take q s.kept) ≡ step + 1 → (record_at (chip_of (earlier s q)) m).wait ≡ wait_of behind → (record_at (chip_of (earlier s p)) m).wait ≡ wait_of before)
-    → (p q : ℕ) → StoodSo s m q (slice_index waits m) (slice_index steps m) → steps_of m (take q s.kept) ≡ steps_of m (take p s.kept) + 1
+    → ((p q : ℕ) → count_steps m (take p s.kept) ≡ step → count_steps m (take q s.kept) ≡ step + 1 → (record_at (chip_of (earlier s q)) m).wait ≡ wait_of behind → (record_at (chip_of (earlier s p)) m).wait ≡ wait_of before)
+    → (p q : ℕ) → StoodSo s m q (slice_index waits m) (slice_index steps m) → count_steps m (take q s.kept) ≡ count_steps m (take p s.kept) + 1
     → StoodSo s m p (slice_index nwaits m) (slice_index nsteps m)
 stood_before s m waits steps nwaits nsteps behind before had step read count one here now valid value p q stood more =
-    let steps_then : slice_index steps m ≡ steps_of m (take q s.kept) = stood.steps in
+    let steps_then : slice_index steps m ≡ count_steps m (take q s.kept) = stood.steps in
     record {
       wait = value p q (omega (arith, steps_then, count, one, more)) (omega (arith, steps_then, count, one)) (stood.wait ∙ ap wait_of (sym read)) ∙ ap wait_of (sym here);
       valid = subst IsWaitCode (sym here) valid;
-      steps = let g : step ≡ steps_of m (take p s.kept) = omega (arith, steps_then, count, one, more) in now ∙ g;
+      steps = let g : step ≡ count_steps m (take p s.kept) = omega (arith, steps_then, count, one, more) in now ∙ g;
     }
 
 -- ---- acts with no sides yet
 
-pub plain_more : (acts : List EventAccess) (act : EventAccess) (causes : List Cause) (i : ℕ) (cause : Cause) → i < length causes → cause ≡ get_or causes i cause → act.cause ≡ cause → causes_in (actions_in acts) ≡ take i causes
-    → causes_in (actions_in (acts ++ act ∷ [])) ≡ take (i + 1) causes
+pub plain_more : (acts : List EventAccess) (act : EventAccess) (causes : List Cause) (i : ℕ) (cause : Cause) → i < length causes → cause ≡ get_or causes i cause → act.cause ≡ cause → causes_of_actions (actions_of_accesses acts) ≡ take i causes
+    → causes_of_actions (actions_of_accesses (acts ++ act ∷ [])) ≡ take (i + 1) causes
 plain_more acts act causes i cause l is q h =
-    ap causes_in (map-append action_in acts (act ∷ [])) ∙ map-append (λ (a : Action). a.cause) (actions_in acts) (action_in act ∷ []) ∙ ap₂ (λ (xs : List Cause) (x : Cause). xs ++ x ∷ []) h (q ∙ is) ∙ sym (take_more causes i cause l)
+    ap causes_of_actions (map-append action_of_access acts (act ∷ [])) ∙ map-append (λ (a : Action). a.cause) (actions_of_accesses acts) (action_of_access act ∷ []) ∙ ap₂ (λ (xs : List Cause) (x : Cause). xs ++ x ∷ []) h (q ∙ is) ∙ sym (take_more causes i cause l)
 
 pub stood_from : (s : State) (place next : ℕ) (waits steps : List ℕ) → place ≡ next + 1 → AllStood s place waits steps → AllStood s (next + 1) waits steps
 stood_from s place next waits steps is stood = subst (λ (z : ℕ). AllStood s z waits steps) is stood

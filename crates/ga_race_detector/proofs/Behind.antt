@@ -17,12 +17,12 @@ use Rattle.ga_event.specs.declared.event.Cause.{Cause}
 use Rattle.ga_event.specs.declared.made.Made.{Made}
 use Rattle.ga_event.specs.declared.made.Made.TheVariants as made
 use Rattle.ga_event.specs.Touches.{touches}
-use Rattle.ga_event.specs.Apply.{EventOutcome, apply, after, when_allowed, refusal_of, cause_of, run, replay, Agree}
-use Rattle.ga_event.specs.Told.{steps_of, made_after, mades_after, mades_of, events_in}
-use Rattle.ga_event.proofs.Locality.{Agree-sym}
-use Rattle.ga_causal.specs.Dependence.{cause_touches, rest, rest_from, position_of_step}
+use Rattle.ga_event.specs.Apply.{EventOutcome, apply, after, some_if_allowed, refusal_of, cause_of, run, replay, AgreeOutsideMarks}
+use Rattle.ga_event.specs.Told.{count_steps, made_event_after, made_events_after, made_events_of, events_of_causes}
+use Rattle.ga_event.proofs.Locality.{AgreeOutsideMarks-sym}
+use Rattle.ga_causal.specs.Dependence.{cause_touches, rest, rest_or_all, position_of_step}
 use Rattle.ga_causal.proofs.Runs.{kept, causes, FirstOf, first_of_run, keeps_of, replay-cons}
-use Rattle.ga_lab.specs.Machine.{State, chip_of, causes_of, history_of, told_by, earlier, rewound, has_step}
+use Rattle.ga_lab.specs.Machine.{State, chip_of, causes_of, history_of, outcomes_of_run, earlier, state_after_rewind, has_step}
 use Rattle.ga_lab.proofs.Called.{Runs, told_is, runs_some}
 use Rattle.ga_lab.proofs.Explaining.{step_has_position}
 use Rattle.ga_lab.proofs.Reasoned.{replayed}
@@ -43,13 +43,13 @@ IsWordOf c (made.Pass w i r j word) = word ≡ t (record_at c w.number)
 can_of : (c d : List NodeRecord) (e : Event) (t : EventOutcome) → apply c e ≡ Some (d, t) → IsEnabled c e
 can_of c d e t h = go (refusal_of c e) refl h
   where
-    go : (o : Option NotReady) → refusal_of c e ≡ o → when_allowed o (after c e) ≡ Some (d, t) → refusal_of c e ≡ None
+    go : (o : Option NotReady) → refusal_of c e ≡ o → some_if_allowed o (after c e) ≡ Some (d, t) → refusal_of c e ≡ None
     go None is k = is
     go (Some why) is k = absurd (cc)
 
-told_of : (before : List Event) (c d : List NodeRecord) (e : Event) (t : EventOutcome) → apply c e ≡ Some (d, t) → (m : Made) × (made_after before e t ≡ Some m) × IsOf m e × IsWordOf c m
-told_of before c d (event.Own a) t h = (_, ap (λ (z : EventOutcome). made_after before (event.Own a) z) (sym (after_of c d (event.Own a) t h)), (a, refl), tt)
-told_of before c d (event.Pass w r side) t h = (_, ap (λ (z : EventOutcome). made_after before (event.Pass w r side) z) (sym (after_of c d (event.Pass w r side) t h)), (side, refl), refl)
+told_of : (before : List Event) (c d : List NodeRecord) (e : Event) (t : EventOutcome) → apply c e ≡ Some (d, t) → (m : Made) × (made_event_after before e t ≡ Some m) × IsOf m e × IsWordOf c m
+told_of before c d (event.Own a) t h = (_, ap (λ (z : EventOutcome). made_event_after before (event.Own a) z) (sym (after_of c d (event.Own a) t h)), (a, refl), tt)
+told_of before c d (event.Pass w r side) t h = (_, ap (λ (z : EventOutcome). made_event_after before (event.Pass w r side) z) (sym (after_of c d (event.Pass w r side) t h)), (side, refl), refl)
 
 pub record Behind (c : List NodeRecord) (es : List Event) (ts : List (Cause × EventOutcome)) (before : List Event) (n k i : ℕ) : Type 0 where
   pub event : Event
@@ -57,26 +57,26 @@ pub record Behind (c : List NodeRecord) (es : List Event) (ts : List (Cause × E
   pub can : IsEnabled mid event
   pub touch : touches event n ≡ true
   pub made : Made
-  pub told : slice_get (mades_after before ts n) k ≡ Some made
+  pub told : slice_get (made_events_after before ts n) k ≡ Some made
   pub of : IsOf made event
   pub word : IsWordOf mid made
   pub begun : replay c (take i es) ≡ Some mid
-  pub count : steps_of n (take i es) ≡ k
+  pub count : count_steps n (take i es) ≡ k
   pub now : List NodeRecord
-  pub led : replay c (events_in (rest (causes ts) i)) ≡ Some now
+  pub led : replay c (events_of_causes (rest (causes ts) i)) ≡ Some now
   pub same : record_at mid n ≡ record_at now n
 
 -- the first event as made, and those after it
-told_first : (before : List Event) (x : Cause × EventOutcome) (xs : List (Cause × EventOutcome)) (n : ℕ) (m : Made) → touches x.0.event n ≡ true → made_after before x.0.event x.1 ≡ Some m
-    → mades_after before (x ∷ xs) n ≡ m ∷ mades_after (before ++ x.0.event ∷ []) xs n
+told_first : (before : List Event) (x : Cause × EventOutcome) (xs : List (Cause × EventOutcome)) (n : ℕ) (m : Made) → touches x.0.event n ≡ true → made_event_after before x.0.event x.1 ≡ Some m
+    → made_events_after before (x ∷ xs) n ≡ m ∷ made_events_after (before ++ x.0.event ∷ []) xs n
 told_first before x xs n m touch is =
-    ap (λ (b : Bool). cond b (option_to_list (made_after before x.0.event x.1)) [] ++ mades_after (before ++ x.0.event ∷ []) xs n) touch
-    ∙ ap (λ (o : Option Made). option_to_list o ++ mades_after (before ++ x.0.event ∷ []) xs n) is
+    ap (λ (b : Bool). cond b (option_to_list (made_event_after before x.0.event x.1)) [] ++ made_events_after (before ++ x.0.event ∷ []) xs n) touch
+    ∙ ap (λ (o : Option Made). option_to_list o ++ made_events_after (before ++ x.0.event ∷ []) xs n) is
 
 told_later : (before : List Event) (x : Cause × EventOutcome) (xs : List (Cause × EventOutcome)) (n : ℕ) → touches x.0.event n ≡ false
-    → mades_after before (x ∷ xs) n ≡ mades_after (before ++ x.0.event ∷ []) xs n
+    → made_events_after before (x ∷ xs) n ≡ made_events_after (before ++ x.0.event ∷ []) xs n
 told_later before x xs n touch =
-    ap (λ (b : Bool). cond b (option_to_list (made_after before x.0.event x.1)) [] ++ mades_after (before ++ x.0.event ∷ []) xs n) touch
+    ap (λ (b : Bool). cond b (option_to_list (made_event_after before x.0.event x.1)) [] ++ made_events_after (before ++ x.0.event ∷ []) xs n) touch
 
 some_suc : (o : Option ℕ) (i : ℕ) → option_map suc o ≡ Some i → (j : ℕ) × (o ≡ Some j) × (i ≡ suc j)
 some_suc None i h = absurd (cc)
@@ -91,7 +91,7 @@ not_zero k = go (suc k == 0) refl
 
 -- one event more before
 more : (c d : List NodeRecord) (e : Event) (es : List Event) (t : EventOutcome) (ts : List (Cause × EventOutcome)) (before : List Event) (n k j i : ℕ) → apply c e ≡ Some (d, t)
-    → slice_get (mades_after before ((cause_of c e, t) ∷ ts) n) i ≡ slice_get (mades_after (before ++ e ∷ []) ts n) k
+    → slice_get (made_events_after before ((cause_of c e, t) ∷ ts) n) i ≡ slice_get (made_events_after (before ++ e ∷ []) ts n) k
     → cond (touches e n) 1 0 + k ≡ i → Behind d es ts (before ++ e ∷ []) n k j → Behind c (e ∷ es) ((cause_of c e, t) ∷ ts) before n i (suc j)
 more c d e es t ts before n k j i h same adds b = record {
   event = b.event;
@@ -105,7 +105,7 @@ more c d e es t ts before n k j i h same adds b = record {
   begun = replay-cons c e (take j es) ∙ ap (λ (o : Option (List NodeRecord × EventOutcome)). option_and_then (λ first. replay first.0 (take j es)) o) h ∙ b.begun;
   count = steps-cons n e (take j es) ∙ ap (λ (z : ℕ). cond {A = ℕ} (touches e n) 1 0 + z) b.count ∙ adds;
   now = b.now;
-  led = replay-cons c e (events_in (rest (causes ts) j)) ∙ ap (λ (o : Option (List NodeRecord × EventOutcome)). option_and_then (λ first. replay first.0 (events_in (rest (causes ts) j))) o) h ∙ b.led;
+  led = replay-cons c e (events_of_causes (rest (causes ts) j)) ∙ ap (λ (o : Option (List NodeRecord × EventOutcome)). option_and_then (λ first. replay first.0 (events_of_causes (rest (causes ts) j))) o) h ∙ b.led;
   same = b.same;
 }
 
@@ -125,8 +125,8 @@ behind (e ∷ es) c last ts before n k i is at =
         → ((k j : ℕ) → position_of_step (causes f.others) n (suc k) ≡ Some j → Behind f.mid es f.others (before ++ e ∷ []) n k j)
         → Behind c (e ∷ es) ((cause_of c e, f.told) ∷ f.others) before n k i
     go f true touch zero at again =
-        let ag : Agree (cause_touches (cause_of c e)) f.mid c = Agree-sym (cause_touches (cause_of c e)) c f.mid (keeps_of c e f.mid f.told f.first) in
-        let r : Ran c (events_in (kept (cause_touches (cause_of c e)) (causes f.others))) n = marked_ran es (cause_touches (cause_of c e)) f.mid c last f.others n ag touch f.then in
+        let ag : AgreeOutsideMarks (cause_touches (cause_of c e)) f.mid c = AgreeOutsideMarks-sym (cause_touches (cause_of c e)) c f.mid (keeps_of c e f.mid f.told f.first) in
+        let r : Ran c (events_of_causes (kept (cause_touches (cause_of c e)) (causes f.others))) n = marked_ran es (cause_touches (cause_of c e)) f.mid c last f.others n ag touch f.then in
         let m = told_of before c f.mid e f.told f.first in
         subst (λ (z : ℕ). Behind c (e ∷ es) ((cause_of c e, f.told) ∷ f.others) before n zero z) (same_Some 0 i at)
         (record {
@@ -163,11 +163,11 @@ found : (o : Option ℕ) → is_some o ≡ true → (i : ℕ) × (o ≡ Some i)
 found None h = absurd (cc)
 found (Some i) h = (i, refl)
 
-pub stands_within : (s : State) (n k : ℕ) → 0 < k → k ≤ steps_of n s.kept → has_step s n k ≡ true
-stands_within s n k first within = ap (λ (b : Bool). b && leb k (steps_of n s.kept)) (le-leb 1 k first) ∙ le-leb k (steps_of n s.kept) within
+pub stands_within : (s : State) (n k : ℕ) → 0 < k → k ≤ count_steps n s.kept → has_step s n k ≡ true
+stands_within s n k first within = ap (λ (b : Bool). b && leb k (count_steps n s.kept)) (le-leb 1 k first) ∙ le-leb k (count_steps n s.kept) within
 
-pub stands_many : (s : State) (n k : ℕ) → has_step s n k ≡ true → k ≤ steps_of n s.kept
-stands_many s n k on = leb-true k (steps_of n s.kept) ((and_parts (leb 1 k) (leb k (steps_of n s.kept)) on).1)
+pub stands_many : (s : State) (n k : ℕ) → has_step s n k ≡ true → k ≤ count_steps n s.kept
+stands_many s n k on = leb-true k (count_steps n s.kept) ((and_parts (leb 1 k) (leb k (count_steps n s.kept)) on).1)
 
 pub chip_at : (o : Option (List NodeRecord)) (c : List NodeRecord) → o ≡ Some c → unwrap_or o [] ≡ c
 chip_at o c h = ap (λ (z : Option (List NodeRecord)). unwrap_or z []) h
@@ -181,29 +181,29 @@ pub record TakenBack (s : State) (n p : ℕ) : Type 0 where
   pub told : slice_get (history_of s n) p ≡ Some made
   pub of : IsOf made event
   pub word : IsWordOf mid made
-  pub same : record_at mid n ≡ record_at (chip_of (rewound s n (suc p))) n
+  pub same : record_at mid n ≡ record_at (chip_of (state_after_rewind s n (suc p))) n
   pub place : ℕ
-  pub count : steps_of n (take place s.kept) ≡ p
+  pub count : count_steps n (take place s.kept) ≡ p
   pub stood : record_at (chip_of (earlier s place)) n ≡ record_at mid n
 
-pub taken_back : (s : State) → Runs s → (n p : ℕ) → p < steps_of n s.kept → TakenBack s n p
+pub taken_back : (s : State) → Runs s → (n p : ℕ) → p < count_steps n s.kept → TakenBack s n p
 taken_back s runs n p within = record {
   event = b.event;
   mid = b.mid;
   can = b.can;
   touch = b.touch;
   made = b.made;
-  told = ap (λ (z : List (Cause × EventOutcome)). slice_get (mades_of z n) p) (told_is s runs) ∙ b.told;
+  told = ap (λ (z : List (Cause × EventOutcome)). slice_get (made_events_of z n) p) (told_is s runs) ∙ b.told;
   of = b.of;
   word = b.word;
-  same = b.same ∙ sym (ap (λ z. record_at z n) (chip_at (replay s.load (rewound s n (suc p)).kept) b.now led));
+  same = b.same ∙ sym (ap (λ z. record_at z n) (chip_at (replay s.load (state_after_rewind s n (suc p)).kept) b.now led));
   place = there.0;
   count = b.count;
   stood = ap (λ z. record_at z n) (chip_at (replay s.load (take there.0 s.kept)) b.mid b.begun);
 }
   where
     told_all : causes_of s ≡ causes runs.told
-    told_all = ap (λ o. causes (told_by o)) runs.run_is
+    told_all = ap (λ o. causes (outcomes_of_run o)) runs.run_is
 
     there : (i : ℕ) × (position_of_step (causes_of s) n (suc p) ≡ Some i)
     there = found (position_of_step (causes_of s) n (suc p)) (step_has_position s n (suc p) (replayed s (runs_some s runs)) ∙ stands_within s n (suc p) (omega arith) (omega (arith, within)))
@@ -211,5 +211,5 @@ taken_back s runs n p within = record {
     b : Behind s.load s.kept runs.told [] n p there.0
     b = behind s.kept s.load runs.last runs.told [] n p there.0 runs.run_is (ap (λ z. position_of_step z n (suc p)) (sym told_all) ∙ there.1)
 
-    led : replay s.load (rewound s n (suc p)).kept ≡ Some b.now
-    led = ap (λ (o : Option ℕ). replay s.load (events_in (rest_from (causes_of s) o))) there.1 ∙ ap (λ z. replay s.load (events_in (rest z there.0))) told_all ∙ b.led
+    led : replay s.load (state_after_rewind s n (suc p)).kept ≡ Some b.now
+    led = ap (λ (o : Option ℕ). replay s.load (events_of_causes (rest_or_all (causes_of s) o))) there.1 ∙ ap (λ z. replay s.load (events_of_causes (rest z there.0))) told_all ∙ b.led

@@ -7,19 +7,19 @@ use Rattle.std.proofs.lemmas.Bool.{cases_Bool, cases_lt, or_left, both_ways}
 use Rattle.ga_ports.specs.declared.side.Side.TheVariants.{Right, Down, Left, Up}
 use Rattle.ga_grid.specs.Grid.{neighbour_of}
 use Rattle.ga_event.specs.declared.event.Cause.{Cause}
-use Rattle.ga_event.specs.Touches.{with_some, neighbours, seen_by, meets}
-use Rattle.ga_causal.specs.Dependence.{cause_touches, rest_from, position_of_step, rewound_list}
-use Rattle.ga_causal.specs.Steps.{touching}
+use Rattle.ga_event.specs.Touches.{prepend_some, neighbours, observed_by, has_common_node}
+use Rattle.ga_causal.specs.Dependence.{cause_touches, rest_or_all, position_of_step, events_after_rewind}
+use Rattle.ga_causal.specs.Steps.{count_touching_events}
 use Rattle.ga_causal.proofs.Runs.{kept}
 use Rattle.ga_causal.proofs.LocalHistories.{place-first, place-touched, place-other}
-use Rattle.ga_causal.proofs.Places.{touching-cons, touching_no}
+use Rattle.ga_causal.proofs.Places.{count_touching_events-cons, touching_no}
 use Rattle.ga_races.proofs.Blind.{no_touch}
 use Rattle.ga_race_detector.specs.inner.Writers.{greatest, greater_with, depth, AreLeft, IsFilled, IsTaken}
 use Rattle.ga_race_detector.specs.declared.left.StepsLeft.{StepsLeft}
 
 -- ---- the greatest of some nodes
 
-greatest_some : (known : ℕ → ℕ) (at : Option ℕ) (ns : List ℕ) → greatest known (with_some at ns) ≡ greater_with known at (greatest known ns)
+greatest_some : (known : ℕ → ℕ) (at : Option ℕ) (ns : List ℕ) → greatest known (prepend_some at ns) ≡ greater_with known at (greatest known ns)
 greatest_some known None ns = refl
 greatest_some known (Some n) ns = refl
 
@@ -58,47 +58,47 @@ greatest_most known made (n ∷ ns) most =
 
 -- ---- what is kept after marks
 
-kept_met : (marks : ℕ → Bool) (e : Cause) (es : List Cause) → meets marks e ≡ true → kept marks (e ∷ es) ≡ kept (λ n. marks n || cause_touches e n) es
+kept_met : (marks : ℕ → Bool) (e : Cause) (es : List Cause) → has_common_node marks e ≡ true → kept marks (e ∷ es) ≡ kept (λ n. marks n || cause_touches e n) es
 kept_met marks e es t = rw t refl
 
-kept_free : (marks : ℕ → Bool) (e : Cause) (es : List Cause) → meets marks e ≡ false → kept marks (e ∷ es) ≡ e ∷ kept marks es
+kept_free : (marks : ℕ → Bool) (e : Cause) (es : List Cause) → has_common_node marks e ≡ false → kept marks (e ∷ es) ≡ e ∷ kept marks es
 kept_free marks e es f = rw f refl
 
 -- of a marked node nothing is
-none_kept : (m : ℕ) (marks : ℕ → Bool) (es : List Cause) → marks m ≡ true → touching m (kept marks es) ≡ 0
+none_kept : (m : ℕ) (marks : ℕ → Bool) (es : List Cause) → marks m ≡ true → count_touching_events m (kept marks es) ≡ 0
 none_kept m marks [] on = refl
-none_kept m marks (e ∷ es) on = elim (cases_Bool (meets marks e)) [
-  | inl t ↦ ap (touching m) (kept_met marks e es t) ∙ none_kept m (λ n. marks n || cause_touches e n) es (or_left (marks m) (cause_touches e m) on)
-  | inr f ↦ ap (touching m) (kept_free marks e es f) ∙ touching_no m e (kept marks es) (no_touch marks e m f on) ∙ none_kept m marks es on
+none_kept m marks (e ∷ es) on = elim (cases_Bool (has_common_node marks e)) [
+  | inl t ↦ ap (count_touching_events m) (kept_met marks e es t) ∙ none_kept m (λ n. marks n || cause_touches e n) es (or_left (marks m) (cause_touches e m) on)
+  | inr f ↦ ap (count_touching_events m) (kept_free marks e es f) ∙ touching_no m e (kept marks es) (no_touch marks e m f on) ∙ none_kept m marks es on
 ]
 
 kept_alike : (a b : ℕ → Bool) (es : List Cause) → ((n : ℕ) → a n ≡ b n) → kept a es ≡ kept b es
 kept_alike a b es same = ap (λ (z : ℕ → Bool). kept z es) (fun_ext same)
 
-rest_later : (e : Cause) (es : List Cause) (o : Option ℕ) → rest_from (e ∷ es) (option_map suc o) ≡ e ∷ rest_from es o
+rest_later : (e : Cause) (es : List Cause) (o : Option ℕ) → rest_or_all (e ∷ es) (option_map suc o) ≡ e ∷ rest_or_all es o
 rest_later e es None = refl
 rest_later e es (Some i) = refl
 
 -- ---- which of the events that come a rollback of step k + 1 of node r leaves
 
 abbrev pub remaining : ℕ → ℕ → (ℕ → ℕ) → ℕ → List Cause → List Cause
-remaining r k known made es = cond (nat_lt k made) (kept (above known k) es) (rewound_list es r (suc (k - made)))
+remaining r k known made es = cond (nat_lt k made) (kept (above known k) es) (events_after_rewind es r (suc (k - made)))
 
 remaining_marked : (r k : ℕ) (known : ℕ → ℕ) (made : ℕ) (es : List Cause) → k < made → remaining r k known made es ≡ kept (above known k) es
-remaining_marked r k known made es l = ap (λ (z : Bool). cond z (kept (above known k) es) (rewound_list es r (suc (k - made)))) (lt-ltb k made l)
+remaining_marked r k known made es l = ap (λ (z : Bool). cond z (kept (above known k) es) (events_after_rewind es r (suc (k - made)))) (lt-ltb k made l)
 
-remaining_later : (r k : ℕ) (known : ℕ → ℕ) (made : ℕ) (es : List Cause) → made ≤ k → remaining r k known made es ≡ rewound_list es r (suc (k - made))
-remaining_later r k known made es l = ap (λ (z : Bool). cond z (kept (above known k) es) (rewound_list es r (suc (k - made)))) (le-ltb k made l)
+remaining_later : (r k : ℕ) (known : ℕ → ℕ) (made : ℕ) (es : List Cause) → made ≤ k → remaining r k known made es ≡ events_after_rewind es r (suc (k - made))
+remaining_later r k known made es l = ap (λ (z : Bool). cond z (kept (above known k) es) (events_after_rewind es r (suc (k - made)))) (le-ltb k made l)
 
 -- the numbers after an event
 abbrev pub IsBehindOne : (ℕ → ℕ) → (ℕ → ℕ) → ℕ → ℕ → Cause → Type 0
 IsBehindOne known next r made e = (n : ℕ) → next n ≡ cond (cause_touches e n) (depth known r made e) (known n)
 
 depth_own : (known : ℕ → ℕ) (r made : ℕ) (e : Cause) → cause_touches e r ≡ true → depth known r made e ≡ made + 1
-depth_own known r made e t = ap (λ (z : Bool). cond z (made + 1) (greatest known (seen_by e))) t
+depth_own known r made e t = ap (λ (z : Bool). cond z (made + 1) (greatest known (observed_by e))) t
 
-depth_other : (known : ℕ → ℕ) (r made : ℕ) (e : Cause) → cause_touches e r ≡ false → depth known r made e ≡ greatest known (seen_by e)
-depth_other known r made e f = ap (λ (z : Bool). cond z (made + 1) (greatest known (seen_by e))) f
+depth_other : (known : ℕ → ℕ) (r made : ℕ) (e : Cause) → cause_touches e r ≡ false → depth known r made e ≡ greatest known (observed_by e)
+depth_other known r made e f = ap (λ (z : Bool). cond z (made + 1) (greatest known (observed_by e))) f
 
 one_step : (e : Cause) (r made : ℕ) → cause_touches e r ≡ true → made + cond (cause_touches e r) 1 0 ≡ made + 1
 one_step e r made t = ap (λ (z : Bool). made + cond {A = ℕ} z 1 0) t
@@ -113,13 +113,13 @@ more gone e m = cond gone 0 (cond (cause_touches e m) 1 0)
 drops : (m : ℕ) (gone : Bool) (e : Cause) (x y : ℕ) → gone ≡ true → x ≡ y → x ≡ more gone e m + y
 drops m gone e x y t q = q ∙ sym (ap (λ (z : Bool). more z e m + y) t ∙ (let u : 0 + y ≡ y = omega arith in u))
 
-stays : (m : ℕ) (gone : Bool) (e : Cause) (es : List Cause) (y : ℕ) → gone ≡ false → touching m es ≡ y → touching m (e ∷ es) ≡ more gone e m + y
-stays m gone e es y f q = touching-cons m e es ∙ ap (λ (z : ℕ). cond (cause_touches e m) 1 0 + z) q ∙ sym (ap (λ (z : Bool). more z e m + y) f)
+stays : (m : ℕ) (gone : Bool) (e : Cause) (es : List Cause) (y : ℕ) → gone ≡ false → count_touching_events m es ≡ y → count_touching_events m (e ∷ es) ≡ more gone e m + y
+stays m gone e es y f q = count_touching_events-cons m e es ∙ ap (λ (z : ℕ). cond (cause_touches e m) 1 0 + z) q ∙ sym (ap (λ (z : Bool). more z e m + y) f)
 
 -- one event more
 pub one_more : (r m k : ℕ) (known next : ℕ → ℕ) (made : ℕ) (e : Cause) (es : List Cause) → known r ≡ made → ((n : ℕ) → known n ≤ made) → IsBehindOne known next r made e
-    → touching m (remaining r k known made (e ∷ es)) ≡ more (nat_lt k (depth known r made e)) e m + touching m (remaining r k next (made + cond (cause_touches e r) 1 0) es)
-one_more r m k known next made e es own most is = elim (cases_lt k made) [ inl l ↦ marked l | inr g ↦ later g ]
+    → count_touching_events m (remaining r k known made (e ∷ es)) ≡ more (nat_lt k (depth known r made e)) e m + count_touching_events m (remaining r k next (made + cond (cause_touches e r) 1 0) es)
+one_more r m k known next made e es own most is = elim (cases_lt k made) [ inl l ↦ marked_nodes l | inr g ↦ later g ]
   where
     d : ℕ
     d = depth known r made e
@@ -128,8 +128,8 @@ one_more r m k known next made e es own most is = elim (cases_lt k made) [ inl l
     then = made + cond (cause_touches e r) 1 0
 
     -- where the step came before
-    marked : k < made → touching m (remaining r k known made (e ∷ es)) ≡ more (nat_lt k d) e m + touching m (remaining r k next then es)
-    marked l = elim (cases_Bool (meets (above known k) e)) [ inl t ↦ met t | inr f ↦ free f ]
+    marked_nodes : k < made → count_touching_events m (remaining r k known made (e ∷ es)) ≡ more (nat_lt k d) e m + count_touching_events m (remaining r k next then es)
+    marked_nodes l = elim (cases_Bool (has_common_node (above known k) e)) [ inl t ↦ met t | inr f ↦ free f ]
       where
         within : k < then
         within = elim (cases_Bool (cause_touches e r)) [
@@ -137,19 +137,19 @@ one_more r m k known next made e es own most is = elim (cases_lt k made) [ inl l
           | inr f ↦ (let q = no_step e r made f in omega (arith, q, l))
         ]
 
-        after : touching m (kept (above next k) es) ≡ touching m (remaining r k next then es)
-        after = ap (touching m) (sym (remaining_marked r k next then es within))
+        after : count_touching_events m (kept (above next k) es) ≡ count_touching_events m (remaining r k next then es)
+        after = ap (count_touching_events m) (sym (remaining_marked r k next then es within))
 
-        met : meets (above known k) e ≡ true → touching m (remaining r k known made (e ∷ es)) ≡ more (nat_lt k d) e m + touching m (remaining r k next then es)
+        met : has_common_node (above known k) e ≡ true → count_touching_events m (remaining r k known made (e ∷ es)) ≡ more (nat_lt k d) e m + count_touching_events m (remaining r k next then es)
         met t =
-            drops m (nat_lt k d) e (touching m (remaining r k known made (e ∷ es))) (touching m (remaining r k next then es)) deep
-            (ap (touching m) (remaining_marked r k known made (e ∷ es) l ∙ kept_met (above known k) e es t
+            drops m (nat_lt k d) e (count_touching_events m (remaining r k known made (e ∷ es))) (count_touching_events m (remaining r k next then es)) deep
+            (ap (count_touching_events m) (remaining_marked r k known made (e ∷ es) l ∙ kept_met (above known k) e es t
             ∙ kept_alike (λ n. above known k n || cause_touches e n) (above next k) es same) ∙ after)
           where
             deep : nat_lt k d ≡ true
             deep = elim (cases_Bool (cause_touches e r)) [
               | inl u ↦ ap (nat_lt k) (depth_own known r made e u) ∙ lt-ltb k (made + 1) (omega arith)
-              | inr f ↦ ap (nat_lt k) (depth_other known r made e f) ∙ sym (any_above known k (seen_by e)) ∙ t
+              | inr f ↦ ap (nat_lt k) (depth_other known r made e f) ∙ sym (any_above known k (observed_by e)) ∙ t
             ]
 
             by_touch : (n : ℕ) (b : Bool) → (nat_lt k (known n) || b) ≡ nat_lt k (cond b d (known n))
@@ -167,17 +167,17 @@ one_more r m k known next made e es own most is = elim (cases_lt k made) [ inl l
             same : (n : ℕ) → (above known k n || cause_touches e n) ≡ above next k n
             same n = by_touch n (cause_touches e n) ∙ ap (nat_lt k) (sym (is n))
 
-        free : meets (above known k) e ≡ false → touching m (remaining r k known made (e ∷ es)) ≡ more (nat_lt k d) e m + touching m (remaining r k next then es)
+        free : has_common_node (above known k) e ≡ false → count_touching_events m (remaining r k known made (e ∷ es)) ≡ more (nat_lt k d) e m + count_touching_events m (remaining r k next then es)
         free f =
-            ap (touching m) (remaining_marked r k known made (e ∷ es) l ∙ kept_free (above known k) e es f)
-            ∙ stays m (nat_lt k d) e (kept (above known k) es) (touching m (remaining r k next then es)) shallow
-            (ap (touching m) (kept_alike (above known k) (above next k) es same) ∙ after)
+            ap (count_touching_events m) (remaining_marked r k known made (e ∷ es) l ∙ kept_free (above known k) e es f)
+            ∙ stays m (nat_lt k d) e (kept (above known k) es) (count_touching_events m (remaining r k next then es)) shallow
+            (ap (count_touching_events m) (kept_alike (above known k) (above next k) es same) ∙ after)
           where
             apart : cause_touches e r ≡ false
             apart = no_touch (above known k) e r f (ap (nat_lt k) own ∙ lt-ltb k made l)
 
             shallow : nat_lt k d ≡ false
-            shallow = ap (nat_lt k) (depth_other known r made e apart) ∙ sym (any_above known k (seen_by e)) ∙ f
+            shallow = ap (nat_lt k) (depth_other known r made e apart) ∙ sym (any_above known k (observed_by e)) ∙ f
 
             by_touch : (n : ℕ) (b : Bool) → cause_touches e n ≡ b → nat_lt k (known n) ≡ nat_lt k (cond b d (known n))
             by_touch n true t = elim (cases_Bool (above known k n)) [
@@ -190,16 +190,16 @@ one_more r m k known next made e es own most is = elim (cases_lt k made) [ inl l
             same n = by_touch n (cause_touches e n) refl ∙ ap (nat_lt k) (sym (is n))
 
     -- where it comes yet, or is this one
-    later : made ≤ k → touching m (remaining r k known made (e ∷ es)) ≡ more (nat_lt k d) e m + touching m (remaining r k next then es)
+    later : made ≤ k → count_touching_events m (remaining r k known made (e ∷ es)) ≡ more (nat_lt k d) e m + count_touching_events m (remaining r k next then es)
     later g = elim (cases_Bool (cause_touches e r)) [ inl t ↦ elim (cases_lt made k) [ inl l ↦ past t l | inr h ↦ here t h ] | inr f ↦ other f ]
       where
         -- this one
-        here : cause_touches e r ≡ true → k ≤ made → touching m (remaining r k known made (e ∷ es)) ≡ more (nat_lt k d) e m + touching m (remaining r k next then es)
+        here : cause_touches e r ≡ true → k ≤ made → count_touching_events m (remaining r k known made (e ∷ es)) ≡ more (nat_lt k d) e m + count_touching_events m (remaining r k next then es)
         here t h =
-            drops m (nat_lt k d) e (touching m (remaining r k known made (e ∷ es))) (touching m (remaining r k next then es))
+            drops m (nat_lt k d) e (count_touching_events m (remaining r k known made (e ∷ es))) (count_touching_events m (remaining r k next then es))
             (ap (nat_lt k) (depth_own known r made e t) ∙ lt-ltb k (made + 1) (omega (arith, h)))
-            (ap (touching m) (remaining_later r k known made (e ∷ es) g ∙ ap (λ (z : ℕ). rewound_list (e ∷ es) r (suc z)) (let q : k - made ≡ 0 = omega (arith, h) in q)
-            ∙ ap (rest_from (e ∷ es)) (place-first e es r t) ∙ kept_alike (cause_touches e) (above next k) es same
+            (ap (count_touching_events m) (remaining_later r k known made (e ∷ es) g ∙ ap (λ (z : ℕ). events_after_rewind (e ∷ es) r (suc z)) (let q : k - made ≡ 0 = omega (arith, h) in q)
+            ∙ ap (rest_or_all (e ∷ es)) (place-first e es r t) ∙ kept_alike (cause_touches e) (above next k) es same
             ∙ sym (remaining_marked r k next then es (let q = one_step e r made t in omega (arith, q, h)))))
           where
             by_touch : (n : ℕ) (b : Bool) → b ≡ nat_lt k (cond b d (known n))
@@ -210,29 +210,29 @@ one_more r m k known next made e es own most is = elim (cases_lt k made) [ inl l
             same n = by_touch n (cause_touches e n) ∙ ap (nat_lt k) (sym (is n))
 
         -- one of its steps before
-        past : cause_touches e r ≡ true → made < k → touching m (remaining r k known made (e ∷ es)) ≡ more (nat_lt k d) e m + touching m (remaining r k next then es)
+        past : cause_touches e r ≡ true → made < k → count_touching_events m (remaining r k known made (e ∷ es)) ≡ more (nat_lt k d) e m + count_touching_events m (remaining r k next then es)
         past t l =
             let q : then ≡ made + 1 = one_step e r made t in
-            ap (touching m) (remaining_later r k known made (e ∷ es) g ∙ ap (λ (z : ℕ). rewound_list (e ∷ es) r (suc z)) (let u : k - made ≡ suc (k - then) = omega (arith, q, l) in u)
-            ∙ ap (rest_from (e ∷ es)) (place-touched e es r (k - then) t) ∙ rest_later e es (position_of_step es r (suc (k - then))))
-            ∙ stays m (nat_lt k d) e (rewound_list es r (suc (k - then))) (touching m (remaining r k next then es))
+            ap (count_touching_events m) (remaining_later r k known made (e ∷ es) g ∙ ap (λ (z : ℕ). events_after_rewind (e ∷ es) r (suc z)) (let u : k - made ≡ suc (k - then) = omega (arith, q, l) in u)
+            ∙ ap (rest_or_all (e ∷ es)) (place-touched e es r (k - then) t) ∙ rest_later e es (position_of_step es r (suc (k - then))))
+            ∙ stays m (nat_lt k d) e (events_after_rewind es r (suc (k - then))) (count_touching_events m (remaining r k next then es))
             (ap (nat_lt k) (depth_own known r made e t) ∙ le-ltb k (made + 1) (omega (arith, l)))
-            (ap (touching m) (sym (remaining_later r k next then es (omega (arith, q, l)))))
+            (ap (count_touching_events m) (sym (remaining_later r k next then es (omega (arith, q, l)))))
 
         -- no step of it
-        other : cause_touches e r ≡ false → touching m (remaining r k known made (e ∷ es)) ≡ more (nat_lt k d) e m + touching m (remaining r k next then es)
+        other : cause_touches e r ≡ false → count_touching_events m (remaining r k known made (e ∷ es)) ≡ more (nat_lt k d) e m + count_touching_events m (remaining r k next then es)
         other f =
             let q : then ≡ made = no_step e r made f in
-            ap (touching m) (remaining_later r k known made (e ∷ es) g ∙ ap (rest_from (e ∷ es)) (place-other e es r (k - made) f) ∙ rest_later e es (position_of_step es r (suc (k - made))))
-            ∙ stays m (nat_lt k d) e (rewound_list es r (suc (k - made))) (touching m (remaining r k next then es))
-            (ap (nat_lt k) (depth_other known r made e f) ∙ le-ltb k (greatest known (seen_by e)) (let u = greatest_most known made (seen_by e) most in omega (arith, u, g)))
-            (ap (touching m) (ap (λ (z : ℕ). rewound_list es r (suc (k - z))) (sym q) ∙ sym (remaining_later r k next then es (omega (arith, q, g)))))
+            ap (count_touching_events m) (remaining_later r k known made (e ∷ es) g ∙ ap (rest_or_all (e ∷ es)) (place-other e es r (k - made) f) ∙ rest_later e es (position_of_step es r (suc (k - made))))
+            ∙ stays m (nat_lt k d) e (events_after_rewind es r (suc (k - made))) (count_touching_events m (remaining r k next then es))
+            (ap (nat_lt k) (depth_other known r made e f) ∙ le-ltb k (greatest known (observed_by e)) (let u = greatest_most known made (observed_by e) most in omega (arith, u, g)))
+            (ap (count_touching_events m) (ap (λ (z : ℕ). events_after_rewind es r (suc (k - z))) (sym q) ∙ sym (remaining_later r k next then es (omega (arith, q, g)))))
 
 -- ---- the list, event by event
 
 -- the number of steps of node m that a rollback of step k + 1 of node r leaves
 abbrev pub left_by : List Cause → ℕ → ℕ → ℕ → ℕ
-left_by all r m k = touching m (rewound_list all r (suc k))
+left_by all r m k = count_touching_events m (events_after_rewind all r (suc k))
 
 -- The list has the steps of node r on which the newest event of node m depends; of the others it is known what remains, except
 -- for the events that come.
@@ -241,7 +241,7 @@ pub record IsGoing (all : List Cause) (r m : ℕ) (known : ℕ → ℕ) (made co
   pub most : (n : ℕ) → known n ≤ made
   pub size : length left ≡ known m
   pub each : (k : ℕ) → k < length left → get_or left k 0 ≡ left_by all r m k
-  pub rest : (k : ℕ) → known m ≤ k → left_by all r m k ≡ count + touching m (remaining r k known made es)
+  pub rest : (k : ℕ) → known m ≤ k → left_by all r m k ≡ count + count_touching_events m (remaining r k known made es)
 
 pub going_first : (all : List Cause) (r m : ℕ) (known : ℕ → ℕ) → ((n : ℕ) → known n ≡ 0) → IsGoing all r m known 0 0 [] all
 going_first all r m known none = record {
@@ -249,7 +249,7 @@ going_first all r m known none = record {
   most = λ n. let q : known n ≡ 0 = none n in omega (arith, q);
   size = sym (none m);
   each = λ k l. absurd (omega (arith, l));
-  rest = λ k l. sym (ap (touching m) (remaining_later r k known 0 all (omega arith) ∙ ap (λ (z : ℕ). rewound_list all r (suc z)) (let q : k - 0 ≡ k = omega arith in q))) ∙ (let y = touching m (remaining r k known 0 all) in let q : y ≡ 0 + y = omega arith in q);
+  rest = λ k l. sym (ap (count_touching_events m) (remaining_later r k known 0 all (omega arith) ∙ ap (λ (z : ℕ). events_after_rewind all r (suc z)) (let q : k - 0 ≡ k = omega arith in q))) ∙ (let y = count_touching_events m (remaining r k known 0 all) in let q : y ≡ 0 + y = omega arith in q);
 }
 
 pub going_more : (all : List Cause) (r m : ℕ) (known next : ℕ → ℕ) (made count then more_count : ℕ) (left filled : List ℕ) (e : Cause) (es : List Cause)
@@ -279,7 +279,7 @@ going_more all r m known next made count then more_count left filled e es g is f
     deepest : d ≤ then
     deepest = elim (cases_Bool (cause_touches e r)) [
       | inl t ↦ (let q = depth_own known r made e t in let u = one_step e r made t in omega (arith, q, u, steps))
-      | inr f ↦ (let q = depth_other known r made e f in let u = greatest_most known made (seen_by e) g.most in omega (arith, q, u, steps))
+      | inr f ↦ (let q = depth_other known r made e f in let u = greatest_most known made (observed_by e) g.most in omega (arith, q, u, steps))
     ]
 
     most : (n : ℕ) → next n ≤ then
@@ -292,11 +292,11 @@ going_more all r m known next made count then more_count left filled e es g is f
     seen : (n : ℕ) → cause_touches e n ≡ true → known n ≤ d
     seen n t = elim (cases_Bool (cause_touches e r)) [
       | inl u ↦ (let q = depth_own known r made e u in let v : known n ≤ made = g.most n in omega (arith, q, v))
-      | inr f ↦ elim (cases_lt (greatest known (seen_by e)) (known n)) [
+      | inr f ↦ elim (cases_lt (greatest known (observed_by e)) (known n)) [
         | inl l ↦ absurd (both_ways (cause_touches e n)
-            (no_touch (above known (greatest known (seen_by e))) e n
-            (any_above known (greatest known (seen_by e)) (seen_by e) ∙ le-ltb (greatest known (seen_by e)) (greatest known (seen_by e)) (omega arith))
-            (lt-ltb (greatest known (seen_by e)) (known n) l)) t)
+            (no_touch (above known (greatest known (observed_by e))) e n
+            (any_above known (greatest known (observed_by e)) (observed_by e) ∙ le-ltb (greatest known (observed_by e)) (greatest known (observed_by e)) (omega arith))
+            (lt-ltb (greatest known (observed_by e)) (known n) l)) t)
         | inr h ↦ (let q = depth_other known r made e f in omega (arith, q, h))
       ]
     ]
@@ -310,8 +310,8 @@ going_more all r m known next made count then more_count left filled e es g is f
     size : length filled ≡ next m
     size = (let q : length filled ≡ max (length left) (next m) = fill.size in let u : length left ≡ known m = g.size in let v = grows m in omega (arith, q, u, v))
 
-    follows : (k : ℕ) → known m ≤ k → left_by all r m k ≡ count + (more (nat_lt k d) e m + touching m (remaining r k next then es))
-    follows k l = g.rest k l ∙ ap (λ (z : ℕ). count + z) (one_more r m k known next made e es g.own g.most is ∙ ap (λ (z : ℕ). more (nat_lt k d) e m + touching m (remaining r k next z es)) (sym steps))
+    follows : (k : ℕ) → known m ≤ k → left_by all r m k ≡ count + (more (nat_lt k d) e m + count_touching_events m (remaining r k next then es))
+    follows k l = g.rest k l ∙ ap (λ (z : ℕ). count + z) (one_more r m k known next made e es g.own g.most is ∙ ap (λ (z : ℕ). more (nat_lt k d) e m + count_touching_events m (remaining r k next z es)) (sym steps))
 
     each : (k : ℕ) → k < length filled → get_or filled k 0 ≡ left_by all r m k
     each k l = elim (cases_lt k (length left)) [ inl h ↦ fill.same k h ∙ g.each k h | inr h ↦ fill.more k h l ∙ first h ]
@@ -334,14 +334,14 @@ going_more all r m known next made count then more_count left filled e es g is f
             gone : more (nat_lt k d) e m ≡ 0
             gone = ap (λ (z : Bool). more z e m) (lt-ltb k d (let q = at_touched m touched in let u = within in omega (arith, q, u)))
 
-            none : touching m (remaining r k next then es) ≡ 0
+            none : count_touching_events m (remaining r k next then es) ≡ 0
             none =
-                ap (touching m) (remaining_marked r k next then es (let u = within in let v = most m in omega (arith, u, v)))
+                ap (count_touching_events m) (remaining_marked r k next then es (let u = within in let v = most m in omega (arith, u, v)))
                 ∙ none_kept m (above next k) es (lt-ltb k (next m) within)
 
-    rest : (k : ℕ) → next m ≤ k → left_by all r m k ≡ more_count + touching m (remaining r k next then es)
+    rest : (k : ℕ) → next m ≤ k → left_by all r m k ≡ more_count + count_touching_events m (remaining r k next then es)
     rest k l =
-        let y = touching m (remaining r k next then es) in
+        let y = count_touching_events m (remaining r k next then es) in
         follows k (let q = grows m in omega (arith, q, l)) ∙ ap (λ (z : ℕ). count + (z + y)) kept_one
         ∙ (let q : count + (cond (cause_touches e m) 1 0 + y) ≡ more_count + y = omega (arith, counts) in q)
       where
@@ -371,7 +371,7 @@ going_taken all r m known next made then old new e es of g is taken steps =
         subst (λ (z : ℕ). IsFilled old.list.items new.list.items z old.count)
         (ap (λ (z : ℕ). cond (cause_touches e z) (depth known r made e) (length old.list.items)) of ∙ to (cause_touches e m) refl) taken.list
 
-pub going_last : (all : List Cause) (r m : ℕ) (known : ℕ → ℕ) (made count : ℕ) (left filled : List ℕ) → IsGoing all r m known made count left [] → made ≡ touching r all
+pub going_last : (all : List Cause) (r m : ℕ) (known : ℕ → ℕ) (made count : ℕ) (left filled : List ℕ) → IsGoing all r m known made count left [] → made ≡ count_touching_events r all
     → IsFilled left filled made count → AreLeft all r m filled
 going_last all r m known made count left filled g all_made fill = record { size = size ∙ all_made; each = each }
   where
@@ -383,9 +383,9 @@ going_last all r m known made count left filled g all_made fill = record { size 
       | inl h ↦ fill.same k h ∙ g.each k h
       | inr h ↦ (
           let behind : known m ≤ k = (let q : length left ≡ known m = g.size in omega (arith, q, h)) in
-          let none : touching m (remaining r k known made []) ≡ 0 = ap (touching m) (remaining_marked r k known made [] (let q = size in omega (arith, q, l))) in
+          let none : count_touching_events m (remaining r k known made []) ≡ 0 = ap (count_touching_events m) (remaining_marked r k known made [] (let q = size in omega (arith, q, l))) in
           fill.more k h l ∙ sym (g.rest k behind ∙ ap (λ (z : ℕ). count + z) none ∙ (let q : count + 0 ≡ count = omega arith in q)))
     ]
 
-    each : (k : ℕ) → k < length filled → get_or filled k 0 ≡ touching m (rewound_list all r (k + 1))
-    each k l = left_at k l ∙ ap (λ (z : ℕ). touching m (rewound_list all r z)) (let q : suc k ≡ k + 1 = omega arith in q)
+    each : (k : ℕ) → k < length filled → get_or filled k 0 ≡ count_touching_events m (events_after_rewind all r (k + 1))
+    each k l = left_at k l ∙ ap (λ (z : ℕ). count_touching_events m (events_after_rewind all r z)) (let q : suc k ≡ k + 1 = omega arith in q)

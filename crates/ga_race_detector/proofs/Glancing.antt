@@ -2,8 +2,8 @@
 use Rattle.std.proofs.Common.{◌≡◌, ℕ, zero, suc, List, [], ◌∷◌, take, refl, ◌∙◌, ap, ◌≢◌, ◌+◌, ◌<◌, ◌≤◌, cond, Bool, true, false, inl, inr, length, get_or, Option, Some, None, IsSome, sym, subst, arith, true≢false}
 use Rattle.ga_event.specs.declared.event.Event.{Event}
 use Rattle.ga_event.specs.declared.event.Cause.{Cause}
-use Rattle.ga_event.specs.Told.{steps_of, events_in}
-use Rattle.ga_causal.specs.Steps.{touching}
+use Rattle.ga_event.specs.Told.{count_steps, events_of_causes}
+use Rattle.ga_causal.specs.Steps.{count_touching_events}
 use Rattle.ga_causal.proofs.Places.{touching_in, touching_before}
 use Rattle.std.specs.Prelude.{nat_lt, is_some, is_none, ◌&&◌}
 use Rattle.std.proofs.lemmas.Bool.{cases_Bool}
@@ -20,13 +20,13 @@ use Rattle.ga_event.specs.declared.event.Event.TheVariants.{Own, Pass}
 use Rattle.ga_event.specs.Touches.{touches}
 use Rattle.ga_event.specs.Apply.{replay, cause_of}
 use Rattle.ga_causal.specs.Dependence.{cause_touches, event_at}
-use Rattle.ga_races.specs.HappensBefore.{Action, actions, are_linked}
+use Rattle.ga_races.specs.HappensBefore.{Action, actions, are_neighbours}
 use Rattle.ga_races.specs.declared.racing_pairs.RacingPair.{RacingPair}
 use Rattle.ga_races.proofs.Independence.{touches_own, touches_writer, touches_reader}
 use Rattle.ga_races.proofs.Before.{actions_length}
-use Rattle.ga_lab.specs.Machine.{State, chip_of, causes_of, earlier, rewound}
+use Rattle.ga_lab.specs.Machine.{State, chip_of, causes_of, earlier, state_after_rewind}
 use Rattle.ga_race_detector.specs.Races.{looks_next}
-use Rattle.ga_race_detector.specs.Readings.{IsOtherwise}
+use Rattle.ga_race_detector.specs.Readings.{IsRealizableLookRace}
 use Rattle.ga_race_detector.specs.inner.Glances.{IsMoment, AreMoments, first_part, last_part, no_moment, part_beside, IsGlance, IsGlanced, IsOtherWord, HasStep}
 use Rattle.ga_race_detector.specs.declared.moments.StepCounts.{StepCounts}
 use Rattle.ga_race_detector.specs.declared.look_changes.LookChange.{LookChange}
@@ -37,14 +37,14 @@ use Rattle.ga_race_detector.proofs.Standing.{Stands, stands_somewhere}
 
 -- ---- how many steps of a node come before a place, by the causes and by the history
 
-take_events : (causes : List Cause) (place : ℕ) → events_in (take place causes) ≡ take place (events_in causes)
+take_events : (causes : List Cause) (place : ℕ) → events_of_causes (take place causes) ≡ take place (events_of_causes causes)
 take_events causes zero = refl
 take_events [] (suc place) = refl
 take_events (cause ∷ causes) (suc place) = ap (λ (z : List Event). cause.event ∷ z) (take_events causes place)
 
-pub steps_at : (causes : List Cause) (kept : List Event) (place m : ℕ) → events_in causes ≡ kept → touching m (take place causes) ≡ steps_of m (take place kept)
+pub steps_at : (causes : List Cause) (kept : List Event) (place m : ℕ) → events_of_causes causes ≡ kept → count_touching_events m (take place causes) ≡ count_steps m (take place kept)
 steps_at causes kept place m is =
-    touching_in m (take place causes) ∙ ap (steps_of m) (take_events causes place) ∙ ap (λ (z : List Event). steps_of m (take place z)) is
+    touching_in m (take place causes) ∙ ap (count_steps m) (take_events causes place) ∙ ap (λ (z : List Event). count_steps m (take place z)) is
 
 some_led : (s : State) (last : List NodeRecord) → replay s.load s.kept ≡ Some last → IsSome (replay s.load s.kept)
 some_led s last led = ap is_some led
@@ -56,10 +56,10 @@ moment_is s causes moments p e at known l is told =
     (subst (IsMoment s p (event_at causes p)) (sym told) (known.each p (omega arith) (omega (arith, l, size))))
 
 -- the neighbour of a node in a pass is its writer, if that is linked to the node, and else its reader
-pub beside_first : {e : Event} {w r : NodeId} {side : Side} (n : ℕ) → e ≡ Pass w r side → are_linked n w.number ≡ true → first_part e ≡ part_beside e n
+pub beside_first : {e : Event} {w r : NodeId} {side : Side} (n : ℕ) → e ≡ Pass w r side → are_neighbours n w.number ≡ true → first_part e ≡ part_beside e n
 beside_first {w} {r} n is on = ap first_part is ∙ sym (ap (λ (b : Bool). cond {A = NodeId} b w r) on) ∙ sym (ap (λ (z : Event). part_beside z n) is)
 
-pub beside_last : {e : Event} {w r : NodeId} {side : Side} (n : ℕ) → e ≡ Pass w r side → are_linked n w.number ≡ false → last_part e ≡ part_beside e n
+pub beside_last : {e : Event} {w r : NodeId} {side : Side} (n : ℕ) → e ≡ Pass w r side → are_neighbours n w.number ≡ false → last_part e ≡ part_beside e n
 beside_last {w} {r} n is off = ap last_part is ∙ sym (ap (λ (b : Bool). cond {A = NodeId} b w r) off) ∙ sym (ap (λ (z : Event). part_beside z n) is)
 
 -- as the code reads them
@@ -67,8 +67,8 @@ pub glanced : (s : State) (last : List NodeRecord) (causes : List Cause) (moment
     → replay s.load s.kept ≡ Some last → causes ≡ causes_of s → AreMoments s causes moments → near.look < length causes → near.change < length causes
     → e ≡ get_or causes near.look e → f ≡ get_or causes near.change f → at ≡ get_or moments near.look no_moment → by ≡ get_or moments near.change no_moment
     → e ≡ record { event = Own node; look = true } → neighbour ≡ part_beside f.event node.number
-    → ((s : State) (p : ℕ) → IsMoment s p f by → before ≡ steps_of (part_beside f.event node.number).number (take p s.kept))
-    → IsGlance s near (record { node = node; step = at.first + 1; word = at.word; neighbour = neighbour; change = before + 1; early = nat_lt near.look near.change })
+    → ((s : State) (p : ℕ) → IsMoment s p f by → before ≡ count_steps (part_beside f.event node.number).number (take p s.kept))
+    → IsGlance s near (record { node = node; step = at.first + 1; word = at.word; neighbour = neighbour; change = before + 1; is_look_first = nat_lt near.look near.change })
 glanced s last causes moments near e f at by node neighbour before led all known l m ise isf isat isby own part count = record {
   look = subst (λ (z : List Cause). near.look < length z) all l;
   change_at = subst (λ (z : List Cause). near.change < length z) all m;
@@ -76,11 +76,11 @@ glanced s last causes moments near e f at by node neighbour before led all known
   step = ap (λ (z : ℕ). z + 1) (moment.first ∙ sym (steps_at (causes_of s) s.kept near.look node.number kept));
   word = moment.word refl;
   neighbour = part ∙ ap (λ (z : Cause). part_beside z.event node.number) (sym there_f);
-  change = ap (λ (z : ℕ). z + 1) (count s near.change (moment_is s causes moments near.change f by known m isf isby) ∙ ap (λ (z : NodeId). steps_of z.number (take near.change s.kept)) (sym part) ∙ sym (steps_at (causes_of s) s.kept near.change neighbour.number kept));
-  early = refl;
+  change = ap (λ (z : ℕ). z + 1) (count s near.change (moment_is s causes moments near.change f by known m isf isby) ∙ ap (λ (z : NodeId). count_steps z.number (take near.change s.kept)) (sym part) ∙ sym (steps_at (causes_of s) s.kept near.change neighbour.number kept));
+  is_look_first = refl;
 }
   where
-    kept : events_in (causes_of s) ≡ s.kept
+    kept : events_of_causes (causes_of s) ≡ s.kept
     kept = kept_caused s (some_led s last led)
 
     there_e : event_at (causes_of s) near.look ≡ e
@@ -94,26 +94,26 @@ glanced s last causes moments near e f at by node neighbour before led all known
 
 record IsOneOf (es : List Cause) (step : NodeId × ℕ) : Type 0 where
   first : 0 < step.1
-  within : step.1 ≤ touching step.0.number es
+  within : step.1 ≤ count_touching_events step.0.number es
 
 part_touched : (e : Event) (n : ℕ) → touches e (part_beside e n).number ≡ true
 part_touched (Own a) n = touches_own a
-part_touched (Pass w r side) n = elim (cases_Bool (are_linked n w.number)) [
+part_touched (Pass w r side) n = elim (cases_Bool (are_neighbours n w.number)) [
   | inl t ↦ subst (λ (b : Bool). touches (Pass w r side) (cond {A = NodeId} b w r).number ≡ true) (sym t) (touches_writer w r side)
   | inr f ↦ subst (λ (b : Bool). touches (Pass w r side) (cond {A = NodeId} b w r).number ≡ true) (sym f) (touches_reader w r side)
 ]
 
 -- the removed step is one of the list
 pub has_step : (s : State) (last : List NodeRecord) (near : RacingPair) (glance : LookChange) → replay s.load s.kept ≡ Some last → IsGlance s near glance → HasStep (causes_of s) glance
-has_step s last near glance led g = (let one = go glance.early in record { first = one.first; within = one.within })
+has_step s last near glance led g = (let one = go glance.is_look_first in record { first = one.first; within = one.within })
   where
     es : List Cause
     es = causes_of s
 
-    within : (n k p : ℕ) → p < length es → cause_touches (event_at es p) n ≡ true → k ≡ touching n (take p es) + 1 → k ≤ touching n es
+    within : (n k p : ℕ) → p < length es → cause_touches (event_at es p) n ≡ true → k ≡ count_touching_events n (take p es) + 1 → k ≤ count_touching_events n es
     within n k p l touch is =
         let more = touching_before es n p (length es) l l touch in
-        let whole : touching n (take (length es) es) ≡ touching n es = ap (touching n) (take_all (length es) es (omega arith)) in
+        let whole : count_touching_events n (take (length es) es) ≡ count_touching_events n es = ap (count_touching_events n) (take_all (length es) es (omega arith)) in
         omega (arith, is, more, whole)
 
     look_touched : cause_touches (event_at es near.look) glance.node.number ≡ true
@@ -123,12 +123,12 @@ has_step s last near glance led g = (let one = go glance.early in record { first
     change_touched = ap (λ (z : NodeId). cause_touches (event_at es near.change) z.number) g.neighbour ∙ part_touched (event_at es near.change).event glance.node.number
 
     go : (b : Bool) → IsOneOf es (cond {A = NodeId × ℕ} b (glance.node, glance.step) (glance.neighbour, glance.change))
-    go true = record { first = (let q : glance.step ≡ touching glance.node.number (take near.look es) + 1 = g.step in omega (arith, q)); within = within glance.node.number glance.step near.look g.look look_touched g.step }
-    go false = record { first = (let q : glance.change ≡ touching glance.neighbour.number (take near.change es) + 1 = g.change in omega (arith, q)); within = within glance.neighbour.number glance.change near.change g.change_at change_touched g.change }
+    go true = record { first = (let q : glance.step ≡ count_touching_events glance.node.number (take near.look es) + 1 = g.step in omega (arith, q)); within = within glance.node.number glance.step near.look g.look look_touched g.step }
+    go false = record { first = (let q : glance.change ≡ count_touching_events glance.neighbour.number (take near.change es) + 1 = g.change in omega (arith, q)); within = within glance.neighbour.number glance.change near.change g.change_at change_touched g.change }
 
 -- the look comes next if as many steps of its node are left as came before it
 pub looks_again : (s : State) (last : List NodeRecord) (near : RacingPair) (glance : LookChange) (b k : ℕ) → replay s.load s.kept ≡ Some last → IsGlance s near glance
-    → steps_of glance.node.number (rewound s b k).kept + 1 ≡ glance.step → looks_next (chip_of (rewound s b k)) glance.node.number ≡ true
+    → count_steps glance.node.number (state_after_rewind s b k).kept + 1 ≡ glance.step → looks_next (chip_of (state_after_rewind s b k)) glance.node.number ≡ true
 looks_again s last near glance b k led g one =
     subst (λ (z : NodeRecord). (is_none (refusal z) && looks z) ≡ true) (sym (a.same ∙ stood_alike s last n a.place near.look led count)) here
   where
@@ -138,14 +138,14 @@ looks_again s last near glance b k led g one =
     a : Stands s b k n
     a = stands_somewhere s b k n (some_led s last led)
 
-    kept : events_in (causes_of s) ≡ s.kept
+    kept : events_of_causes (causes_of s) ≡ s.kept
     kept = kept_caused s (some_led s last led)
 
-    count : steps_of n (take a.place s.kept) ≡ steps_of n (take near.look s.kept)
+    count : count_steps n (take a.place s.kept) ≡ count_steps n (take near.look s.kept)
     count =
-        let x : steps_of n (take a.place s.kept) ≡ steps_of n (rewound s b k).kept = a.count in
-        let y : glance.step ≡ touching n (take near.look (causes_of s)) + 1 = g.step in
-        let z : touching n (take near.look (causes_of s)) ≡ steps_of n (take near.look s.kept) = steps_at (causes_of s) s.kept near.look n kept in
+        let x : count_steps n (take a.place s.kept) ≡ count_steps n (state_after_rewind s b k).kept = a.count in
+        let y : glance.step ≡ count_touching_events n (take near.look (causes_of s)) + 1 = g.step in
+        let z : count_touching_events n (take near.look (causes_of s)) ≡ count_steps n (take near.look s.kept) = steps_at (causes_of s) s.kept near.look n kept in
         omega (arith, one, x, y, z)
 
     before : List NodeRecord
@@ -169,7 +169,7 @@ looks_again s last near glance b k led g one =
 
 -- a look that reads another word is a reading
 pub otherwise : (s : State) (near : RacingPair) (glance : LookChange) (word : ℕ) → IsGlance s near glance → IsOtherWord s glance word → word ≢ glance.word
-    → IsOtherwise s (record { node = glance.node; step = glance.step; word = glance.word; neighbour = glance.neighbour; change = glance.change; early = glance.early; other = word })
+    → IsRealizableLookRace s (record { node = glance.node; step = glance.step; word = glance.word; neighbour = glance.neighbour; change = glance.change; is_look_first = glance.is_look_first; other = word })
 otherwise s near glance word g o ne = record {
   place = near.look;
   stands = record { within = g.look; touched = ap (λ (z : Cause). cause_touches z glance.node.number) g.looked ∙ touches_own glance.node; before = sym g.step };

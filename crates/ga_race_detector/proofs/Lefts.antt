@@ -12,8 +12,8 @@ use Rattle.ga_ports.specs.declared.side.Side.TheVariants.{Right, Down, Left, Up}
 use Rattle.ga_grid.specs.declared.node_id.NodeId.{NodeId}
 use Rattle.ga_grid.specs.Grid.{neighbour_of}
 use Rattle.ga_event.specs.declared.event.Cause.{Cause}
-use Rattle.ga_causal.specs.Dependence.{cause_touches, rewound_list}
-use Rattle.ga_causal.specs.Steps.{touching}
+use Rattle.ga_causal.specs.Dependence.{cause_touches, events_after_rewind}
+use Rattle.ga_causal.specs.Steps.{count_touching_events}
 use Rattle.ga_lab.specs.declared.fault.LabFault.{LabFault}
 use Rattle.ga_race_detector.specs.inner.Writers.{AreLeft, IsFilled, depth, IsTaken}
 use Rattle.ga_race_detector.specs.inner.Glances.{IsAround, AreAround, AreFirst, AreTaken, AreFew, around_over, lists_over, sweep_over, taken_of, HangTogether, IsAroundOf, AreKnown}
@@ -23,26 +23,26 @@ use Rattle.ga_race_detector.specs.declared.around.Sweep.{Sweep}
 use Rattle.ga_race_detector.proofs.Depths.{IsGoing, IsBehindOne, going_taken, going_last, going_first}
 use Rattle.ga_race_detector.specs.declared.look_changes.LookChange.{LookChange}
 use Rattle.std.proofs.lemmas.List.Sums.{sum_by-append}
-use Rattle.ga_causal.proofs.Places.{touching-cons}
+use Rattle.ga_causal.proofs.Places.{count_touching_events-cons}
 use Rattle.ga_race_detector.specs.declared.left.StepsLeft.{StepsLeft}
 
 -- ---- as the code reads the list
 
-pub touching_next : (n : ℕ) (es : List Cause) (i : ℕ) (e : Cause) → i < length es → e ≡ get_or es i e → touching n (take (i + 1) es) ≡ touching n (take i es) + cond (cause_touches e n) 1 0
+pub touching_next : (n : ℕ) (es : List Cause) (i : ℕ) (e : Cause) → i < length es → e ≡ get_or es i e → count_touching_events n (take (i + 1) es) ≡ count_touching_events n (take i es) + cond (cause_touches e n) 1 0
 touching_next n es i e l is =
-    ap (touching n) (take_more es i e l)
+    ap (count_touching_events n) (take_more es i e l)
     ∙ sum_by-append (λ (x : Cause). cond {A = ℕ} (cause_touches x n) 1 0) (take i es) (get_or es i e ∷ [])
-    ∙ ap (λ (z : ℕ). touching n (take i es) + z)
-    (touching-cons n (get_or es i e) [] ∙ ap (λ (z : Cause). cond {A = ℕ} (cause_touches z n) 1 0 + touching n []) (sym is)
+    ∙ ap (λ (z : ℕ). count_touching_events n (take i es) + z)
+    (count_touching_events-cons n (get_or es i e) [] ∙ ap (λ (z : Cause). cond {A = ℕ} (cause_touches z n) 1 0 + count_touching_events n []) (sym is)
     ∙ (let x : ℕ = cond (cause_touches e n) 1 0 in let q : x + 0 ≡ x = omega arith in q))
 
 pub behind_here : (es : List Cause) (i : ℕ) (e : Cause) → i < length es → e ≡ get_or es i e → drop i es ≡ e ∷ drop (i + 1) es
 behind_here es i e l is = drop_more es i e l ∙ ap (λ (z : Cause). z ∷ drop (i + 1) es) (sym is)
 
 pub going_end : (all : List Cause) (r m : ℕ) (known : ℕ → ℕ) (made count i : ℕ) (left filled : List ℕ) → length all ≤ i → IsGoing all r m known made count left (drop i all)
-    → made ≡ touching r (take i all) → IsFilled left filled made count → AreLeft all r m filled
+    → made ≡ count_touching_events r (take i all) → IsFilled left filled made count → AreLeft all r m filled
 going_end all r m known made count i left filled past g counted fill =
-    going_last all r m known made count left filled (subst (IsGoing all r m known made count left) (drop_all i all past) g) (counted ∙ ap (touching r) (take_all i all past)) fill
+    going_last all r m known made count left filled (subst (IsGoing all r m known made count left) (drop_all i all past) g) (counted ∙ ap (count_touching_events r) (take_all i all past)) fill
 
 -- where no event came yet
 pub going_none : (all : List Cause) (r m : ℕ) (known : ℕ → ℕ) (left : StepsLeft) → ((n : ℕ) → known n ≡ 0) → left.count ≡ 0 → left.list.items ≡ [] → IsGoing all r m known 0 left.count left.list.items all
@@ -76,10 +76,10 @@ taken_by old new e d on node count filled = record {
 
 -- ---- around the looks
 
-pub left_at : (causes : List Cause) (b m step number : ℕ) (list : List ℕ) → AreLeft causes b m list → 0 < step → step ≤ touching b causes → number ≡ slice_index list (step - 1) → number ≡ touching m (rewound_list causes b step)
+pub left_at : (causes : List Cause) (b m step number : ℕ) (list : List ℕ) → AreLeft causes b m list → 0 < step → step ≤ count_touching_events b causes → number ≡ slice_index list (step - 1) → number ≡ count_touching_events m (events_after_rewind causes b step)
 left_at causes b m step number list a first within is =
-    let size : length list ≡ touching b causes = a.size in
-    is ∙ a.each (step - 1) (omega (arith, first, within, size)) ∙ ap (λ (z : ℕ). touching m (rewound_list causes b z)) (let q : step - 1 + 1 ≡ step = omega (arith, first) in q)
+    let size : length list ≡ count_touching_events b causes = a.size in
+    is ∙ a.each (step - 1) (omega (arith, first, within, size)) ∙ ap (λ (z : ℕ). count_touching_events m (events_after_rewind causes b z)) (let q : step - 1 + 1 ≡ step = omega (arith, first) in q)
 
 pub by_sides : (P : Side → Type 0) → P Right → P Down → P Left → P Up → (side : Side) → P side
 by_sides P right down left up Right = right
@@ -87,7 +87,7 @@ by_sides P right down left up Down = down
 by_sides P right down left up Left = left
 by_sides P right down left up Up = up
 
-pub around_at : (causes : List Cause) (b n step : ℕ) (lists : StepsLeftNearby) (around : Around) → AreAround causes b n lists → 0 < step → step ≤ touching b causes → around.node ≡ slice_index lists.node.items (step - 1)
+pub around_at : (causes : List Cause) (b n step : ℕ) (lists : StepsLeftNearby) (around : Around) → AreAround causes b n lists → 0 < step → step ≤ count_touching_events b causes → around.node ≡ slice_index lists.node.items (step - 1)
     → ((side : Side) → around_over around side ≡ slice_index (lists_over lists side) (step - 1)) → IsAround causes b step n around
 around_at causes b n step lists around a first within node beside = record {
   node = left_at causes b n step around.node lists.node.items a.node first within node;
@@ -166,7 +166,7 @@ are_taken all b n known next made then old new e es g is taken steps = record {
   beside = λ side m h. going_taken all b m known next made then (sweep_over old side) (sweep_over new side) e es (g.nodes side m h) (g.beside side m h) is (taken.beside side) steps;
 }
 
-pub are_ended : (all : List Cause) (b n : ℕ) (known : ℕ → ℕ) (made i : ℕ) (sweep : Sweep) (r : Result StepsLeftNearby LabFault) → length all ≤ i → AreGoing all b n known made sweep (drop i all) → made ≡ touching b (take i all)
+pub are_ended : (all : List Cause) (b n : ℕ) (known : ℕ → ℕ) (made i : ℕ) (sweep : Sweep) (r : Result StepsLeftNearby LabFault) → length all ≤ i → AreGoing all b n known made sweep (drop i all) → made ≡ count_touching_events b (take i all)
     → IfOk r (λ lists. IsFilled sweep.here.list.items lists.node.items made sweep.here.count)
     → IfOk r (λ lists. (side : Side) → IsFilled (sweep_over sweep side).list.items (lists_over lists side) made (sweep_over sweep side).count)
     → IfOk r (λ lists. AreAround all b n lists)

@@ -4,27 +4,27 @@ use Rattle.std.proofs.Common.{◌≡◌, ℕ, List, [], ◌++◌, Option, Some, 
 use Rattle.std.specs.Prelude.{unwrap_or}
 use Rattle.ga_node.specs.Record.{NodeRecord}
 use Rattle.ga_event.specs.declared.event.Event.{Event}
-use Rattle.ga_event.specs.Apply.{replay, writes_to, reads_from}
+use Rattle.ga_event.specs.Apply.{replay, waits_to_write_side, waits_to_read_side}
 use Rattle.ga_grid.specs.declared.node_id.NodeId.{NodeId}
 use Rattle.ga_event.specs.Next.{next}
 use Rattle.ga_event.proofs.Nexts.{next_can}
 use Rattle.ga_lab.proofs.Forward.{made_is_next}
-use Rattle.ga_lab.specs.Machine.{actor_of, State, initial_state, chip_of, causes_of, told_by, rewound}
-use Rattle.ga_lab.specs.Calls.{MachineCall, after_calls, IsReached}
+use Rattle.ga_lab.specs.Machine.{acting_node, State, initial_state, chip_of, causes_of, outcomes_of_run, state_after_rewind}
+use Rattle.ga_lab.specs.Calls.{MachineCall, after_calls, IsReachableState}
 use Rattle.ga_races.specs.Orders.{AreReorderings, IsTerminal, HasNoRace, IsEnabled}
 use Rattle.ga_races.proofs.Orders.{beginning_quiet, end_quiet}
 use Rattle.ga_ports.specs.declared.side.Side.{Side}
 use Rattle.ga_node.specs.Table.{t}
 use Rattle.ga_grid.specs.Chip.{record_at}
 use Rattle.ga_event.specs.declared.event.Event.TheVariants.{Pass}
-use Rattle.ga_causal.specs.Dependence.{rewound_list, HasNoLooks}
-use Rattle.ga_event.specs.Told.{events_in}
+use Rattle.ga_causal.specs.Dependence.{events_after_rewind, HasNoLooks}
+use Rattle.ga_event.specs.Told.{events_of_causes}
 use Rattle.ga_causal.proofs.Runs.{causes}
 use Rattle.ga_lab.proofs.Called.{Runs, chip_is}
 use Rattle.ga_lab.proofs.Again.{runs_reached}
 use Rattle.ga_races.proofs.Conflicts.{Open, open_of, back}
 use Rattle.ga_races.proofs.Blind.{NoneShows, none_races, end_blind}
-use Rattle.ga_race_detector.specs.Races.{offered_by, alternative_word}
+use Rattle.ga_race_detector.specs.Races.{neighbour_offer, alternative_word}
 
 -- ---- sessions from one load, one of which has no race
 
@@ -62,16 +62,16 @@ same_end load limit bound calls others calm end stop =
     (end_quiet load (chip_of s) (chip_of z) s.kept z.kept (stands load limit calls).led calm end (stands load bound others).led stop).1
 
 pub no_next : (chip : List NodeRecord) → IsTerminal chip ↔ ((n : NodeId) (event : Event) → next chip n ≡ Ok event → ⊥)
-no_next chip = (λ end n event h. end event (next_can chip n event h), λ none event can. none (actor_of event) event (made_is_next chip event can))
+no_next chip = (λ end n event h. end event (next_can chip n event h), λ none event can. none (acting_node event) event (made_is_next chip event can))
 
 -- an enabled pass is offered
 pub is_offered : (c : List NodeRecord) (w r : NodeId) (side : Side) → IsEnabled c (Pass w r side) → IsSome (alternative_word c r.number side)
 is_offered c w r side can =
     let o : Open c w r side = open_of c w r side can in
-    let writes : Bool = writes_to (record_at c w.number).wait side in
-    let reads : Bool = reads_from (record_at c r.number).wait side in
+    let writes : Bool = waits_to_write_side (record_at c w.number).wait side in
+    let reads : Bool = waits_to_read_side (record_at c r.number).wait side in
     let is : alternative_word c r.number side ≡ Some (t (record_at c w.number)) =
-    ap (λ (z : Option ℕ). offered_by c r.number side z) (back c w r side o)
+    ap (λ (z : Option ℕ). neighbour_offer c r.number side z) (back c w r side o)
     ∙ ap (λ (z : Bool). cond {A = Option ℕ} (z && reads) (Some (t (record_at c w.number))) None) o.writes
     ∙ ap (λ (z : Bool). cond {A = Option ℕ} z (Some (t (record_at c w.number))) None) o.reads in
     subst (λ (z : Option ℕ). IsSome z) (sym is) refl
@@ -79,22 +79,22 @@ is_offered c w r side can =
 -- no step could have taken a word over another side
 abbrev pub NoneOffered : State → Type 0
 NoneOffered s = (r : NodeId) (k : ℕ) (side other : Side) → side ≢ other
-    → IsSome (alternative_word (chip_of (rewound s r.number k)) r.number side) → IsSome (alternative_word (chip_of (rewound s r.number k)) r.number other) → ⊥
+    → IsSome (alternative_word (chip_of (state_after_rewind s r.number k)) r.number side) → IsSome (alternative_word (chip_of (state_after_rewind s r.number k)) r.number other) → ⊥
 
-pub no_race_kept : (s : State) → IsReached s → HasNoLooks (causes_of s) → IsTerminal (chip_of s) → NoneOffered s → HasNoRace s.load s.kept
+pub no_race_kept : (s : State) → IsReachableState s → HasNoLooks (causes_of s) → IsTerminal (chip_of s) → NoneOffered s → HasNoRace s.load s.kept
 no_race_kept s reached none end free =
-    none_races s.load r.last s.kept r.told r.run_is (subst (λ z. HasNoLooks z) told none) (end_blind r.last (subst (λ z. IsTerminal z) (chip_is s r) end)) shows
+    none_races s.load r.last s.kept r.told r.run_is (subst (λ z. HasNoLooks z) told none) (end_blind r.last (subst (λ z. IsTerminal z) (chip_is s r) end)) shown_state
   where
     r : Runs s
     r = runs_reached s reached
 
     told : causes_of s ≡ causes r.told
-    told = ap (λ o. causes (told_by o)) r.run_is
+    told = ap (λ o. causes (outcomes_of_run o)) r.run_is
 
-    shows : NoneShows s.load (causes r.told)
-    shows k now w x reader side other led canp canq ne =
-        let here : replay s.load (rewound s reader.number k).kept ≡ Some now = ap (λ z. replay s.load (events_in (rewound_list z reader.number k))) told ∙ led in
-        let at : now ≡ chip_of (rewound s reader.number k) = sym (ap (λ (o : Option (List NodeRecord)). unwrap_or o []) here) in
+    shown_state : NoneShows s.load (causes r.told)
+    shown_state k now w x reader side other led canp canq ne =
+        let here : replay s.load (state_after_rewind s reader.number k).kept ≡ Some now = ap (λ z. replay s.load (events_of_causes (events_after_rewind z reader.number k))) told ∙ led in
+        let at : now ≡ chip_of (state_after_rewind s reader.number k) = sym (ap (λ (o : Option (List NodeRecord)). unwrap_or o []) here) in
         free reader k side other ne
         (subst (λ z. IsSome (alternative_word z reader.number side)) at (is_offered now w reader side canp))
         (subst (λ z. IsSome (alternative_word z reader.number other)) at (is_offered now x reader other canq))

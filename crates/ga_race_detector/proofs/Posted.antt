@@ -20,22 +20,22 @@ use Rattle.ga_event.specs.declared.event.Event.{Event}
 use Rattle.ga_event.specs.declared.event.Cause.{Cause}
 use Rattle.ga_event.specs.declared.made.Made.{Made}
 use Rattle.ga_event.specs.Touches.{touches}
-use Rattle.ga_event.specs.Apply.{EventOutcome, after, replay, writes_to, reads_from, shows}
-use Rattle.ga_event.specs.Told.{steps_of}
-use Rattle.ga_causal.specs.Dependence.{rewound_list}
-use Rattle.ga_causal.specs.Steps.{touching}
+use Rattle.ga_event.specs.Apply.{EventOutcome, after, replay, waits_to_write_side, waits_to_read_side, shown_state}
+use Rattle.ga_event.specs.Told.{count_steps}
+use Rattle.ga_causal.specs.Dependence.{events_after_rewind}
+use Rattle.ga_causal.specs.Steps.{count_touching_events}
 use Rattle.ga_causal.proofs.Places.{touching_in}
 use Rattle.ga_races.specs.Orders.{IsEnabled}
 use Rattle.ga_races.proofs.Independence.{first_of, replay_more, stays}
 use Rattle.ga_races.proofs.Conflicts.{Open, open_of, back, number_of, wait_at, at_node, at_two, one_side, one_way}
-use Rattle.ga_lab.specs.Machine.{State, chip_of, causes_of, history_of, earlier, rewound}
+use Rattle.ga_lab.specs.Machine.{State, chip_of, causes_of, history_of, earlier, state_after_rewind}
 use Rattle.ga_lab.proofs.Called.{Runs}
-use Rattle.ga_race_detector.specs.Races.{offered_by, alternative_word}
+use Rattle.ga_race_detector.specs.Races.{neighbour_offer, alternative_word}
 use Rattle.ga_race_detector.specs.inner.Writers.{posted, word_between}
 use Rattle.ga_race_detector.proofs.Standing.{steps-cons, stands_somewhere}
 use Rattle.ga_race_detector.proofs.Silent.{steps_take}
 use Rattle.ga_race_detector.proofs.Behind.{IsOf, IsWordOf, TakenBack, taken_back}
-use Rattle.ga_node.specs.declared.kind.Kind.{Kind}
+use Rattle.ga_node.specs.declared.kind.OwnEventKind.{OwnEventKind}
 use Rattle.ga_node.specs.declared.seen.NeighbourState.{NeighbourState}
 use Rattle.ga_node.specs.declared.seen.NeighbourState.TheVariants.{Idle}
 
@@ -44,31 +44,31 @@ use Rattle.ga_node.specs.declared.seen.NeighbourState.TheVariants.{Idle}
 abbrev ChipAt : List NodeRecord → List Event → ℕ → List NodeRecord
 ChipAt c es p = unwrap_or (replay c (take p es)) []
 
-untouched : (es : List Event) (c last : List NodeRecord) (m q : ℕ) → replay c es ≡ Some last → steps_of m (take q es) ≡ 0 → record_at (ChipAt c es q) m ≡ record_at c m
+untouched : (es : List Event) (c last : List NodeRecord) (m q : ℕ) → replay c es ≡ Some last → count_steps m (take q es) ≡ 0 → record_at (ChipAt c es q) m ≡ record_at c m
 untouched es c last m zero h none = refl
 untouched [] c last m (suc q) h none = refl
 untouched (e ∷ es) c last m (suc q) h none =
     let f = first_of c e es last h in
-    let sum : steps_of m (e ∷ take q es) ≡ cond (touches e m) 1 0 + steps_of m (take q es) = steps-cons m e (take q es) in
+    let sum : count_steps m (e ∷ take q es) ≡ cond (touches e m) 1 0 + count_steps m (take q es) = steps-cons m e (take q es) in
     elim (cases_Bool (touches e m)) [
       | inl on ↦ absurd (let one = ap (λ (b : Bool). cond {A = ℕ} b 1 0) on in omega (arith, sum, none, one))
       | inr off ↦ ap (λ (o : Option (List NodeRecord)). record_at (unwrap_or o []) m) (replay_more c e (take q es) f.can)
           ∙ untouched es (after c e).0 last m q f.then (omega (arith, sum, none)) ∙ sym ((stays c e f.can).same m off)
     ]
 
-stood_before : (es : List Event) (c last : List NodeRecord) (m p q : ℕ) → replay c es ≡ Some last → p ≤ q → steps_of m (take p es) ≡ steps_of m (take q es) → record_at (ChipAt c es p) m ≡ record_at (ChipAt c es q) m
+stood_before : (es : List Event) (c last : List NodeRecord) (m p q : ℕ) → replay c es ≡ Some last → p ≤ q → count_steps m (take p es) ≡ count_steps m (take q es) → record_at (ChipAt c es p) m ≡ record_at (ChipAt c es q) m
 stood_before es c last m zero q h l same = sym (untouched es c last m q h (sym same))
 stood_before es c last m (suc p) zero h l same = absurd (omega (arith, l))
 stood_before [] c last m (suc p) (suc q) h l same = refl
 stood_before (e ∷ es) c last m (suc p) (suc q) h l same =
     let f = first_of c e es last h in
-    let a : steps_of m (e ∷ take p es) ≡ cond (touches e m) 1 0 + steps_of m (take p es) = steps-cons m e (take p es) in
-    let b : steps_of m (e ∷ take q es) ≡ cond (touches e m) 1 0 + steps_of m (take q es) = steps-cons m e (take q es) in
+    let a : count_steps m (e ∷ take p es) ≡ cond (touches e m) 1 0 + count_steps m (take p es) = steps-cons m e (take p es) in
+    let b : count_steps m (e ∷ take q es) ≡ cond (touches e m) 1 0 + count_steps m (take q es) = steps-cons m e (take q es) in
     ap (λ (o : Option (List NodeRecord)). record_at (unwrap_or o []) m) (replay_more c e (take p es) f.can)
     ∙ stood_before es (after c e).0 last m p q f.then (omega (arith, l)) (omega (arith, a, b, same))
     ∙ sym (ap (λ (o : Option (List NodeRecord)). record_at (unwrap_or o []) m) (replay_more c e (take q es) f.can))
 
-pub stood_alike : (s : State) (last : List NodeRecord) (m p q : ℕ) → replay s.load s.kept ≡ Some last → steps_of m (take p s.kept) ≡ steps_of m (take q s.kept)
+pub stood_alike : (s : State) (last : List NodeRecord) (m p q : ℕ) → replay s.load s.kept ≡ Some last → count_steps m (take p s.kept) ≡ count_steps m (take q s.kept)
     → record_at (chip_of (earlier s p)) m ≡ record_at (chip_of (earlier s q)) m
 stood_alike s last m p q h same = elim (cases_lt p q) [
   | inl l ↦ stood_before s.kept s.load last m p q h (omega (arith, l)) same
@@ -102,7 +102,7 @@ told_word : (mid : List NodeRecord) (e : Event) (m : Made) (o r : NodeId) (side 
 told_word mid e (made.Own n k kind) o r side can touch of carried near =
     let own : IsEnabled mid (event.Own of.0) = subst (λ (z : Event). IsEnabled mid z) of.1 can in
     let here : of.0.number ≡ o.number = at_node of.0.number o.number (subst (λ (z : Event). touches z o.number ≡ true) of.1 touch) in
-    sym (ap (λ (w : Wait). cond {A = Option ℕ} (writes_to w side) (Some (t (record_at mid o.number))) None) (wait_at mid of.0 own o.number here))
+    sym (ap (λ (w : Wait). cond {A = Option ℕ} (waits_to_write_side w side) (Some (t (record_at mid o.number))) None) (wait_at mid of.0 own o.number here))
 told_word mid e (made.Pass w i x j word) o r side can touch of carried near = go (w.number == o.number && x.number == r.number) refl
   where
     open_ : Open mid w x of.0
@@ -115,24 +115,24 @@ told_word mid e (made.Pass w i x j word) o r side can touch of carried near = go
         let to : x.number ≡ r.number = eqb-true x.number r.number p.1 in
         let beside : neighbour_of r.number of.0 ≡ Some o.number = ap (λ (z : ℕ). neighbour_of z of.0) (sym to) ∙ back mid w x of.0 open_ ∙ ap Some from in
         let same : side ≡ of.0 = one_link r.number o.number side of.0 near beside in
-        let writes : writes_to (record_at mid o.number).wait side ≡ true =
-        subst (λ (z : Side). writes_to (record_at mid o.number).wait z ≡ true) (sym same) (subst (λ (z : ℕ). writes_to (record_at mid z).wait of.0 ≡ true) from open_.writes) in
+        let writes : waits_to_write_side (record_at mid o.number).wait side ≡ true =
+        subst (λ (z : Side). waits_to_write_side (record_at mid o.number).wait z ≡ true) (sym same) (subst (λ (z : ℕ). waits_to_write_side (record_at mid z).wait of.0 ≡ true) from open_.writes) in
         ap Some (carried ∙ ap (λ (z : ℕ). t (record_at mid z)) from) ∙ sym (ap (λ (b : Bool). cond {A = Option ℕ} b (Some (t (record_at mid o.number))) None) writes)
     go false is = sym (ap (λ (b : Bool). cond {A = Option ℕ} b (Some (t (record_at mid o.number))) None) silent)
       where
-        clash : writes_to (record_at mid o.number).wait side ≡ true → ⊥
+        clash : waits_to_write_side (record_at mid o.number).wait side ≡ true → ⊥
         clash u = elim (at_two w.number x.number o.number (subst (λ (z : Event). touches z o.number ≡ true) of.1 touch)) [
           | inl from ↦ (
-              let same : side ≡ of.0 = one_side (record_at mid o.number).wait side of.0 u (subst (λ (z : ℕ). writes_to (record_at mid z).wait of.0 ≡ true) from open_.writes) in
+              let same : side ≡ of.0 = one_side (record_at mid o.number).wait side of.0 u (subst (λ (z : ℕ). waits_to_write_side (record_at mid z).wait of.0 ≡ true) from open_.writes) in
               let there : x.number ≡ r.number =
               same_Some x.number r.number (sym (number_of (neighbour_of w.number of.0) x.number open_.near) ∙ ap (λ (z : ℕ). neighbour_of z of.0) from ∙ ap (neighbour_of o.number) (sym same)
               ∙ neighbour_of-back r.number o.number side r.in_range near) in
               true≢false (sym (and_from (w.number == o.number) (x.number == r.number) (eq-eqb w.number o.number from) (eq-eqb x.number r.number there)) ∙ is))
-          | inr to ↦ one_way (record_at mid o.number).wait side of.0 u (subst (λ (z : ℕ). reads_from (record_at mid z).wait of.0 ≡ true) to open_.reads)
+          | inr to ↦ one_way (record_at mid o.number).wait side of.0 u (subst (λ (z : ℕ). waits_to_read_side (record_at mid z).wait of.0 ≡ true) to open_.reads)
         ]
 
-        silent : writes_to (record_at mid o.number).wait side ≡ false
-        silent = elim (cases_Bool (writes_to (record_at mid o.number).wait side)) [ inl u ↦ absurd (clash u) | inr v ↦ v ]
+        silent : waits_to_write_side (record_at mid o.number).wait side ≡ false
+        silent = elim (cases_Bool (waits_to_write_side (record_at mid o.number).wait side)) [ inl u ↦ absurd (clash u) | inr v ↦ v ]
 
 -- ---- in the machine
 
@@ -146,11 +146,11 @@ none_within [] i h = omega arith
 none_within (x ∷ xs) zero h = absurd (cc)
 none_within (x ∷ xs) (suc i) h = let l = none_within xs i h in omega (arith, l)
 
-pub posted_told : (s : State) → Runs s → (o r : NodeId) (side : Side) (steps place : ℕ) (m : Made) → length (history_of s o.number) ≡ steps_of o.number s.kept → Some m ≡ slice_get (history_of s o.number) steps
-    → neighbour_of r.number side ≡ Some o.number → steps_of o.number (take place s.kept) ≡ steps
+pub posted_told : (s : State) → Runs s → (o r : NodeId) (side : Side) (steps place : ℕ) (m : Made) → length (history_of s o.number) ≡ count_steps o.number s.kept → Some m ≡ slice_get (history_of s o.number) steps
+    → neighbour_of r.number side ≡ Some o.number → count_steps o.number (take place s.kept) ≡ steps
     → word_between o.number r.number m ≡ posted (record_at (chip_of (earlier s place)) o.number) side
 posted_told s runs o r side steps place m size told near count =
-    let within : steps < steps_of o.number s.kept = (let l = some_within (history_of s o.number) steps m (sym told) in omega (arith, l, size)) in
+    let within : steps < count_steps o.number s.kept = (let l = some_within (history_of s o.number) steps m (sym told) in omega (arith, l, size)) in
     let b : TakenBack s o.number steps = taken_back s runs o.number steps within in
     let same : m ≡ b.made = same_Some m b.made (told ∙ b.told) in
     ap (word_between o.number r.number) same ∙ told_word b.mid b.event b.made o r side b.can b.touch b.of b.word near
@@ -160,18 +160,18 @@ posted_told s runs o r side steps place m size told near count =
     led = ap (λ (o : Option (List NodeRecord × List (Cause × EventOutcome))). option_map (λ z. z.0) o) runs.run_is
 
 -- after its last step it is in its current state
-pub last_stood : (s : State) (last : List NodeRecord) (o steps place : ℕ) (now : NodeRecord) → replay s.load s.kept ≡ Some last → length (history_of s o) ≡ steps_of o s.kept
-    → None ≡ slice_get (history_of s o) steps → now ≡ record_at (chip_of s) o → steps_of o (take place s.kept) ≡ steps → now ≡ record_at (chip_of (earlier s place)) o
+pub last_stood : (s : State) (last : List NodeRecord) (o steps place : ℕ) (now : NodeRecord) → replay s.load s.kept ≡ Some last → length (history_of s o) ≡ count_steps o s.kept
+    → None ≡ slice_get (history_of s o) steps → now ≡ record_at (chip_of s) o → count_steps o (take place s.kept) ≡ steps → now ≡ record_at (chip_of (earlier s place)) o
 last_stood s last o steps place now h size none is count =
     let past = none_within (history_of s o) steps (sym none) in
     let most = steps_take o s.kept place in
     let whole : take (length s.kept) s.kept ≡ s.kept = take_all (length s.kept) s.kept (omega arith) in
-    let all : steps_of o (take (length s.kept) s.kept) ≡ steps_of o s.kept = ap (steps_of o) whole in
+    let all : count_steps o (take (length s.kept) s.kept) ≡ count_steps o s.kept = ap (count_steps o) whole in
     is ∙ ap (λ (z : List Event). record_at (unwrap_or (replay s.load z) []) o) (sym whole)
     ∙ stood_alike s last o (length s.kept) place h (omega (arith, all, past, most, size, count))
 
-pub posted_last : (s : State) (last : List NodeRecord) (o : ℕ) (side : Side) (steps place : ℕ) (now : NodeRecord) → replay s.load s.kept ≡ Some last → length (history_of s o) ≡ steps_of o s.kept
-    → None ≡ slice_get (history_of s o) steps → now ≡ record_at (chip_of s) o → steps_of o (take place s.kept) ≡ steps
+pub posted_last : (s : State) (last : List NodeRecord) (o : ℕ) (side : Side) (steps place : ℕ) (now : NodeRecord) → replay s.load s.kept ≡ Some last → length (history_of s o) ≡ count_steps o s.kept
+    → None ≡ slice_get (history_of s o) steps → now ≡ record_at (chip_of s) o → count_steps o (take place s.kept) ≡ steps
     → posted now side ≡ posted (record_at (chip_of (earlier s place)) o) side
 posted_last s last o side steps place now h size none is count = ap (λ (z : NodeRecord). posted z side) (last_stood s last o steps place now h size none is count)
 
@@ -179,39 +179,39 @@ and_true : (a b : Bool) → b ≡ true → (a && b) ≡ a
 and_true true b h = h
 and_true false b h = refl
 
-pub offered_left : (s : State) (n k m many : ℕ) (side : Side) (word : Option ℕ) → IsSome (replay s.load s.kept) → reads_from (record_at (chip_of (rewound s n k)) n).wait side ≡ true → neighbour_of n side ≡ Some m
-    → many ≡ touching m (rewound_list (causes_of s) n k) → ((place : ℕ) → steps_of m (take place s.kept) ≡ many → word ≡ posted (record_at (chip_of (earlier s place)) m) side)
-    → word ≡ alternative_word (chip_of (rewound s n k)) n side
+pub offered_left : (s : State) (n k m many : ℕ) (side : Side) (word : Option ℕ) → IsSome (replay s.load s.kept) → waits_to_read_side (record_at (chip_of (state_after_rewind s n k)) n).wait side ≡ true → neighbour_of n side ≡ Some m
+    → many ≡ count_touching_events m (events_after_rewind (causes_of s) n k) → ((place : ℕ) → count_steps m (take place s.kept) ≡ many → word ≡ posted (record_at (chip_of (earlier s place)) m) side)
+    → word ≡ alternative_word (chip_of (state_after_rewind s n k)) n side
 offered_left s n k m many side word some reads near left is =
     let a = stands_somewhere s n k m some in
-    let chip = chip_of (rewound s n k) in
-    is a.place (a.count ∙ sym (left ∙ touching_in m (rewound_list (causes_of s) n k)))
+    let chip = chip_of (state_after_rewind s n k) in
+    is a.place (a.count ∙ sym (left ∙ touching_in m (events_after_rewind (causes_of s) n k)))
     ∙ ap (λ (z : NodeRecord). posted z side) (sym a.same)
-    ∙ ap (λ (b : Bool). cond {A = Option ℕ} b (Some (t (record_at chip m))) None) (sym (and_true (writes_to (record_at chip m).wait side) (reads_from (record_at chip n).wait side) reads))
-    ∙ ap (offered_by chip n side) (sym near)
+    ∙ ap (λ (b : Bool). cond {A = Option ℕ} b (Some (t (record_at chip m))) None) (sym (and_true (waits_to_write_side (record_at chip m).wait side) (waits_to_read_side (record_at chip n).wait side) reads))
+    ∙ ap (neighbour_offer chip n side) (sym near)
 
 -- ---- what a node shows its neighbours after a number of its steps, and where this number of them remains
 
 -- a node whose next step is its own waits for nothing
-pub own_shows : (s : State) → Runs s → (o : NodeId) (side : Side) (steps place : ℕ) (m : Made) (who : NodeId) (k : ℕ) (kind : Kind) → m ≡ made.Own who k kind → length (history_of s o.number) ≡ steps_of o.number s.kept
-    → Some m ≡ slice_get (history_of s o.number) steps → steps_of o.number (take place s.kept) ≡ steps
-    → Idle ≡ shows (record_at (chip_of (earlier s place)) o.number).wait side
+pub own_shows : (s : State) → Runs s → (o : NodeId) (side : Side) (steps place : ℕ) (m : Made) (who : NodeId) (k : ℕ) (kind : OwnEventKind) → m ≡ made.Own who k kind → length (history_of s o.number) ≡ count_steps o.number s.kept
+    → Some m ≡ slice_get (history_of s o.number) steps → count_steps o.number (take place s.kept) ≡ steps
+    → Idle ≡ shown_state (record_at (chip_of (earlier s place)) o.number).wait side
 own_shows s runs o side steps place m who k kind own_made size told count =
-    let within : steps < steps_of o.number s.kept = (let l = some_within (history_of s o.number) steps m (sym told) in omega (arith, l, size)) in
+    let within : steps < count_steps o.number s.kept = (let l = some_within (history_of s o.number) steps m (sym told) in omega (arith, l, size)) in
     let b : TakenBack s o.number steps = taken_back s runs o.number steps within in
     let same : made.Own who k kind ≡ b.made = sym own_made ∙ same_Some m b.made (told ∙ b.told) in
     let of : IsOf (made.Own who k kind) b.event = subst (λ (z : Made). IsOf z b.event) (sym same) b.of in
     let own : IsEnabled b.mid (event.Own of.0) = subst (λ (z : Event). IsEnabled b.mid z) of.1 b.can in
     let here : of.0.number ≡ o.number = at_node of.0.number o.number (subst (λ (z : Event). touches z o.number ≡ true) of.1 b.touch) in
-    ap (λ (w : Wait). shows w side) (sym (wait_at b.mid of.0 own o.number here))
-    ∙ ap (λ (z : NodeRecord). shows z.wait side) (sym b.stood ∙ stood_alike s runs.last o.number b.place place led (b.count ∙ sym count))
+    ap (λ (w : Wait). shown_state w side) (sym (wait_at b.mid of.0 own o.number here))
+    ∙ ap (λ (z : NodeRecord). shown_state z.wait side) (sym b.stood ∙ stood_alike s runs.last o.number b.place place led (b.count ∙ sym count))
   where
     led : replay s.load s.kept ≡ Some runs.last
     led = ap (λ (o : Option (List NodeRecord × List (Cause × EventOutcome))). option_map (λ z. z.0) o) runs.run_is
 
 -- after a rollback it shows what it showed at the same number of steps
-pub rewound_shows : (s : State) (b k m many : ℕ) (side : Side) (is : NeighbourState) → IsSome (replay s.load s.kept) → many ≡ touching m (rewound_list (causes_of s) b k)
-    → ((place : ℕ) → steps_of m (take place s.kept) ≡ many → is ≡ shows (record_at (chip_of (earlier s place)) m).wait side) → is ≡ shows (record_at (chip_of (rewound s b k)) m).wait side
+pub rewound_shows : (s : State) (b k m many : ℕ) (side : Side) (is : NeighbourState) → IsSome (replay s.load s.kept) → many ≡ count_touching_events m (events_after_rewind (causes_of s) b k)
+    → ((place : ℕ) → count_steps m (take place s.kept) ≡ many → is ≡ shown_state (record_at (chip_of (earlier s place)) m).wait side) → is ≡ shown_state (record_at (chip_of (state_after_rewind s b k)) m).wait side
 rewound_shows s b k m many side is some left then =
     let a = stands_somewhere s b k m some in
-    then a.place (a.count ∙ sym (left ∙ touching_in m (rewound_list (causes_of s) b k))) ∙ ap (λ (z : NodeRecord). shows z.wait side) (sym a.same)
+    then a.place (a.count ∙ sym (left ∙ touching_in m (events_after_rewind (causes_of s) b k))) ∙ ap (λ (z : NodeRecord). shown_state z.wait side) (sym a.same)

@@ -13,15 +13,15 @@ use Rattle.ga_grid.proofs.NodeIds.{node_id-number}
 use Rattle.ga_event.specs.declared.event.Cause.{Cause}
 use Rattle.ga_event.specs.declared.made.Made.{Made}
 use Rattle.ga_ports.specs.declared.side.Side.{Side}
-use Rattle.ga_lab.specs.Machine.{State, chip_of, history_of, rewound}
-use Rattle.ga_race_detector.specs.Races.{alternative_word, race_from, races_over, races_told, races_before, races_of, races_below, has_look, looks_next, has_next_look, first_ready}
+use Rattle.ga_lab.specs.Machine.{State, chip_of, history_of, state_after_rewind}
+use Rattle.ga_race_detector.specs.Races.{alternative_word, race_with_offer, races_on_side, races_of_event, races_before, races_of, races_below, has_look, looks_next, has_next_look, first_ready_node}
 use Rattle.ga_race_detector.specs.declared.races.Race.{Race}
 use Rattle.ga_event.specs.Next.{next}
 use Rattle.ga_races.specs.Orders.{has_event}
 use Rattle.ga_races.proofs.Ready.{can_go_is, none_of}
 
 pub added : (r : NodeId) (k : ℕ) (w : NodeId) (word : ℕ) (other : NodeId) (offer : Option ℕ) (o cut : ℕ) → offer ≡ Some o → other.number ≢ w.number → cut ≡ o % (2 ^ 18)
-    → IfSome offer (λ z. z < 2 ^ 18) → race_from r k w word (Some other.number) offer ≡ record { reader = r; step = k; writer = w; word = word; other = other; offered = cut } ∷ []
+    → IfSome offer (λ z. z < 2 ^ 18) → race_with_offer r k w word (Some other.number) offer ≡ record { reader = r; step = k; writer = w; word = word; other = other; offered = cut } ∷ []
 added r k w word other (Some x) o cut is ne c small =
     go (other.number == w.number) refl
   where
@@ -38,23 +38,23 @@ added r k w word other (Some x) o cut is ne c small =
 added r k w word other None o cut is ne c small = absurd (cc)
 
 -- over the side of the writer of a step nothing else came
-none_from : (r : NodeId) (k : ℕ) (w : NodeId) (word n : ℕ) (offer : Option ℕ) → n ≡ w.number → race_from r k w word (Some n) offer ≡ []
+none_from : (r : NodeId) (k : ℕ) (w : NodeId) (word n : ℕ) (offer : Option ℕ) → n ≡ w.number → race_with_offer r k w word (Some n) offer ≡ []
 none_from r k w word n None q = refl
 none_from r k w word n (Some x) q =
     ap (λ (b : Bool). cond {A = List Race} b [] (record { reader = r; step = k; writer = w; word = word; other = node_id n; offered = x } ∷ [])) (eq-eqb n w.number q)
 
 pub own_side : (s : State) (r : NodeId) (k : ℕ) (w : NodeId) (word : ℕ) (side : Side) (old : List Race) → neighbour_of r.number side ≡ Some w.number
-    → old ≡ old ++ races_over s r k w word side
+    → old ≡ old ++ races_on_side s r k w word side
 own_side s r k w word side old is =
-    sym (append-nil old) ∙ ap (λ (z : List Race). old ++ z) (sym (ap (λ (o : Option ℕ). race_from r k w word o (alternative_word (chip_of (rewound s r.number k)) r.number side)) is
-    ∙ none_from r k w word w.number (alternative_word (chip_of (rewound s r.number k)) r.number side) refl))
+    sym (append-nil old) ∙ ap (λ (z : List Race). old ++ z) (sym (ap (λ (o : Option ℕ). race_with_offer r k w word o (alternative_word (chip_of (state_after_rewind s r.number k)) r.number side)) is
+    ∙ none_from r k w word w.number (alternative_word (chip_of (state_after_rewind s r.number k)) r.number side) refl))
 
 pub one_more : (s : State) (node : NodeId) (p : ℕ) (m : Made) (old xs ys : List Race) → xs ≡ old ++ races_before s node p → Some m ≡ slice_get (history_of s node.number) p
-    → ys ≡ xs ++ races_told s node (p + 1) (Some m) → ys ≡ old ++ races_before s node (p + 1)
+    → ys ≡ xs ++ races_of_event s node (p + 1) (Some m) → ys ≡ old ++ races_before s node (p + 1)
 unfolding races_before
 one_more s node p m old xs ys h is g =
-    g ∙ ap (λ (z : List Race). z ++ races_told s node (p + 1) (Some m)) h ∙ append_assoc old (races_before s node p) (races_told s node (p + 1) (Some m))
-    ∙ ap (λ (o : Option Made). old ++ (races_before s node p ++ races_told s node (p + 1) o)) is
+    g ∙ ap (λ (z : List Race). z ++ races_of_event s node (p + 1) (Some m)) h ∙ append_assoc old (races_before s node p) (races_of_event s node (p + 1) (Some m))
+    ∙ ap (λ (o : Option Made). old ++ (races_before s node p ++ races_of_event s node (p + 1) o)) is
     ∙ ap (λ (z : ℕ). old ++ races_before s node z) (let q : suc p ≡ p + 1 = omega arith in q)
 
 pub none_before : (s : State) (node : NodeId) (old : List Race) → old ≡ old ++ races_before s node 0
@@ -104,10 +104,10 @@ idle_more chip number node at none before n l = elim (cases_eq n number) [
 ]
 
 -- some node has one
-pub ready_some : (chip : List NodeRecord) (node : NodeId) → is_ok (next chip node) ≡ true → is_none (first_ready chip) ≡ false
-ready_some chip node is = go (first_ready chip) refl
+pub ready_some : (chip : List NodeRecord) (node : NodeId) → is_ok (next chip node) ≡ true → is_none (first_ready_node chip) ≡ false
+ready_some chip node is = go (first_ready_node chip) refl
   where
-    go : (o : Option NodeId) → first_ready chip ≡ o → is_none o ≡ false
+    go : (o : Option NodeId) → first_ready_node chip ≡ o → is_none o ≡ false
     go (Some it) q = refl
     go None q =
         let l : node.number < 144 = node.in_range in

@@ -10,61 +10,61 @@ use Rattle.ga_node.specs.Record.{NodeRecord}
 use Rattle.ga_node.specs.Table.{t, refusal, looks}
 use Rattle.ga_grid.specs.Grid.{neighbour_of, node_id}
 use Rattle.ga_grid.specs.Chip.{record_at}
-use Rattle.ga_event.specs.Apply.{writes_to, reads_from}
+use Rattle.ga_event.specs.Apply.{waits_to_write_side, waits_to_read_side}
 use Rattle.std.specs.List.{slice_get}
 use Rattle.ga_ports.specs.declared.side.Side.TheVariants.{Right, Down, Left, Up}
 use Rattle.ga_grid.specs.declared.node_id.NodeId.{NodeId}
 use Rattle.ga_event.specs.declared.event.Cause.{Cause}
 use Rattle.ga_event.specs.Next.{next}
 use Rattle.ga_event.specs.declared.made.Made.{Made}
-use Rattle.ga_event.specs.Told.{steps_of}
-use Rattle.ga_lab.specs.Machine.{State, chip_of, history_of, rewound}
+use Rattle.ga_event.specs.Told.{count_steps}
+use Rattle.ga_lab.specs.Machine.{State, chip_of, history_of, state_after_rewind}
 use Rattle.ga_race_detector.specs.declared.races.Race.{Race}
-use Rattle.ga_races.specs.Orders.{has_event, first_in}
+use Rattle.ga_races.specs.Orders.{has_event, first_node_from}
 
 -- ---- the words that the neighbours of a node wait to give it
 
 -- the word that a writer waits to give a reader over a side, where that waits for it there
 abbrev pub word_offered_to : NodeRecord → NodeRecord → Side → Option ℕ
-word_offered_to reader writer side = if writes_to writer.wait side && reads_from reader.wait side then Some (t writer) else None
+word_offered_to reader writer side = if waits_to_write_side writer.wait side && waits_to_read_side reader.wait side then Some (t writer) else None
 
 -- the word that the neighbour of this number waits to give a node over a side, if there is such a neighbour
-abbrev pub offered_by : List NodeRecord → ℕ → Side → Option ℕ → Option ℕ
-offered_by chip reader side None = None
-offered_by chip reader side (Some writer) = word_offered_to (record_at chip reader) (record_at chip writer) side
+abbrev pub neighbour_offer : List NodeRecord → ℕ → Side → Option ℕ → Option ℕ
+neighbour_offer chip reader side None = None
+neighbour_offer chip reader side (Some writer) = word_offered_to (record_at chip reader) (record_at chip writer) side
 
 -- the word that can come over a side of a node
 abbrev pub alternative_word : List NodeRecord → ℕ → Side → Option ℕ
-alternative_word chip reader side = offered_by chip reader side (neighbour_of reader side)
+alternative_word chip reader side = neighbour_offer chip reader side (neighbour_of reader side)
 
 -- the word that a neighbour would give the node, in place of the one that came from this writer
-abbrev pub race_from : NodeId → ℕ → NodeId → ℕ → Option ℕ → Option ℕ → List Race
-race_from reader step writer word None offer = []
-race_from reader step writer word (Some other) None = []
-race_from reader step writer word (Some other) (Some offer) =
+abbrev pub race_with_offer : NodeId → ℕ → NodeId → ℕ → Option ℕ → Option ℕ → List Race
+race_with_offer reader step writer word None offer = []
+race_with_offer reader step writer word (Some other) None = []
+race_with_offer reader step writer word (Some other) (Some offer) =
     if other == writer.number then []
     else record { reader = reader; step = step; writer = writer; word = word; other = node_id other; offered = offer } ∷ []
 
 -- the race of a step that took a word, of the other word that a rollback of the step leaves offered over a side of the node
-abbrev pub races_over : State → NodeId → ℕ → NodeId → ℕ → Side → List Race
-races_over s reader step writer word side =
-    race_from reader step writer word (neighbour_of reader.number side) (alternative_word (chip_of (rewound s reader.number step)) reader.number side)
+abbrev pub races_on_side : State → NodeId → ℕ → NodeId → ℕ → Side → List Race
+races_on_side s reader step writer word side =
+    race_with_offer reader step writer word (neighbour_of reader.number side) (alternative_word (chip_of (state_after_rewind s reader.number step)) reader.number side)
 
 -- the races of a step that took a word, of the other words that a rollback of the step leaves offered over the sides of the
 -- node
-abbrev pub races_around : State → NodeId → ℕ → NodeId → ℕ → List Race
-races_around s reader step writer word =
-    races_over s reader step writer word Right ++ (races_over s reader step writer word Down
-    ++ (races_over s reader step writer word Left ++ races_over s reader step writer word Up))
+abbrev pub races_of_pass : State → NodeId → ℕ → NodeId → ℕ → List Race
+races_of_pass s reader step writer word =
+    races_on_side s reader step writer word Right ++ (races_on_side s reader step writer word Down
+    ++ (races_on_side s reader step writer word Left ++ races_on_side s reader step writer word Up))
 
 -- the races of a step of a node, by the step as made: none, unless by it the node took a word
-abbrev pub races_told : State → NodeId → ℕ → Option Made → List Race
-races_told s node step None = []
-races_told s node step (Some (made.Own n k kind)) = []
-races_told s node step (Some (made.Pass writer i reader j word)) = if reader.number == node.number then races_around s node step writer word else []
+abbrev pub races_of_event : State → NodeId → ℕ → Option Made → List Race
+races_of_event s node step None = []
+races_of_event s node step (Some (made.Own n k kind)) = []
+races_of_event s node step (Some (made.Pass writer i reader j word)) = if reader.number == node.number then races_of_pass s node step writer word else []
 
 abbrev pub races_at : State → NodeId → ℕ → List Race
-races_at s node place = races_told s node (place + 1) (slice_get (history_of s node.number) place)
+races_at s node place = races_of_event s node (place + 1) (slice_get (history_of s node.number) place)
 
 -- the races of the first steps of a node
 unfoldable pub races_before : State → NodeId → ℕ → List Race
@@ -73,7 +73,7 @@ races_before s node (suc place) = races_before s node place ++ races_at s node p
 
 -- the races of all steps of a node
 abbrev pub races_of : State → NodeId → List Race
-races_of s node = races_before s node (steps_of node.number s.kept)
+races_of s node = races_before s node (count_steps node.number s.kept)
 
 -- the races of the nodes below a number
 unfoldable pub races_below : State → ℕ → List Race
@@ -81,9 +81,9 @@ races_below s zero = []
 races_below s (suc number) = races_below s number ++ races_of s (node_id number)
 
 -- the races of one node, or of all
-abbrev pub races_asked : State → Option NodeId → List Race
-races_asked s None = races_below s 144
-races_asked s (Some node) = races_of s node
+abbrev pub requested_races : State → Option NodeId → List Race
+requested_races s None = races_below s 144
+requested_races s (Some node) = races_of s node
 
 -- one of the events looks
 unfoldable pub has_look : List Cause → Bool
@@ -104,12 +104,12 @@ abbrev pub has_looks : List Cause → List NodeRecord → Bool
 has_looks causes chip = has_look causes || has_next_look chip 144
 
 -- the first node that has an event
-abbrev pub first_ready : List NodeRecord → Option NodeId
-first_ready chip = first_in (has_event chip) 0 144
+abbrev pub first_ready_node : List NodeRecord → Option NodeId
+first_ready_node chip = first_node_from (has_event chip) 0 144
 
 -- after a rollback of the step, a step of the other neighbour transfers the other word to the node
-pub record IsOther (s : State) (race : Race) : Type 0 where
+pub record IsRealizableRace (s : State) (race : Race) : Type 0 where
   pub side : Side
-  pub next : next (chip_of (rewound s race.reader.number race.step)) race.other ≡ Ok (event.Pass race.other race.reader side)
-  pub word : race.offered ≡ t (record_at (chip_of (rewound s race.reader.number race.step)) race.other.number)
+  pub next : next (chip_of (state_after_rewind s race.reader.number race.step)) race.other ≡ Ok (event.Pass race.other race.reader side)
+  pub word : race.offered ≡ t (record_at (chip_of (state_after_rewind s race.reader.number race.step)) race.other.number)
   pub differ : race.other.number ≢ race.writer.number

@@ -6,10 +6,10 @@ ghost use Rattle.ga_node.specs.State.{wait_of, IsWaitCode};
 ghost use Rattle.ga_grid.specs.Grid.{neighbour_of};
 ghost use Rattle.ga_ports.specs.declared.side.Side.{Side};
 ghost use Rattle.ga_grid.specs.Chip.{record_at};
-ghost use Rattle.ga_event.specs.Apply.{writes_to, shows, beside_in, neighbour_states, replay};
-ghost use Rattle.ga_event.specs.Told.{steps_of};
-ghost use Rattle.ga_races.specs.HappensBefore.{causes_in, actions};
-ghost use Rattle.ga_races.specs.Acts.{actions_in};
+ghost use Rattle.ga_event.specs.Apply.{waits_to_write_side, shown_state, shown_neighbour_state, neighbour_states, replay};
+ghost use Rattle.ga_event.specs.Told.{count_steps};
+ghost use Rattle.ga_races.specs.HappensBefore.{causes_of_actions, actions};
+ghost use Rattle.ga_races.specs.Acts.{actions_of_accesses};
 ghost use Rattle.ga_races.specs.inner.{shown_as, is_changed, changed_sides, AreAlike};
 ghost use Rattle.ga_lab.specs.Machine.{State, chip_of, causes_of, earlier};
 ghost use Rattle.ga_race_detector.specs.inner.Glances.{StoodSo, AllStood, IsAt, IsActAt, IsMoment, AreMoments};
@@ -22,7 +22,7 @@ use ga_grid::{NodeId, neighbour};
 use ga_lab::{Lab, LabFault};
 use ga_node::{NeighbourState, Place, Seen};
 use ga_ports::Side;
-use ga_races::{EventAccess, Sides};
+use ga_races::{EventAccess, SideSet};
 use ga_word::Word18;
 use std::alloc::Global;
 
@@ -43,8 +43,8 @@ struct Behind {
 }
 
 // An empty set of sides.
-fn no_sides() -> Sides {
-    Sides {
+fn no_sides() -> SideSet {
+    SideSet {
         right: false,
         down: false,
         left: false,
@@ -55,7 +55,7 @@ fn no_sides() -> Sides {
 // Whether a node whose wait has this number waits to write the side.
 fn writes_by(wait: u32, side: Side) -> bool
     requires { IsWaitCode wait }
-    ensures { result ≡ writes_to (wait_of wait) side }
+    ensures { result ≡ waits_to_write_side (wait_of wait) side }
 {
     match side {
         Side::Right => wait == 56,
@@ -68,7 +68,7 @@ fn writes_by(wait: u32, side: Side) -> bool
 // What a node whose wait has this number shows on a side: 0 nothing, 1 that it waits to read there, 2 that it waits to write.
 fn shown(wait: u32, side: Side) -> u8
     requires { IsWaitCode wait }
-    ensures { result ≡ shown_as (shows (wait_of wait) side) }
+    ensures { result ≡ shown_as (shown_state (wait_of wait) side) }
 {
     if reads_by(wait, side) {
         1
@@ -82,7 +82,7 @@ fn shown(wait: u32, side: Side) -> u8
 /// What a node whose wait has this number shows on a side.
 pub(crate) fn shown_by(code: u32, side: Side) -> NeighbourState
     requires { IsWaitCode code }
-    ensures { result ≡ shows (wait_of code) side }
+    ensures { result ≡ shown_state (wait_of code) side }
 {
     if reads_by(code, side) {
         NeighbourState::Reading
@@ -103,12 +103,12 @@ fn is_changed(before: u32, behind: u32, side: Side) -> bool
 }
 
 // On which sides a node shows something else with the one number of its wait than with the other.
-fn differ(before: u32, behind: u32) -> Sides
+fn differ(before: u32, behind: u32) -> SideSet
     requires before { IsWaitCode before }
     requires behind { IsWaitCode behind }
     ensures { result ≡ changed_sides (wait_of before) (wait_of behind) }
 {
-    Sides {
+    SideSet {
         right: is_changed(before, behind, Side::Right),
         down: is_changed(before, behind, Side::Down),
         left: is_changed(before, behind, Side::Left),
@@ -120,11 +120,11 @@ fn differ(before: u32, behind: u32) -> Sides
 fn wait_before(lab: &Lab, node: NodeId, at: u32, behind: u32) -> u32
     requires { IsWaitCode behind }
     ensures valid { IsWaitCode result }
-    ensures value { (p q : ℕ) → steps_of node.number (take p lab.now.kept) ≡ at → steps_of node.number (take q lab.now.kept) ≡ at + 1 →
+    ensures value { (p q : ℕ) → count_steps node.number (take p lab.now.kept) ≡ at → count_steps node.number (take q lab.now.kept) ≡ at + 1 →
         (record_at (chip_of (earlier lab.now q)) node.number).wait ≡ wait_of behind →
         (record_at (chip_of (earlier lab.now p)) node.number).wait ≡ wait_of result }
 {
-    match lab.overwritten(node, at, Place::Wait) {
+    match lab.overwritten_value(node, at, Place::Wait) {
         Some(before) => before,
         None => behind,
     }
@@ -187,7 +187,7 @@ impl Behind {
     fn beside(&self, node: NodeId, side: Side) -> NeighbourState
         requires { (m : ℕ) → m < 144 → IsWaitCode (slice_index self.now.waits m) }
         ensures { (s : State) (p : ℕ) → AllStood s p self.now.waits self.now.steps →
-            result ≡ beside_in (chip_of (earlier s p)) side (neighbour_of node.number side) }
+            result ≡ shown_neighbour_state (chip_of (earlier s p)) side (neighbour_of node.number side) }
     {
         match neighbour(node, side) {
             Some(other) => shown_by(self.wait_at(other), side),
@@ -216,7 +216,7 @@ impl Behind {
             result ≡ io_word (neighbour_states (chip_of (earlier s p)) node.number) }
     {
         if !look {
-            return Word18::truncated(0);
+            return Word18::from_low_bits(0);
         }
         self.seen(node).io_word()
     }
@@ -236,12 +236,12 @@ impl Behind {
 
     // Walks back over the last step of a node, and returns on which sides it changed what the node shows.
     #[tactic(auto, using(crate::proofs::Acting::stood_before))]
-    fn back(&mut self, lab: &Lab, node: NodeId) -> Sides
+    fn back(&mut self, lab: &Lab, node: NodeId) -> SideSet
         requires steps { 0 < slice_index self.old.steps node.number }
         requires valid { IsWaitCode (slice_index self.old.waits node.number) }
         ensures here { (p q : ℕ) →
             StoodSo lab.now node.number q (slice_index self.old.waits node.number) (slice_index self.old.steps node.number) →
-            steps_of node.number (take q lab.now.kept) ≡ steps_of node.number (take p lab.now.kept) + 1 →
+            count_steps node.number (take q lab.now.kept) ≡ count_steps node.number (take p lab.now.kept) + 1 →
             StoodSo lab.now node.number p (slice_index self.new.waits node.number) (slice_index self.new.steps node.number) }
         ensures sides { result ≡ changed_sides (wait_of (slice_index self.new.waits node.number)) (wait_of (slice_index self.old.waits node.number)) }
         ensures waits { (m : ℕ) → m ≢ node.number → slice_index self.new.waits m ≡ slice_index self.old.waits m }
@@ -322,7 +322,7 @@ fn plain(cause: &Cause) -> EventAccess
 // The events, each with no sides yet on which it changed what is shown.
 #[tactic(auto, using(crate::proofs::Acting::plain_more, std::proofs::lemmas::List::take_all))]
 fn plain_acts(alloc: Global, causes: &[Cause]) -> Result<Vec<EventAccess>, LabFault>
-    ensures causes { IfOk result (λ acts. causes_in (actions_in acts.items) ≡ causes.now) }
+    ensures causes { IfOk result (λ acts. causes_of_actions (actions_of_accesses acts.items) ≡ causes.now) }
     ensures err { IfErr result (λ why. why ≡ LabFault.Memory) }
 {
     let mut acts = match Vec::with_capacity(alloc, causes.len()) {
@@ -348,7 +348,7 @@ pub(crate) fn kept_accesses(
 ) -> Result<KeptAccesses, LabFault>
     requires all { causes.now ≡ causes_of lab.now }
     ensures size { IfOk result (λ acts. length acts.list.items ≡ length causes.now) }
-    ensures alike { IfOk result (λ acts. AreAlike (actions_in acts.list.items) (actions lab.now.load lab.now.kept)) }
+    ensures alike { IfOk result (λ acts. AreAlike (actions_of_accesses acts.list.items) (actions lab.now.load lab.now.kept)) }
     ensures moments { IfOk result (λ acts. AreMoments lab.now causes.now acts.moments.items) }
     ensures err { IfErr result (λ why. why ≡ LabFault.Memory) }
 {

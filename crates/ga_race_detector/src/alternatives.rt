@@ -3,12 +3,12 @@
 ghost use Rattle.std.specs.Prelude.{◌≡◌, ◌↔◌, ◌+◌, ◌<◌, ◌≤◌, ◌^◌, ℕ, true, false, take, slice_index, Some, Err, IfSome, IfOk, IfErr};
 ghost use Rattle.ga_node.specs.Record.{record_of};
 ghost use Rattle.ga_grid.specs.Chip.{record_at};
-ghost use Rattle.ga_event.specs.Told.{steps_of};
-ghost use Rattle.ga_lab.specs.Machine.{chip_of, causes_of, earlier, rewound, rewind_answer, has_step};
+ghost use Rattle.ga_event.specs.Told.{count_steps};
+ghost use Rattle.ga_lab.specs.Machine.{chip_of, causes_of, earlier, state_after_rewind, rewind_answer, has_step};
 ghost use Rattle.ga_grid.specs.Grid.{neighbour_of};
-ghost use Rattle.ga_event.specs.Apply.{replay, reads_from};
-ghost use Rattle.ga_causal.specs.Dependence.{rewound_list};
-ghost use Rattle.ga_causal.specs.Steps.{touching};
+ghost use Rattle.ga_event.specs.Apply.{replay, waits_to_read_side};
+ghost use Rattle.ga_causal.specs.Dependence.{events_after_rewind};
+ghost use Rattle.ga_causal.specs.Steps.{count_touching_events};
 ghost use Rattle.ga_race_detector.specs.Races.{alternative_word, word_offered_to};
 ghost use Rattle.ga_race_detector.specs.inner.Writers.{posted, word_between};
 
@@ -17,12 +17,12 @@ use ga_grid::{NodeId, neighbour};
 use ga_lab::{Lab, LabFault, Made};
 use ga_node::Node;
 use ga_ports::Side;
-use ga_rollback::Visited;
+use ga_rollback::VisitedEntries;
 
 // The node as a rollback would leave it that removes its number of steps in `steps`.
-pub(crate) fn behind(lab: &Lab, steps: &Visited, node: NodeId) -> Node
-    requires { slice_index steps.now node.number ≤ steps_of node.number lab.now.kept }
-    ensures value { (place : ℕ) → steps_of node.number (take place lab.now.kept) + slice_index steps.now node.number ≡ steps_of node.number lab.now.kept →
+pub(crate) fn behind(lab: &Lab, steps: &VisitedEntries, node: NodeId) -> Node
+    requires { slice_index steps.now node.number ≤ count_steps node.number lab.now.kept }
+    ensures value { (place : ℕ) → count_steps node.number (take place lab.now.kept) + slice_index steps.now node.number ≡ count_steps node.number lab.now.kept →
         record_of result ≡ record_at (chip_of (earlier lab.now place)) node.number }
     ensures replays { (place : ℕ) → replay lab.now.load (take place lab.now.kept) ≡ Some (chip_of (earlier lab.now place)) }
 {
@@ -83,13 +83,13 @@ fn posted_now(node: &Node, side: Side) -> Option<u32>
 // this transferred one there.
 fn posted(lab: &Lab, node: NodeId, steps: u32, side: Side, reader: NodeId) -> Option<u32>
     requires near { neighbour_of reader.number side ≡ Some node.number }
-    ensures value { (place : ℕ) → steps_of node.number (take place lab.now.kept) ≡ steps →
+    ensures value { (place : ℕ) → count_steps node.number (take place lab.now.kept) ≡ steps →
         result ≡ posted (record_at (chip_of (earlier lab.now place)) node.number) side }
     ensures in_range { IfSome result (λ word. word < 2 ^ 18) }
 {
     let now = lab.node(node);
     let _many = lab.steps(node);
-    match lab.made_by_step(node, steps) {
+    match lab.made_event_of_step(node, steps) {
         Some(made) => word_between(&made, node, reader),
         None => posted_now(now, side),
     }
@@ -103,10 +103,10 @@ pub(crate) fn offered_behind(
     side: Side,
     writer: (NodeId, u32),
 ) -> Option<u32>
-    requires reads { reads_from (record_at (chip_of (rewound lab.now step.0.number step.1)) step.0.number).wait side ≡ true }
+    requires reads { waits_to_read_side (record_at (chip_of (state_after_rewind lab.now step.0.number step.1)) step.0.number).wait side ≡ true }
     requires near { neighbour_of step.0.number side ≡ Some writer.0.number }
-    requires left { writer.1 ≡ touching writer.0.number (rewound_list (causes_of lab.now) step.0.number step.1) }
-    ensures word { result ≡ alternative_word (chip_of (rewound lab.now step.0.number step.1)) step.0.number side }
+    requires left { writer.1 ≡ count_touching_events writer.0.number (events_after_rewind (causes_of lab.now) step.0.number step.1) }
+    ensures word { result ≡ alternative_word (chip_of (state_after_rewind lab.now step.0.number step.1)) step.0.number side }
     ensures in_range { IfSome result (λ word. word < 2 ^ 18) }
 {
     let _stands = lab.node(step.0);
@@ -125,13 +125,13 @@ pub fn alternative_word(
     step: u32,
     side: Side,
 ) -> Result<Option<u32>, LabFault>
-    ensures word { IfOk result (λ word. word ≡ alternative_word (chip_of (rewound lab.old node.number step)) node.number side) }
+    ensures word { IfOk result (λ word. word ≡ alternative_word (chip_of (state_after_rewind lab.old node.number step)) node.number side) }
     ensures in_range { IfOk result (λ word. IfSome word (λ it. it < 2 ^ 18)) }
     ensures err { IfErr result (λ why. rewind_answer lab.old node.number step ≡ Err why) }
     ensures refused { (result ≡ Err LabFault.NoStep) ↔ (has_step lab.old node.number step ≡ false) }
     ensures same { lab.new ≡ lab.old }
 {
-    match lab.would_rewind(node, step) {
+    match lab.forecast_rollback(node, step) {
         Ok(going) => match neighbour(node, side) {
             Some(other) => {
                 let reader = behind(lab, &going.steps, node);

@@ -3,7 +3,7 @@
 ghost use Rattle.std.specs.Prelude.{◌≡◌, ◌<◌, ◌≤◌, ◌-◌, ◌^◌, ℕ, List, length, slice_index, Some, IfOk, IfErr};
 ghost use Rattle.ga_grid.specs.Grid.{neighbour_of};
 ghost use Rattle.ga_event.specs.declared.event.Cause.{Cause};
-ghost use Rattle.ga_causal.specs.Steps.{touching};
+ghost use Rattle.ga_causal.specs.Steps.{count_touching_events};
 ghost use Rattle.ga_race_detector.specs.inner.Glances.{around_over, lists_over, IsAround, AreAround};
 
 use crate::left::{Depths, StepsLeft, with_step};
@@ -211,7 +211,7 @@ impl StepsLeftNearby {
     #[tactic(auto, using(crate::proofs::Lefts::around_at, crate::proofs::Lefts::by_sides))]
     pub(crate) fn at(&self, step: u32) -> Around
         requires { 0 < step }
-        ensures { (causes : List Cause) (from node : ℕ) → AreAround causes from node self.now → step ≤ touching from causes →
+        ensures { (causes : List Cause) (from node : ℕ) → AreAround causes from node self.now → step ≤ count_touching_events from causes →
             IsAround causes from step node result }
     {
         let list = self.node.as_slice();

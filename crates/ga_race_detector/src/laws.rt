@@ -6,13 +6,13 @@ ghost use Rattle.ga_ports.specs.declared.side.Side.{Side};
 ghost use Rattle.ga_node.specs.Record.{NodeRecord};
 ghost use Rattle.ga_grid.specs.declared.node_id.NodeId.{NodeId};
 ghost use Rattle.ga_event.specs.declared.event.Event.{Event};
-ghost use Rattle.ga_event.specs.Told.{steps_of};
+ghost use Rattle.ga_event.specs.Told.{count_steps};
 ghost use Rattle.ga_event.specs.Next.{next};
 ghost use Rattle.ga_causal.specs.Dependence.{HasNoLooks};
 ghost use Rattle.ga_races.specs.Orders.{AreReorderings, IsTerminal, HasNoRace};
-ghost use Rattle.ga_lab.specs.Machine.{State, initial_state, chip_of, causes_of, rewound};
-ghost use Rattle.ga_lab.specs.Calls.{MachineCall, after_calls, IsReached};
-ghost use Rattle.ga_race_detector.specs.Races.{alternative_word, races_asked, has_looks, first_ready, IsOther};
+ghost use Rattle.ga_lab.specs.Machine.{State, initial_state, chip_of, causes_of, state_after_rewind};
+ghost use Rattle.ga_lab.specs.Calls.{MachineCall, after_calls, IsReachableState};
+ghost use Rattle.ga_race_detector.specs.Races.{alternative_word, requested_races, has_looks, first_ready_node, IsRealizableRace};
 
 /// If the history of one session has no race, and no node of its chip has an event, every other session from that load,
 /// whatever was stepped, undone or rewound in it, is on the way there: its history can be continued to that of the first in
@@ -39,14 +39,14 @@ pub fn terminal_iff_no_next_event()
 /// The history of a session has no race if no event of it looks, no node has an event, and no rollback of a node's step leaves
 /// two words offered to the node (`alternative_word`): then every other session is on the way to the same chip (`race_free_session_covers_all`).
 pub fn no_alternative_no_race()
-    ensures { (s : State) → IsReached s → HasNoLooks (causes_of s) → IsTerminal (chip_of s) →
+    ensures { (s : State) → IsReachableState s → HasNoLooks (causes_of s) → IsTerminal (chip_of s) →
         ((r : NodeId) (k : ℕ) (side other : Side) → side ≢ other →
-        IsSome (alternative_word (chip_of (rewound s r.number k)) r.number side) →
-        IsSome (alternative_word (chip_of (rewound s r.number k)) r.number other) → ⊥) →
+        IsSome (alternative_word (chip_of (state_after_rewind s r.number k)) r.number side) →
+        IsSome (alternative_word (chip_of (state_after_rewind s r.number k)) r.number other) → ⊥) →
         HasNoRace s.load s.kept }
 {}
 
-/// If no race of a session is reported (`races_asked`), no event of its history and no next event looks, and no node has an
+/// If no race of a session is reported (`requested_races`), no event of its history and no next event looks, and no node has an
 /// event, every other session from that load is on the way there, whatever was stepped, undone or rewound in it; and once no
 /// node has an event there either, its chip is the same. This is the conclusion from a result of `find_races` without races,
 /// for a run that has ended.
@@ -55,24 +55,24 @@ pub fn reported_race_free_end_is_unique()
     ensures way { (load : List NodeRecord) (limit bound : ℕ) (calls others : List MachineCall) →
         let s = after_calls (initial_state load limit) calls in
         let z = after_calls (initial_state load bound) others in
-        races_asked s None ≡ [] → has_looks (causes_of s) (chip_of s) ≡ false → first_ready (chip_of s) ≡ None →
+        requested_races s None ≡ [] → has_looks (causes_of s) (chip_of s) ≡ false → first_ready_node (chip_of s) ≡ None →
         (later : List Event) × AreReorderings load s.kept (z.kept ++ later) }
     ensures chip { (load : List NodeRecord) (limit bound : ℕ) (calls others : List MachineCall) →
         let s = after_calls (initial_state load limit) calls in
         let z = after_calls (initial_state load bound) others in
-        races_asked s None ≡ [] → has_looks (causes_of s) (chip_of s) ≡ false → first_ready (chip_of s) ≡ None →
-        first_ready (chip_of z) ≡ None → chip_of z ≡ chip_of s }
+        requested_races s None ≡ [] → has_looks (causes_of s) (chip_of s) ≡ false → first_ready_node (chip_of s) ≡ None →
+        first_ready_node (chip_of z) ≡ None → chip_of z ≡ chip_of s }
 {}
 
-/// Take a session of which no race is reported (`races_asked`), and of which no event of the history and no next event looks.
+/// Take a session of which no race is reported (`requested_races`), and of which no event of the history and no next event looks.
 /// Every other session from that load in which no node made more steps is on the way there.
 #[tactic(auto, using(crate::proofs::Untold::no_other))]
 pub fn race_free_within_steps()
     ensures { (load : List NodeRecord) (limit bound : ℕ) (calls others : List MachineCall) →
         let s = after_calls (initial_state load limit) calls in
         let z = after_calls (initial_state load bound) others in
-        races_asked s None ≡ [] → has_looks (causes_of s) (chip_of s) ≡ false →
-        ((n : ℕ) → steps_of n z.kept ≤ steps_of n s.kept) →
+        requested_races s None ≡ [] → has_looks (causes_of s) (chip_of s) ≡ false →
+        ((n : ℕ) → count_steps n z.kept ≤ count_steps n s.kept) →
         (later : List Event) × AreReorderings load s.kept (z.kept ++ later) }
 {}
 
@@ -80,5 +80,5 @@ pub fn race_free_within_steps()
 /// the pass to the node, of the other word.
 #[tactic(auto, using(crate::proofs::Untold::all_made))]
 pub fn race_is_realizable()
-    ensures { (s : State) (only : Option NodeId) → All (IsOther s) (races_asked s only) }
+    ensures { (s : State) (only : Option NodeId) → All (IsRealizableRace s) (requested_races s only) }
 {}

@@ -8,7 +8,7 @@ ghost use Rattle.ga_race_detector.specs.inner.Writers.{AreLeft, IsLeftBehind, Is
 use crate::adding::add;
 use crate::writers::Writers;
 use ga_event::{Cause, Event, touches};
-use ga_grid::{NODES, NodeId, neighbour};
+use ga_grid::{CHIP_NODES, NodeId, neighbour};
 use ga_lab::LabFault;
 use ga_ports::Side;
 use std::alloc::Global;
@@ -33,7 +33,7 @@ impl Model for Depths {
 impl Depths {
     ghost use Rattle.std.specs.Prelude.{◌≡◌, ◌<◌, ◌+◌, ◌==◌, ◌^◌, ℕ, slice_index, if◌then◌else◌};
     ghost use Rattle.ga_grid.specs.Grid.{neighbour_of};
-    ghost use Rattle.ga_event.specs.Touches.{neighbours, seen_by};
+    ghost use Rattle.ga_event.specs.Touches.{neighbours, observed_by};
     ghost use Rattle.ga_causal.specs.Dependence.{cause_touches};
     ghost use Rattle.ga_race_detector.specs.inner.Writers.{greatest, greater_with, depth};
 
@@ -41,7 +41,9 @@ impl Depths {
     pub(crate) fn none() -> Self
         ensures { (n : ℕ) → slice_index result n ≡ 0 }
     {
-        Depths { steps: [0; NODES] }
+        Depths {
+            steps: [0; CHIP_NODES],
+        }
     }
 
     // On how many steps of the one node the newest event of a node depends.
@@ -65,9 +67,9 @@ impl Depths {
     }
 
     // The greatest of the numbers of the nodes that an event sees.
-    #[tactic(auto, unfolding(ga_event::specs::Touches::seen_by))]
+    #[tactic(auto, unfolding(ga_event::specs::Touches::observed_by))]
     fn greatest(&self, cause: &Cause) -> u32
-        ensures { result ≡ greatest (slice_index self.now) (seen_by cause.now) }
+        ensures { result ≡ greatest (slice_index self.now) (observed_by cause.now) }
     {
         match cause.event {
             Event::Own(node) => {
@@ -267,8 +269,8 @@ impl LeftBeside {
     ghost use Rattle.std.specs.Prelude.{◌≡◌, ◌<◌, ◌^◌, ℕ, List, length, Some, IfOk, IfErr, IfSome};
     ghost use Rattle.ga_grid.specs.Grid.{neighbour_of};
     ghost use Rattle.ga_event.specs.declared.event.Cause.{Cause};
-    ghost use Rattle.ga_causal.specs.Dependence.{rewound_list};
-    ghost use Rattle.ga_causal.specs.Steps.{touching};
+    ghost use Rattle.ga_causal.specs.Dependence.{events_after_rewind};
+    ghost use Rattle.ga_causal.specs.Steps.{count_touching_events};
     ghost use Rattle.ga_race_detector.specs.inner.Writers.{left_over, IsLeftBeside};
 
     /// How many steps of each neighbour that ever waited to write to the node a rollback of each step of the node would leave.
@@ -336,7 +338,7 @@ impl LeftBeside {
     pub(crate) fn at(&self, side: Side, step: u32) -> Option<u32>
         requires { 0 < step }
         ensures { IfSome result (λ many. (causes : List Cause) (n m : ℕ) → IsLeftBeside causes n self.now → neighbour_of n side ≡ Some m →
-            many ≡ touching m (rewound_list causes n step)) }
+            many ≡ count_touching_events m (events_after_rewind causes n step)) }
     {
         let list = self.over(side);
         let place = (step - 1) as usize;

@@ -3,11 +3,11 @@
 ghost use Rattle.std.specs.Prelude.{◌≡◌, ◌<◌, ◌+◌, ◌^◌, ℕ, true, false, length, take, Contains, Some, IsSome, IfSome, slice_index_or, IfOk, OnOk, IfErr};
 ghost use Rattle.std.specs.List.{All};
 ghost use Rattle.ga_event.specs.Apply.{replay};
-ghost use Rattle.ga_event.specs.Told.{steps_of};
+ghost use Rattle.ga_event.specs.Told.{count_steps};
 ghost use Rattle.ga_causal.specs.Dependence.{event_at};
 ghost use Rattle.ga_lab.specs.Machine.{State, chip_of, causes_of};
 ghost use Rattle.ga_race_detector.specs.declared.readings.LookRace.{LookRace};
-ghost use Rattle.ga_race_detector.specs.Readings.{IsTold};
+ghost use Rattle.ga_race_detector.specs.Readings.{IsReportedLookRace};
 ghost use Rattle.ga_race_detector.specs.inner.Glances.{IsMoment, AreMoments, IsAtNear, part_beside, taken_of, IsGlance, IsGlanced, IsShownBy, AreGlanced, HangTogether};
 
 use crate::adding::add;
@@ -15,7 +15,7 @@ use crate::moments::{StepCounts, moment_at};
 use ga_event::{Cause, Event};
 use ga_grid::NodeId;
 use ga_lab::{Lab, LabFault};
-use ga_races::{RacingPair, are_linked};
+use ga_races::{RacingPair, are_neighbours};
 use ga_word::Word18;
 use std::alloc::Global;
 
@@ -33,7 +33,7 @@ pub(crate) struct LookChange {
     /// The step by which the neighbour changed this.
     pub(crate) change: u32,
     /// Whether the look came first.
-    pub(crate) early: bool,
+    pub(crate) is_look_first: bool,
 }
 
 impl LookChange {
@@ -41,7 +41,7 @@ impl LookChange {
     pub(crate) fn taken(&self) -> (NodeId, u32)
         ensures { result ≡ taken_of self.now }
     {
-        if self.early {
+        if self.is_look_first {
             (self.node, self.step)
         } else {
             (self.neighbour, self.change)
@@ -74,7 +74,7 @@ fn part_beside(event: Event, node: NodeId) -> NodeId
     match event {
         Event::Own(own) => own,
         Event::Pass { writer, reader, .. } => {
-            if are_linked(node, writer) {
+            if are_neighbours(node, writer) {
                 writer
             } else {
                 reader
@@ -86,12 +86,12 @@ fn part_beside(event: Event, node: NodeId) -> NodeId
 // The number of steps that the node of an event which is a neighbour of another had made before the event.
 fn steps_beside(cause: &Cause, moment: &StepCounts, node: NodeId) -> u32
     ensures { (s : State) (p : ℕ) → IsMoment s p cause.now moment.now →
-        result ≡ steps_of (part_beside cause.now.event node.number).number (take p s.kept) }
+        result ≡ count_steps (part_beside cause.now.event node.number).number (take p s.kept) }
 {
     match cause.event {
         Event::Own(_) => moment.first,
         Event::Pass { writer, .. } => {
-            if are_linked(node, writer) {
+            if are_neighbours(node, writer) {
                 moment.first
             } else {
                 moment.last
@@ -129,7 +129,7 @@ fn glance_of(
         word: at.word,
         neighbour: part_beside(change.event, node),
         change: before + 1,
-        early: near.look < near.change,
+        is_look_first: near.look < near.change,
     })
 }
 
@@ -166,7 +166,7 @@ fn add_near(
     requires told { All (IsGlanced lab.now only) list.old.items }
     ensures told { OnOk result (All (IsGlanced lab.now only) list.new.items) }
     ensures kept { OnOk result ((glance : LookChange) → Contains list.old.items glance → Contains list.new.items glance) }
-    ensures found { OnOk result ((reading : LookRace) → IsTold lab.now only reading → IsAtNear lab.now near reading → IsShownBy lab.now near list.new.items) }
+    ensures found { OnOk result ((reading : LookRace) → IsReportedLookRace lab.now only reading → IsAtNear lab.now near reading → IsShownBy lab.now near list.new.items) }
     ensures err { IfErr result (λ why. why ≡ LabFault.Memory) }
 {
     let (causes, moments) = events;

@@ -67,7 +67,7 @@ pub(crate) fn no_moments(alloc: Global, many: usize) -> Result<Vec<StepCounts>, 
             StepCounts {
                 first: 0,
                 last: 0,
-                word: Word18::truncated(0),
+                word: Word18::from_low_bits(0),
             },
         )?;
     }

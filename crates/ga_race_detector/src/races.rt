@@ -4,9 +4,9 @@ ghost use Rattle.std.specs.Prelude.{◌≡◌, ◌<◌, ◌^◌, length, ◌++�
 ghost use Rattle.ga_grid.specs.Chip.{records_of};
 ghost use Rattle.ga_lab.specs.Machine.{State, chip_of, causes_of, has_step};
 ghost use Rattle.std.specs.List.{All};
-ghost use Rattle.ga_race_detector.specs.Readings.{IsTold, NoneMissed};
+ghost use Rattle.ga_race_detector.specs.Readings.{IsReportedLookRace, HasAllNearLookRaces};
 ghost use Rattle.ga_race_detector.specs.inner.Writers.{IsBeside};
-ghost use Rattle.ga_race_detector.specs.Races.{race_from, races_over, races_around, races_told, races_of, races_below, races_asked, has_look, looks_next, has_next_look, has_looks, first_ready};
+ghost use Rattle.ga_race_detector.specs.Races.{race_with_offer, races_on_side, races_of_pass, races_of_event, races_of, races_below, requested_races, has_look, looks_next, has_next_look, has_looks, first_ready_node};
 
 use crate::adding::add;
 use crate::alternatives::{alternative_word, offered_behind};
@@ -77,7 +77,7 @@ fn add_from(
 ) -> Result<(), LabFault>
     requires { IfSome offer (λ word. word < 2 ^ 18) }
     ensures ok { OnOk result (list.new.items ≡ list.old.items
-        ++ race_from taken.now.reader taken.now.step taken.now.writer taken.now.word (Some other.number) offer) }
+        ++ race_with_offer taken.now.reader taken.now.step taken.now.writer taken.now.word (Some other.number) offer) }
     ensures err { IfErr result (λ why. why ≡ LabFault.Memory) }
 {
     match offer {
@@ -89,7 +89,7 @@ fn add_from(
                 writer: taken.writer,
                 word: taken.word,
                 other,
-                offered: Word18::truncated(offer),
+                offered: Word18::from_low_bits(offer),
             },
         ),
         _ => Ok(()),
@@ -108,7 +108,7 @@ fn add_over(
     requires beside { IsBeside lab.old taken.now.reader.number beside.now }
     requires stands { has_step lab.old taken.now.reader.number taken.now.step ≡ true }
     ensures ok { OnOk result (list.new.items ≡ list.old.items
-        ++ races_over lab.old taken.now.reader taken.now.step taken.now.writer taken.now.word side) }
+        ++ races_on_side lab.old taken.now.reader taken.now.step taken.now.writer taken.now.word side) }
     ensures err { IfErr result (λ why. why ≡ LabFault.Memory) }
     ensures same { lab.new ≡ lab.old }
 {
@@ -150,7 +150,7 @@ fn add_around(
     requires beside { IsBeside lab.old taken.now.reader.number beside.now }
     requires stands { has_step lab.old taken.now.reader.number taken.now.step ≡ true }
     ensures ok { OnOk result (list.new.items ≡ list.old.items
-        ++ races_around lab.old taken.now.reader taken.now.step taken.now.writer taken.now.word) }
+        ++ races_of_pass lab.old taken.now.reader taken.now.step taken.now.writer taken.now.word) }
     ensures err { IfErr result (λ why. why ≡ LabFault.Memory) }
     ensures same { lab.new ≡ lab.old }
 {
@@ -172,7 +172,7 @@ fn add_told(
 ) -> Result<(), LabFault>
     requires beside { IsBeside lab.old node.number beside.now }
     requires stands { has_step lab.old node.number step ≡ true }
-    ensures ok { OnOk result (list.new.items ≡ list.old.items ++ races_told lab.old node step (Some made.now)) }
+    ensures ok { OnOk result (list.new.items ≡ list.old.items ++ races_of_event lab.old node step (Some made.now)) }
     ensures err { IfErr result (λ why. why ≡ LabFault.Memory) }
     ensures same { lab.new ≡ lab.old }
 {
@@ -197,7 +197,7 @@ fn add_told(
 
 // Whether by this step the node took a word: else it has no race.
 fn takes(made: &Made, node: NodeId) -> bool
-    ensures { result ≡ false → (s : State) (step : ℕ) → races_told s node step (Some made.now) ≡ [] }
+    ensures { result ≡ false → (s : State) (step : ℕ) → races_of_event s node step (Some made.now) ≡ [] }
 {
     match made {
         Made::Pass { reader, .. } => reader.number == node.number,
@@ -211,7 +211,7 @@ fn takes_some(lab: &Lab, node: NodeId) -> bool
 {
     let steps = lab.steps(node);
     'steps: for place in 0..steps {
-        match lab.made_by_step(node, place) {
+        match lab.made_event_of_step(node, place) {
             Some(made) => {
                 if takes(&made, node) {
                     return true;
@@ -255,7 +255,7 @@ fn add_node(
     let steps = lab.steps(node);
     let beside = besides_of(alloc, lab, causes, node)?;
     'steps: for place in 0..steps {
-        match lab.made_by_step(node, place) {
+        match lab.made_event_of_step(node, place) {
             Some(made) => add_told(list, lab, &beside, node, place + 1, &made)?,
             None => return Ok(()),
         }
@@ -315,7 +315,7 @@ fn has_next_look(chip: &Chip) -> bool
 
 // Whether no node has an event.
 fn is_quiet(chip: &Chip) -> bool
-    ensures { result ≡ is_none (first_ready (records_of chip.now)) }
+    ensures { result ≡ is_none (first_ready_node (records_of chip.now)) }
 {
     'nodes: for number in 0..144u8 {
         if next_event(chip, NodeId::new(number)).is_ok() {
@@ -348,7 +348,7 @@ fn find_taken(
 ) -> Result<Vec<Race>, LabFault>
     requires all { causes.now ≡ causes_of lab.old }
     requires few { length causes.now < 2 ^ 32 }
-    ensures list { IfOk result (λ list. list.items ≡ races_asked lab.old only) }
+    ensures list { IfOk result (λ list. list.items ≡ requested_races lab.old only) }
     ensures err { IfErr result (λ why. why ≡ LabFault.Memory) }
     ensures same { lab.new ≡ lab.old }
 {
@@ -369,11 +369,11 @@ fn find_taken(
 /// # Errors
 /// `Memory` alone.
 pub fn find_races(alloc: Global, lab: &mut Lab, only: Option<NodeId>) -> Result<Races, LabFault>
-    ensures list { IfOk result (λ races. races.list.items ≡ races_asked lab.old only) }
-    ensures readings { IfOk result (λ races. All (IsTold lab.old only) races.readings.items) }
-    ensures none_missed { IfOk result (λ races. NoneMissed lab.old only races.readings.items) }
+    ensures list { IfOk result (λ races. races.list.items ≡ requested_races lab.old only) }
+    ensures readings { IfOk result (λ races. All (IsReportedLookRace lab.old only) races.readings.items) }
+    ensures none_missed { IfOk result (λ races. HasAllNearLookRaces lab.old only races.readings.items) }
     ensures looks { IfOk result (λ races. races.looks ≡ has_looks (causes_of lab.old) (chip_of lab.old)) }
-    ensures quiet { IfOk result (λ races. races.quiet ≡ is_none (first_ready (chip_of lab.old))) }
+    ensures quiet { IfOk result (λ races. races.quiet ≡ is_none (first_ready_node (chip_of lab.old))) }
     ensures err { IfErr result (λ why. why ≡ LabFault.Memory) }
     ensures same { lab.new ≡ lab.old }
 {

@@ -4,14 +4,14 @@ ghost use Rattle.std.specs.Prelude.{◌≡◌, ◌<◌, ◌+◌, ◌^◌, ℕ, L
 ghost use Rattle.std.specs.List.{All};
 ghost use Rattle.ga_grid.specs.Grid.{neighbour_of};
 ghost use Rattle.ga_grid.specs.Chip.{record_at};
-ghost use Rattle.ga_event.specs.Apply.{shows, beside_in, neighbour_states};
-ghost use Rattle.ga_event.specs.Told.{steps_of};
+ghost use Rattle.ga_event.specs.Apply.{shown_state, shown_neighbour_state, neighbour_states};
+ghost use Rattle.ga_event.specs.Told.{count_steps};
 ghost use Rattle.ga_event.specs.declared.event.Cause.{Cause};
 ghost use Rattle.ga_races.specs.declared.racing_pairs.RacingPair.{RacingPair};
-ghost use Rattle.ga_lab.specs.Machine.{chip_of, causes_of, earlier, rewound};
+ghost use Rattle.ga_lab.specs.Machine.{chip_of, causes_of, earlier, state_after_rewind};
 ghost use Rattle.ga_race_detector.specs.declared.look_changes.LookChange.{LookChange};
 ghost use Rattle.ga_race_detector.specs.Races.{has_look};
-ghost use Rattle.ga_race_detector.specs.Readings.{IsOtherwise, IsTold, NoneMissed};
+ghost use Rattle.ga_race_detector.specs.Readings.{IsRealizableLookRace, IsReportedLookRace, HasAllNearLookRaces};
 ghost use Rattle.ga_race_detector.specs.inner.Glances.{IsAtNear, IsAround, AreAround, taken_of, IsGlance, IsGlanced, IsAroundOf, HasStep, AreKnown, IsOtherWord, AreRead};
 
 use crate::acts::{kept_accesses, shown_by};
@@ -42,14 +42,14 @@ pub struct LookRace {
     /// The step by which the neighbour changed what it shows.
     pub change: u32,
     /// Whether the look came before the change. Then the rollback is of the look, else of the change.
-    pub early: bool,
+    pub is_look_first: bool,
     /// The other word that the look could have read.
     pub other: Word18,
 }
 
 // What a node that waits so shows on a side.
-fn shows(wait: &Wait, side: Side) -> NeighbourState
-    ensures { result ≡ shows wait.now side }
+fn shown_state(wait: &Wait, side: Side) -> NeighbourState
+    ensures { result ≡ shown_state wait.now side }
 {
     if is_reading(wait, side) {
         NeighbourState::Reading
@@ -63,37 +63,37 @@ fn shows(wait: &Wait, side: Side) -> NeighbourState
 // What a node showed on a side after `steps` of its steps, by the old wait that the next step overwrote, if it did.
 #[tactic(auto, using(crate::proofs::Silent::steps_take))]
 fn shown_before(lab: &Lab, node: NodeId, steps: u32, side: Side) -> NeighbourState
-    ensures { (place : ℕ) → steps_of node.number (take place lab.now.kept) ≡ steps →
-        result ≡ shows (record_at (chip_of (earlier lab.now place)) node.number).wait side }
+    ensures { (place : ℕ) → count_steps node.number (take place lab.now.kept) ≡ steps →
+        result ≡ shown_state (record_at (chip_of (earlier lab.now place)) node.number).wait side }
 {
     let now = lab.node(node);
-    match lab.overwritten(node, steps, Place::Wait) {
+    match lab.overwritten_value(node, steps, Place::Wait) {
         Some(code) => shown_by(code, side),
         None => match lab.peek(node, steps) {
-            Some(then) => shows(&then.wait(), side),
-            None => shows(&now.wait(), side),
+            Some(then) => shown_state(&then.wait(), side),
+            None => shown_state(&now.wait(), side),
         },
     }
 }
 
 // What a node showed on a side after `steps` of its steps: if its next step is its own, it waits for nothing.
 fn shown_at(lab: &Lab, node: NodeId, steps: u32, side: Side) -> NeighbourState
-    ensures { (place : ℕ) → steps_of node.number (take place lab.now.kept) ≡ steps →
-        result ≡ shows (record_at (chip_of (earlier lab.now place)) node.number).wait side }
+    ensures { (place : ℕ) → count_steps node.number (take place lab.now.kept) ≡ steps →
+        result ≡ shown_state (record_at (chip_of (earlier lab.now place)) node.number).wait side }
 {
     let now = lab.node(node);
     let _many = lab.steps(node);
-    match lab.made_by_step(node, steps) {
+    match lab.made_event_of_step(node, steps) {
         Some(Made::Own { .. }) => NeighbourState::Idle,
         Some(Made::Pass { .. }) => shown_before(lab, node, steps, side),
-        None => shows(&now.wait(), side),
+        None => shown_state(&now.wait(), side),
     }
 }
 
 // The state of the neighbour on a side of the node, if these steps of each neighbour were left.
 fn beside_behind(lab: &Lab, around: &Around, node: NodeId, side: Side) -> NeighbourState
     ensures { (b k : ℕ) → IsAround (causes_of lab.now) b k node.number around.now →
-        result ≡ beside_in (chip_of (rewound lab.now b k)) side (neighbour_of node.number side) }
+        result ≡ shown_neighbour_state (chip_of (state_after_rewind lab.now b k)) side (neighbour_of node.number side) }
 {
     let _stands = lab.node(node);
     match neighbour(node, side) {
@@ -106,7 +106,7 @@ fn beside_behind(lab: &Lab, around: &Around, node: NodeId, side: Side) -> Neighb
 #[tactic(auto, unfolding(ga_event::specs::Apply::neighbour_states))]
 fn seen_behind(lab: &Lab, around: &Around, node: NodeId) -> Seen
     ensures { (b k : ℕ) → IsAround (causes_of lab.now) b k node.number around.now →
-        result ≡ neighbour_states (chip_of (rewound lab.now b k)) node.number }
+        result ≡ neighbour_states (chip_of (state_after_rewind lab.now b k)) node.number }
 {
     Seen {
         right: beside_behind(lab, around, node, Side::Right),
@@ -122,7 +122,7 @@ fn other_io_word(lab: &Lab, glance: &LookChange, around: &Around) -> Option<Word
     requires glance { (near : RacingPair) × IsGlance lab.now near glance.now }
     requires around { IsAroundOf (causes_of lab.now) glance.now around.now }
     ensures is { IfSome result (λ word. IsOtherWord lab.now glance.now word) }
-    ensures some { steps_of glance.now.node.number (rewound lab.now (taken_of glance.now).0.number (taken_of glance.now).1).kept + 1 ≡ glance.now.step →
+    ensures some { count_steps glance.now.node.number (state_after_rewind lab.now (taken_of glance.now).0.number (taken_of glance.now).1).kept + 1 ≡ glance.now.step →
         IsSome result }
 {
     let _stands = lab.node(glance.node);
@@ -136,9 +136,9 @@ fn other_io_word(lab: &Lab, glance: &LookChange, around: &Around) -> Option<Word
 fn reading_of(lab: &Lab, glance: &LookChange, around: &Around) -> Option<LookRace>
     requires glance { (near : RacingPair) × IsGlance lab.now near glance.now }
     requires around { IsAroundOf (causes_of lab.now) glance.now around.now }
-    ensures told { IfSome result (λ reading. IsOtherwise lab.now reading) }
+    ensures told { IfSome result (λ reading. IsRealizableLookRace lab.now reading) }
     ensures node { IfSome result (λ reading. reading.node ≡ glance.now.node) }
-    ensures found { (near : RacingPair) (reading : LookRace) → IsGlance lab.now near glance.now → IsOtherwise lab.now reading →
+    ensures found { (near : RacingPair) (reading : LookRace) → IsGlance lab.now near glance.now → IsRealizableLookRace lab.now reading →
         IsAtNear lab.now near reading → result ≡ Some reading }
 {
     let _stands = lab.node(glance.node);
@@ -152,7 +152,7 @@ fn reading_of(lab: &Lab, glance: &LookChange, around: &Around) -> Option<LookRac
         word: glance.word,
         neighbour: glance.neighbour,
         change: glance.change,
-        early: glance.early,
+        is_look_first: glance.is_look_first,
         other,
     })
 }
@@ -167,10 +167,10 @@ fn add_reading(
 ) -> Result<(), LabFault>
     requires glance { IsGlanced lab.now only glance.now }
     requires around { IsAroundOf (causes_of lab.now) glance.now around.now }
-    requires told { All (IsTold lab.now only) list.old.items }
-    ensures told { OnOk result (All (IsTold lab.now only) list.new.items) }
+    requires told { All (IsReportedLookRace lab.now only) list.old.items }
+    ensures told { OnOk result (All (IsReportedLookRace lab.now only) list.new.items) }
     ensures kept { OnOk result ((reading : LookRace) → Contains list.old.items reading → Contains list.new.items reading) }
-    ensures found { OnOk result ((near : RacingPair) (reading : LookRace) → IsGlance lab.now near glance.now → IsTold lab.now only reading →
+    ensures found { OnOk result ((near : RacingPair) (reading : LookRace) → IsGlance lab.now near glance.now → IsReportedLookRace lab.now only reading →
         IsAtNear lab.now near reading → Contains list.new.items reading) }
     ensures err { IfErr result (λ why. why ≡ LabFault.Memory) }
 {
@@ -261,7 +261,7 @@ fn readings_of(
     requires all { causes.now ≡ causes_of lab.now }
     requires few { length causes.now < 2 ^ 32 }
     requires glances { All (IsGlanced lab.now only) glances.now }
-    ensures told { IfOk result (λ list. All (IsTold lab.now only) list.items) }
+    ensures told { IfOk result (λ list. All (IsReportedLookRace lab.now only) list.items) }
     ensures found { IfOk result (λ list. AreRead lab.now only glances.now list.items) }
     ensures err { IfErr result (λ why. why ≡ LabFault.Memory) }
 {
@@ -293,8 +293,8 @@ pub(crate) fn find_look_races(
     requires all { causes.now ≡ causes_of lab.now }
     requires few { length causes.now < 2 ^ 32 }
     requires looks { looks ≡ has_look causes.now }
-    ensures told { IfOk result (λ list. All (IsTold lab.now only) list.items) }
-    ensures found { IfOk result (λ list. NoneMissed lab.now only list.items) }
+    ensures told { IfOk result (λ list. All (IsReportedLookRace lab.now only) list.items) }
+    ensures found { IfOk result (λ list. HasAllNearLookRaces lab.now only list.items) }
     ensures err { IfErr result (λ why. why ≡ LabFault.Memory) }
 {
     if !looks {

@@ -2,11 +2,11 @@
 
 ghost use Rattle.std.specs.Prelude.{◌≡◌, ◌+◌, ◌<◌, ℕ, true, false, Some, None};
 ghost use Rattle.ga_node.specs.State.{wait_of, IsWaitCode};
-ghost use Rattle.ga_event.specs.Apply.{reads_from};
+ghost use Rattle.ga_event.specs.Apply.{waits_to_read_side};
 ghost use Rattle.ga_grid.specs.Chip.{record_at};
-ghost use Rattle.ga_event.specs.Told.{steps_of};
+ghost use Rattle.ga_event.specs.Told.{count_steps};
 ghost use Rattle.ga_grid.specs.Grid.{neighbour_of};
-ghost use Rattle.ga_lab.specs.Machine.{chip_of, rewound, has_step};
+ghost use Rattle.ga_lab.specs.Machine.{chip_of, state_after_rewind, has_step};
 ghost use Rattle.ga_race_detector.specs.Races.{alternative_word};
 ghost use Rattle.ga_race_detector.specs.inner.Writers.{at_side, NeverOffers, AreSilent};
 
@@ -48,7 +48,7 @@ impl Writers {
 
 // Whether the node waits to write over the side, or did at load or after some of its steps.
 fn has_written(lab: &Lab, node: NodeId, side: Side) -> bool
-    ensures { result ≡ false → (n k : ℕ) → neighbour_of n side ≡ Some node.number → alternative_word (chip_of (rewound lab.now n k)) n side ≡ None }
+    ensures { result ≡ false → (n k : ℕ) → neighbour_of n side ≡ Some node.number → alternative_word (chip_of (state_after_rewind lab.now n k)) n side ≡ None }
 {
     let _stands = lab.node(node);
     let mut walk = lab.walk(node, lab.steps(node));
@@ -87,7 +87,7 @@ pub(crate) fn writers_of(lab: &Lab, node: NodeId) -> Writers
 /// Whether a node whose wait has this number waits to read a set that has the side.
 pub(crate) fn reads_by(code: u32, side: Side) -> bool
     requires { IsWaitCode code }
-    ensures { result ≡ reads_from (wait_of code) side }
+    ensures { result ≡ waits_to_read_side (wait_of code) side }
 {
     if code == 0 || code >= 48 {
         return false;
@@ -99,7 +99,7 @@ pub(crate) fn reads_by(code: u32, side: Side) -> bool
 // Whether the node waited to read over the side right before its step, by a copy of the node walked back.
 fn read_then(lab: &Lab, node: NodeId, step: u32, side: Side) -> bool
     requires { has_step lab.now node.number step ≡ true }
-    ensures { result ≡ reads_from (record_at (chip_of (rewound lab.now node.number step)) node.number).wait side }
+    ensures { result ≡ waits_to_read_side (record_at (chip_of (state_after_rewind lab.now node.number step)) node.number).wait side }
 {
     let _stands = lab.node(node);
     match lab.peek(node, step - 1) {
@@ -112,10 +112,10 @@ fn read_then(lab: &Lab, node: NodeId, step: u32, side: Side) -> bool
 #[tactic(auto, using(crate::proofs::Silent::waited, ga_lab::proofs::Called::runs_of))]
 fn reads_before(lab: &Lab, node: NodeId, step: u32, side: Side) -> bool
     requires { has_step lab.now node.number step ≡ true }
-    ensures { result ≡ reads_from (record_at (chip_of (rewound lab.now node.number step)) node.number).wait side }
+    ensures { result ≡ waits_to_read_side (record_at (chip_of (state_after_rewind lab.now node.number step)) node.number).wait side }
 {
     let _stands = lab.node(node);
-    match lab.overwritten(node, step - 1, Place::Wait) {
+    match lab.overwritten_value(node, step - 1, Place::Wait) {
         Some(code) => reads_by(code, side),
         None => read_then(lab, node, step, side),
     }
@@ -127,8 +127,8 @@ fn reads_before(lab: &Lab, node: NodeId, step: u32, side: Side) -> bool
 pub(crate) fn may_come(lab: &Lab, writers: &Writers, node: NodeId, step: u32, side: Side) -> bool
     requires silent { AreSilent lab.now node.number writers.now }
     requires stands { has_step lab.now node.number step ≡ true }
-    ensures none { result ≡ false → alternative_word (chip_of (rewound lab.now node.number step)) node.number side ≡ None }
-    ensures reads { result ≡ true → reads_from (record_at (chip_of (rewound lab.now node.number step)) node.number).wait side ≡ true }
+    ensures none { result ≡ false → alternative_word (chip_of (state_after_rewind lab.now node.number step)) node.number side ≡ None }
+    ensures reads { result ≡ true → waits_to_read_side (record_at (chip_of (state_after_rewind lab.now node.number step)) node.number).wait side ≡ true }
 {
     if !writers.at(side) {
         return false;

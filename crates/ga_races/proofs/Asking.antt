@@ -9,60 +9,60 @@ use Rattle.ga_grid.specs.Grid.{neighbour_of}
 use Rattle.ga_grid.specs.declared.node_id.NodeId.{NodeId}
 use Rattle.ga_event.specs.declared.event.Event.{Event}
 use Rattle.ga_event.specs.declared.event.Event.TheVariants.{Own, Pass}
-use Rattle.ga_event.specs.Touches.{nodes_of, touches}
-use Rattle.ga_event.specs.Apply.{is_number}
+use Rattle.ga_event.specs.Touches.{event_nodes, touches}
+use Rattle.ga_event.specs.Apply.{equals_some}
 use Rattle.ga_races.specs.declared.act.EventAccess.{EventAccess}
-use Rattle.ga_races.specs.declared.act.Sides.{Sides}
+use Rattle.ga_races.specs.declared.act.SideSet.{SideSet}
 use Rattle.ga_races.specs.declared.racing_pairs.RacingPair.{RacingPair}
-use Rattle.ga_races.specs.HappensBefore.{Action, action_at, is_shown, are_dependent, directly, AreRacing}
-use Rattle.ga_races.specs.Acts.{side_leads_to, shown_by, action_in, actions_in, is_own_of, is_look_of, IsNearLook}
+use Rattle.ga_races.specs.HappensBefore.{Action, action_at, is_look_changed_by, are_dependent, directly, AreRacing}
+use Rattle.ga_races.specs.Acts.{has_side_to, changes_shown_to, action_of_access, actions_of_accesses, is_own_event_of, is_look_of, IsRacingLook}
 use Rattle.ga_races.specs.inner.{has_looked, IsMore, OfPair, OfLook, OfChange, OverSide, OverSides, AtPlace, BelowPlace, LooksAreMarked}
 use Rattle.ga_races.proofs.Reaching.{or4_cases, and_both, bound_by_node, bound_by_look, bound_by_change}
 
 -- ---- parts
 
-pub nothing : (acts : List EventAccess) (asked : RacingPair → Type 0) (xs : List RacingPair) → ((z : RacingPair) → asked z → IsNearLook acts z → ⊥) → IsMore acts asked xs xs
+pub nothing : (acts : List EventAccess) (asked : RacingPair → Type 0) (xs : List RacingPair) → ((z : RacingPair) → asked z → IsRacingLook acts z → ⊥) → IsMore acts asked xs xs
 nothing acts asked xs none = record { kept = λ z h. h; sound = λ z h. inl h; all = λ z a f. absurd (none z a f) }
 
-pub weaker : (acts : List EventAccess) (p r : RacingPair → Type 0) (a b : List RacingPair) → IsMore acts p a b → ((z : RacingPair) → r z → IsNearLook acts z → p z) → IsMore acts r a b
+pub weaker : (acts : List EventAccess) (p r : RacingPair → Type 0) (a b : List RacingPair) → IsMore acts p a b → ((z : RacingPair) → r z → IsRacingLook acts z → p z) → IsMore acts r a b
 weaker acts p r a b m asks = record { kept = m.kept; sound = m.sound; all = λ z x f. m.all z (asks z x f) f }
 
-pub chained : (acts : List EventAccess) (p q r : RacingPair → Type 0) (a b c : List RacingPair) → IsMore acts p a b → IsMore acts q b c → ((z : RacingPair) → r z → IsNearLook acts z → p z ⊎ q z) → IsMore acts r a c
+pub chained : (acts : List EventAccess) (p q r : RacingPair → Type 0) (a b c : List RacingPair) → IsMore acts p a b → IsMore acts q b c → ((z : RacingPair) → r z → IsRacingLook acts z → p z ⊎ q z) → IsMore acts r a c
 chained acts p q r a b c m n asks = record { kept = λ z h. n.kept z (m.kept z h); sound = λ z h. from z (n.sound z h); all = λ z x f. into z f (asks z x f) }
   where
-    from : (z : RacingPair) → Contains b z ⊎ IsNearLook acts z → Contains a z ⊎ IsNearLook acts z
+    from : (z : RacingPair) → Contains b z ⊎ IsRacingLook acts z → Contains a z ⊎ IsRacingLook acts z
     from z (inl h) = m.sound z h
     from z (inr f) = inr f
 
-    into : (z : RacingPair) → IsNearLook acts z → p z ⊎ q z → Contains c z
+    into : (z : RacingPair) → IsRacingLook acts z → p z ⊎ q z → Contains c z
     into z f (inl x) = n.kept z (m.all z x f)
     into z f (inr x) = n.all z x f
 
 -- ---- looks of a node
 
-own_any : (e : Event) (n : ℕ) (marks : ℕ → Bool) → is_own_of e n ≡ true → marks n ≡ true → list_any marks (nodes_of e) ≡ true
+own_any : (e : Event) (n : ℕ) (marks : ℕ → Bool) → is_own_event_of e n ≡ true → marks n ≡ true → list_any marks (event_nodes e) ≡ true
 own_any (Own m) n marks h mark = or_left (marks m.number) (list_any marks []) (ap marks (eqb-true m.number n h) ∙ mark)
 own_any (Pass w r side) n marks h mark = absurd (both_ways false refl h)
 
-own_touches : (e : Event) (n : ℕ) → is_own_of e n ≡ true → touches e n ≡ true
+own_touches : (e : Event) (n : ℕ) → is_own_event_of e n ≡ true → touches e n ≡ true
 own_touches e n h = own_any e n (λ m. m == n) h (eq-eqb n n refl)
 
-own_same : (e : Event) (n m : ℕ) → is_own_of e n ≡ true → is_own_of e m ≡ true → n ≡ m
+own_same : (e : Event) (n m : ℕ) → is_own_event_of e n ≡ true → is_own_event_of e m ≡ true → n ≡ m
 own_same (Own k) n m a b = sym (eqb-true k.number n a) ∙ eqb-true k.number m b
 own_same (Pass w r side) n m a b = absurd (both_ways false refl a)
 
 look_same : (a : Action) (n m : ℕ) → is_look_of a n ≡ true → is_look_of a m ≡ true → n ≡ m
-look_same a n m h k = own_same a.cause.event n m (and_parts a.cause.look (is_own_of a.cause.event n) h).1 (and_parts a.cause.look (is_own_of a.cause.event m) k).1
+look_same a n m h k = own_same a.cause.event n m (and_parts a.cause.look (is_own_event_of a.cause.event n) h).1 (and_parts a.cause.look (is_own_event_of a.cause.event m) k).1
 
-shown_to : (a b : Action) (n : ℕ) → is_look_of a n ≡ true → b.changes n ≡ true → is_shown a b ≡ true
+shown_to : (a b : Action) (n : ℕ) → is_look_of a n ≡ true → b.changes n ≡ true → is_look_changed_by a b ≡ true
 shown_to a b n h k =
-    let p = and_parts a.cause.look (is_own_of a.cause.event n) h in
-    and_both a.cause.look (list_any b.changes (nodes_of a.cause.event)) p.0 (own_any a.cause.event n b.changes p.1 k)
+    let p = and_parts a.cause.look (is_own_event_of a.cause.event n) h in
+    and_both a.cause.look (list_any b.changes (event_nodes a.cause.event)) p.0 (own_any a.cause.event n b.changes p.1 k)
 
-both_touch : (a b : Action) (n : ℕ) → is_look_of a n ≡ true → is_look_of b n ≡ true → list_any (touches a.cause.event) (nodes_of b.cause.event) ≡ true
+both_touch : (a b : Action) (n : ℕ) → is_look_of a n ≡ true → is_look_of b n ≡ true → list_any (touches a.cause.event) (event_nodes b.cause.event) ≡ true
 both_touch a b n h k =
-    own_any b.cause.event n (touches a.cause.event) (and_parts b.cause.look (is_own_of b.cause.event n) k).1
-    (own_touches a.cause.event n (and_parts a.cause.look (is_own_of a.cause.event n) h).1)
+    own_any b.cause.event n (touches a.cause.event) (and_parts b.cause.look (is_own_event_of b.cause.event n) k).1
+    (own_touches a.cause.event n (and_parts a.cause.look (is_own_event_of a.cause.event n) h).1)
 
 -- a look and a change are no racing pair if an action between them is dependent with both
 parted : (xs : List Action) (first middle later : ℕ) → first < middle → middle < later → are_dependent (action_at xs first) (action_at xs middle) ≡ true → are_dependent (action_at xs middle) (action_at xs later) ≡ true
@@ -99,73 +99,73 @@ pub changes_end : (acts : List EventAccess) (look place : ℕ) (a b : List Racin
 changes_end acts look place a b l m = weaker acts (OfLook look place) (OfLook look 0) a b m (λ z r f. (r.0, r.1, omega (arith, l)))
 
 -- the last look before it was shown what came before that
-pub changes_stop : (acts : List EventAccess) (look place n : ℕ) (a b : List RacingPair) → place < look → is_look_of (action_at (actions_in acts) place) n ≡ true → is_look_of (action_at (actions_in acts) look) n ≡ true
+pub changes_stop : (acts : List EventAccess) (look place n : ℕ) (a b : List RacingPair) → place < look → is_look_of (action_at (actions_of_accesses acts) place) n ≡ true → is_look_of (action_at (actions_of_accesses acts) look) n ≡ true
     → IsMore acts (OfLook look place) a b → IsMore acts (OfLook look 0) a b
 changes_stop acts look place n a b l first second m = weaker acts (OfLook look place) (OfLook look 0) a b m asks
   where
-    asks : (z : RacingPair) → OfLook look 0 z → IsNearLook acts z → OfLook look place z
+    asks : (z : RacingPair) → OfLook look 0 z → IsRacingLook acts z → OfLook look place z
     asks z r f = elim (cases_lt z.change place) [
       | inr more ↦ (r.0, r.1, more)
-      | inl less ↦ (let same_node : n ≡ f.node = look_same (action_at (actions_in acts) look) n f.node second (subst (λ (k : ℕ). is_look_of (action_at (actions_in acts) k) f.node ≡ true) r.0 f.look) in
-          let near : AreRacing (actions_in acts) z.change look =
-          second_near (actions_in acts) look z.change r.1 (subst (λ (k : ℕ). AreRacing (actions_in acts) k z.change ⊎ AreRacing (actions_in acts) z.change k) r.0 f.order) in
-          absurd (parted (actions_in acts) z.change place look less l
-          (bound_by_change (action_at (actions_in acts) z.change) (action_at (actions_in acts) place)
-          (shown_to (action_at (actions_in acts) place) (action_at (actions_in acts) z.change) n first (subst (λ (k : ℕ). (action_at (actions_in acts) z.change).changes k ≡ true) (sym same_node) f.change)))
-          (bound_by_node (action_at (actions_in acts) place) (action_at (actions_in acts) look) (both_touch (action_at (actions_in acts) place) (action_at (actions_in acts) look) n first second))
+      | inl less ↦ (let same_node : n ≡ f.node = look_same (action_at (actions_of_accesses acts) look) n f.node second (subst (λ (k : ℕ). is_look_of (action_at (actions_of_accesses acts) k) f.node ≡ true) r.0 f.look) in
+          let near : AreRacing (actions_of_accesses acts) z.change look =
+          second_near (actions_of_accesses acts) look z.change r.1 (subst (λ (k : ℕ). AreRacing (actions_of_accesses acts) k z.change ⊎ AreRacing (actions_of_accesses acts) z.change k) r.0 f.order) in
+          absurd (parted (actions_of_accesses acts) z.change place look less l
+          (bound_by_change (action_at (actions_of_accesses acts) z.change) (action_at (actions_of_accesses acts) place)
+          (shown_to (action_at (actions_of_accesses acts) place) (action_at (actions_of_accesses acts) z.change) n first (subst (λ (k : ℕ). (action_at (actions_of_accesses acts) z.change).changes k ≡ true) (sym same_node) f.change)))
+          (bound_by_node (action_at (actions_of_accesses acts) place) (action_at (actions_of_accesses acts) look) (both_touch (action_at (actions_of_accesses acts) place) (action_at (actions_of_accesses acts) look) n first second))
           near))
     ]
 
 -- ---- the last look before a change
 
-module _ (acts : List EventAccess) (change place n : ℕ) (l : place < change) (changes : (action_at (actions_in acts) change).changes n ≡ true)
-    (none : (q : ℕ) → place < q → q < change → is_look_of (action_at (actions_in acts) q) n ≡ false) where
-  near_of : (z : RacingPair) → OfChange acts change n z → IsNearLook acts z → AreRacing (actions_in acts) z.look change
-  near_of z r f = first_near (actions_in acts) z.look change r.1 (subst (λ (k : ℕ). AreRacing (actions_in acts) z.look k ⊎ AreRacing (actions_in acts) k z.look) r.0 f.order)
+module _ (acts : List EventAccess) (change place n : ℕ) (l : place < change) (changes : (action_at (actions_of_accesses acts) change).changes n ≡ true)
+    (none : (q : ℕ) → place < q → q < change → is_look_of (action_at (actions_of_accesses acts) q) n ≡ false) where
+  near_of : (z : RacingPair) → OfChange acts change n z → IsRacingLook acts z → AreRacing (actions_of_accesses acts) z.look change
+  near_of z r f = first_near (actions_of_accesses acts) z.look change r.1 (subst (λ (k : ℕ). AreRacing (actions_of_accesses acts) z.look k ⊎ AreRacing (actions_of_accesses acts) k z.look) r.0 f.order)
 
   later_none : (z : RacingPair) → OfChange acts change n z → place < z.look → ⊥
-  later_none z r k = both_ways (is_look_of (action_at (actions_in acts) z.look) n) (none z.look k r.1) r.2
+  later_none z r k = both_ways (is_look_of (action_at (actions_of_accesses acts) z.look) n) (none z.look k r.1) r.2
 
-  pub look_found : (a b : List RacingPair) → is_look_of (action_at (actions_in acts) place) n ≡ true → IsMore acts (OfPair place change) a b → IsMore acts (OfChange acts change n) a b
+  pub look_found : (a b : List RacingPair) → is_look_of (action_at (actions_of_accesses acts) place) n ≡ true → IsMore acts (OfPair place change) a b → IsMore acts (OfChange acts change n) a b
   look_found a b look m = weaker acts (OfPair place change) (OfChange acts change n) a b m asks
     where
-      asks : (z : RacingPair) → OfChange acts change n z → IsNearLook acts z → OfPair place change z
+      asks : (z : RacingPair) → OfChange acts change n z → IsRacingLook acts z → OfPair place change z
       asks z r f = elim (cases_order z.look place) [
         | inl same ↦ (same, r.0)
         | inr (inr more) ↦ absurd (later_none z r more)
-        | inr (inl less) ↦ absurd (parted (actions_in acts) z.look place change less l
-            (bound_by_node (action_at (actions_in acts) z.look) (action_at (actions_in acts) place) (both_touch (action_at (actions_in acts) z.look) (action_at (actions_in acts) place) n r.2 look))
-            (bound_by_look (action_at (actions_in acts) place) (action_at (actions_in acts) change) (shown_to (action_at (actions_in acts) place) (action_at (actions_in acts) change) n look changes))
+        | inr (inl less) ↦ absurd (parted (actions_of_accesses acts) z.look place change less l
+            (bound_by_node (action_at (actions_of_accesses acts) z.look) (action_at (actions_of_accesses acts) place) (both_touch (action_at (actions_of_accesses acts) z.look) (action_at (actions_of_accesses acts) place) n r.2 look))
+            (bound_by_look (action_at (actions_of_accesses acts) place) (action_at (actions_of_accesses acts) change) (shown_to (action_at (actions_of_accesses acts) place) (action_at (actions_of_accesses acts) change) n look changes))
             (near_of z r f))
       ]
 
-  pub look_hidden : (a : List RacingPair) → is_look_of (action_at (actions_in acts) place) n ≡ false
-      → ((action_at (actions_in acts) place).changes n && list_any (touches (action_at (actions_in acts) place).cause.event) (nodes_of (action_at (actions_in acts) change).cause.event)) ≡ true
+  pub look_hidden : (a : List RacingPair) → is_look_of (action_at (actions_of_accesses acts) place) n ≡ false
+      → ((action_at (actions_of_accesses acts) place).changes n && list_any (touches (action_at (actions_of_accesses acts) place).cause.event) (event_nodes (action_at (actions_of_accesses acts) change).cause.event)) ≡ true
       → IsMore acts (OfChange acts change n) a a
   look_hidden a out hides = nothing acts (OfChange acts change n) a asks
     where
-      asks : (z : RacingPair) → OfChange acts change n z → IsNearLook acts z → ⊥
+      asks : (z : RacingPair) → OfChange acts change n z → IsRacingLook acts z → ⊥
       asks z r f =
-          let p = and_parts ((action_at (actions_in acts) place).changes n) (list_any (touches (action_at (actions_in acts) place).cause.event) (nodes_of (action_at (actions_in acts) change).cause.event)) hides in
+          let p = and_parts ((action_at (actions_of_accesses acts) place).changes n) (list_any (touches (action_at (actions_of_accesses acts) place).cause.event) (event_nodes (action_at (actions_of_accesses acts) change).cause.event)) hides in
           elim (cases_order z.look place) [
-            | inl same ↦ both_ways (is_look_of (action_at (actions_in acts) place) n) out (subst (λ (k : ℕ). is_look_of (action_at (actions_in acts) k) n ≡ true) same r.2)
+            | inl same ↦ both_ways (is_look_of (action_at (actions_of_accesses acts) place) n) out (subst (λ (k : ℕ). is_look_of (action_at (actions_of_accesses acts) k) n ≡ true) same r.2)
             | inr (inr more) ↦ later_none z r more
-            | inr (inl less) ↦ parted (actions_in acts) z.look place change less l
-                (bound_by_look (action_at (actions_in acts) z.look) (action_at (actions_in acts) place) (shown_to (action_at (actions_in acts) z.look) (action_at (actions_in acts) place) n r.2 p.0))
-                (bound_by_node (action_at (actions_in acts) place) (action_at (actions_in acts) change) p.1)
+            | inr (inl less) ↦ parted (actions_of_accesses acts) z.look place change less l
+                (bound_by_look (action_at (actions_of_accesses acts) z.look) (action_at (actions_of_accesses acts) place) (shown_to (action_at (actions_of_accesses acts) z.look) (action_at (actions_of_accesses acts) place) n r.2 p.0))
+                (bound_by_node (action_at (actions_of_accesses acts) place) (action_at (actions_of_accesses acts) change) p.1)
                 (near_of z r f)
           ]
 
-pub look_none : (acts : List EventAccess) (change place n : ℕ) (a : List RacingPair) → place ≤ 0 → ((q : ℕ) → place ≤ q → q < change → is_look_of (action_at (actions_in acts) q) n ≡ false) → IsMore acts (OfChange acts change n) a a
+pub look_none : (acts : List EventAccess) (change place n : ℕ) (a : List RacingPair) → place ≤ 0 → ((q : ℕ) → place ≤ q → q < change → is_look_of (action_at (actions_of_accesses acts) q) n ≡ false) → IsMore acts (OfChange acts change n) a a
 look_none acts change place n a l none =
-    nothing acts (OfChange acts change n) a (λ z r f. both_ways (is_look_of (action_at (actions_in acts) z.look) n) (none z.look (omega (arith, l)) r.1) r.2)
+    nothing acts (OfChange acts change n) a (λ z r f. both_ways (is_look_of (action_at (actions_of_accesses acts) z.look) n) (none z.look (omega (arith, l)) r.1) r.2)
 
 -- ---- the looks that a change is shown to
 
-abbrev OverThree : List EventAccess → ℕ → ℕ → Sides → RacingPair → Type 0
+abbrev OverThree : List EventAccess → ℕ → ℕ → SideSet → RacingPair → Type 0
 OverThree acts change m sides z = (OverSide acts change m Right sides.right z ⊎ OverSide acts change m Down sides.down z) ⊎ OverSide acts change m Left sides.left z
 
-pub four_sides : (acts : List EventAccess) (change m : ℕ) (sides : Sides) (a b c d e : List RacingPair) → IsMore acts (OverSide acts change m Right sides.right) a b → IsMore acts (OverSide acts change m Down sides.down) b c
+pub four_sides : (acts : List EventAccess) (change m : ℕ) (sides : SideSet) (a b c d e : List RacingPair) → IsMore acts (OverSide acts change m Right sides.right) a b → IsMore acts (OverSide acts change m Down sides.down) b c
     → IsMore acts (OverSide acts change m Left sides.left) c d → IsMore acts (OverSide acts change m Up sides.up) d e → IsMore acts (OverSides acts change m sides) a e
 four_sides acts change m sides a b c d e r w l u =
     chained acts (OverThree acts change m sides) (OverSide acts change m Up sides.up) (OverSides acts change m sides) a d e
@@ -175,7 +175,7 @@ four_sides acts change m sides a b c d e r w l u =
     u (λ z x f. asks z x)
   where
     asks : (z : RacingPair) → OverSides acts change m sides z → OverThree acts change m sides z ⊎ OverSide acts change m Up sides.up z
-    asks z x = elim (or4_cases (sides.right && is_number (neighbour_of m Right) x.0) (sides.down && is_number (neighbour_of m Down) x.0) (sides.left && is_number (neighbour_of m Left) x.0) (sides.up && is_number (neighbour_of m Up) x.0) x.2) [
+    asks z x = elim (or4_cases (sides.right && equals_some (neighbour_of m Right) x.0) (sides.down && equals_some (neighbour_of m Down) x.0) (sides.left && equals_some (neighbour_of m Left) x.0) (sides.up && equals_some (neighbour_of m Up) x.0) x.2) [
       | inl y ↦ inl (inl (inl (x.0, x.1, y)))
       | inr (inl y) ↦ inl (inl (inr (x.0, x.1, y)))
       | inr (inr (inl y)) ↦ inl (inr (x.0, x.1, y))
@@ -184,43 +184,43 @@ four_sides acts change m sides a b c d e r w l u =
 
 -- ---- what is near to a place
 
-change_here : (acts : List EventAccess) (place : ℕ) (act : EventAccess) (z : RacingPair) (f : IsNearLook acts z) → action_in act ≡ action_at (actions_in acts) place → z.change ≡ place → shown_by act.cause.event act.first act.second f.node ≡ true
-change_here acts place act z f is at = ap (λ (a : Action). a.changes f.node) is ∙ subst (λ (k : ℕ). (action_at (actions_in acts) k).changes f.node ≡ true) at f.change
+change_here : (acts : List EventAccess) (place : ℕ) (act : EventAccess) (z : RacingPair) (f : IsRacingLook acts z) → action_of_access act ≡ action_at (actions_of_accesses acts) place → z.change ≡ place → changes_shown_to act.cause.event act.first act.second f.node ≡ true
+change_here acts place act z f is at = ap (λ (a : Action). a.changes f.node) is ∙ subst (λ (k : ℕ). (action_at (actions_of_accesses acts) k).changes f.node ≡ true) at f.change
 
-pub changes_own : (acts : List EventAccess) (place : ℕ) (act : EventAccess) (node : NodeId) → action_in act ≡ action_at (actions_in acts) place → act.cause.event ≡ Own node
-    → (n : ℕ) → side_leads_to act.first node.number n ≡ true → (action_at (actions_in acts) place).changes n ≡ true
-changes_own acts place act node is own n h = sym (ap (λ (a : Action). a.changes n) is) ∙ ap (λ (e : Event). shown_by e act.first act.second n) own ∙ h
+pub changes_own : (acts : List EventAccess) (place : ℕ) (act : EventAccess) (node : NodeId) → action_of_access act ≡ action_at (actions_of_accesses acts) place → act.cause.event ≡ Own node
+    → (n : ℕ) → has_side_to act.first node.number n ≡ true → (action_at (actions_of_accesses acts) place).changes n ≡ true
+changes_own acts place act node is own n h = sym (ap (λ (a : Action). a.changes n) is) ∙ ap (λ (e : Event). changes_shown_to e act.first act.second n) own ∙ h
 
-pub changes_writer : (acts : List EventAccess) (place : ℕ) (act : EventAccess) (w r : NodeId) (side : Side) → action_in act ≡ action_at (actions_in acts) place → act.cause.event ≡ Pass w r side
-    → (n : ℕ) → side_leads_to act.first w.number n ≡ true → (action_at (actions_in acts) place).changes n ≡ true
+pub changes_writer : (acts : List EventAccess) (place : ℕ) (act : EventAccess) (w r : NodeId) (side : Side) → action_of_access act ≡ action_at (actions_of_accesses acts) place → act.cause.event ≡ Pass w r side
+    → (n : ℕ) → has_side_to act.first w.number n ≡ true → (action_at (actions_of_accesses acts) place).changes n ≡ true
 changes_writer acts place act w r side is pass n h =
-    sym (ap (λ (a : Action). a.changes n) is) ∙ ap (λ (e : Event). shown_by e act.first act.second n) pass ∙ or_left (side_leads_to act.first w.number n) (side_leads_to act.second r.number n) h
+    sym (ap (λ (a : Action). a.changes n) is) ∙ ap (λ (e : Event). changes_shown_to e act.first act.second n) pass ∙ or_left (has_side_to act.first w.number n) (has_side_to act.second r.number n) h
 
-pub changes_reader : (acts : List EventAccess) (place : ℕ) (act : EventAccess) (w r : NodeId) (side : Side) → action_in act ≡ action_at (actions_in acts) place → act.cause.event ≡ Pass w r side
-    → (n : ℕ) → side_leads_to act.second r.number n ≡ true → (action_at (actions_in acts) place).changes n ≡ true
+pub changes_reader : (acts : List EventAccess) (place : ℕ) (act : EventAccess) (w r : NodeId) (side : Side) → action_of_access act ≡ action_at (actions_of_accesses acts) place → act.cause.event ≡ Pass w r side
+    → (n : ℕ) → has_side_to act.second r.number n ≡ true → (action_at (actions_of_accesses acts) place).changes n ≡ true
 changes_reader acts place act w r side is pass n h =
-    sym (ap (λ (a : Action). a.changes n) is) ∙ ap (λ (e : Event). shown_by e act.first act.second n) pass ∙ or_right (side_leads_to act.first w.number n) (side_leads_to act.second r.number n) h
+    sym (ap (λ (a : Action). a.changes n) is) ∙ ap (λ (e : Event). changes_shown_to e act.first act.second n) pass ∙ or_right (has_side_to act.first w.number n) (has_side_to act.second r.number n) h
 
-pub own_at : (acts : List EventAccess) (place : ℕ) (act : EventAccess) (node : NodeId) (a b c : List RacingPair) → action_in act ≡ action_at (actions_in acts) place → act.cause.event ≡ Own node
+pub own_at : (acts : List EventAccess) (place : ℕ) (act : EventAccess) (node : NodeId) (a b c : List RacingPair) → action_of_access act ≡ action_at (actions_of_accesses acts) place → act.cause.event ≡ Own node
     → IsMore acts (OfLook place 0) a b → IsMore acts (OverSides acts place node.number act.first) b c → IsMore acts (AtPlace place) a c
 own_at acts place act node a b c is own m n = chained acts (OfLook place 0) (OverSides acts place node.number act.first) (AtPlace place) a b c m n asks
   where
-    asks : (z : RacingPair) → AtPlace place z → IsNearLook acts z → OfLook place 0 z ⊎ OverSides acts place node.number act.first z
+    asks : (z : RacingPair) → AtPlace place z → IsRacingLook acts z → OfLook place 0 z ⊎ OverSides acts place node.number act.first z
     asks z (inl x) f = inl (x.0, x.1, omega arith)
-    asks z (inr x) f = inr (f.node, (x.0, x.1, f.look), sym (ap (λ (e : Event). shown_by e act.first act.second f.node) own) ∙ change_here acts place act z f is x.0)
+    asks z (inr x) f = inr (f.node, (x.0, x.1, f.look), sym (ap (λ (e : Event). changes_shown_to e act.first act.second f.node) own) ∙ change_here acts place act z f is x.0)
 
-pub pass_at : (acts : List EventAccess) (place : ℕ) (act : EventAccess) (w r : NodeId) (side : Side) (a b c : List RacingPair) → action_in act ≡ action_at (actions_in acts) place → act.cause.event ≡ Pass w r side
+pub pass_at : (acts : List EventAccess) (place : ℕ) (act : EventAccess) (w r : NodeId) (side : Side) (a b c : List RacingPair) → action_of_access act ≡ action_at (actions_of_accesses acts) place → act.cause.event ≡ Pass w r side
     → IsMore acts (OverSides acts place w.number act.first) a b → IsMore acts (OverSides acts place r.number act.second) b c → IsMore acts (AtPlace place) a c
 pass_at acts place act w r side a b c is pass m n = chained acts (OverSides acts place w.number act.first) (OverSides acts place r.number act.second) (AtPlace place) a b c m n asks
   where
-    no_look : (z : RacingPair) → z.look ≡ place → IsNearLook acts z → ⊥
+    no_look : (z : RacingPair) → z.look ≡ place → IsRacingLook acts z → ⊥
     no_look z at f =
-        let k : is_look_of (action_in act) f.node ≡ true = ap (λ (x : Action). is_look_of x f.node) is ∙ subst (λ (k : ℕ). is_look_of (action_at (actions_in acts) k) f.node ≡ true) at f.look in
-        both_ways (is_own_of act.cause.event f.node) (ap (λ (e : Event). is_own_of e f.node) pass) (and_parts act.cause.look (is_own_of act.cause.event f.node) k).1
+        let k : is_look_of (action_of_access act) f.node ≡ true = ap (λ (x : Action). is_look_of x f.node) is ∙ subst (λ (k : ℕ). is_look_of (action_at (actions_of_accesses acts) k) f.node ≡ true) at f.look in
+        both_ways (is_own_event_of act.cause.event f.node) (ap (λ (e : Event). is_own_event_of e f.node) pass) (and_parts act.cause.look (is_own_event_of act.cause.event f.node) k).1
 
-    asks : (z : RacingPair) → AtPlace place z → IsNearLook acts z → OverSides acts place w.number act.first z ⊎ OverSides acts place r.number act.second z
+    asks : (z : RacingPair) → AtPlace place z → IsRacingLook acts z → OverSides acts place w.number act.first z ⊎ OverSides acts place r.number act.second z
     asks z (inl x) f = absurd (no_look z x.0 f)
-    asks z (inr x) f = elim (or_cases (side_leads_to act.first w.number f.node) (side_leads_to act.second r.number f.node) (sym (ap (λ (e : Event). shown_by e act.first act.second f.node) pass) ∙ change_here acts place act z f is x.0)) [
+    asks z (inr x) f = elim (or_cases (has_side_to act.first w.number f.node) (has_side_to act.second r.number f.node) (sym (ap (λ (e : Event). changes_shown_to e act.first act.second f.node) pass) ∙ change_here acts place act z f is x.0)) [
       | inl h ↦ inl (f.node, (x.0, x.1, f.look), h)
       | inr h ↦ inr (f.node, (x.0, x.1, f.look), h)
     ]
@@ -230,11 +230,11 @@ pass_at acts place act w r side a b c is pass m n = chained acts (OverSides acts
 pub place_next : (acts : List EventAccess) (place : ℕ) (a b c : List RacingPair) → IsMore acts (BelowPlace place) a b → IsMore acts (AtPlace place) b c → IsMore acts (BelowPlace (place + 1)) a c
 place_next acts place a b c m n = chained acts (BelowPlace place) (AtPlace place) (BelowPlace (place + 1)) a b c m n asks
   where
-    apart : (z : RacingPair) → AreRacing (actions_in acts) z.look z.change ⊎ AreRacing (actions_in acts) z.change z.look → z.look ≡ z.change → ⊥
+    apart : (z : RacingPair) → AreRacing (actions_of_accesses acts) z.look z.change ⊎ AreRacing (actions_of_accesses acts) z.change z.look → z.look ≡ z.change → ⊥
     apart z (inl f) q = let k : z.look < z.change = f.bound.before in omega (arith, k, q)
     apart z (inr f) q = let k : z.change < z.look = f.bound.before in omega (arith, k, q)
 
-    asks : (z : RacingPair) → BelowPlace (place + 1) z → IsNearLook acts z → BelowPlace place z ⊎ AtPlace place z
+    asks : (z : RacingPair) → BelowPlace (place + 1) z → IsRacingLook acts z → BelowPlace place z ⊎ AtPlace place z
     asks z r f =
         let a : z.look < place + 1 = r.0 in
         let b : z.change < place + 1 = r.1 in
@@ -252,32 +252,32 @@ place_next acts place a b c m n = chained acts (BelowPlace place) (AtPlace place
 pub none_first : (acts : List EventAccess) (xs : List RacingPair) → IsMore acts (BelowPlace 0) xs xs
 none_first acts xs = nothing acts (BelowPlace 0) xs (λ z r f. let a : z.look < 0 = r.0 in absurd (omega (arith, a)))
 
-pub marks_next : (acts : List EventAccess) (place : ℕ) (act : EventAccess) (old new : ℕ → Bool) → action_in act ≡ action_at (actions_in acts) place → ((n : ℕ) → new n ≡ (old n || has_looked (action_in act) n))
+pub marks_next : (acts : List EventAccess) (place : ℕ) (act : EventAccess) (old new : ℕ → Bool) → action_of_access act ≡ action_at (actions_of_accesses acts) place → ((n : ℕ) → new n ≡ (old n || has_looked (action_of_access act) n))
     → LooksAreMarked acts place old → LooksAreMarked acts (place + 1) new
-marks_next acts place act old new is more marked q n l look = elim (cases_lt q place) [
-  | inl k ↦ more n ∙ or_left (old n) (has_looked (action_in act) n) (marked q n k look)
+marks_next acts place act old new is more marked_nodes q n l look = elim (cases_lt q place) [
+  | inl k ↦ more n ∙ or_left (old n) (has_looked (action_of_access act) n) (marked_nodes q n k look)
   | inr k ↦ (let at : q ≡ place = omega (arith, l, k) in
-      let here : is_look_of (action_in act) n ≡ true = ap (λ (x : Action). is_look_of x n) is ∙ subst (λ (z : ℕ). is_look_of (action_at (actions_in acts) z) n ≡ true) at look in
-      let p = and_parts act.cause.look (is_own_of act.cause.event n) here in
-      more n ∙ or_right (old n) (has_looked (action_in act) n) (and_both act.cause.look (touches act.cause.event n) p.0 (own_touches act.cause.event n p.1)))
+      let here : is_look_of (action_of_access act) n ≡ true = ap (λ (x : Action). is_look_of x n) is ∙ subst (λ (z : ℕ). is_look_of (action_at (actions_of_accesses acts) z) n ≡ true) at look in
+      let p = and_parts act.cause.look (is_own_event_of act.cause.event n) here in
+      more n ∙ or_right (old n) (has_looked (action_of_access act) n) (and_both act.cause.look (touches act.cause.event n) p.0 (own_touches act.cause.event n p.1)))
 ]
 
-pub all_found : (acts : List EventAccess) (place : ℕ) (xs : List RacingPair) → length acts ≤ place → IsMore acts (BelowPlace place) [] xs → (z : RacingPair) → (Contains xs z → IsNearLook acts z) × (IsNearLook acts z → Contains xs z)
+pub all_found : (acts : List EventAccess) (place : ℕ) (xs : List RacingPair) → length acts ≤ place → IsMore acts (BelowPlace place) [] xs → (z : RacingPair) → (Contains xs z → IsRacingLook acts z) × (IsRacingLook acts z → Contains xs z)
 all_found acts place xs l m z = (λ h. from (m.sound z h), λ f. m.all z (within f.order) f)
   where
-    from : Contains [] z ⊎ IsNearLook acts z → IsNearLook acts z
+    from : Contains [] z ⊎ IsRacingLook acts z → IsRacingLook acts z
     from (inl h) = absurd (let k : h.0 < 0 = h.1 in omega (arith, k))
     from (inr f) = f
 
-    size : length (actions_in acts) ≡ length acts
-    size = length-map acts action_in
+    size : length (actions_of_accesses acts) ≡ length acts
+    size = length-map acts action_of_access
 
-    within : AreRacing (actions_in acts) z.look z.change ⊎ AreRacing (actions_in acts) z.change z.look → BelowPlace place z
+    within : AreRacing (actions_of_accesses acts) z.look z.change ⊎ AreRacing (actions_of_accesses acts) z.change z.look → BelowPlace place z
     within (inl f) =
         let k : z.look < z.change = f.bound.before in
-        let j : z.change < length (actions_in acts) = f.bound.within in
+        let j : z.change < length (actions_of_accesses acts) = f.bound.within in
         (omega (arith, k, j, size, l), omega (arith, j, size, l))
     within (inr f) =
         let k : z.change < z.look = f.bound.before in
-        let j : z.look < length (actions_in acts) = f.bound.within in
+        let j : z.look < length (actions_of_accesses acts) = f.bound.within in
         (omega (arith, j, size, l), omega (arith, k, j, size, l))

@@ -11,7 +11,7 @@ use Rattle.ga_causal.proofs.Equivalences.{touched_of}
 use Rattle.ga_causal.proofs.Runs.{causes, first_of_run}
 use Rattle.ga_causal.proofs.Words.{after_is}
 use Rattle.ga_races.specs.Orders.{IsEnabled, AreIndependentOn, AreReorderings, same, swapped, later, joined}
-use Rattle.ga_races.specs.HappensBefore.{Action, action_of, actions, causes_in, action_at, are_dependent, IsDirectlyBefore, HappensBefore, directly, through, IsStepOf, StandsBefore}
+use Rattle.ga_races.specs.HappensBefore.{Action, action_of, actions, causes_of_actions, action_at, are_dependent, IsDirectlyBefore, HappensBefore, directly, through, IsStepOf, IsEarlierIn}
 use Rattle.ga_races.proofs.Independence.{replay_more, first_of, still_enabled, independent_on_chip, apart-sym}
 use Rattle.ga_races.proofs.Orders.{some_of}
 use Rattle.ga_races.proofs.Exact.{replay_into}
@@ -270,14 +270,14 @@ turned_at (e ∷ es) c last (suc i) (suc j) h l m none =
 
 -- ---- as the law states it
 
-pub every_order : (c : List NodeRecord) (es fs : List Event) (i j : ℕ) → HappensBefore (actions c es) i j → AreReorderings c es fs → StandsBefore c es fs i j
+pub every_order : (c : List NodeRecord) (es fs : List Event) (i j : ℕ) → HappensBefore (actions c es) i j → AreReorderings c es fs → IsEarlierIn c es fs i j
 every_order c es fs i j h order n k m l p q a b x y =
     let t = moves_of c es fs order in
     let r : t.0 i ≡ p = tallied_one (actions c fs) n k (t.0 i) p (tallied_moved (actions c es) (actions c fs) t.0 n k i t.1 (tallied_of (actions c es) n k i a)) (tallied_of (actions c fs) n k p x) in
     let s : t.0 j ≡ q = tallied_one (actions c fs) m l (t.0 j) q (tallied_moved (actions c es) (actions c fs) t.0 m l j t.1 (tallied_of (actions c es) m l j b)) (tallied_of (actions c fs) m l q y) in
     subst₂ (λ (u v : ℕ). u < v) r s (before_moved (actions c es) (actions c fs) t.0 i j t.1 h)
 
-some_order : (c : List NodeRecord) (es : List Event) (i j : ℕ) → IsTurned c es i j → (others : List Event) × AreReorderings c es others × StandsBefore c es others j i
+some_order : (c : List NodeRecord) (es : List Event) (i j : ℕ) → IsTurned c es i j → (others : List Event) × AreReorderings c es others × IsEarlierIn c es others j i
 some_order c es i j t = (
   t.others,
   t.order,
@@ -295,7 +295,7 @@ before_of xs i j t = subst₂ (HappensBefore xs) (let e : 0 + i ≡ i = omega ar
 
 -- an event that doesn't happen before a later one comes after it in some order
 pub other_order : (c : List NodeRecord) (es : List Event) (i j : ℕ) → IsSome (replay c es) → i < j → j < length es → (HappensBefore (actions c es) i j → ⊥)
-    → (others : List Event) × AreReorderings c es others × StandsBefore c es others j i
+    → (others : List Event) × AreReorderings c es others × IsEarlierIn c es others j i
 other_order c es i j h l m never =
     let a = some_of (replay c es) h in
     some_order c es i j (turned_at es c a.0 i j a.1 l m (false_from_ne_true (reached_from (actions c es) i j) (λ t. never (before_of (actions c es) i j t))))
@@ -318,7 +318,7 @@ named_of c es i l =
     let size : length (actions c es) ≡ length es = actions_length c es in
     record { node = t.node; number = suc (tally t.node (actions c es) i); tallied = record { within = omega (arith, l, size); touched = t.is; before = refl } }
 
-not_both : (c : List NodeRecord) (es : List Event) (i j : ℕ) → i < length es → j < length es → IsTurned c es i j → ((others : List Event) → AreReorderings c es others → StandsBefore c es others i j) → ⊥
+not_both : (c : List NodeRecord) (es : List Event) (i j : ℕ) → i < length es → j < length es → IsTurned c es i j → ((others : List Event) → AreReorderings c es others → IsEarlierIn c es others i j) → ⊥
 not_both c es i j l m t every =
     let a = named_of c es i l in
     let b = named_of c es j m in
@@ -330,7 +330,7 @@ not_both c es i j l m t every =
     omega (arith, p, q)
 
 pub no_race_if_confluent : (c : List NodeRecord) (es : List Event) (i j : ℕ) → IsSome (replay c es) → i < j → j < length es
-    → HappensBefore (actions c es) i j ↔ ((others : List Event) → AreReorderings c es others → StandsBefore c es others i j)
+    → HappensBefore (actions c es) i j ↔ ((others : List Event) → AreReorderings c es others → IsEarlierIn c es others i j)
 no_race_if_confluent c es i j h l m = (
   λ b others order. every_order c es others i j b order,
   λ every. elim (cases_Bool (reached_from (actions c es) i j)) [
@@ -346,12 +346,12 @@ stands c es fs n k i h s =
     (t.0 i, step_of (actions c fs) n k (t.0 i) (tallied_moved (actions c es) (actions c fs) t.0 n k i t.1 (tallied_of (actions c es) n k i s)))
 
 -- the actions are the causes of the run
-pub causes_of_run : (es : List Event) (c last : List NodeRecord) (ts : List (Cause × EventOutcome)) → run c es ≡ Some (last, ts) → causes_in (actions c es) ≡ causes ts
+pub causes_of_run : (es : List Event) (c last : List NodeRecord) (ts : List (Cause × EventOutcome)) → run c es ≡ Some (last, ts) → causes_of_actions (actions c es) ≡ causes ts
 causes_of_run [] c last ts h = ap (λ (z : List NodeRecord × List (Cause × EventOutcome)). causes z.1) (same_Some (c, []) (last, ts) h)
 causes_of_run (e ∷ es) c last ts h =
     let m = first_of_run c e es last ts h in
     ap (λ (z : List Cause). cause_of c e ∷ z)
-    (ap (λ (d : List NodeRecord). causes_in (actions d es)) (ap (λ (z : List NodeRecord × EventOutcome). z.0) (after_is c m.mid e m.told m.first)) ∙ causes_of_run es m.mid last m.others m.then)
+    (ap (λ (d : List NodeRecord). causes_of_actions (actions d es)) (ap (λ (z : List NodeRecord × EventOutcome). z.0) (after_is c m.mid e m.told m.first)) ∙ causes_of_run es m.mid last m.others m.then)
     ∙ ap (λ (z : List (Cause × EventOutcome)). causes z) (sym m.all)
 
 -- each event is a step

@@ -13,16 +13,16 @@ use Rattle.ga_grid.specs.Chip.{record_at}
 use Rattle.ga_event.specs.declared.event.Event.{Event}
 use Rattle.ga_event.specs.declared.event.Event.TheVariants.{Own, Pass}
 use Rattle.ga_event.specs.declared.event.Cause.{Cause}
-use Rattle.ga_event.specs.Touches.{nodes_of, touches, meets}
-use Rattle.ga_event.specs.Apply.{EventOutcome, writes_to, neighbour_states, after, is_look, cause_of, run, replay}
-use Rattle.ga_event.specs.Told.{steps_of, events_in}
-use Rattle.ga_event.proofs.Locality.{touched_free, Agree-sym}
-use Rattle.ga_causal.specs.Dependence.{cause_touches, marked, rest, rest_from, rewound_list, HasNoLooks}
+use Rattle.ga_event.specs.Touches.{event_nodes, touches, has_common_node}
+use Rattle.ga_event.specs.Apply.{EventOutcome, waits_to_write_side, neighbour_states, after, is_look, cause_of, run, replay}
+use Rattle.ga_event.specs.Told.{count_steps, events_of_causes}
+use Rattle.ga_event.proofs.Locality.{touched_free, AgreeOutsideMarks-sym}
+use Rattle.ga_causal.specs.Dependence.{cause_touches, marked_nodes, rest, rest_or_all, events_after_rewind, HasNoLooks}
 use Rattle.ga_causal.specs.Equivalence.{observes, AreIndependent, AreEquivalent}
 use Rattle.ga_causal.specs.Equivalence as equivalence
-use Rattle.ga_causal.specs.Steps.{touching}
-use Rattle.ga_causal.specs.Words.{word_of}
-use Rattle.ga_causal.proofs.LocalHistories.{marked-stays}
+use Rattle.ga_causal.specs.Steps.{count_touching_events}
+use Rattle.ga_causal.specs.Words.{received_word}
+use Rattle.ga_causal.proofs.LocalHistories.{marked_nodes-stays}
 use Rattle.ga_causal.proofs.Taken.{seen_blind}
 use Rattle.ga_causal.proofs.Consistent.{made_of}
 use Rattle.ga_causal.proofs.Places.{place_split, touching_in}
@@ -54,7 +54,7 @@ look_still c (Own a) f can apart = ap (λ (z : NodeRecord). looks z) (sym ((stay
 look_still c (Pass w r side) f can apart = refl
 
 -- and so is the word of one that doesn't
-pub word_still : (c : List NodeRecord) (e f : Event) → IsEnabled c f → ((n : ℕ) → touches e n ≡ true → touches f n ≡ false) → is_look c e ≡ false → word_of (after c f).0 e ≡ word_of c e
+pub word_still : (c : List NodeRecord) (e f : Event) → IsEnabled c f → ((n : ℕ) → touches e n ≡ true → touches f n ≡ false) → is_look c e ≡ false → received_word (after c f).0 e ≡ received_word c e
 word_still c (Own a) f can apart blind =
     ap (λ (b : Bool). cond {A = Option ℕ} b (Some (io_word (neighbour_states (after c f).0 a.number))) None) (look_still c (Own a) f can apart ∙ blind)
     ∙ sym (ap (λ (b : Bool). cond {A = Option ℕ} b (Some (io_word (neighbour_states c a.number))) None) blind)
@@ -114,7 +114,7 @@ causes-append : (xs ys : List (Cause × EventOutcome)) → causes (xs ++ ys) ≡
 causes-append [] ys = refl
 causes-append (x ∷ xs) ys = ap (λ (z : List Cause). x.0 ∷ z) (causes-append xs ys)
 
-events-append : (xs ys : List Cause) → events_in (xs ++ ys) ≡ events_in xs ++ events_in ys
+events-append : (xs ys : List Cause) → events_of_causes (xs ++ ys) ≡ events_of_causes xs ++ events_of_causes ys
 events-append [] ys = refl
 events-append (x ∷ xs) ys = ap (λ (z : List Event). x.event ∷ z) (events-append xs ys)
 
@@ -123,8 +123,8 @@ rest_split : (xs : List Cause) (x : Cause) (ys : List Cause) → rest (xs ++ x �
 rest_split [] x ys = refl
 rest_split (e ∷ xs) x ys = ap (λ (z : List Cause). e ∷ z) (rest_split xs x ys)
 
-rewound_split : (n : ℕ) (xs : List Cause) (x : Cause) (ys : List Cause) → cause_touches x n ≡ true → rewound_list (xs ++ x ∷ ys) n (suc (touching n xs)) ≡ xs ++ kept (cause_touches x) ys
-rewound_split n xs x ys h = ap (λ (o : Option ℕ). rest_from (xs ++ x ∷ ys) o) (place_split n (touching n xs) xs x ys refl h) ∙ rest_split xs x ys
+rewound_split : (n : ℕ) (xs : List Cause) (x : Cause) (ys : List Cause) → cause_touches x n ≡ true → events_after_rewind (xs ++ x ∷ ys) n (suc (count_touching_events n xs)) ≡ xs ++ kept (cause_touches x) ys
+rewound_split n xs x ys h = ap (λ (o : Option ℕ). rest_or_all (xs ++ x ∷ ys) o) (place_split n (count_touching_events n xs) xs x ys refl h) ∙ rest_split xs x ys
 
 -- ---- what remains if a pass is removed
 
@@ -146,8 +146,8 @@ touches_reader_too p q a =
     (subst (λ (z : Event). touches z a.reader.number ≡ true) (sym a.two) (touches_reader a.second a.reader a.other))
 
 -- an event that sees no marked node touches none
-pub no_touch : (marks : ℕ → Bool) (e : Cause) (n : ℕ) → meets marks e ≡ false → marks n ≡ true → touches e.event n ≡ false
-no_touch marks e n free m = false_from_ne_true (touches e.event n) (λ u. both_ways (list_any marks (nodes_of e.event)) (touched_free marks e free) (any_at marks (nodes_of e.event) n u m))
+pub no_touch : (marks : ℕ → Bool) (e : Cause) (n : ℕ) → has_common_node marks e ≡ false → marks n ≡ true → touches e.event n ≡ false
+no_touch marks e n free m = false_from_ne_true (touches e.event n) (λ u. both_ways (list_any marks (event_nodes e.event)) (touched_free marks e free) (any_at marks (event_nodes e.event) n u m))
 
 -- an event that touches no node of a pass leaves its rival open too
 rival_spared : (c : List NodeRecord) (p q e : Event) → AreConflicting p q → IsEnabled c q → IsEnabled c e → ((n : ℕ) → touches p n ≡ true → touches e n ≡ false) → (n : ℕ) → touches q n ≡ true → touches e n ≡ false
@@ -161,29 +161,29 @@ rival_spared c p q e a canq cane apart n t = false_from_ne_true (touches e n) (�
     not_reader k = both_ways (touches e (reader_of p)) (apart (reader_of p) (touches_reader_of p q a)) k
 
 stays_open : (es : List Cause) (marks : ℕ → Bool) (c last : List NodeRecord) (p q : Event) → AreConflicting p q → ((n : ℕ) → touches p n ≡ true → marks n ≡ true) → IsEnabled c p → IsEnabled c q
-    → replay c (events_in (kept marks es)) ≡ Some last → IsEnabled last p × IsEnabled last q
+    → replay c (events_of_causes (kept marks es)) ≡ Some last → IsEnabled last p × IsEnabled last q
 stays_open [] marks c last p q a m canp canq h = (subst (λ z. IsEnabled z p) (same_Some c last h) canp, subst (λ z. IsEnabled z q) (same_Some c last h) canq)
 stays_open (e ∷ es) marks c last p q a m canp canq h =
-    go (meets marks e) refl h (λ d cp cq k. stays_open es (marked marks e) d last p q a (λ n t. marked-stays marks e n (m n t)) cp cq k)
+    go (has_common_node marks e) refl h (λ d cp cq k. stays_open es (marked_nodes marks e) d last p q a (λ n t. marked_nodes-stays marks e n (m n t)) cp cq k)
   where
-    go : (b : Bool) → meets marks e ≡ b → replay c (events_in (cond b (kept (marked marks e) es) (e ∷ kept (marked marks e) es))) ≡ Some last
-        → ((d : List NodeRecord) → IsEnabled d p → IsEnabled d q → replay d (events_in (kept (marked marks e) es)) ≡ Some last → IsEnabled last p × IsEnabled last q) → IsEnabled last p × IsEnabled last q
+    go : (b : Bool) → has_common_node marks e ≡ b → replay c (events_of_causes (cond b (kept (marked_nodes marks e) es) (e ∷ kept (marked_nodes marks e) es))) ≡ Some last
+        → ((d : List NodeRecord) → IsEnabled d p → IsEnabled d q → replay d (events_of_causes (kept (marked_nodes marks e) es)) ≡ Some last → IsEnabled last p × IsEnabled last q) → IsEnabled last p × IsEnabled last q
     go true is k more = more c canp canq k
     go false is k more =
-        let f = first_of c e.event (events_in (kept (marked marks e) es)) last k in
+        let f = first_of c e.event (events_of_causes (kept (marked_nodes marks e) es)) last k in
         let apart : (n : ℕ) → touches p n ≡ true → touches e.event n ≡ false = λ n t. no_touch marks e n is (m n t) in
         more (after c e.event).0 (still_enabled c p e.event apart f.can canp) (still_enabled c q e.event (rival_spared c p q e.event a canq f.can apart) f.can canq) f.then
 
 -- ---- a race of two passes shows after a rollback of one of them
 
 abbrev pub Shows : List NodeRecord → List Cause → Event → Event → Type 0
-Shows c es p q = (k : ℕ) × (now : List NodeRecord) × (replay c (events_in (rewound_list es (reader_of p) k)) ≡ Some now) × IsEnabled now p × IsEnabled now q
+Shows c es p q = (k : ℕ) × (now : List NodeRecord) × (replay c (events_of_causes (events_after_rewind es (reader_of p) k)) ≡ Some now) × IsEnabled now p × IsEnabled now q
 
 -- by a step that exists
 abbrev pub ShowsWithin : List NodeRecord → List Cause → List Event → Event → Event → Type 0
 ShowsWithin c es events p q =
-    (k : ℕ) × (0 < k) × (k ≤ steps_of (reader_of p) events) × (now : List NodeRecord)
-    × (replay c (events_in (rewound_list es (reader_of p) k)) ≡ Some now) × IsEnabled now p × IsEnabled now q
+    (k : ℕ) × (0 < k) × (k ≤ count_steps (reader_of p) events) × (now : List NodeRecord)
+    × (replay c (events_of_causes (events_after_rewind es (reader_of p) k)) ≡ Some now) × IsEnabled now p × IsEnabled now q
 
 module _ (c last : List NodeRecord) (es : List Event) (ts : List (Cause × EventOutcome)) (is : run c es ≡ Some (last, ts)) (none : HasNoLooks (causes ts)) (step other : Event) (r : IsRace c es step other) (a : AreConflicting step other) where
   whole : List Event
@@ -198,43 +198,43 @@ module _ (c last : List NodeRecord) (es : List Event) (ts : List (Cause × Event
   alike : AreEquivalent c es (r.before ++ step ∷ r.later)
   alike = (equivalent_of c es (r.before ++ step ∷ r.later) r.order (look_free es c last ts is none)).0
 
-  many : steps_of (reader_of step) r.before + 1 ≤ steps_of (reader_of step) es
+  many : count_steps (reader_of step) r.before + 1 ≤ count_steps (reader_of step) es
   many =
       let n : ℕ = reader_of step in
-      let all : steps_of n es ≡ steps_of n (r.before ++ step ∷ r.later) =
+      let all : count_steps n es ≡ count_steps n (r.before ++ step ∷ r.later) =
       sym (steps_read n c es) ∙ ap length (order_read n c es (r.before ++ step ∷ r.later) r.order) ∙ steps_read n c (r.before ++ step ∷ r.later) in
-      let split : steps_of n (r.before ++ step ∷ r.later) ≡ steps_of n r.before + steps_of n (step ∷ r.later) = sum_by-append (λ (z : Event). cond (touches z n) 1 0) r.before (step ∷ r.later) in
-      let first : steps_of n (step ∷ r.later) ≡ cond {A = ℕ} (touches step n) 1 0 + steps_of n r.later = sum_by-cons (λ (z : Event). cond (touches z n) 1 0) step r.later in
+      let split : count_steps n (r.before ++ step ∷ r.later) ≡ count_steps n r.before + count_steps n (step ∷ r.later) = sum_by-append (λ (z : Event). cond (touches z n) 1 0) r.before (step ∷ r.later) in
+      let first : count_steps n (step ∷ r.later) ≡ cond {A = ℕ} (touches step n) 1 0 + count_steps n r.later = sum_by-cons (λ (z : Event). cond (touches z n) 1 0) step r.later in
       let one : cond {A = ℕ} (touches step n) 1 0 ≡ 1 = ap (λ (b : Bool). cond {A = ℕ} b 1 0) (touches_reader_of step other a) in
       omega (arith, all, split, first, one)
 
-  shows : ShowsWithin c (causes ts) es step other
-  shows =
+  shown_state : ShowsWithin c (causes ts) es step other
+  shown_state =
       let us = other_run.0 in
       let p = parts_of r.before (step ∷ r.later) c r.now last us r.led other_run.1 in
       let m = first_of_run r.now step r.later last p.two p.then in
       let x : Cause = cause_of r.now step in
       let n : ℕ = reader_of step in
-      let k : ℕ = suc (touching n (causes p.one)) in
+      let k : ℕ = suc (count_touching_events n (causes p.one)) in
       let all : causes us ≡ causes p.one ++ x ∷ causes m.others = ap causes (p.all ∙ ap (λ (z : List (Cause × EventOutcome)). p.one ++ z) m.all) ∙ causes-append p.one ((x, m.told) ∷ m.others) in
-      let left : rewound_list (causes us) n k ≡ causes p.one ++ kept (cause_touches x) (causes m.others) =
-      ap (λ (z : List Cause). rewound_list z n k) all ∙ rewound_split n (causes p.one) x (causes m.others) (touches_reader_of step other a) in
-      let before : events_in (causes p.one) ≡ r.before = (made_of c r.now r.before p.one p.first).1 in
-      let events : events_in (rewound_list (causes us) n k) ≡ r.before ++ events_in (kept (cause_touches x) (causes m.others)) =
-      ap events_in left ∙ events-append (causes p.one) (kept (cause_touches x) (causes m.others)) ∙ ap (λ (z : List Event). z ++ events_in (kept (cause_touches x) (causes m.others))) before in
+      let left : events_after_rewind (causes us) n k ≡ causes p.one ++ kept (cause_touches x) (causes m.others) =
+      ap (λ (z : List Cause). events_after_rewind z n k) all ∙ rewound_split n (causes p.one) x (causes m.others) (touches_reader_of step other a) in
+      let before : events_of_causes (causes p.one) ≡ r.before = (made_of c r.now r.before p.one p.first).1 in
+      let events : events_of_causes (events_after_rewind (causes us) n k) ≡ r.before ++ events_of_causes (kept (cause_touches x) (causes m.others)) =
+      ap events_of_causes left ∙ events-append (causes p.one) (kept (cause_touches x) (causes m.others)) ∙ ap (λ (z : List Event). z ++ events_of_causes (kept (cause_touches x) (causes m.others))) before in
       let rolled = rolled_back c last last es (r.before ++ step ∷ r.later) ts us is other_run.1 alike ((n, k) ∷ []) in
-      let runs = run_kept (cause_touches x) r.later m.mid r.now last m.others (Agree-sym (cause_touches x) r.now m.mid (keeps_of r.now step m.mid m.told m.first)) m.then in
-      let there : replay r.now (events_in (kept (cause_touches x) (causes m.others))) ≡ Some runs.0 = ap (λ (o : Option (List NodeRecord × List (Cause × EventOutcome))). option_map (λ z. z.0) o) runs.1 in
-      let here : replay c (events_in (rewound_list (causes ts) n k)) ≡ Some runs.0 =
-      replay_equivalent c (events_in (rewound_list (causes ts) n k)) (events_in (rewound_list (causes us) n k)) rolled
-      ∙ ap (λ (z : List Event). replay c z) events ∙ replay_into r.before (events_in (kept (cause_touches x) (causes m.others))) c r.now r.led ∙ there in
+      let runs = run_kept (cause_touches x) r.later m.mid r.now last m.others (AgreeOutsideMarks-sym (cause_touches x) r.now m.mid (keeps_of r.now step m.mid m.told m.first)) m.then in
+      let there : replay r.now (events_of_causes (kept (cause_touches x) (causes m.others))) ≡ Some runs.0 = ap (λ (o : Option (List NodeRecord × List (Cause × EventOutcome))). option_map (λ z. z.0) o) runs.1 in
+      let here : replay c (events_of_causes (events_after_rewind (causes ts) n k)) ≡ Some runs.0 =
+      replay_equivalent c (events_of_causes (events_after_rewind (causes ts) n k)) (events_of_causes (events_after_rewind (causes us) n k)) rolled
+      ∙ ap (λ (z : List Event). replay c z) events ∙ replay_into r.before (events_of_causes (kept (cause_touches x) (causes m.others))) c r.now r.led ∙ there in
       let can : IsEnabled r.now step = enabled_after r.before c r.now step r.later r.led (is_some_of (replay c (r.before ++ step ∷ r.later)) last (sym (order_replay c es (r.before ++ step ∷ r.later) r.order) ∙ led)) in
       let open_ = stays_open (causes m.others) (cause_touches x) r.now runs.0 step other a (λ i t. t) can r.can there in
-      let number : touching n (causes p.one) ≡ steps_of n r.before = touching_in n (causes p.one) ∙ ap (steps_of n) before in
+      let number : count_touching_events n (causes p.one) ≡ count_steps n r.before = touching_in n (causes p.one) ∙ ap (count_steps n) before in
       (k, omega arith, omega (arith, number, many), runs.0, here, open_.0, open_.1)
 
 pub race_shows : (c last : List NodeRecord) (es : List Event) (ts : List (Cause × EventOutcome)) → run c es ≡ Some (last, ts) → HasNoLooks (causes ts) → (step other : Event) → IsRace c es step other → AreConflicting step other → Shows c (causes ts) step other
-race_shows c last es ts is none step other r a = let w = shows c last es ts is none step other r a in (w.0, w.3, w.4, w.5, w.6)
+race_shows c last es ts is none step other r a = let w = shown_state c last es ts is none step other r a in (w.0, w.3, w.4, w.5, w.6)
 
 -- ---- where all ends, or nothing that comes next looks
 
@@ -251,9 +251,9 @@ blind_later (f ∷ es) c last e free h end can =
     let p = first_of c f es last h in
     elim (cases_eq (actor f) (actor e)) [
       | inl q ↦ subst (λ (z : Event). is_look c z ≡ false) (one_event c f e p.can can q) free.0
-      | inr ne ↦ elim (cases_Bool (list_any (touches e) (nodes_of f))) [
-        | inl t ↦ (let k = any_of (touches e) (nodes_of f) t in
-            let b = common_node c e f k.node can p.can (λ w. ne (sym (ap actor w))) k.marked k.listed in
+      | inr ne ↦ elim (cases_Bool (list_any (touches e) (event_nodes f))) [
+        | inl t ↦ (let k = any_of (touches e) (event_nodes f) t in
+            let b = common_node c e f k.node can p.can (λ w. ne (sym (ap actor w))) k.marked_nodes k.listed in
             subst (λ (z : Event). is_look c z ≡ false) (sym b.one) refl)
         | inr none ↦ (let apart = independent_of e f none in
             sym (look_still c e f p.can apart) ∙ blind_later es (after c f).0 last e free.1 p.then end (still_enabled c e f apart p.can can))
@@ -266,8 +266,8 @@ look_free_into (e ∷ fs) ys c now h free = let p = first_of c e fs now h in loo
 
 -- so its races are of passes
 pub race_rivals : (c last : List NodeRecord) (es : List Event) (ts : List (Cause × EventOutcome)) → run c es ≡ Some (last, ts) → HasNoLooks (causes ts) → IsBlind last → (step other : Event) → IsRace c es step other → AreConflicting step other
-race_rivals c last es ts is none end step other r = elim (cases_Bool (list_any (touches step) (nodes_of other))) [
-  | inl t ↦ (let k = any_of (touches step) (nodes_of other) t in common_node r.now step other k.node can r.can r.differ k.marked k.listed)
+race_rivals c last es ts is none end step other r = elim (cases_Bool (list_any (touches step) (event_nodes other))) [
+  | inl t ↦ (let k = any_of (touches step) (event_nodes other) t in common_node r.now step other k.node can r.can r.differ k.marked_nodes k.listed)
   | inr no_node ↦ (let apart = independent_of step other no_node in
       let blind = blind_later (step ∷ r.later) r.now last other free there end r.can in
       absurd (r.bound (record { apart = apart; first = word_still r.now step other r.can apart free.0; second = word_still r.now other step can (apart-sym step other apart) blind })))
@@ -291,20 +291,20 @@ race_rivals c last es ts is none end step other r = elim (cases_Bool (list_any (
 -- and a list without looks that ends is without a race where no rollback of one of its steps leaves two neighbours that wait to
 -- write to one reader
 abbrev pub NoneShows : List NodeRecord → List Cause → Type 0
-NoneShows c es = (k : ℕ) (now : List NodeRecord) (w x r : NodeId) (side other : Side) → replay c (events_in (rewound_list es r.number k)) ≡ Some now → IsEnabled now (Pass w r side) → IsEnabled now (Pass x r other) → side ≢ other → ⊥
+NoneShows c es = (k : ℕ) (now : List NodeRecord) (w x r : NodeId) (side other : Side) → replay c (events_of_causes (events_after_rewind es r.number k)) ≡ Some now → IsEnabled now (Pass w r side) → IsEnabled now (Pass x r other) → side ≢ other → ⊥
 
 abbrev pub NoneShowsWithin : List NodeRecord → List Cause → List Event → Type 0
 NoneShowsWithin c es events =
-    (k : ℕ) (now : List NodeRecord) (w x r : NodeId) (side other : Side) → 0 < k → k ≤ steps_of r.number events
-    → replay c (events_in (rewound_list es r.number k)) ≡ Some now → IsEnabled now (Pass w r side) → IsEnabled now (Pass x r other) → side ≢ other → ⊥
+    (k : ℕ) (now : List NodeRecord) (w x r : NodeId) (side other : Side) → 0 < k → k ≤ count_steps r.number events
+    → replay c (events_of_causes (events_after_rewind es r.number k)) ≡ Some now → IsEnabled now (Pass w r side) → IsEnabled now (Pass x r other) → side ≢ other → ⊥
 
 pub none_races_within : (c last : List NodeRecord) (es : List Event) (ts : List (Cause × EventOutcome)) → run c es ≡ Some (last, ts) → HasNoLooks (causes ts) → IsBlind last → NoneShowsWithin c (causes ts) es → HasNoRace c es
 none_races_within c last es ts is none end free step other r =
     let a = race_rivals c last es ts is none end step other r in
-    let k = shows c last es ts is none step other r a in
+    let k = shown_state c last es ts is none step other r a in
     free k.0 k.3 a.first a.second a.reader a.side a.other k.1
-    (subst (λ (z : Event). k.0 ≤ steps_of (reader_of z) es) a.one k.2)
-    (ap (λ (z : Event). replay c (events_in (rewound_list (causes ts) (reader_of z) k.0))) (sym a.one) ∙ k.4)
+    (subst (λ (z : Event). k.0 ≤ count_steps (reader_of z) es) a.one k.2)
+    (ap (λ (z : Event). replay c (events_of_causes (events_after_rewind (causes ts) (reader_of z) k.0))) (sym a.one) ∙ k.4)
     (subst (λ (z : Event). IsEnabled k.3 z) a.one k.5) (subst (λ (z : Event). IsEnabled k.3 z) a.two k.6) a.sides
 
 pub none_races : (c last : List NodeRecord) (es : List Event) (ts : List (Cause × EventOutcome)) → run c es ≡ Some (last, ts) → HasNoLooks (causes ts) → IsBlind last → NoneShows c (causes ts) → HasNoRace c es
@@ -322,14 +322,14 @@ race_behind (e ∷ fs) ys es c now led h calm =
 pub none_shows : (c last : List NodeRecord) (es : List Event) (ts : List (Cause × EventOutcome)) → run c es ≡ Some (last, ts) → HasNoLooks (causes ts) → IsTerminal last → HasNoRace c es → NoneShows c (causes ts)
 none_shows c last es ts is none end calm k now w x r side other led canp canq ne =
     let h : replay c es ≡ Some last = ap (λ (o : Option (List NodeRecord × List (Cause × EventOutcome))). option_map (λ z. z.0) o) is in
-    let xs : List Event = events_in (rewound_list (causes ts) r.number k) in
+    let xs : List Event = events_of_causes (events_after_rewind (causes ts) r.number k) in
     let d = completed_quiet xs es c last now led h calm end in
     let there : replay now d.0 ≡ Some last = sym (replay_into xs d.0 c now led) ∙ sym (order_replay c es (xs ++ d.0) d.1) ∙ h in
     first_or_end d.0 (race_behind xs d.0 es c now led d.1 calm) (brought d.0 now last (Pass w r side) there (race_behind xs d.0 es c now led d.1 calm) canp)
   where
     other_writer : w.number ≡ x.number → ⊥
     other_writer e = ne (one_side (record_at now w.number).wait side other (open_of now w r side canp).writes
-        (subst (λ (z : ℕ). writes_to (record_at now z).wait other ≡ true) (sym e) (open_of now x r other canq).writes))
+        (subst (λ (z : ℕ). waits_to_write_side (record_at now z).wait other ≡ true) (sym e) (open_of now x r other canq).writes))
 
     not_free : AreIndependentOn now (Pass w r side) (Pass x r other) → ⊥
     not_free free = both_ways (touches (Pass x r other) r.number) (free.apart r.number (touches_reader w r side)) (touches_reader x r other)

@@ -11,14 +11,14 @@ use Rattle.ga_node.specs.Record.{NodeRecord}
 use Rattle.ga_node.specs.Table.{looks}
 use Rattle.ga_grid.specs.Grid.{neighbour_of}
 use Rattle.ga_grid.specs.Chip.{record_at}
-use Rattle.ga_event.specs.Apply.{Agree, shows, beside_in, neighbour_states, after, is_look}
+use Rattle.ga_event.specs.Apply.{AgreeOutsideMarks, shown_state, shown_neighbour_state, neighbour_states, after, is_look}
 use Rattle.ga_event.specs.declared.event.Event.{Event}
 use Rattle.ga_event.specs.declared.event.Event.TheVariants.{Own, Pass}
-use Rattle.ga_event.specs.Touches.{nodes_of, touches}
-use Rattle.ga_causal.specs.Words.{word_of}
+use Rattle.ga_event.specs.Touches.{event_nodes, touches}
+use Rattle.ga_causal.specs.Words.{received_word}
 use Rattle.ga_causal.proofs.Words.{same_node}
 use Rattle.ga_races.specs.Orders.{IsEnabled, AreIndependentOn}
-use Rattle.ga_races.specs.HappensBefore.{Action, action_of, is_shown, are_dependent}
+use Rattle.ga_races.specs.HappensBefore.{Action, action_of, is_look_changed_by, are_dependent}
 use Rattle.ga_races.proofs.Independence.{replay_more, stays, still_enabled, can_back, any_of, independent_of, apart-sym}
 use Rattle.ga_races.proofs.Blind.{look_still, word_still}
 
@@ -28,7 +28,7 @@ Apart e f = (n : ℕ) → touches e n ≡ true → touches f n ≡ false
 -- ---- what the one event changes of a look's word it changes also where the other was made first
 
 -- four chips: the one event leads from the first of two to the second, the other from the one two to the other two
-module _ (one other : ℕ → Bool) (apart : (n : ℕ) → one n ≡ true → other n ≡ false) (c d u v : List NodeRecord) (cd : Agree other c d) (uv : Agree other u v) (cu : Agree one c u) (dv : Agree one d v) where
+module _ (one other : ℕ → Bool) (apart : (n : ℕ) → one n ≡ true → other n ≡ false) (c d u v : List NodeRecord) (cd : AgreeOutsideMarks other c d) (uv : AgreeOutsideMarks other u v) (cu : AgreeOutsideMarks one c u) (dv : AgreeOutsideMarks one d v) where
   crossed : (a b x y : ℕ) → a ≡ x → b ≡ y → a + y ≡ b + x
   crossed a b x y p q = omega (arith, p, q)
 
@@ -36,10 +36,10 @@ module _ (one other : ℕ → Bool) (apart : (n : ℕ) → one n ≡ true → ot
   straight a b x y p q = omega (arith, p, q)
 
   side_sum : (side : Side) (o : Option ℕ) (first second : ℕ)
-      → shown (beside_in c side o) first second + shown (beside_in v side o) first second ≡ shown (beside_in d side o) first second + shown (beside_in u side o) first second
+      → shown (shown_neighbour_state c side o) first second + shown (shown_neighbour_state v side o) first second ≡ shown (shown_neighbour_state d side o) first second + shown (shown_neighbour_state u side o) first second
   side_sum side None first second = refl
   side_sum side (Some m) first second =
-      let word : NodeRecord → ℕ = λ z. shown (shows z.wait side) first second in
+      let word : NodeRecord → ℕ = λ z. shown (shown_state z.wait side) first second in
       elim (cases_Bool (one m)) [
         | inl t ↦ straight (word (record_at c m)) (word (record_at d m)) (word (record_at u m)) (word (record_at v m)) (ap word (cd.same m (apart m t))) (ap word (uv.same m (apart m t)))
         | inr out ↦ crossed (word (record_at c m)) (word (record_at d m)) (word (record_at u m)) (word (record_at v m)) (ap word (cu.same m out)) (ap word (dv.same m out))
@@ -66,7 +66,7 @@ module _ (one other : ℕ → Bool) (apart : (n : ℕ) → one n ≡ true → ot
   changes_alike n = equal_alike (io_word (neighbour_states c n)) (io_word (neighbour_states d n)) (io_word (neighbour_states u n)) (io_word (neighbour_states v n)) (io_sum n)
 
 -- the chips after an event with the other before it and without, where it receives the same word
-agree_behind : (c : List NodeRecord) (e f : Event) → IsEnabled c e → IsEnabled c f → Apart e f → word_of (after c e).0 f ≡ word_of c f → Agree (touches e) (after c f).0 (after (after c e).0 f).0
+agree_behind : (c : List NodeRecord) (e f : Event) → IsEnabled c e → IsEnabled c f → Apart e f → received_word (after c e).0 f ≡ received_word c f → AgreeOutsideMarks (touches e) (after c f).0 (after (after c e).0 f).0
 agree_behind c e f cane canf apart word =
     let then : IsEnabled (after c e).0 f = still_enabled c f e (apart-sym e f apart) cane canf in
     record {
@@ -76,7 +76,7 @@ agree_behind c e f cane canf apart word =
     }
 
 -- an event is the same action after another that touches none of its nodes and after which it receives the same word
-pub action_still : (c : List NodeRecord) (e f : Event) → IsEnabled c e → IsEnabled c f → Apart e f → word_of (after c e).0 f ≡ word_of c f → action_of (after c e).0 f ≡ action_of c f
+pub action_still : (c : List NodeRecord) (e f : Event) → IsEnabled c e → IsEnabled c f → Apart e f → received_word (after c e).0 f ≡ received_word c f → action_of (after c e).0 f ≡ action_of c f
 action_still c e f cane canf apart word =
     let back = apart-sym e f apart in
     let then : IsEnabled (after c e).0 f = still_enabled c f e back cane canf in
@@ -100,51 +100,51 @@ same_of true x y h = ap Some (eqb-true x y (equal (x == y) h))
     equal false k = absurd (true≢false k)
 same_of false x y h = refl
 
-unshown : (c : List NodeRecord) (e f : Event) → IsEnabled c f → Apart e f → word_of (after c f).0 e ≡ word_of c e → is_shown (action_of c e) (action_of c f) ≡ false
+unshown : (c : List NodeRecord) (e f : Event) → IsEnabled c f → Apart e f → received_word (after c f).0 e ≡ received_word c e → is_look_changed_by (action_of c e) (action_of c f) ≡ false
 unshown c (Own a) f canf apart word =
     unshown_of (looks (record_at c a.number)) (io_word (neighbour_states (after c f).0 a.number)) (io_word (neighbour_states c a.number))
     (ap (λ (b : Bool). cond {A = Option ℕ} b (Some (io_word (neighbour_states (after c f).0 a.number))) None) (sym (look_still c (Own a) f canf apart)) ∙ word)
 unshown c (Pass w r side) f canf apart word = refl
 
-word_same : (c : List NodeRecord) (e f : Event) (a : Action) → IsEnabled c f → Apart e f → a.cause.event ≡ e → a.cause.look ≡ is_look c e → is_shown a (action_of c f) ≡ false → word_of (after c f).0 e ≡ word_of c e
+word_same : (c : List NodeRecord) (e f : Event) (a : Action) → IsEnabled c f → Apart e f → a.cause.event ≡ e → a.cause.look ≡ is_look c e → is_look_changed_by a (action_of c f) ≡ false → received_word (after c f).0 e ≡ received_word c e
 word_same c e f a canf apart is look none = by_event e apart
-    (subst (λ (b : Bool). (b && list_any (action_of c f).changes (nodes_of e)) ≡ false) look
-    (subst (λ (z : Event). (a.cause.look && list_any (action_of c f).changes (nodes_of z)) ≡ false) is none))
+    (subst (λ (b : Bool). (b && list_any (action_of c f).changes (event_nodes e)) ≡ false) look
+    (subst (λ (z : Event). (a.cause.look && list_any (action_of c f).changes (event_nodes z)) ≡ false) is none))
   where
-    by_event : (g : Event) → Apart g f → (is_look c g && list_any (action_of c f).changes (nodes_of g)) ≡ false → word_of (after c f).0 g ≡ word_of c g
+    by_event : (g : Event) → Apart g f → (is_look c g && list_any (action_of c f).changes (event_nodes g)) ≡ false → received_word (after c f).0 g ≡ received_word c g
     by_event (Own n) free h =
         ap (λ (b : Bool). cond {A = Option ℕ} b (Some (io_word (neighbour_states (after c f).0 n.number))) None) (look_still c (Own n) f canf free)
         ∙ same_of (looks (record_at c n.number)) (io_word (neighbour_states (after c f).0 n.number)) (io_word (neighbour_states c n.number)) h
     by_event (Pass w r side) free h = word_still c (Pass w r side) f canf free refl
 
-none_common : (e f : Event) → Apart e f → list_any (touches e) (nodes_of f) ≡ false
+none_common : (e f : Event) → Apart e f → list_any (touches e) (event_nodes f) ≡ false
 none_common e f apart =
-    false_from_ne_true (list_any (touches e) (nodes_of f)) (λ t. let k = any_of (touches e) (nodes_of f) t in both_ways (touches f k.node) (apart k.node k.marked) k.listed)
+    false_from_ne_true (list_any (touches e) (event_nodes f)) (λ t. let k = any_of (touches e) (event_nodes f) t in both_ways (touches f k.node) (apart k.node k.marked_nodes) k.listed)
 
 -- independent events are not dependent as actions
 pub unbound_of : (c : List NodeRecord) (e f : Event) → IsEnabled c e → IsEnabled c f → AreIndependentOn c e f → are_dependent (action_of c e) (action_of c f) ≡ false
 unbound_of c e f cane canf free =
-    or_from (list_any (touches e) (nodes_of f)) (is_shown (action_of c e) (action_of c f) || is_shown (action_of c f) (action_of c e)) (none_common e f free.apart)
-    (or_from (is_shown (action_of c e) (action_of c f)) (is_shown (action_of c f) (action_of c e))
+    or_from (list_any (touches e) (event_nodes f)) (is_look_changed_by (action_of c e) (action_of c f) || is_look_changed_by (action_of c f) (action_of c e)) (none_common e f free.apart)
+    (or_from (is_look_changed_by (action_of c e) (action_of c f)) (is_look_changed_by (action_of c f) (action_of c e))
     (unshown c e f canf free.apart free.first) (unshown c f e cane (apart-sym e f free.apart) free.second))
 
 -- and neighbours in a list whose actions are not dependent are independent
 pub free_of : (c : List NodeRecord) (e f : Event) → IsEnabled c e → IsEnabled (after c e).0 f → are_dependent (action_of c e) (action_of (after c e).0 f) ≡ false → IsEnabled c f × AreIndependentOn c e f
 free_of c e f cane then none =
     let d = (after c e).0 in
-    let p = or_parts (list_any (touches e) (nodes_of f)) (is_shown (action_of c e) (action_of d f) || is_shown (action_of d f) (action_of c e)) none in
-    let q = or_parts (is_shown (action_of c e) (action_of d f)) (is_shown (action_of d f) (action_of c e)) p.1 in
+    let p = or_parts (list_any (touches e) (event_nodes f)) (is_look_changed_by (action_of c e) (action_of d f) || is_look_changed_by (action_of d f) (action_of c e)) none in
+    let q = or_parts (is_look_changed_by (action_of c e) (action_of d f)) (is_look_changed_by (action_of d f) (action_of c e)) p.1 in
     let apart : Apart e f = independent_of e f p.0 in
     let back : Apart f e = apart-sym e f apart in
     let canf : IsEnabled c f = can_back c f e back cane then in
-    let second : word_of d f ≡ word_of c f = word_same c f e (action_of d f) cane back refl (look_still c f e cane back) q.1 in
-    let first : word_of (after c f).0 e ≡ word_of c e =
-    word_same c e f (action_of c e) canf apart refl refl (subst (λ (a : Action). is_shown (action_of c e) a ≡ false) (action_still c e f cane canf apart second) q.0) in
+    let second : received_word d f ≡ received_word c f = word_same c f e (action_of d f) cane back refl (look_still c f e cane back) q.1 in
+    let first : received_word (after c f).0 e ≡ received_word c e =
+    word_same c e f (action_of c e) canf apart refl refl (subst (λ (a : Action). is_look_changed_by (action_of c e) a ≡ false) (action_still c e f cane canf apart second) q.0) in
     (canf, record { apart = apart; first = first; second = second })
 
 -- actions that are not dependent touch no common node
 pub unbound_apart : (a b : Action) → are_dependent a b ≡ false → (n : ℕ) → touches a.cause.event n ≡ true → touches b.cause.event n ≡ false
-unbound_apart a b none = independent_of a.cause.event b.cause.event ((or_parts (list_any (touches a.cause.event) (nodes_of b.cause.event)) (is_shown a b || is_shown b a) none).0)
+unbound_apart a b none = independent_of a.cause.event b.cause.event ((or_parts (list_any (touches a.cause.event) (event_nodes b.cause.event)) (is_look_changed_by a b || is_look_changed_by b a) none).0)
 
 -- which are all cases of neighbours in a list
 pub free_exact : (c : List NodeRecord) (e f : Event) → IsEnabled c e → IsEnabled (after c e).0 f → (are_dependent (action_of c e) (action_of (after c e).0 f) ≡ false) ↔ (IsEnabled c f × AreIndependentOn c e f)

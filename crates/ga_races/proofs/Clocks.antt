@@ -4,9 +4,9 @@ use Rattle.std.specs.Prelude.{slice_index_or}
 use Rattle.std.specs.List.{list_any}
 use Rattle.std.proofs.Math.Nat.{le-max_left, le-max_right}
 use Rattle.std.proofs.lemmas.Bool.{cases_lt, cases_order, both_ways, or_left}
-use Rattle.ga_event.specs.Touches.{nodes_of, touches}
-use Rattle.ga_causal.specs.Steps.{touching, IsStep}
-use Rattle.ga_races.specs.HappensBefore.{Action, causes_in, action_at, is_shown, are_dependent, IsDirectlyBefore, HappensBefore, directly, through, IsClock, joined, clock_after}
+use Rattle.ga_event.specs.Touches.{event_nodes, touches}
+use Rattle.ga_causal.specs.Steps.{count_touching_events, IsKthStep}
+use Rattle.ga_races.specs.HappensBefore.{Action, causes_of_actions, action_at, is_look_changed_by, are_dependent, IsDirectlyBefore, HappensBefore, directly, through, IsClock, joined, merged_clock}
 use Rattle.ga_races.proofs.Independence.{any_at}
 use Rattle.ga_races.proofs.Moves.{tally, tally_is, tally_grows, before_within, IsTallied, tallied_of}
 use Rattle.ga_races.proofs.Tallies.{tally_up}
@@ -49,7 +49,7 @@ one_of (c ∷ known) n k p l = elim (cases_lt (c.1 n) k) [
     ]
 
 common : (a b : Action) (n : ℕ) → touches a.cause.event n ≡ true → touches b.cause.event n ≡ true → are_dependent a b ≡ true
-common a b n t u = or_left (list_any (touches a.cause.event) (nodes_of b.cause.event)) (is_shown a b || is_shown b a) (any_at (touches a.cause.event) (nodes_of b.cause.event) n u t)
+common a b n t u = or_left (list_any (touches a.cause.event) (event_nodes b.cause.event)) (is_look_changed_by a b || is_look_changed_by b a) (any_at (touches a.cause.event) (event_nodes b.cause.event) n u t)
 
 pub in_order : (xs : List Action) (i j n : ℕ) → i < j → j < length xs → touches (action_at xs i).cause.event n ≡ true → touches (action_at xs j).cause.event n ≡ true → HappensBefore xs i j
 in_order xs i j n l m t u = directly (record { before = l; within = m; bound = common (action_at xs i) (action_at xs j) n t u })
@@ -73,13 +73,13 @@ module _ (xs : List Action) (place : ℕ) (known : List (ℕ × (ℕ → ℕ))) 
     (clocks : All (λ (p : ℕ × (ℕ → ℕ)). IsDirectlyBefore xs p.0 place × IsClock xs p.0 p.1) known)
     (covered : (m : ℕ) → IsDirectlyBefore xs m place → (p : ℕ × (ℕ → ℕ)) × Contains known p × ((m ≡ p.0) ⊎ HappensBefore xs m p.0)) where
   -- its own steps are counted
-  own : (n k step : ℕ) → touches (action_at xs place).cause.event n ≡ true → IsTallied xs n k step → (k ≤ touching n (take (place + 1) (causes_in xs))) ↔ ((step ≡ place) ⊎ HappensBefore xs step place)
+  own : (n k step : ℕ) → touches (action_at xs place).cause.event n ≡ true → IsTallied xs n k step → (k ≤ count_touching_events n (take (place + 1) (causes_of_actions xs))) ↔ ((step ≡ place) ⊎ HappensBefore xs step place)
   own n k step t s = (forth, back)
     where
-      count : touching n (take (place + 1) (causes_in xs)) ≡ suc (tally n xs place)
+      count : count_touching_events n (take (place + 1) (causes_of_actions xs)) ≡ suc (tally n xs place)
       count = tally_is n xs (place + 1) ∙ tally_next n xs place inside t
 
-      forth : k ≤ touching n (take (place + 1) (causes_in xs)) → (step ≡ place) ⊎ HappensBefore xs step place
+      forth : k ≤ count_touching_events n (take (place + 1) (causes_of_actions xs)) → (step ≡ place) ⊎ HappensBefore xs step place
       forth l = elim (cases_order step place) [
         | inl q ↦ inl q
         | inr (inl b) ↦ inr (directly (record { before = b; within = inside; bound = common (action_at xs step) (action_at xs place) n s.touched t }))
@@ -87,7 +87,7 @@ module _ (xs : List Action) (place : ℕ) (known : List (ℕ × (ℕ → ℕ))) 
             let e : suc (tally n xs step) ≡ k = s.before in absurd (omega (arith, g, e, l, count)))
       ]
 
-      back : (step ≡ place) ⊎ HappensBefore xs step place → k ≤ touching n (take (place + 1) (causes_in xs))
+      back : (step ≡ place) ⊎ HappensBefore xs step place → k ≤ count_touching_events n (take (place + 1) (causes_of_actions xs))
       back h =
           let b : step ≤ place = at_most h in
           let g : tally n xs step ≤ tally n xs place = tally_up n xs step place b in
@@ -99,7 +99,7 @@ module _ (xs : List Action) (place : ℕ) (known : List (ℕ × (ℕ → ℕ))) 
           at_most (inr z) = let b : step < place = (before_within xs step place z).0 in omega (arith, b)
 
   -- and those of other nodes are those of an earlier clock
-  of_others : (n k step : ℕ) → touches (action_at xs place).cause.event n ≡ false → IsStep (causes_in xs) n k step → (k ≤ joined known n) ↔ ((step ≡ place) ⊎ HappensBefore xs step place)
+  of_others : (n k step : ℕ) → touches (action_at xs place).cause.event n ≡ false → IsKthStep (causes_of_actions xs) n k step → (k ≤ joined known n) ↔ ((step ≡ place) ⊎ HappensBefore xs step place)
   of_others n k step f s = (forth, back)
     where
       tallied : IsTallied xs n k step
@@ -133,9 +133,9 @@ module _ (xs : List Action) (place : ℕ) (known : List (ℕ × (ℕ → ℕ))) 
           chain {m} {q} (inr e) (inl g) = inr (subst (HappensBefore xs step) g e)
           chain {m} {q} (inr e) (inr g) = inr (happens_trans xs step m q e g)
 
-  pub clock_of : IsClock xs place (clock_after xs place known)
+  pub clock_of : IsClock xs place (merged_clock xs place known)
   clock_of n k step s = go (touches (action_at xs place).cause.event n) refl
     where
-      go : (b : Bool) → touches (action_at xs place).cause.event n ≡ b → (k ≤ cond b (touching n (take (place + 1) (causes_in xs))) (joined known n)) ↔ ((step ≡ place) ⊎ HappensBefore xs step place)
+      go : (b : Bool) → touches (action_at xs place).cause.event n ≡ b → (k ≤ cond b (count_touching_events n (take (place + 1) (causes_of_actions xs))) (joined known n)) ↔ ((step ≡ place) ⊎ HappensBefore xs step place)
       go true t = own n k step t (tallied_of xs n k step s)
       go false f = of_others n k step f s

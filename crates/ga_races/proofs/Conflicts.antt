@@ -4,38 +4,38 @@ use Rattle.std.specs.List.{list_any}
 use Rattle.ga_event.specs.declared.event.Event.{Event}
 use Rattle.ga_event.specs.declared.event.Event.TheVariants.{Own, Pass}
 use Rattle.ga_event.specs.declared.event.Cause.{Cause}
-use Rattle.ga_event.specs.Touches.{nodes_of, touches}
-use Rattle.ga_races.specs.HappensBefore.{Action, action_at, is_shown, are_dependent, IsDirectlyBefore, HappensBefore, directly, through, AreRacing}
+use Rattle.ga_event.specs.Touches.{event_nodes, touches}
+use Rattle.ga_races.specs.HappensBefore.{Action, action_at, is_look_changed_by, are_dependent, IsDirectlyBefore, HappensBefore, directly, through, AreRacing}
 use Rattle.ga_races.specs.inner.{AreAlike}
 use Rattle.std.proofs.lemmas.Bool.{or_cases, both_ways, and_parts, eqb-true}
 use Rattle.std.proofs.lemmas.Option.{same_Some}
 use Rattle.ga_ports.specs.declared.side.Side.{Side}
 use Rattle.ga_ports.specs.declared.side.Side.TheVariants.{Right, Down, Left, Up}
-use Rattle.ga_ports.specs.Address.{is_side}
+use Rattle.ga_ports.specs.Address.{are_same_side}
 use Rattle.ga_node.specs.Record.{NodeRecord}
-use Rattle.ga_node.specs.Table.{refused_by}
+use Rattle.ga_node.specs.Table.{wait_refusal}
 use Rattle.ga_node.specs.declared.wait.Wait.{Wait}
 use Rattle.ga_node.specs.declared.wait.Wait.TheVariants.{Nothing, Fetch, Read, Write}
 use Rattle.ga_grid.specs.declared.node_id.NodeId.{NodeId}
 use Rattle.ga_grid.specs.Grid.{neighbour_of}
 use Rattle.ga_grid.specs.Chip.{record_at}
 use Rattle.ga_grid.proofs.NodeIds.{NodeId-same, neighbour_of-back}
-use Rattle.ga_event.specs.Apply.{writes_to, reads_from, is_number, unmatched}
+use Rattle.ga_event.specs.Apply.{waits_to_write_side, waits_to_read_side, equals_some, unmatched_unless}
 use Rattle.ga_races.specs.Orders.{IsEnabled, AreConflicting}
 
 -- ---- what is near in a list is near in one whose causes are the same and change what is shown to the same nodes
 
-any_alike : (e : Event) (f g : ℕ → Bool) → ((n : ℕ) → n < 144 → f n ≡ g n) → list_any f (nodes_of e) ≡ list_any g (nodes_of e)
+any_alike : (e : Event) (f g : ℕ → Bool) → ((n : ℕ) → n < 144 → f n ≡ g n) → list_any f (event_nodes e) ≡ list_any g (event_nodes e)
 any_alike (Own m) f g h = ap (λ (b : Bool). b || list_any g []) (h m.number m.in_range)
 any_alike (Pass w r side) f g h = ap₂ (λ (a b : Bool). a || (b || list_any g [])) (h w.number w.in_range) (h r.number r.in_range)
 
-shown_alike : (a b x y : Action) → a.cause ≡ x.cause → ((n : ℕ) → n < 144 → b.changes n ≡ y.changes n) → is_shown a b ≡ is_shown x y
+shown_alike : (a b x y : Action) → a.cause ≡ x.cause → ((n : ℕ) → n < 144 → b.changes n ≡ y.changes n) → is_look_changed_by a b ≡ is_look_changed_by x y
 shown_alike a b x y is same =
-    ap (λ (z : Bool). a.cause.look && z) (any_alike a.cause.event b.changes y.changes same) ∙ ap (λ (z : Cause). z.look && list_any y.changes (nodes_of z.event)) is
+    ap (λ (z : Bool). a.cause.look && z) (any_alike a.cause.event b.changes y.changes same) ∙ ap (λ (z : Cause). z.look && list_any y.changes (event_nodes z.event)) is
 
 bound_alike : (a b x y : Action) → a.cause ≡ x.cause → b.cause ≡ y.cause → ((n : ℕ) → n < 144 → a.changes n ≡ x.changes n) → ((n : ℕ) → n < 144 → b.changes n ≡ y.changes n) → are_dependent a b ≡ are_dependent x y
 bound_alike a b x y p q f g =
-    ap₂ (λ (i j : Bool). i || j) (ap₂ (λ (i j : Cause). list_any (touches i.event) (nodes_of j.event)) p q)
+    ap₂ (λ (i j : Bool). i || j) (ap₂ (λ (i j : Cause). list_any (touches i.event) (event_nodes j.event)) p q)
     (ap₂ (λ (i j : Bool). i || j) (shown_alike a b x y p g) (shown_alike b a y x q f))
 
 pub alike-sym : (xs ys : List Action) → AreAlike xs ys → AreAlike ys xs
@@ -77,35 +77,35 @@ actor (Own a) = a.number
 actor (Pass w r side) = w.number
 
 -- an enabled event and the state of its nodes
-runs_of : (wait : Wait) (stop : ℕ) → refused_by wait stop ≡ None → wait ≡ Nothing
+runs_of : (wait : Wait) (stop : ℕ) → wait_refusal wait stop ≡ None → wait ≡ Nothing
 runs_of Nothing stop h = refl
 runs_of (Fetch sides) stop h = absurd (cc)
 runs_of (Read sides) stop h = absurd (cc)
 runs_of (Write side) stop h = absurd (cc)
 
-pub matched_of : (b : Bool) → unmatched b ≡ None → b ≡ true
+pub matched_of : (b : Bool) → unmatched_unless b ≡ None → b ≡ true
 matched_of true h = refl
 matched_of false h = absurd (cc)
 
 pub record Open (c : List NodeRecord) (w r : NodeId) (side : Side) : Type 0 where
-  pub near : is_number (neighbour_of w.number side) r.number ≡ true
-  pub writes : writes_to (record_at c w.number).wait side ≡ true
-  pub reads : reads_from (record_at c r.number).wait side ≡ true
+  pub near : equals_some (neighbour_of w.number side) r.number ≡ true
+  pub writes : waits_to_write_side (record_at c w.number).wait side ≡ true
+  pub reads : waits_to_read_side (record_at c r.number).wait side ≡ true
 
 pub open_of : (c : List NodeRecord) (w r : NodeId) (side : Side) → IsEnabled c (Pass w r side) → Open c w r side
 open_of c w r side can =
-    let near = is_number (neighbour_of w.number side) r.number in
-    let writes = writes_to (record_at c w.number).wait side in
-    let reads = reads_from (record_at c r.number).wait side in
+    let near = equals_some (neighbour_of w.number side) r.number in
+    let writes = waits_to_write_side (record_at c w.number).wait side in
+    let reads = waits_to_read_side (record_at c r.number).wait side in
     let p : (near && writes ≡ true) × (reads ≡ true) = and_parts (near && writes) reads (matched_of (near && writes && reads) can) in
     let q : (near ≡ true) × (writes ≡ true) = and_parts near writes p.0 in
     record { near = q.0; writes = q.1; reads = p.1 }
 
-same_number : (o : Option ℕ) (n m : ℕ) → is_number o n ≡ true → is_number o m ≡ true → n ≡ m
+same_number : (o : Option ℕ) (n m : ℕ) → equals_some o n ≡ true → equals_some o m ≡ true → n ≡ m
 same_number None n m h k = absurd (true≢false (sym h))
 same_number (Some x) n m h k = sym (eqb-true x n h) ∙ eqb-true x m k
 
-is_the : (a b : Side) → is_side a b ≡ true → a ≡ b
+is_the : (a b : Side) → are_same_side a b ≡ true → a ≡ b
 is_the Right Right h = refl
 is_the Down Down h = refl
 is_the Left Left h = refl
@@ -123,21 +123,21 @@ is_the Up Right h = absurd (true≢false (sym h))
 is_the Up Down h = absurd (true≢false (sym h))
 is_the Up Left h = absurd (true≢false (sym h))
 
-pub one_side : (wait : Wait) (s t : Side) → writes_to wait s ≡ true → writes_to wait t ≡ true → s ≡ t
+pub one_side : (wait : Wait) (s t : Side) → waits_to_write_side wait s ≡ true → waits_to_write_side wait t ≡ true → s ≡ t
 one_side Nothing s t h k = absurd (true≢false (sym h))
 one_side (Fetch sides) s t h k = absurd (true≢false (sym h))
 one_side (Read sides) s t h k = absurd (true≢false (sym h))
 one_side (Write posted) s t h k = sym (is_the posted s h) ∙ is_the posted t k
 
 -- a node that runs has no part in a pass
-pub no_writer : (wait : Wait) (s : Side) → wait ≡ Nothing → writes_to wait s ≡ true → ⊥
-no_writer wait s e h = true≢false (sym (sym (ap (λ z. writes_to z s) e) ∙ h))
+pub no_writer : (wait : Wait) (s : Side) → wait ≡ Nothing → waits_to_write_side wait s ≡ true → ⊥
+no_writer wait s e h = true≢false (sym (sym (ap (λ z. waits_to_write_side z s) e) ∙ h))
 
-pub no_reader : (wait : Wait) (s : Side) → wait ≡ Nothing → reads_from wait s ≡ true → ⊥
-no_reader wait s e h = true≢false (sym (sym (ap (λ z. reads_from z s) e) ∙ h))
+pub no_reader : (wait : Wait) (s : Side) → wait ≡ Nothing → waits_to_read_side wait s ≡ true → ⊥
+no_reader wait s e h = true≢false (sym (sym (ap (λ z. waits_to_read_side z s) e) ∙ h))
 
 -- and one that writes reads from none
-pub one_way : (wait : Wait) (s t : Side) → writes_to wait s ≡ true → reads_from wait t ≡ true → ⊥
+pub one_way : (wait : Wait) (s t : Side) → waits_to_write_side wait s ≡ true → waits_to_read_side wait t ≡ true → ⊥
 one_way Nothing s t h k = true≢false (sym h)
 one_way (Fetch sides) s t h k = true≢false (sym h)
 one_way (Read sides) s t h k = true≢false (sym h)
@@ -150,8 +150,8 @@ wait_at c a can n e = subst (λ (z : ℕ). (record_at c z).wait ≡ Nothing) e (
 one_pass : (c : List NodeRecord) (w r x y : NodeId) (s t : Side) → Open c w r s → Open c x y t → w.number ≡ x.number → Pass w r s ≡ Pass x y t
 one_pass c w r x y s t p q e =
     let same : w ≡ x = NodeId-same w x e in
-    let side : s ≡ t = one_side (record_at c w.number).wait s t p.writes (subst (λ (z : ℕ). writes_to (record_at c z).wait t ≡ true) (sym e) q.writes) in
-    let near : is_number (neighbour_of w.number s) y.number ≡ true = subst (λ (z : Side). is_number (neighbour_of w.number z) y.number ≡ true) (sym side) (subst (λ (z : ℕ). is_number (neighbour_of z t) y.number ≡ true) (sym e) q.near) in
+    let side : s ≡ t = one_side (record_at c w.number).wait s t p.writes (subst (λ (z : ℕ). waits_to_write_side (record_at c z).wait t ≡ true) (sym e) q.writes) in
+    let near : equals_some (neighbour_of w.number s) y.number ≡ true = subst (λ (z : Side). equals_some (neighbour_of w.number z) y.number ≡ true) (sym side) (subst (λ (z : ℕ). equals_some (neighbour_of z t) y.number ≡ true) (sym e) q.near) in
     let there : r ≡ y = NodeId-same r y (same_number (neighbour_of w.number s) r.number y.number p.near near) in
     ap (λ (z : NodeId). Pass z r s) same ∙ ap (λ (z : NodeId). Pass x z s) there ∙ ap (λ (z : Side). Pass x y z) side
 
@@ -173,7 +173,7 @@ alone : (c : List NodeRecord) (a w r : NodeId) (s : Side) (n : ℕ) → IsEnable
 alone c a w r s n can ends q (inl e) = no_writer (record_at c w.number).wait s (wait_at c a can w.number (q ∙ sym e)) ends.writes
 alone c a w r s n can ends q (inr e) = no_reader (record_at c r.number).wait s (wait_at c a can r.number (q ∙ sym e)) ends.reads
 
-pub number_of : (o : Option ℕ) (n : ℕ) → is_number o n ≡ true → o ≡ Some n
+pub number_of : (o : Option ℕ) (n : ℕ) → equals_some o n ≡ true → o ≡ Some n
 number_of None n h = absurd (true≢false (sym h))
 number_of (Some m) n h = ap Some (eqb-true m n h)
 
@@ -197,7 +197,7 @@ rivals c w r x y s t p q differ e =
     }
 
 crossed : (c : List NodeRecord) (w r x y : NodeId) (s t : Side) (n : ℕ) → Open c w r s → Open c x y t → w.number ≡ n → y.number ≡ n → ⊥
-crossed c w r x y s t n p q e k = one_way (record_at c w.number).wait s t p.writes (subst (λ (z : ℕ). reads_from (record_at c z).wait t ≡ true) (k ∙ sym e) q.reads)
+crossed c w r x y s t n p q e k = one_way (record_at c w.number).wait s t p.writes (subst (λ (z : ℕ). waits_to_read_side (record_at c z).wait t ≡ true) (k ∙ sym e) q.reads)
 
 -- two enabled events that touch a common node are two passes to one reader
 pub common_node : (c : List NodeRecord) (e f : Event) (n : ℕ) → IsEnabled c e → IsEnabled c f → e ≢ f → touches e n ≡ true → touches f n ≡ true → AreConflicting e f

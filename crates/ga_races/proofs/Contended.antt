@@ -10,10 +10,10 @@ use Rattle.ga_grid.specs.Grid.{neighbour_of}
 use Rattle.ga_grid.specs.declared.node_id.NodeId.{NodeId}
 use Rattle.ga_event.specs.declared.event.Event.{Event}
 use Rattle.ga_event.specs.declared.event.Event.TheVariants.{Own, Pass}
-use Rattle.ga_event.specs.Touches.{nodes_of, touches}
-use Rattle.ga_event.specs.Apply.{writes_to, reads_from, after, replay}
+use Rattle.ga_event.specs.Touches.{event_nodes, touches}
+use Rattle.ga_event.specs.Apply.{waits_to_write_side, waits_to_read_side, after, replay}
 use Rattle.ga_races.specs.Orders.{IsEnabled, IsTerminal, AreReorderings, same, HasNoRace, IsRace, AreConflicting}
-use Rattle.ga_races.specs.HappensBefore.{Action, actions, action_at, is_shown, are_dependent, HappensBefore, chip_at, made_at, IsRacingPair, IsContended}
+use Rattle.ga_races.specs.HappensBefore.{Action, actions, action_at, is_look_changed_by, are_dependent, HappensBefore, chip_at, event_at_place, IsRacingPair, IsContendedPass}
 use Rattle.ga_races.proofs.Independence.{first_of, touches_reader, any_at}
 use Rattle.ga_races.proofs.Orders.{order_replay, order_read, steps_read}
 use Rattle.ga_races.proofs.Conflicts.{one_side, one_way, no_writer, wait_at, at_node, at_two, Open, open_of, number_of}
@@ -27,22 +27,22 @@ use Rattle.ga_races.proofs.Tallies.{tally_total, record_same, tally_up, between,
 
 -- ---- a pass that another writer could have taken the place of
 
-can_at : (es : List Event) (c last : List NodeRecord) (q : ℕ) → replay c es ≡ Some last → q < length es → IsEnabled (chip_at c es q) (made_at c es q)
+can_at : (es : List Event) (c last : List NodeRecord) (q : ℕ) → replay c es ≡ Some last → q < length es → IsEnabled (chip_at c es q) (event_at_place c es q)
 can_at [] c last q h l = absurd (omega (arith, l))
 can_at (e ∷ es) c last zero h l = (first_of c e es last h).can
 can_at (e ∷ es) c last (suc q) h l = can_at es (after c e).0 last q ((first_of c e es last h).then) (omega (arith, l))
 
 -- the next event of a node that waits to write is a pass to the reader
-only_pass : (d : List NodeRecord) (g : Event) (x r : NodeId) (side : Side) → IsEnabled d g → touches g x.number ≡ true → writes_to (record_at d x.number).wait side ≡ true → neighbour_of x.number side ≡ Some r.number → touches g r.number ≡ true
-only_pass d (Own a) x r side can t writes beside = absurd (no_writer (record_at d x.number).wait side (wait_at d a can x.number (at_node a.number x.number t)) writes)
-only_pass d (Pass w y s) x r side can t writes beside = go (at_two w.number y.number x.number t) (open_of d w y s can)
+only_pass : (d : List NodeRecord) (g : Event) (x r : NodeId) (side : Side) → IsEnabled d g → touches g x.number ≡ true → waits_to_write_side (record_at d x.number).wait side ≡ true → neighbour_of x.number side ≡ Some r.number → touches g r.number ≡ true
+only_pass d (Own a) x r side can t writes neighbour_on_side = absurd (no_writer (record_at d x.number).wait side (wait_at d a can x.number (at_node a.number x.number t)) writes)
+only_pass d (Pass w y s) x r side can t writes neighbour_on_side = go (at_two w.number y.number x.number t) (open_of d w y s can)
   where
     go : (w.number ≡ x.number) ⊎ (y.number ≡ x.number) → Open d w y s → touches (Pass w y s) r.number ≡ true
     go (inl e) o =
-        let same_side : s ≡ side = one_side (record_at d x.number).wait s side (subst (λ (z : ℕ). writes_to (record_at d z).wait s ≡ true) e o.writes) writes in
+        let same_side : s ≡ side = one_side (record_at d x.number).wait s side (subst (λ (z : ℕ). waits_to_write_side (record_at d z).wait s ≡ true) e o.writes) writes in
         let there : neighbour_of x.number side ≡ Some y.number = ap (λ (z : Side). neighbour_of x.number z) (sym same_side) ∙ ap (λ (z : ℕ). neighbour_of z s) (sym e) ∙ number_of (neighbour_of w.number s) y.number o.near in
-        subst (λ (z : ℕ). touches (Pass w y s) z ≡ true) (same_Some y.number r.number (sym there ∙ beside)) (touches_reader w y s)
-    go (inr e) o = absurd (one_way (record_at d x.number).wait side s writes (subst (λ (z : ℕ). reads_from (record_at d z).wait s ≡ true) e o.reads))
+        subst (λ (z : ℕ). touches (Pass w y s) z ≡ true) (same_Some y.number r.number (sym there ∙ neighbour_on_side)) (touches_reader w y s)
+    go (inr e) o = absurd (one_way (record_at d x.number).wait side s writes (subst (λ (z : ℕ). waits_to_read_side (record_at d z).wait s ≡ true) e o.reads))
 
 module _ (c last : List NodeRecord) (xs ys : List Event) (h : replay c xs ≡ Some last) (order : AreReorderings c xs ys) (f b : ℕ → ℕ) (m : Moves f (actions c xs) (actions c ys)) (w : Moves b (actions c ys) (actions c xs)) (p : ℕ) (other : Event) (r : IsRivalled c ys p other) where
   abbrev x : ℕ
@@ -69,19 +69,19 @@ module _ (c last : List NodeRecord) (xs ys : List Event) (h : replay c xs ≡ So
   ends : Open (chip_at c ys p) r.rivals.second r.rivals.reader r.rivals.other
   ends = open_of (chip_at c ys p) r.rivals.second r.rivals.reader r.rivals.other (subst (IsEnabled (chip_at c ys p)) r.rivals.two r.can)
 
-  beside : neighbour_of x r.rivals.other ≡ Some rd
-  beside = number_of (neighbour_of x r.rivals.other) rd ends.near
+  neighbour_on_side : neighbour_of x r.rivals.other ≡ Some rd
+  neighbour_on_side = number_of (neighbour_of x r.rivals.other) rd ends.near
 
-  read : touches (made_at c ys p) rd ≡ true
+  read : touches (event_at_place c ys p) rd ≡ true
   read = ap (λ (z : Event). touches z rd) r.rivals.one ∙ touches_reader r.rivals.first r.rivals.reader r.rivals.side
 
-  unwritten : touches (made_at c ys p) x ≡ false
-  unwritten = ap (λ (z : Event). touches z x) r.rivals.one ∙ writer_apart r.rivals.first r.rivals.reader r.rivals.second r.rivals.side r.rivals.other r.rivals.writers beside
+  unwritten : touches (event_at_place c ys p) x ≡ false
+  unwritten = ap (λ (z : Event). touches z x) r.rivals.one ∙ writer_apart r.rivals.first r.rivals.reader r.rivals.second r.rivals.side r.rivals.other r.rivals.writers neighbour_on_side
 
   -- a later step of the writer comes after the pass
   next_later : (q : ℕ) → q < length (actions c xs) → touches (action_at (actions c xs) q).cause.event x ≡ true → tally x (actions c xs) q ≡ a → b p < q
   next_later q l t is = elim (cases_order (f q) p) [
-    | inl e ↦ absurd (both_ways (touches (made_at c ys p) x) unwritten (subst (λ (z : ℕ). touches (made_at c ys z) x ≡ true) e at_there))
+    | inl e ↦ absurd (both_ways (touches (event_at_place c ys p) x) unwritten (subst (λ (z : ℕ). touches (event_at_place c ys z) x ≡ true) e at_there))
     | inr (inl k) ↦ (let g : tally x (actions c ys) (f q) < a = tally_grows x (actions c ys) (f q) p k (m.within q l) at_there in absurd (omega (arith, g, count)))
     | inr (inr k) ↦ subst (λ (z : ℕ). b p < z) (round_trip (actions c ys) (actions c xs) b f w m q l) (w.order p (f q) k (m.within q l) (bound_at k))
   ]
@@ -98,11 +98,11 @@ module _ (c last : List NodeRecord) (xs ys : List Event) (h : replay c xs ≡ So
           let there : f q < length ys = omega (arith, in_list, size) in
           let held : record_at (chip_at c ys (f q)) x ≡ record_at (chip_at c ys p) x =
           record_same c last ys ys x (f q) p led same (omega (arith, there)) (let s : p < length ys = r.stands in omega (arith, s)) count in
-          let takes : touches (made_at c ys (f q)) rd ≡ true =
-          only_pass (chip_at c ys (f q)) (made_at c ys (f q)) r.rivals.second r.rivals.reader r.rivals.other (can_at ys c last (f q) led there) at_there
-          (ap (λ (z : NodeRecord). writes_to z.wait r.rivals.other) held ∙ ends.writes) beside in
-          or_left (list_any (touches (made_at c ys p)) (nodes_of (made_at c ys (f q)))) (is_shown (action_at (actions c ys) p) (action_at (actions c ys) (f q)) || is_shown (action_at (actions c ys) (f q)) (action_at (actions c ys) p))
-          (any_at (touches (made_at c ys p)) (nodes_of (made_at c ys (f q))) rd takes read)
+          let takes : touches (event_at_place c ys (f q)) rd ≡ true =
+          only_pass (chip_at c ys (f q)) (event_at_place c ys (f q)) r.rivals.second r.rivals.reader r.rivals.other (can_at ys c last (f q) led there) at_there
+          (ap (λ (z : NodeRecord). waits_to_write_side z.wait r.rivals.other) held ∙ ends.writes) neighbour_on_side in
+          or_left (list_any (touches (event_at_place c ys p)) (event_nodes (event_at_place c ys (f q)))) (is_look_changed_by (action_at (actions c ys) p) (action_at (actions c ys) (f q)) || is_look_changed_by (action_at (actions c ys) (f q)) (action_at (actions c ys) p))
+          (any_at (touches (event_at_place c ys p)) (event_nodes (event_at_place c ys (f q))) rd takes read)
 
   low : tally x (actions c xs) (b p) ≤ a
   low = elim (cases_lt a (tally x (actions c xs) (b p))) [
@@ -124,9 +124,9 @@ module _ (c last : List NodeRecord) (xs ys : List Event) (h : replay c xs ≡ So
       let inside : b p < length (actions c xs) = w.within p stands in
       between x (actions c xs) (b p) a (omega (arith, inside)) low (omega (arith, up, total))
 
-  contended_of : IsContended c xs (b p) other
+  contended_of : IsContendedPass c xs (b p) other
   contended_of =
-      let made : made_at c xs (b p) ≡ made_at c ys p = ap (λ (z : Action). z.cause.event) (sym (w.alike p stands)) in
+      let made : event_at_place c xs (b p) ≡ event_at_place c ys p = ap (λ (z : Action). z.cause.event) (sym (w.alike p stands)) in
       let inside : b p < length (actions c xs) = w.within p stands in
       let most : place.0 ≤ length (actions c xs) = place.2 in
       let here : p < length ys = r.stands in
@@ -146,10 +146,10 @@ module _ (c last : List NodeRecord) (xs ys : List Event) (h : replay c xs ≡ So
         posted = place.0;
         before = place.1;
         within = omega (arith, most, size_of);
-        near = beside;
-        reads = ap (λ (z : NodeRecord). reads_from z.wait r.rivals.other)
+        near = neighbour_on_side;
+        reads = ap (λ (z : NodeRecord). waits_to_read_side z.wait r.rivals.other)
             (record_same c last xs ys rd (b p) p h order (omega (arith, inside, size_of)) (omega (arith, here)) (sym (w.steps rd p stands read))) ∙ ends.reads;
-        writes = ap (λ (z : NodeRecord). writes_to z.wait r.rivals.other)
+        writes = ap (λ (z : NodeRecord). waits_to_write_side z.wait r.rivals.other)
             (record_same c last xs ys x place.0 p h order (omega (arith, most, size_of)) (omega (arith, here)) place.3) ∙ ends.writes;
         none = λ step l t happens.
             let in_list : step < length (actions c xs) = omega (arith, l, most) in
@@ -167,10 +167,10 @@ module _ (c last : List NodeRecord) (xs ys : List Event) (h : replay c xs ≡ So
 
 -- each race of two passes is contended
 pub rivals_contended : (c last : List NodeRecord) (es : List Event) (step other : Event) → replay c es ≡ Some last → IsRace c es step other → AreConflicting step other
-    → (i : ℕ) × (made_at c es i ≡ step) × IsContended c es i other
+    → (i : ℕ) × (event_at_place c es i ≡ step) × IsContendedPass c es i other
 rivals_contended c last es step other h r rivals =
     let ys : List Event = r.before ++ step ∷ r.later in
-    let at : made_at c ys (length r.before) ≡ step = ap (λ (a : Action). a.cause.event) (action_there r.before c r.now step r.later r.led) in
+    let at : event_at_place c ys (length r.before) ≡ step = ap (λ (a : Action). a.cause.event) (action_there r.before c r.now step r.later r.led) in
     let size : length ys ≡ length r.before + suc (length r.later) = length-append r.before (step ∷ r.later) in
     let all : length (actions c ys) ≡ length ys = actions_length c ys in
     let f = moves_of c es ys r.order in
@@ -185,7 +185,7 @@ rivals_contended c last es step other h r rivals =
       contended_of c last es ys h r.order f.0 b.0 f.1 b.1 (length r.before) other told,
     )
 
-pub none_told : (c last : List NodeRecord) (es : List Event) → replay c es ≡ Some last → IsTerminal last → ((i j : ℕ) → IsRacingPair c es i j → ⊥) → ((i : ℕ) (other : Event) → IsContended c es i other → ⊥) → HasNoRace c es
+pub none_told : (c last : List NodeRecord) (es : List Event) → replay c es ≡ Some last → IsTerminal last → ((i j : ℕ) → IsRacingPair c es i j → ⊥) → ((i : ℕ) (other : Event) → IsContendedPass c es i other → ⊥) → HasNoRace c es
 none_told c last es h end out calm step other r = go (told_behind r.before (step ∷ r.later) c r.now r.led (told_head r.now last step r.later other there end r.can r.differ r.bound))
   where
     ys : List Event
@@ -205,8 +205,8 @@ none_told c last es h end out calm step other r = go (told_behind r.before (step
         calm (b.0 i) rival (contended_of c last es (r.before ++ step ∷ r.later) h r.order f.0 b.0 f.1 b.1 i rival n)
 
 pub decided_by : (c last : List NodeRecord) (es : List Event) → replay c es ≡ Some last → IsTerminal last
-    → HasNoRace c es ↔ (((i j : ℕ) → IsRacingPair c es i j → ⊥) × ((i : ℕ) (other : Event) → IsContended c es i other → ⊥))
+    → HasNoRace c es ↔ (((i j : ℕ) → IsRacingPair c es i j → ⊥) × ((i : ℕ) (other : Event) → IsContendedPass c es i other → ⊥))
 decided_by c last es h end = (
-  λ calm. (λ i j n. calm (made_at c es i) (made_at c es j) (near_races es c last i j h n), λ i other n. calm (made_at c es i) other (contended_races c last es i other h n)),
+  λ calm. (λ i j n. calm (event_at_place c es i) (event_at_place c es j) (near_races es c last i j h n), λ i other n. calm (event_at_place c es i) other (contended_races c last es i other h n)),
   λ told. none_told c last es h end told.0 told.1,
 )

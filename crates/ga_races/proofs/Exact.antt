@@ -6,9 +6,9 @@ use Rattle.std.proofs.lemmas.Bool.{cases_Bool, false_from_ne_true}
 use Rattle.std.proofs.lemmas.Option.{same_Some}
 use Rattle.ga_node.specs.Record.{NodeRecord}
 use Rattle.ga_event.specs.declared.event.Event.{Event}
-use Rattle.ga_event.specs.Touches.{nodes_of, touches}
+use Rattle.ga_event.specs.Touches.{event_nodes, touches}
 use Rattle.ga_event.specs.Apply.{after, replay, EventOutcome, cause_of}
-use Rattle.ga_causal.specs.Words.{word_of, local_history_with_reads}
+use Rattle.ga_causal.specs.Words.{received_word, local_history_with_reads}
 use Rattle.ga_causal.proofs.Equivalences.{touched_of, AreApart-sym, sees_touched}
 use Rattle.ga_races.specs.Orders.{IsEnabled, AreReorderings, IsRace, HasNoRace, same, swapped, later, joined}
 use Rattle.ga_races.proofs.Independence.{replay_more, first_of, still_enabled, apart-sym, any_of, independent_of, can_back}
@@ -30,15 +30,15 @@ read_into n (e ∷ fs) ys c now h =
     go (touches e n) (read_into n fs ys (after c e).0 now p.then)
   where
     go : (b : Bool) → local_history_with_reads n (after c e).0 (fs ++ ys) ≡ local_history_with_reads n (after c e).0 fs ++ local_history_with_reads n now ys
-        → cond b ((e, word_of c e) ∷ local_history_with_reads n (after c e).0 (fs ++ ys)) (local_history_with_reads n (after c e).0 (fs ++ ys)) ≡ cond b ((e, word_of c e) ∷ local_history_with_reads n (after c e).0 fs) (local_history_with_reads n (after c e).0 fs) ++ local_history_with_reads n now ys
-    go true k = ap (λ (z : List (Event × Option ℕ)). (e, word_of c e) ∷ z) k
+        → cond b ((e, received_word c e) ∷ local_history_with_reads n (after c e).0 (fs ++ ys)) (local_history_with_reads n (after c e).0 (fs ++ ys)) ≡ cond b ((e, received_word c e) ∷ local_history_with_reads n (after c e).0 fs) (local_history_with_reads n (after c e).0 fs) ++ local_history_with_reads n now ys
+    go true k = ap (λ (z : List (Event × Option ℕ)). (e, received_word c e) ∷ z) k
     go false k = k
 
-pub read_touched : (n : ℕ) (c : List NodeRecord) (e : Event) (es : List Event) → touches e n ≡ true → local_history_with_reads n c (e ∷ es) ≡ (e, word_of c e) ∷ local_history_with_reads n (after c e).0 es
-read_touched n c e es t = ap (λ (b : Bool). cond b ((e, word_of c e) ∷ local_history_with_reads n (after c e).0 es) (local_history_with_reads n (after c e).0 es)) t
+pub read_touched : (n : ℕ) (c : List NodeRecord) (e : Event) (es : List Event) → touches e n ≡ true → local_history_with_reads n c (e ∷ es) ≡ (e, received_word c e) ∷ local_history_with_reads n (after c e).0 es
+read_touched n c e es t = ap (λ (b : Bool). cond b ((e, received_word c e) ∷ local_history_with_reads n (after c e).0 es) (local_history_with_reads n (after c e).0 es)) t
 
 pub read_past : (n : ℕ) (c : List NodeRecord) (e : Event) (es : List Event) → touches e n ≡ false → local_history_with_reads n c (e ∷ es) ≡ local_history_with_reads n (after c e).0 es
-read_past n c e es t = ap (λ (b : Bool). cond b ((e, word_of c e) ∷ local_history_with_reads n (after c e).0 es) (local_history_with_reads n (after c e).0 es)) t
+read_past n c e es t = ap (λ (b : Bool). cond b ((e, received_word c e) ∷ local_history_with_reads n (after c e).0 es) (local_history_with_reads n (after c e).0 es)) t
 
 -- lists that begin alike continue alike
 abbrev pub Entry : Type 0
@@ -87,7 +87,7 @@ module _ (c last : List NodeRecord) (es : List Event) (led : replay c es ≡ Som
       let k = go_on c r.now (after r.now other).0 es r.before (other ∷ []) all r.led (replay_more r.now other [] r.can) in
       r.differ (ap (λ (z : Entry). z.0) (next_entry n c r.now es r.before (step ∷ r.later) (other ∷ k.0) _ _ _ _ r.led r.order k.1 (read_touched n r.now step r.later t) (read_touched n r.now other k.0 u)))
 
-  same_first : ((n : ℕ) → touches step n ≡ true → touches other n ≡ false) → word_of (after r.now other).0 step ≡ word_of r.now step
+  same_first : ((n : ℕ) → touches step n ≡ true → touches other n ≡ false) → received_word (after r.now other).0 step ≡ received_word r.now step
   same_first apart =
       let t = touched_of step in
       let k = go_on c r.now (after (after r.now other).0 step).0 es r.before (other ∷ step ∷ []) all r.led
@@ -95,7 +95,7 @@ module _ (c last : List NodeRecord) (es : List Event) (led : replay c es ≡ Som
       ap (λ (z : Entry). z.1) (next_entry t.node c r.now es r.before (other ∷ step ∷ k.0) (step ∷ r.later) _ _ _ _ r.led k.1 r.order
       (read_past t.node r.now other (step ∷ k.0) (apart t.node t.is) ∙ read_touched t.node (after r.now other).0 step k.0 t.is) (read_touched t.node r.now step r.later t.is))
 
-  same_second : ((n : ℕ) → touches step n ≡ true → touches other n ≡ false) → word_of (after r.now step).0 other ≡ word_of r.now other
+  same_second : ((n : ℕ) → touches step n ≡ true → touches other n ≡ false) → received_word (after r.now step).0 other ≡ received_word r.now other
   same_second apart =
       let back = apart-sym step other apart in
       let t = touched_of other in
@@ -106,8 +106,8 @@ module _ (c last : List NodeRecord) (es : List Event) (led : replay c es ≡ Som
       (read_past t.node r.now step (other ∷ k.0) (back t.node t.is) ∙ read_touched t.node (after r.now step).0 other k.0 t.is) (read_touched t.node r.now other m.0 t.is))
 
   no_such : ⊥
-  no_such = elim (cases_Bool (list_any (touches step) (nodes_of other))) [
-    | inl t ↦ (let k = any_of (touches step) (nodes_of other) t in in_common k.node k.marked k.listed)
+  no_such = elim (cases_Bool (list_any (touches step) (event_nodes other))) [
+    | inl t ↦ (let k = any_of (touches step) (event_nodes other) t in in_common k.node k.marked_nodes k.listed)
     | inr none ↦ (let apart = independent_of step other none in r.bound (record { apart = apart; first = same_first apart; second = same_second apart }))
   ]
 
@@ -120,7 +120,7 @@ apart_nodes : (c : List NodeRecord) (e f : Event) → AreIndependent (cause_of c
 apart_nodes c e f h n t = false_from_ne_true (touches f n) (λ u. h.first n t (sees_touched (cause_of c f) n u))
 
 -- the word of the first is the same after the second
-word_behind : (c : List NodeRecord) (e f : Event) → AreIndependent (cause_of c e) (cause_of c f) → IsEnabled c e → IsEnabled c f → word_of (after c f).0 e ≡ word_of c e
+word_behind : (c : List NodeRecord) (e f : Event) → AreIndependent (cause_of c e) (cause_of c f) → IsEnabled c e → IsEnabled c f → received_word (after c f).0 e ≡ received_word c e
 word_behind c e f h cane canf =
     let apart = apart_nodes c e f h in
     let k = touched_of e in
@@ -129,7 +129,7 @@ word_behind c e f h cane canf =
     let alike : local_history_with_reads k.node c (e ∷ f ∷ []) ≡ local_history_with_reads k.node c (f ∷ e ∷ []) = same_received c last (e ∷ f ∷ []) (f ∷ e ∷ []) k.node runs (equivalence.swapped h) in
     let one = read_touched k.node c e (f ∷ []) k.is in
     let two = read_past k.node c f (e ∷ []) (apart k.node k.is) ∙ read_touched k.node (after c f).0 e [] k.is in
-    sym (ap (λ (z : Entry). z.1) (next_same [] (e, word_of c e) (e, word_of (after c f).0 e) _ _ (sym one ∙ alike ∙ two)))
+    sym (ap (λ (z : Entry). z.1) (next_same [] (e, received_word c e) (e, received_word (after c f).0 e) _ _ (sym one ∙ alike ∙ two)))
 
 pub order_of : (c : List NodeRecord) (xs ys : List Event) → AreEquivalent c xs ys → IsSome (replay c xs) → AreReorderings c xs ys
 order_of c xs ys equivalence.same some = same

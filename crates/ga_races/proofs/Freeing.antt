@@ -10,7 +10,7 @@ use Rattle.ga_node.specs.Table.{refusal}
 use Rattle.ga_node.specs.declared.kind.NotReady.{NotReady}
 use Rattle.ga_grid.specs.Grid.{neighbour_of}
 use Rattle.ga_grid.specs.Chip.{record_at}
-use Rattle.ga_event.specs.Apply.{writes_to, reads_from}
+use Rattle.ga_event.specs.Apply.{waits_to_write_side, waits_to_read_side}
 use Rattle.ga_causal.specs.Dependence.{is_marked}
 use Rattle.ga_races.specs.Acts.{AreDeadlocked, awaits, IsSubset}
 use Rattle.ga_races.specs.inner.{frees, is_freed_on, is_freed, MarksHalted, IsSettled}
@@ -42,8 +42,8 @@ not_freed_by : (chip : List NodeRecord) (marks others : ℕ → Bool) (n : ℕ) 
 not_freed_by chip marks others n side None s w h near a = refl
 not_freed_by chip marks others n side (Some m) s w h near a =
     let in_set : others m ≡ true = s.inside n m side h a near in
-    unmarked (marks m) (writes_to (record_at chip n).wait side && reads_from (record_at chip m).wait side) (w m in_set near)
-    (both (writes_to (record_at chip n).wait side) (reads_from (record_at chip m).wait side) (λ q. s.apart n m side h in_set near q))
+    unmarked (marks m) (waits_to_write_side (record_at chip n).wait side && waits_to_read_side (record_at chip m).wait side) (w m in_set near)
+    (both (waits_to_write_side (record_at chip n).wait side) (waits_to_read_side (record_at chip m).wait side) (λ q. s.apart n m side h in_set near q))
 
 not_freed_on : (chip : List NodeRecord) (marks others : ℕ → Bool) (n : ℕ) (side : Side) → AreDeadlocked chip others → ((m : ℕ) → others m ≡ true → neighbour_of n side ≡ Some m → marks m ≡ true)
     → others n ≡ true → is_freed_on chip marks n side ≡ false
@@ -108,10 +108,10 @@ neither true b h = (refl, h)
 neither false b h = absurd (true≢false h)
 
 met : (chip : List NodeRecord) (marks : ℕ → Bool) (n m : ℕ) (side : Side) → is_freed chip marks n ≡ false → awaits (record_at chip n).wait side ≡ true → neighbour_of n side ≡ Some m
-    → (marks m ≡ true) × ((writes_to (record_at chip n).wait side && reads_from (record_at chip m).wait side) ≡ false)
+    → (marks m ≡ true) × ((waits_to_write_side (record_at chip n).wait side && waits_to_read_side (record_at chip m).wait side) ≡ false)
 met chip marks n m side h a near =
     let none : frees chip marks (record_at chip n).wait side (neighbour_of n side) ≡ false = second (awaits (record_at chip n).wait side) (frees chip marks (record_at chip n).wait side (neighbour_of n side)) (on_side chip marks n side h) a in
-    neither (marks m) (writes_to (record_at chip n).wait side && reads_from (record_at chip m).wait side)
+    neither (marks m) (waits_to_write_side (record_at chip n).wait side && waits_to_read_side (record_at chip m).wait side)
     (subst (λ (o : Option ℕ). frees chip marks (record_at chip n).wait side o ≡ false) near none)
 
 refused : (o : Option NotReady) → is_some o ≡ true → o ≢ None
@@ -122,8 +122,8 @@ are_stuck chip halted flags size at_first within settled = record {
   halted = λ n h. let l : n < 144 = marked_within flags n size h in refused (refusal (record_at chip n)) (sym (at_first n l) ∙ within n l h);
   inside = λ n m side h a near. (met chip (is_marked flags) n m side (settled n h) a near).0;
   apart = λ n m side h g near w.
-      second (writes_to (record_at chip n).wait side) (reads_from (record_at chip m).wait side)
-      (met chip (is_marked flags) n m side (settled n h) (or_left (writes_to (record_at chip n).wait side) (reads_from (record_at chip n).wait side) w) near).1 w;
+      second (waits_to_write_side (record_at chip n).wait side) (waits_to_read_side (record_at chip m).wait side)
+      (met chip (is_marked flags) n m side (settled n h) (or_left (waits_to_write_side (record_at chip n).wait side) (waits_to_read_side (record_at chip n).wait side) w) near).1 w;
 }
 
 -- each node of a stuck set waits or is stopped

@@ -12,9 +12,9 @@ use Rattle.ga_grid.specs.declared.node_id.NodeId.{NodeId}
 use Rattle.ga_grid.specs.Chip.{record_at}
 use Rattle.ga_event.specs.declared.event.Event.{Event}
 use Rattle.ga_event.specs.declared.event.Event.TheVariants.{Own, Pass}
-use Rattle.ga_event.specs.Touches.{nodes_of, touches}
-use Rattle.ga_event.specs.Apply.{EventOutcome, refusal_of, unmatched, is_open, when_allowed, after, apply, replay, Agree}
-use Rattle.ga_causal.specs.Words.{word_of, with_words, local_history_with_reads}
+use Rattle.ga_event.specs.Touches.{event_nodes, touches}
+use Rattle.ga_event.specs.Apply.{EventOutcome, refusal_of, unmatched_unless, is_transfer_ready, some_if_allowed, after, apply, replay, AgreeOutsideMarks}
+use Rattle.ga_causal.specs.Words.{received_word, with_received_words, local_history_with_reads}
 use Rattle.ga_causal.proofs.Runs.{keeps_of, replay-cons}
 use Rattle.ga_causal.proofs.Consistent.{swap_filter}
 use Rattle.ga_causal.proofs.Words.{same_chip}
@@ -23,7 +23,7 @@ use Rattle.ga_races.specs.Orders.{IsEnabled, AreIndependentOn}
 -- ---- lists that can be made
 
 pub apply_is : (c : List NodeRecord) (e : Event) → IsEnabled c e → apply c e ≡ Some (after c e)
-apply_is c e can = ap (λ (o : Option NotReady). when_allowed o (after c e)) can
+apply_is c e can = ap (λ (o : Option NotReady). some_if_allowed o (after c e)) can
 
 pub replay_more : (c : List NodeRecord) (e : Event) (es : List Event) → IsEnabled c e → replay c (e ∷ es) ≡ replay (after c e).0 es
 replay_more c e es can = replay-cons c e es ∙ ap (λ (o : Option (List NodeRecord × EventOutcome)). option_and_then (λ first. replay first.0 es) o) (apply_is c e can)
@@ -35,13 +35,13 @@ pub record FirstOf (c : List NodeRecord) (e : Event) (es : List Event) (last : L
 pub first_of : (c : List NodeRecord) (e : Event) (es : List Event) (last : List NodeRecord) → replay c (e ∷ es) ≡ Some last → FirstOf c e es last
 first_of c e es last h = go (refusal_of c e) refl (sym (replay-cons c e es) ∙ h)
   where
-    go : (o : Option NotReady) → refusal_of c e ≡ o → option_and_then (λ (first : List NodeRecord × EventOutcome). replay first.0 es) (when_allowed o (after c e)) ≡ Some last → FirstOf c e es last
+    go : (o : Option NotReady) → refusal_of c e ≡ o → option_and_then (λ (first : List NodeRecord × EventOutcome). replay first.0 es) (some_if_allowed o (after c e)) ≡ Some last → FirstOf c e es last
     go None is k = record { can = is; then = k }
     go (Some why) is k = absurd (cc)
 
 -- ---- what an event leaves elsewhere
 
-pub stays : (c : List NodeRecord) (f : Event) → IsEnabled c f → Agree (touches f) c (after c f).0
+pub stays : (c : List NodeRecord) (f : Event) → IsEnabled c f → AgreeOutsideMarks (touches f) c (after c f).0
 stays c f can = keeps_of c f (after c f).0 (after c f).1 (apply_is c f can)
 
 pub touches_own : (a : NodeId) → touches (Own a) a.number ≡ true
@@ -61,8 +61,8 @@ still_enabled c (Pass w r side) f apart canf can =
     let k = stays c f canf in
     let one : record_at c w.number ≡ record_at (after c f).0 w.number = k.same w.number (apart w.number (touches_writer w r side)) in
     let two : record_at c r.number ≡ record_at (after c f).0 r.number = k.same r.number (apart r.number (touches_reader w r side)) in
-    ap (λ (z : NodeRecord). unmatched (is_open w.number r.number side z.wait (record_at (after c f).0 r.number).wait)) (sym one)
-    ∙ ap (λ (z : NodeRecord). unmatched (is_open w.number r.number side (record_at c w.number).wait z.wait)) (sym two)
+    ap (λ (z : NodeRecord). unmatched_unless (is_transfer_ready w.number r.number side z.wait (record_at (after c f).0 r.number).wait)) (sym one)
+    ∙ ap (λ (z : NodeRecord). unmatched_unless (is_transfer_ready w.number r.number side (record_at c w.number).wait z.wait)) (sym two)
     ∙ can
 
 -- and before it
@@ -72,8 +72,8 @@ can_back c (Pass w r side) f apart canf can =
     let k = stays c f canf in
     let one : record_at c w.number ≡ record_at (after c f).0 w.number = k.same w.number (apart w.number (touches_writer w r side)) in
     let two : record_at c r.number ≡ record_at (after c f).0 r.number = k.same r.number (apart r.number (touches_reader w r side)) in
-    ap (λ (z : NodeRecord). unmatched (is_open w.number r.number side z.wait (record_at c r.number).wait)) one
-    ∙ ap (λ (z : NodeRecord). unmatched (is_open w.number r.number side (record_at (after c f).0 w.number).wait z.wait)) two
+    ap (λ (z : NodeRecord). unmatched_unless (is_transfer_ready w.number r.number side z.wait (record_at c r.number).wait)) one
+    ∙ ap (λ (z : NodeRecord). unmatched_unless (is_transfer_ready w.number r.number side (record_at (after c f).0 w.number).wait z.wait)) two
     ∙ can
 
 -- ---- whether two events are free
@@ -87,14 +87,14 @@ any_at marks (m ∷ ns) n t u = elim (or_cases (m == n) (list_any (λ m. m == n)
 
 pub record Common (marks : ℕ → Bool) (ns : List ℕ) : Type 0 where
   pub node : ℕ
-  pub marked : marks node ≡ true
+  pub marked_nodes : marks node ≡ true
   pub listed : list_any (λ m. m == node) ns ≡ true
 
 pub any_of : (marks : ℕ → Bool) (ns : List ℕ) → list_any marks ns ≡ true → Common marks ns
 any_of marks [] t = absurd (both_ways false refl t)
 any_of marks (m ∷ ns) t = elim (or_cases (marks m) (list_any marks ns) t) [
-  | inl q ↦ record { node = m; marked = q; listed = or_left (m == m) (list_any (λ k. k == m) ns) (eq-eqb m m refl) }
-  | inr q ↦ (let k = any_of marks ns q in record { node = k.node; marked = k.marked; listed = or_right (m == k.node) (list_any (λ z. z == k.node) ns) k.listed })
+  | inl q ↦ record { node = m; marked_nodes = q; listed = or_left (m == m) (list_any (λ k. k == m) ns) (eq-eqb m m refl) }
+  | inr q ↦ (let k = any_of marks ns q in record { node = k.node; marked_nodes = k.marked_nodes; listed = or_right (m == k.node) (list_any (λ z. z == k.node) ns) k.listed })
 ]
 
 pub same_word : (a b : Option ℕ) → (a ≡ b) ⊎ (a ≡ b → ⊥)
@@ -103,19 +103,19 @@ same_word None (Some y) = inr (λ q. absurd (cc))
 same_word (Some x) None = inr (λ q. absurd (cc))
 same_word (Some x) (Some y) = elim (cases_eq x y) [ inl q ↦ inl (ap Some q) | inr ne ↦ inr (λ q. ne (same_Some x y q)) ]
 
-pub independent_of : (e f : Event) → list_any (touches e) (nodes_of f) ≡ false → (n : ℕ) → touches e n ≡ true → touches f n ≡ false
-independent_of e f none n t = false_from_ne_true (touches f n) (λ u. both_ways (list_any (touches e) (nodes_of f)) none (any_at (touches e) (nodes_of f) n u t))
+pub independent_of : (e f : Event) → list_any (touches e) (event_nodes f) ≡ false → (n : ℕ) → touches e n ≡ true → touches f n ≡ false
+independent_of e f none n t = false_from_ne_true (touches f n) (λ u. both_ways (list_any (touches e) (event_nodes f)) none (any_at (touches e) (event_nodes f) n u t))
 
 pub free_or_bound : (c : List NodeRecord) (e f : Event) → AreIndependentOn c e f ⊎ (AreIndependentOn c e f → ⊥)
-free_or_bound c e f = elim (cases_Bool (list_any (touches e) (nodes_of f))) [
-  | inl t ↦ (let k = any_of (touches e) (nodes_of f) t in inr (λ free. both_ways (touches f k.node) (free.apart k.node k.marked) k.listed))
+free_or_bound c e f = elim (cases_Bool (list_any (touches e) (event_nodes f))) [
+  | inl t ↦ (let k = any_of (touches e) (event_nodes f) t in inr (λ free. both_ways (touches f k.node) (free.apart k.node k.marked_nodes) k.listed))
   | inr none ↦ by_words none
 ]
   where
-    by_words : list_any (touches e) (nodes_of f) ≡ false → AreIndependentOn c e f ⊎ (AreIndependentOn c e f → ⊥)
-    by_words none = elim (same_word (word_of (after c f).0 e) (word_of c e)) [
+    by_words : list_any (touches e) (event_nodes f) ≡ false → AreIndependentOn c e f ⊎ (AreIndependentOn c e f → ⊥)
+    by_words none = elim (same_word (received_word (after c f).0 e) (received_word c e)) [
       | inr ne ↦ inr (λ free. ne free.first)
-      | inl p ↦ elim (same_word (word_of (after c e).0 f) (word_of c f)) [
+      | inl p ↦ elim (same_word (received_word (after c e).0 f) (received_word c f)) [
         | inr ne ↦ inr (λ free. ne free.second)
         | inl q ↦ inl (record { apart = independent_of e f none; first = p; second = q })
       ]
@@ -133,16 +133,16 @@ free-sym c e f free = record { apart = apart-sym e f free.apart; first = free.se
 pub both : List NodeRecord → Event → Event → List NodeRecord
 both c e f = (after (after c e).0 f).0
 
-read_two : (c : List NodeRecord) (e f : Event) (zs : List Event) (n : ℕ) → AreIndependentOn c e f → local_history_with_reads n c (e ∷ f ∷ zs) ≡ filter (λ (x : Event × Option ℕ). touches x.0 n) ((e, word_of c e) ∷ (f, word_of c f) ∷ with_words (after (after c e).0 f).0 zs)
+read_two : (c : List NodeRecord) (e f : Event) (zs : List Event) (n : ℕ) → AreIndependentOn c e f → local_history_with_reads n c (e ∷ f ∷ zs) ≡ filter (λ (x : Event × Option ℕ). touches x.0 n) ((e, received_word c e) ∷ (f, received_word c f) ∷ with_received_words (after (after c e).0 f).0 zs)
 read_two c e f zs n free =
-    ap (λ (w : Option ℕ). filter (λ (x : Event × Option ℕ). touches x.0 n) ((e, word_of c e) ∷ (f, w) ∷ with_words (after (after c e).0 f).0 zs)) free.second
+    ap (λ (w : Option ℕ). filter (λ (x : Event × Option ℕ). touches x.0 n) ((e, received_word c e) ∷ (f, w) ∷ with_received_words (after (after c e).0 f).0 zs)) free.second
 
 pub read_swapped : (c : List NodeRecord) (e f : Event) (zs : List Event) (n : ℕ) → AreIndependentOn c e f → (after (after c e).0 f).0 ≡ (after (after c f).0 e).0 → local_history_with_reads n c (e ∷ f ∷ zs) ≡ local_history_with_reads n c (f ∷ e ∷ zs)
 read_swapped c e f zs n free same =
     let test : Event × Option ℕ → Bool = λ x. touches x.0 n in
     read_two c e f zs n free
-    ∙ ap (λ (d : List NodeRecord). filter test ((e, word_of c e) ∷ (f, word_of c f) ∷ with_words d zs)) same
-    ∙ swap_filter test (e, word_of c e) (f, word_of c f) (with_words (after (after c f).0 e).0 zs) (λ t u. both_ways (touches f n) (free.apart n t) u)
+    ∙ ap (λ (d : List NodeRecord). filter test ((e, received_word c e) ∷ (f, received_word c f) ∷ with_received_words d zs)) same
+    ∙ swap_filter test (e, received_word c e) (f, received_word c f) (with_received_words (after (after c f).0 e).0 zs) (λ t u. both_ways (touches f n) (free.apart n t) u)
     ∙ sym (read_two c f e zs n (free-sym c e f free))
 
 pub replay_two : (c : List NodeRecord) (e f : Event) → IsEnabled c e → IsEnabled c f → AreIndependentOn c e f → replay c (e ∷ f ∷ []) ≡ Some (after (after c e).0 f).0
@@ -155,7 +155,7 @@ independent_on_chip c e f cane canf free =
     same_chip c (after (after c e).0 f).0 (after (after c f).0 e).0 (e ∷ f ∷ []) (f ∷ e ∷ [])
     (replay_two c e f cane canf free) (replay_two c f e canf cane (free-sym c e f free))
     (λ n. read_two c e f [] n free
-    ∙ swap_filter (λ (x : Event × Option ℕ). touches x.0 n) (e, word_of c e) (f, word_of c f) [] (λ t u. both_ways (touches f n) (free.apart n t) u)
+    ∙ swap_filter (λ (x : Event × Option ℕ). touches x.0 n) (e, received_word c e) (f, received_word c f) [] (λ t u. both_ways (touches f n) (free.apart n t) u)
     ∙ sym (read_two c f e [] n (free-sym c e f free)))
 
 -- and so is the list after them

@@ -10,9 +10,9 @@ use Rattle.ga_event.specs.declared.event.Event.{Event}
 use Rattle.ga_event.specs.declared.event.Event.TheVariants.{Pass}
 use Rattle.ga_event.specs.declared.event.Cause.{Cause}
 use Rattle.ga_event.specs.Touches.{touches}
-use Rattle.ga_event.specs.Apply.{EventOutcome, writes_to, reads_from, after, run, replay}
+use Rattle.ga_event.specs.Apply.{EventOutcome, waits_to_write_side, waits_to_read_side, after, run, replay}
 use Rattle.ga_causal.specs.Dependence.{HasNoLooks}
-use Rattle.ga_causal.specs.Words.{word_of, local_history_with_reads}
+use Rattle.ga_causal.specs.Words.{received_word, local_history_with_reads}
 use Rattle.ga_causal.proofs.Runs.{causes}
 use Rattle.ga_causal.proofs.Words.{same_node}
 use Rattle.ga_races.specs.Orders.{IsEnabled, IsTerminal, IsRace, HasNoRace}
@@ -53,16 +53,16 @@ cut_of es c n [] ys h = record { first = []; others = es; is = refl; read = refl
 cut_of [] c n (x ∷ xs) ys h = absurd (cc)
 cut_of (e ∷ es) c n (x ∷ xs) ys h = go (touches e n) refl h (λ zs k. cut_of es (after c e).0 n zs ys k)
   where
-    go : (b : Bool) → touches e n ≡ b → cond b ((e, word_of c e) ∷ local_history_with_reads n (after c e).0 es) (local_history_with_reads n (after c e).0 es) ≡ (x ∷ xs) ++ ys
+    go : (b : Bool) → touches e n ≡ b → cond b ((e, received_word c e) ∷ local_history_with_reads n (after c e).0 es) (local_history_with_reads n (after c e).0 es) ≡ (x ∷ xs) ++ ys
         → ((zs : List Entry) → local_history_with_reads n (after c e).0 es ≡ zs ++ ys → Cut (after c e).0 n es zs) → Cut c n (e ∷ es) (x ∷ xs)
     go true t k again =
-        let p = head_is (e, word_of c e) x (local_history_with_reads n (after c e).0 es) (xs ++ ys) k in
+        let p = head_is (e, received_word c e) x (local_history_with_reads n (after c e).0 es) (xs ++ ys) k in
         let a = again xs p.1 in
         record {
           first = e ∷ a.first;
           others = a.others;
           is = ap (λ (z : List Event). e ∷ z) a.is;
-          read = ap (λ (b : Bool). cond b ((e, word_of c e) ∷ local_history_with_reads n (after c e).0 a.first) (local_history_with_reads n (after c e).0 a.first)) t ∙ ap (λ (z : List Entry). (e, word_of c e) ∷ z) a.read ∙ ap (λ (z : Entry). z ∷ xs) p.0;
+          read = ap (λ (b : Bool). cond b ((e, received_word c e) ∷ local_history_with_reads n (after c e).0 a.first) (local_history_with_reads n (after c e).0 a.first)) t ∙ ap (λ (z : List Entry). (e, received_word c e) ∷ z) a.read ∙ ap (λ (z : Entry). z ∷ xs) p.0;
         }
     go false t k again =
         let a = again (x ∷ xs) k in
@@ -70,7 +70,7 @@ cut_of (e ∷ es) c n (x ∷ xs) ys h = go (touches e n) refl h (λ zs k. cut_of
           first = e ∷ a.first;
           others = a.others;
           is = ap (λ (z : List Event). e ∷ z) a.is;
-          read = ap (λ (b : Bool). cond b ((e, word_of c e) ∷ local_history_with_reads n (after c e).0 a.first) (local_history_with_reads n (after c e).0 a.first)) t ∙ a.read;
+          read = ap (λ (b : Bool). cond b ((e, received_word c e) ∷ local_history_with_reads n (after c e).0 a.first) (local_history_with_reads n (after c e).0 a.first)) t ∙ a.read;
         }
 
 cut_at : (es : List Event) (c : List NodeRecord) (n : ℕ) (xs ys : List Entry) (e : Event) (word : Option ℕ) → local_history_with_reads n c es ≡ xs ++ (e, word) ∷ ys → CutAt c n es xs e
@@ -78,22 +78,22 @@ cut_at [] c n [] ys e word h = absurd (cc)
 cut_at [] c n (x ∷ xs) ys e word h = absurd (cc)
 cut_at (f ∷ es) c n xs ys e word h = go (touches f n) refl h (λ zs k. cut_at es (after c f).0 n zs ys e word k)
   where
-    by_list : (xs : List Entry) → touches f n ≡ true → (f, word_of c f) ∷ local_history_with_reads n (after c f).0 es ≡ xs ++ (e, word) ∷ ys
+    by_list : (xs : List Entry) → touches f n ≡ true → (f, received_word c f) ∷ local_history_with_reads n (after c f).0 es ≡ xs ++ (e, word) ∷ ys
         → ((zs : List Entry) → local_history_with_reads n (after c f).0 es ≡ zs ++ (e, word) ∷ ys → CutAt (after c f).0 n es zs e) → CutAt c n (f ∷ es) xs e
     by_list [] t k again =
-        let p = head_is (f, word_of c f) (e, word) (local_history_with_reads n (after c f).0 es) ys k in
+        let p = head_is (f, received_word c f) (e, word) (local_history_with_reads n (after c f).0 es) ys k in
         record { first = []; others = es; is = ap (λ (z : Entry). z.0 ∷ es) p.0; read = refl }
     by_list (x ∷ xs) t k again =
-        let p = head_is (f, word_of c f) x (local_history_with_reads n (after c f).0 es) (xs ++ (e, word) ∷ ys) k in
+        let p = head_is (f, received_word c f) x (local_history_with_reads n (after c f).0 es) (xs ++ (e, word) ∷ ys) k in
         let a = again xs p.1 in
         record {
           first = f ∷ a.first;
           others = a.others;
           is = ap (λ (z : List Event). f ∷ z) a.is;
-          read = ap (λ (b : Bool). cond b ((f, word_of c f) ∷ local_history_with_reads n (after c f).0 a.first) (local_history_with_reads n (after c f).0 a.first)) t ∙ ap (λ (z : List Entry). (f, word_of c f) ∷ z) a.read ∙ ap (λ (z : Entry). z ∷ xs) p.0;
+          read = ap (λ (b : Bool). cond b ((f, received_word c f) ∷ local_history_with_reads n (after c f).0 a.first) (local_history_with_reads n (after c f).0 a.first)) t ∙ ap (λ (z : List Entry). (f, received_word c f) ∷ z) a.read ∙ ap (λ (z : Entry). z ∷ xs) p.0;
         }
 
-    go : (b : Bool) → touches f n ≡ b → cond b ((f, word_of c f) ∷ local_history_with_reads n (after c f).0 es) (local_history_with_reads n (after c f).0 es) ≡ xs ++ (e, word) ∷ ys
+    go : (b : Bool) → touches f n ≡ b → cond b ((f, received_word c f) ∷ local_history_with_reads n (after c f).0 es) (local_history_with_reads n (after c f).0 es) ≡ xs ++ (e, word) ∷ ys
         → ((zs : List Entry) → local_history_with_reads n (after c f).0 es ≡ zs ++ (e, word) ∷ ys → CutAt (after c f).0 n es zs e) → CutAt c n (f ∷ es) xs e
     go true t k again = by_list xs t k again
     go false t k again =
@@ -102,7 +102,7 @@ cut_at (f ∷ es) c n xs ys e word h = go (touches f n) refl h (λ zs k. cut_at 
           first = f ∷ a.first;
           others = a.others;
           is = ap (λ (z : List Event). f ∷ z) a.is;
-          read = ap (λ (b : Bool). cond b ((f, word_of c f) ∷ local_history_with_reads n (after c f).0 a.first) (local_history_with_reads n (after c f).0 a.first)) t ∙ a.read;
+          read = ap (λ (b : Bool). cond b ((f, received_word c f) ∷ local_history_with_reads n (after c f).0 a.first) (local_history_with_reads n (after c f).0 a.first)) t ∙ a.read;
         }
 
 -- a prefix of a list that can be made can be made
@@ -135,9 +135,9 @@ module _ (c last : List NodeRecord) (es : List Event) (led : replay c es ≡ Som
       let at_writer : record_at d.0 x.number ≡ record_at r.now x.number = same_node c c d.0 r.now k.first r.before x.number d.1 r.led refl refl k.read in
       one.only a.first a.others k.first k.others b.0 d.0 w y x s t
       (a.is ∙ ap (λ (z : Event). a.first ++ z ∷ a.others) is) b.1
-      (ap (λ (z : NodeRecord). reads_from z.wait t) at_reader ∙ ends.reads)
+      (ap (λ (z : NodeRecord). waits_to_read_side z.wait t) at_reader ∙ ends.reads)
       k.is d.1 (number_of (neighbour_of x.number t) y.number ends.near)
-      (ap (λ (z : NodeRecord). writes_to z.wait t) at_writer ∙ ends.writes)
+      (ap (λ (z : NodeRecord). waits_to_write_side z.wait t) at_writer ∙ ends.writes)
 
 pub one_writer : (c last : List NodeRecord) (es : List Event) (ts : List (Cause × EventOutcome)) → run c es ≡ Some (last, ts) → HasNoLooks (causes ts) → IsTerminal last → HasOneWriter c es → HasNoRace c es
 one_writer c last es ts is none end one step other r =

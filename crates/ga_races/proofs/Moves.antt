@@ -8,10 +8,10 @@ use Rattle.ga_event.specs.declared.event.Cause.{Cause}
 use Rattle.ga_event.specs.Touches.{touches}
 use Rattle.ga_event.specs.Apply.{after}
 use Rattle.ga_causal.specs.Dependence.{event_at}
-use Rattle.ga_causal.specs.Steps.{touching, IsStep}
-use Rattle.ga_causal.proofs.Places.{touching-cons}
+use Rattle.ga_causal.specs.Steps.{count_touching_events, IsKthStep}
+use Rattle.ga_causal.proofs.Places.{count_touching_events-cons}
 use Rattle.ga_races.specs.Orders.{IsEnabled, AreIndependentOn, AreReorderings, same, swapped, later, joined}
-use Rattle.ga_races.specs.HappensBefore.{Action, action_of, actions, causes_in, action_at, are_dependent, HappensBefore, directly, through}
+use Rattle.ga_races.specs.HappensBefore.{Action, action_of, actions, causes_of_actions, action_at, are_dependent, HappensBefore, directly, through}
 use Rattle.ga_races.proofs.Independence.{independent_on_chip, free-sym, apart-sym}
 use Rattle.ga_races.proofs.Bound.{action_still, unbound_of, unbound_apart}
 
@@ -153,20 +153,20 @@ before_moved xs ys to i j m (through {middle} h d) =
 
 -- ---- steps
 
-causes_length : (xs : List Action) → length (causes_in xs) ≡ length xs
+causes_length : (xs : List Action) → length (causes_of_actions xs) ≡ length xs
 causes_length [] = refl
 causes_length (a ∷ xs) = ap suc (causes_length xs)
 
-cause_at : (xs : List Action) (i : ℕ) → event_at (causes_in xs) i ≡ (action_at xs i).cause
+cause_at : (xs : List Action) (i : ℕ) → event_at (causes_of_actions xs) i ≡ (action_at xs i).cause
 cause_at [] i = refl
 cause_at (a ∷ xs) zero = refl
 cause_at (a ∷ xs) (suc i) = cause_at xs i
 
-pub tally_is : (n : ℕ) (xs : List Action) (i : ℕ) → touching n (take i (causes_in xs)) ≡ tally n xs i
+pub tally_is : (n : ℕ) (xs : List Action) (i : ℕ) → count_touching_events n (take i (causes_of_actions xs)) ≡ tally n xs i
 tally_is n [] zero = refl
 tally_is n [] (suc i) = refl
 tally_is n (a ∷ xs) zero = refl
-tally_is n (a ∷ xs) (suc i) = touching-cons n a.cause (take i (causes_in xs)) ∙ ap (λ (z : ℕ). cond (touches a.cause.event n) 1 0 + z) (tally_is n xs i)
+tally_is n (a ∷ xs) (suc i) = count_touching_events-cons n a.cause (take i (causes_of_actions xs)) ∙ ap (λ (z : ℕ). cond (touches a.cause.event n) 1 0 + z) (tally_is n xs i)
 
 -- the action at the place is the k-th that touches the node
 pub record IsTallied (xs : List Action) (n k i : ℕ) : Type 0 where
@@ -174,19 +174,19 @@ pub record IsTallied (xs : List Action) (n k i : ℕ) : Type 0 where
   pub touched : touches (action_at xs i).cause.event n ≡ true
   pub before : suc (tally n xs i) ≡ k
 
-pub tallied_of : (xs : List Action) (n k i : ℕ) → IsStep (causes_in xs) n k i → IsTallied xs n k i
+pub tallied_of : (xs : List Action) (n k i : ℕ) → IsKthStep (causes_of_actions xs) n k i → IsTallied xs n k i
 tallied_of xs n k i s =
-    let size : length (causes_in xs) ≡ length xs = causes_length xs in
-    let l : i < length (causes_in xs) = s.within in
-    let t : touching n (take i (causes_in xs)) ≡ tally n xs i = tally_is n xs i in
-    let b : touching n (take i (causes_in xs)) + 1 ≡ k = s.before in
+    let size : length (causes_of_actions xs) ≡ length xs = causes_length xs in
+    let l : i < length (causes_of_actions xs) = s.within in
+    let t : count_touching_events n (take i (causes_of_actions xs)) ≡ tally n xs i = tally_is n xs i in
+    let b : count_touching_events n (take i (causes_of_actions xs)) + 1 ≡ k = s.before in
     record { within = omega (arith, l, size); touched = ap (λ (z : Cause). touches z.event n) (sym (cause_at xs i)) ∙ s.touched; before = omega (arith, t, b) }
 
-pub step_of : (xs : List Action) (n k i : ℕ) → IsTallied xs n k i → IsStep (causes_in xs) n k i
+pub step_of : (xs : List Action) (n k i : ℕ) → IsTallied xs n k i → IsKthStep (causes_of_actions xs) n k i
 step_of xs n k i s =
-    let size : length (causes_in xs) ≡ length xs = causes_length xs in
+    let size : length (causes_of_actions xs) ≡ length xs = causes_length xs in
     let l : i < length xs = s.within in
-    let t : touching n (take i (causes_in xs)) ≡ tally n xs i = tally_is n xs i in
+    let t : count_touching_events n (take i (causes_of_actions xs)) ≡ tally n xs i = tally_is n xs i in
     let b : suc (tally n xs i) ≡ k = s.before in
     record { within = omega (arith, l, size); touched = ap (λ (z : Cause). touches z.event n) (cause_at xs i) ∙ s.touched; before = omega (arith, t, b) }
 

@@ -6,10 +6,10 @@ use Rattle.std.proofs.lemmas.Bool.{cases_Bool, cases_eq, both_ways}
 use Rattle.std.proofs.lemmas.Option.{same_Some}
 use Rattle.ga_node.specs.Record.{NodeRecord}
 use Rattle.ga_event.specs.declared.event.Event.{Event}
-use Rattle.ga_event.specs.Touches.{nodes_of, touches}
+use Rattle.ga_event.specs.Touches.{event_nodes, touches}
 use Rattle.ga_event.specs.Apply.{after, replay}
 use Rattle.ga_races.specs.Orders.{IsEnabled, IsTerminal, AreIndependentOn, AreConflicting}
-use Rattle.ga_races.specs.HappensBefore.{Action, action_of, actions, action_at, are_dependent, IsDirectlyBefore, HappensBefore, directly, through, chip_at, made_at, IsRacingPair}
+use Rattle.ga_races.specs.HappensBefore.{Action, action_of, actions, action_at, are_dependent, IsDirectlyBefore, HappensBefore, directly, through, chip_at, event_at_place, IsRacingPair}
 use Rattle.ga_races.proofs.Independence.{replay_more, first_of, still_enabled, any_of, independent_of, apart-sym}
 use Rattle.ga_races.proofs.Conflicts.{actor, one_event, common_node}
 use Rattle.ga_races.proofs.Bound.{Apart, action_still, free_of}
@@ -21,7 +21,7 @@ use Rattle.ga_causal.proofs.Equivalences.{touched_of}
 -- another writer waits to write to the reader of a pass when it is made
 pub record IsRivalled (c : List NodeRecord) (es : List Event) (i : ℕ) (other : Event) : Type 0 where
   pub stands : i < length es
-  pub rivals : AreConflicting (made_at c es i) other
+  pub rivals : AreConflicting (event_at_place c es i) other
   pub can : IsEnabled (chip_at c es i) other
 
 pub data IsTold (c : List NodeRecord) (es : List Event) : Type 0 where
@@ -108,7 +108,7 @@ last_link : (xs : List Action) (i j : ℕ) → HappensBefore xs i j → (m : ℕ
 last_link xs i j (directly d) = (i, omega arith, d)
 last_link xs i j (through {middle} h d) = (middle, let l : i < middle = (before_within xs i middle h).0 in omega (arith, l), d)
 
-apart_at : (fs : List Event) (c : List NodeRecord) (e : Event) (q : ℕ) → AllApart fs e → q < length fs → Apart (made_at c fs q) e
+apart_at : (fs : List Event) (c : List NodeRecord) (e : Event) (q : ℕ) → AllApart fs e → q < length fs → Apart (event_at_place c fs q) e
 apart_at [] c e q a l = absurd (omega (arith, l))
 apart_at (f ∷ fs) c e zero a l = a.0
 apart_at (f ∷ fs) c e (suc q) a l = apart_at fs (after c f).0 e q a.1 (omega (arith, l))
@@ -150,9 +150,9 @@ met : (es : List Event) (c last : List NodeRecord) (e : Event) → replay c es �
 met [] c last e h can end = absurd (end e (subst (λ z. IsEnabled z e) (same_Some c last h) can))
 met (g ∷ es) c last e h can end =
     let p = first_of c g es last h in
-    elim (cases_Bool (list_any (touches g) (nodes_of e))) [
-      | inl t ↦ (let k = any_of (touches g) (nodes_of e) t in
-          record { mid = []; post = es; step = g; there = c; is = refl; led = refl; can = can; made = p.can; apart = tt; node = k.node; one = k.marked; two = k.listed })
+    elim (cases_Bool (list_any (touches g) (event_nodes e))) [
+      | inl t ↦ (let k = any_of (touches g) (event_nodes e) t in
+          record { mid = []; post = es; step = g; there = c; is = refl; led = refl; can = can; made = p.can; apart = tt; node = k.node; one = k.marked_nodes; two = k.listed })
       | inr none ↦ (let apart : Apart g e = independent_of g e none in
           let m = met es (after c g).0 last e p.then (still_enabled c e g (apart-sym g e apart) p.can can) end in
           record {
@@ -176,9 +176,9 @@ met (g ∷ es) c last e h can end =
 pub told_head : (c last : List NodeRecord) (f : Event) (es : List Event) (e : Event) → replay c (f ∷ es) ≡ Some last → IsTerminal last → IsEnabled c e → f ≢ e → (AreIndependentOn c f e → ⊥) → IsTold c (f ∷ es)
 told_head c last f es e h end can differ bound =
     let p = first_of c f es last h in
-    elim (cases_Bool (list_any (touches f) (nodes_of e))) [
-      | inl t ↦ (let k = any_of (touches f) (nodes_of e) t in
-          rivalled {i = 0} {other = e} (record { stands = omega arith; rivals = common_node c f e k.node p.can can differ k.marked k.listed; can = can }))
+    elim (cases_Bool (list_any (touches f) (event_nodes e))) [
+      | inl t ↦ (let k = any_of (touches f) (event_nodes e) t in
+          rivalled {i = 0} {other = e} (record { stands = omega arith; rivals = common_node c f e k.node p.can can differ k.marked_nodes k.listed; can = can }))
       | inr none ↦ (let apart : Apart f e = independent_of f e none in
           let m = met es (after c f).0 last e p.then (still_enabled c e f (apart-sym f e apart) p.can can) end in
           subst (λ (z : List Event). IsTold c (f ∷ z)) (sym m.is) (by_step p.can apart m.mid m.post m.step m.there m.led m.can m.made m.apart m.node m.one m.two))
@@ -191,7 +191,7 @@ told_head c last f es e h end can differ bound =
           let l = last_of c there f mid e canf can led apart all bound in
           subst (λ (z : Event). IsTold c (f ∷ (mid ++ z ∷ post))) (sym same_event)
           (near {i = l.at} {j = suc (length mid)} (near_of c there (f ∷ mid) e post l (replay_more c f mid canf ∙ led) (apart, all))))
-      | inr ne ↦ (let at : made_at c (f ∷ (mid ++ step ∷ post)) (suc (length mid)) ≡ step = ap (λ (a : Action). a.cause.event) (action_there mid (after c f).0 there step post led) in
+      | inr ne ↦ (let at : event_at_place c (f ∷ (mid ++ step ∷ post)) (suc (length mid)) ≡ step = ap (λ (a : Action). a.cause.event) (action_there mid (after c f).0 there step post led) in
           let size : length (mid ++ step ∷ post) ≡ length mid + suc (length post) = length-append mid (step ∷ post) in
           rivalled {i = suc (length mid)} {other = e} (record {
             stands = omega (arith, size);

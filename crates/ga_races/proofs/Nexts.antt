@@ -8,7 +8,7 @@ use Rattle.ga_ports.specs.declared.side.Side.{Side}
 use Rattle.ga_ports.specs.declared.side.Side.TheVariants.{Right, Down, Left, Up}
 use Rattle.ga_ports.specs.Address.{has_side}
 use Rattle.ga_node.specs.Record.{NodeRecord}
-use Rattle.ga_node.specs.Table.{refused_by, refusal}
+use Rattle.ga_node.specs.Table.{wait_refusal, refusal}
 use Rattle.ga_node.specs.declared.kind.NotReady.TheVariants.{Stopped}
 use Rattle.ga_node.specs.declared.wait.Wait.{Wait}
 use Rattle.ga_node.specs.declared.wait.Wait.TheVariants.{Nothing, Fetch, Read, Write}
@@ -18,8 +18,8 @@ use Rattle.ga_grid.specs.Chip.{record_at}
 use Rattle.ga_grid.proofs.NodeIds.{neighbour_of-back}
 use Rattle.ga_event.specs.declared.event.Event.{Event}
 use Rattle.ga_event.specs.declared.event.Event.TheVariants.{Own, Pass}
-use Rattle.ga_event.specs.Apply.{EventOutcome, writes_to, reads_from, apply, Agree}
-use Rattle.ga_event.specs.Next.{beside, pass_to, pass_from, pass_over, or_else, first_over, or_waiting, next_by, next}
+use Rattle.ga_event.specs.Apply.{EventOutcome, waits_to_write_side, waits_to_read_side, apply, AgreeOutsideMarks}
+use Rattle.ga_event.specs.Next.{neighbour_on_side, writer_pass, reader_pass, reader_pass_over, or_else, first_pass_over, ok_or_waiting, next_event_by_wait, next}
 use Rattle.ga_event.specs.Touches.{touches}
 use Rattle.ga_event.proofs.Locality.{apply_keeps}
 use Rattle.ga_races.specs.HappensBefore.{IsMarkedOrBeside}
@@ -33,7 +33,7 @@ stop_at chip n = (record_at chip n).stop
 
 -- the neighbours of a node have the same waits on two chips
 abbrev SameBeside : List NodeRecord → List NodeRecord → NodeId → Side → Type 0
-SameBeside c d node side = (m : NodeId) → beside node side ≡ Some m → wait_at c m.number ≡ wait_at d m.number
+SameBeside c d node side = (m : NodeId) → neighbour_on_side node side ≡ Some m → wait_at c m.number ≡ wait_at d m.number
 
 -- and the same at the node
 record SameAround (c d : List NodeRecord) (node : NodeId) : Type 0 where
@@ -41,35 +41,35 @@ record SameAround (c d : List NodeRecord) (node : NodeId) : Type 0 where
   stop : stop_at c node.number ≡ stop_at d node.number
   near : (side : Side) → SameBeside c d node side
 
-pass_to_same : (c d : List NodeRecord) (w : NodeId) (side : Side) (o : Option NodeId) → ((m : NodeId) → o ≡ Some m → wait_at c m.number ≡ wait_at d m.number) → pass_to c w side o ≡ pass_to d w side o
+pass_to_same : (c d : List NodeRecord) (w : NodeId) (side : Side) (o : Option NodeId) → ((m : NodeId) → o ≡ Some m → wait_at c m.number ≡ wait_at d m.number) → writer_pass c w side o ≡ writer_pass d w side o
 pass_to_same c d w side None h = refl
-pass_to_same c d w side (Some m) h = ap (λ (z : Wait). cond (reads_from z side) (Some (Pass w m side)) None) (h m refl)
+pass_to_same c d w side (Some m) h = ap (λ (z : Wait). cond (waits_to_read_side z side) (Some (Pass w m side)) None) (h m refl)
 
-pass_from_same : (c d : List NodeRecord) (r : NodeId) (side : Side) (o : Option NodeId) → ((m : NodeId) → o ≡ Some m → wait_at c m.number ≡ wait_at d m.number) → pass_from c r side o ≡ pass_from d r side o
+pass_from_same : (c d : List NodeRecord) (r : NodeId) (side : Side) (o : Option NodeId) → ((m : NodeId) → o ≡ Some m → wait_at c m.number ≡ wait_at d m.number) → reader_pass c r side o ≡ reader_pass d r side o
 pass_from_same c d r side None h = refl
-pass_from_same c d r side (Some m) h = ap (λ (z : Wait). cond (writes_to z side) (Some (Pass m r side)) None) (h m refl)
+pass_from_same c d r side (Some m) h = ap (λ (z : Wait). cond (waits_to_write_side z side) (Some (Pass m r side)) None) (h m refl)
 
-first_over_same : (c d : List NodeRecord) (r : NodeId) (sides : ℕ) (order : List Side) → ((side : Side) → SameBeside c d r side) → first_over c r sides order ≡ first_over d r sides order
+first_over_same : (c d : List NodeRecord) (r : NodeId) (sides : ℕ) (order : List Side) → ((side : Side) → SameBeside c d r side) → first_pass_over c r sides order ≡ first_pass_over d r sides order
 first_over_same c d r sides [] h = refl
 first_over_same c d r sides (side ∷ others) h =
-    ap (λ (z : Option Event). or_else (cond (has_side sides side) z None) (first_over c r sides others)) (pass_from_same c d r side (beside r side) (h side))
-    ∙ ap (or_else (pass_over d r sides side)) (first_over_same c d r sides others h)
+    ap (λ (z : Option Event). or_else (cond (has_side sides side) z None) (first_pass_over c r sides others)) (pass_from_same c d r side (neighbour_on_side r side) (h side))
+    ∙ ap (or_else (reader_pass_over d r sides side)) (first_over_same c d r sides others h)
 
-by_wait_same : (c d : List NodeRecord) (n : NodeId) (stop : ℕ) (w : Wait) → ((side : Side) → SameBeside c d n side) → next_by c n stop w ≡ next_by d n stop w
+by_wait_same : (c d : List NodeRecord) (n : NodeId) (stop : ℕ) (w : Wait) → ((side : Side) → SameBeside c d n side) → next_event_by_wait c n stop w ≡ next_event_by_wait d n stop w
 by_wait_same c d n stop Nothing h = refl
-by_wait_same c d n stop (Fetch sides) h = ap or_waiting (first_over_same c d n sides (Right ∷ Down ∷ Left ∷ Up ∷ []) h)
-by_wait_same c d n stop (Read sides) h = ap or_waiting (first_over_same c d n sides (Right ∷ Down ∷ Left ∷ Up ∷ []) h)
-by_wait_same c d n stop (Write side) h = ap or_waiting (pass_to_same c d n side (beside n side) (h side))
+by_wait_same c d n stop (Fetch sides) h = ap ok_or_waiting (first_over_same c d n sides (Right ∷ Down ∷ Left ∷ Up ∷ []) h)
+by_wait_same c d n stop (Read sides) h = ap ok_or_waiting (first_over_same c d n sides (Right ∷ Down ∷ Left ∷ Up ∷ []) h)
+by_wait_same c d n stop (Write side) h = ap ok_or_waiting (pass_to_same c d n side (neighbour_on_side n side) (h side))
 
 next_same : (c d : List NodeRecord) (n : NodeId) → SameAround c d n → next c n ≡ next d n
 next_same c d n s =
-    ap (λ z. next_by c n z (wait_at c n.number)) s.stop
-    ∙ ap (next_by c n (stop_at d n.number)) s.wait
+    ap (λ z. next_event_by_wait c n z (wait_at c n.number)) s.stop
+    ∙ ap (next_event_by_wait c n (stop_at d n.number)) s.wait
     ∙ by_wait_same c d n (stop_at d n.number) (wait_at d n.number) s.near
 
 -- A neighbour is marked, or waits for the same on both.
 
-marked_beside : (marks : ℕ → Bool) (c d : List NodeRecord) (n : NodeId) (side : Side) (o : Option ℕ) → Agree marks c d → neighbour_of n.number side ≡ o
+marked_beside : (marks : ℕ → Bool) (c d : List NodeRecord) (n : NodeId) (side : Side) (o : Option ℕ) → AgreeOutsideMarks marks c d → neighbour_of n.number side ≡ o
     → IsMarkedOrBeside marks n.number ⊎ ((m : NodeId) → option_map node_id o ≡ Some m → wait_at c m.number ≡ wait_at d m.number)
 marked_beside marks c d n side None a is = inr (λ m h. absurd (cc))
 marked_beside marks c d n side (Some k) a is = ⊎_elim
@@ -78,7 +78,7 @@ marked_beside marks c d n side (Some k) a is = ⊎_elim
     (a.same m.number (ap marks (sym (ap (λ (z : NodeId). z.number) (same_Some (node_id k) m h)) ∙ mod-eq_of_lt (neighbour_within n.number k side n.in_range is)) ∙ f))))
     (cases_Bool (marks k))
 
-pub near_or_same : (marks : ℕ → Bool) (c d : List NodeRecord) (n : NodeId) → Agree marks c d → IsMarkedOrBeside marks n.number ⊎ (next c n ≡ next d n)
+pub near_or_same : (marks : ℕ → Bool) (c d : List NodeRecord) (n : NodeId) → AgreeOutsideMarks marks c d → IsMarkedOrBeside marks n.number ⊎ (next c n ≡ next d n)
 near_or_same marks c d n a = ⊎_elim
     (λ t. inl (n.number, t, inl refl))
     (λ f. ⊎_elim inl (λ right. ⊎_elim inl (λ down. ⊎_elim inl (λ left. ⊎_elim inl (λ up. inr (next_same c d n (around f right down left up)))
@@ -104,7 +104,7 @@ near_or_same marks c d n a = ⊎_elim
 pub changes_near : (c : List NodeRecord) (e : Event) → IfSome (apply c e) (λ done. (n : NodeId) → IsMarkedOrBeside (touches e) n.number ⊎ (next c n ≡ next done.0 n))
 changes_near c e = go (apply c e) (apply_keeps c e)
   where
-    go : (o : Option (List NodeRecord × EventOutcome)) → IfSome o (λ done. Agree (touches e) c done.0) → IfSome o (λ done. (n : NodeId) → IsMarkedOrBeside (touches e) n.number ⊎ (next c n ≡ next done.0 n))
+    go : (o : Option (List NodeRecord × EventOutcome)) → IfSome o (λ done. AgreeOutsideMarks (touches e) c done.0) → IfSome o (λ done. (n : NodeId) → IsMarkedOrBeside (touches e) n.number ⊎ (next c n ≡ next done.0 n))
     go None h = tt
     go (Some done) h = λ n. near_or_same (touches e) c done.0 n h
 
@@ -114,16 +114,16 @@ record Runs (wait : Wait) (stop : ℕ) : Type 0 where
   waits : wait ≡ Nothing
   stops : stop ≡ 0
 
-not_stopped : (stop : ℕ) → refused_by Nothing stop ≡ None → (stop ≡ 0 → ⊥) → ⊥
+not_stopped : (stop : ℕ) → wait_refusal Nothing stop ≡ None → (stop ≡ 0 → ⊥) → ⊥
 not_stopped stop h ne = let q : Some Stopped ≡ None = sym (ap (λ b. cond b None (Some Stopped)) (ne_eqb stop 0 ne)) ∙ h in cc
 
-runs : (w : Wait) (stop : ℕ) → refused_by w stop ≡ None → Runs w stop
+runs : (w : Wait) (stop : ℕ) → wait_refusal w stop ≡ None → Runs w stop
 runs Nothing stop h = ⊎_elim (λ e. record { waits = refl; stops = e }) (λ ne. absurd (not_stopped stop h ne)) (cases_eq stop 0)
 runs (Fetch sides) stop h = absurd (cc)
 runs (Read sides) stop h = absurd (cc)
 runs (Write side) stop h = absurd (cc)
 
-pub runs_on : (c d : List NodeRecord) (at m : NodeId) → Agree (touches (Own at)) c d → refusal (record_at c at.number) ≡ None → refusal (record_at d at.number) ≡ None → next c m ≡ next d m
+pub runs_on : (c d : List NodeRecord) (at m : NodeId) → AgreeOutsideMarks (touches (Own at)) c d → refusal (record_at c at.number) ≡ None → refusal (record_at d at.number) ≡ None → next c m ≡ next d m
 runs_on c d at m a before now = next_same c d m (record { wait = (same m.number).0; stop = (same m.number).1; near = λ side k h. (same k.number).0 })
   where
     was : Runs (wait_at c at.number) (stop_at c at.number)

@@ -7,8 +7,8 @@ use Rattle.ga_node.specs.Record.{NodeRecord}
 use Rattle.ga_event.specs.declared.event.Event.{Event}
 use Rattle.ga_event.specs.Touches.{touches}
 use Rattle.ga_event.specs.Apply.{after, replay}
-use Rattle.ga_event.specs.Told.{steps_of}
-use Rattle.ga_causal.specs.Words.{word_of, local_history_with_reads}
+use Rattle.ga_event.specs.Told.{count_steps}
+use Rattle.ga_causal.specs.Words.{received_word, local_history_with_reads}
 use Rattle.ga_causal.proofs.Equivalences.{touched_of}
 use Rattle.ga_races.specs.Orders.{IsEnabled, IsTerminal, AreIndependentOn, AreReorderings, same, swapped, later, joined, HasNoRace}
 use Rattle.ga_races.proofs.Independence.{replay_more, first_of, still_enabled, free_or_bound, independent_on_chip, free_replay, read_swapped, replay_two}
@@ -34,7 +34,7 @@ order_replay c xs ys (joined {ys = zs} h k) = order_replay c xs zs h ∙ order_r
 pub order_read : (n : ℕ) (c : List NodeRecord) (xs ys : List Event) → AreReorderings c xs ys → local_history_with_reads n c xs ≡ local_history_with_reads n c ys
 order_read n c xs ys same = refl
 order_read n c xs ys (swapped {e} {f} {xs = zs} cane canf free) = read_swapped c e f zs n free (independent_on_chip c e f cane canf free)
-order_read n c xs ys (later {e} {xs = us} {ys = vs} can h) = ap (λ (z : List (Event × Option ℕ)). cond (touches e n) ((e, word_of c e) ∷ z) z) (order_read n (after c e).0 us vs h)
+order_read n c xs ys (later {e} {xs = us} {ys = vs} can h) = ap (λ (z : List (Event × Option ℕ)). cond (touches e n) ((e, received_word c e) ∷ z) z) (order_read n (after c e).0 us vs h)
 order_read n c xs ys (joined {ys = zs} h k) = order_read n c xs zs h ∙ order_read n c zs ys k
 
 -- ---- races
@@ -74,7 +74,7 @@ pub record IsSpared (c : List NodeRecord) (es : List Event) (e : Event) (last : 
   pub none : (n : ℕ) → touches e n ≡ true → local_history_with_reads n c es ≡ []
 
 untouched : (c : List NodeRecord) (f : Event) (es : List Event) (n : ℕ) → touches f n ≡ false → local_history_with_reads n (after c f).0 es ≡ [] → local_history_with_reads n c (f ∷ es) ≡ []
-untouched c f es n t h = ap (λ (b : Bool). cond b ((f, word_of c f) ∷ local_history_with_reads n (after c f).0 es) (local_history_with_reads n (after c f).0 es)) t ∙ h
+untouched c f es n t h = ap (λ (b : Bool). cond b ((f, received_word c f) ∷ local_history_with_reads n (after c f).0 es) (local_history_with_reads n (after c f).0 es)) t ∙ h
 
 pub brought : (es : List Event) (c last : List NodeRecord) (e : Event) → replay c es ≡ Some last → HasNoRace c es → IsEnabled c e → IsFirst c es e ⊎ IsSpared c es e last
 brought [] c last e is calm can = inr (record { can = subst (λ z. IsEnabled z e) (same_Some c last is) can; none = λ n t. refl })
@@ -123,14 +123,14 @@ within-tail c es e rest fs a w n =
     d : List NodeRecord
     d = (after c e).0
 
-    go : (b : Bool) → length (cond b ((e, word_of c e) ∷ local_history_with_reads n (after c e).0 fs) (local_history_with_reads n (after c e).0 fs)) ≤ length (cond b ((e, word_of c e) ∷ local_history_with_reads n (after c e).0 rest) (local_history_with_reads n (after c e).0 rest)) → length (local_history_with_reads n (after c e).0 fs) ≤ length (local_history_with_reads n (after c e).0 rest)
+    go : (b : Bool) → length (cond b ((e, received_word c e) ∷ local_history_with_reads n (after c e).0 fs) (local_history_with_reads n (after c e).0 fs)) ≤ length (cond b ((e, received_word c e) ∷ local_history_with_reads n (after c e).0 rest) (local_history_with_reads n (after c e).0 rest)) → length (local_history_with_reads n (after c e).0 fs) ≤ length (local_history_with_reads n (after c e).0 rest)
     go true h = omega (arith, h)
     go false h = h
 
 not_within : (c : List NodeRecord) (es : List Event) (e : Event) (fs : List Event) (n : ℕ) → touches e n ≡ true → local_history_with_reads n c es ≡ [] → Within c es (e ∷ fs) → ⊥
 not_within c es e fs n t none w = go (touches e n) t (subst (λ (z : List (Event × Option ℕ)). length (local_history_with_reads n c (e ∷ fs)) ≤ length z) none (w n))
   where
-    go : (b : Bool) → b ≡ true → length (cond b ((e, word_of c e) ∷ local_history_with_reads n (after c e).0 fs) (local_history_with_reads n (after c e).0 fs)) ≤ 0 → ⊥
+    go : (b : Bool) → b ≡ true → length (cond b ((e, received_word c e) ∷ local_history_with_reads n (after c e).0 fs) (local_history_with_reads n (after c e).0 fs)) ≤ 0 → ⊥
     go true k h = omega (arith, h)
     go false k h = both_ways false refl k
 
@@ -180,11 +180,11 @@ race_free_end_is_unique c last now es fs h calm end k stop = go (completed_quiet
 -- ---- steps
 
 -- a local history has the steps of its node
-pub steps_read : (n : ℕ) (c : List NodeRecord) (es : List Event) → length (local_history_with_reads n c es) ≡ steps_of n es
+pub steps_read : (n : ℕ) (c : List NodeRecord) (es : List Event) → length (local_history_with_reads n c es) ≡ count_steps n es
 steps_read n c [] = refl
 steps_read n c (e ∷ es) = go (touches e n) (steps_read n (after c e).0 es) ∙ sym (sum_by-cons (λ (x : Event). cond (touches x n) 1 0) e es)
   where
-    go : (b : Bool) → length (local_history_with_reads n (after c e).0 es) ≡ steps_of n es → length (cond b ((e, word_of c e) ∷ local_history_with_reads n (after c e).0 es) (local_history_with_reads n (after c e).0 es)) ≡ cond b 1 0 + steps_of n es
+    go : (b : Bool) → length (local_history_with_reads n (after c e).0 es) ≡ count_steps n es → length (cond b ((e, received_word c e) ∷ local_history_with_reads n (after c e).0 es) (local_history_with_reads n (after c e).0 es)) ≡ cond b 1 0 + count_steps n es
     go true h = omega (arith, h)
     go false h = omega (arith, h)
 
@@ -196,23 +196,23 @@ read_first n c (e ∷ fs) others =
     (k.0, go (touches e n) k.0 k.1)
   where
     go : (b : Bool) (d : List NodeRecord) → local_history_with_reads n (after c e).0 (fs ++ others) ≡ local_history_with_reads n (after c e).0 fs ++ local_history_with_reads n d others
-        → cond b ((e, word_of c e) ∷ local_history_with_reads n (after c e).0 (fs ++ others)) (local_history_with_reads n (after c e).0 (fs ++ others)) ≡ cond b ((e, word_of c e) ∷ local_history_with_reads n (after c e).0 fs) (local_history_with_reads n (after c e).0 fs) ++ local_history_with_reads n d others
-    go true d h = ap (λ (z : List (Event × Option ℕ)). (e, word_of c e) ∷ z) h
+        → cond b ((e, received_word c e) ∷ local_history_with_reads n (after c e).0 (fs ++ others)) (local_history_with_reads n (after c e).0 (fs ++ others)) ≡ cond b ((e, received_word c e) ∷ local_history_with_reads n (after c e).0 fs) (local_history_with_reads n (after c e).0 fs) ++ local_history_with_reads n d others
+    go true d h = ap (λ (z : List (Event × Option ℕ)). (e, received_word c e) ∷ z) h
     go false d h = h
 
-pub no_more : (c : List NodeRecord) (es fs : List Event) (n : ℕ) → Completed c es fs → steps_of n fs ≤ steps_of n es
+pub no_more : (c : List NodeRecord) (es fs : List Event) (n : ℕ) → Completed c es fs → count_steps n fs ≤ count_steps n es
 no_more c es fs n (others, a) =
     let k = read_first n c fs others in
     let p : length (local_history_with_reads n c es) ≡ length (local_history_with_reads n c fs ++ local_history_with_reads n k.0 others) = ap (λ z. length z) (order_read n c es (fs ++ others) a ∙ k.1) in
     let q : length (local_history_with_reads n c fs ++ local_history_with_reads n k.0 others) ≡ length (local_history_with_reads n c fs) + length (local_history_with_reads n k.0 others) = length-append (local_history_with_reads n c fs) (local_history_with_reads n k.0 others) in
     omega (arith, p, q, steps_read n c es, steps_read n c fs)
 
-pub within_steps : (c : List NodeRecord) (es fs : List Event) → ((n : ℕ) → steps_of n fs ≤ steps_of n es) → Within c es fs
+pub within_steps : (c : List NodeRecord) (es fs : List Event) → ((n : ℕ) → count_steps n fs ≤ count_steps n es) → Within c es fs
 within_steps c es fs w n = omega (arith, w n, steps_read n c es, steps_read n c fs)
 
 -- ---- as the laws state it
 
-pub beginning_within : (c : List NodeRecord) (es fs : List Event) → IsSome (replay c es) → HasNoRace c es → IsSome (replay c fs) → ((n : ℕ) → steps_of n fs ≤ steps_of n es) → Completed c es fs
+pub beginning_within : (c : List NodeRecord) (es fs : List Event) → IsSome (replay c es) → HasNoRace c es → IsSome (replay c fs) → ((n : ℕ) → count_steps n fs ≤ count_steps n es) → Completed c es fs
 beginning_within c es fs h calm k w =
     let a = some_of (replay c es) h in
     let b = some_of (replay c fs) k in
@@ -221,7 +221,7 @@ beginning_within c es fs h calm k w =
 pub beginning_quiet : (c last : List NodeRecord) (es fs : List Event) → replay c es ≡ Some last → HasNoRace c es → IsTerminal last → IsSome (replay c fs) → Completed c es fs
 beginning_quiet c last es fs h calm end k = let b = some_of (replay c fs) k in completed_quiet fs es c last b.0 b.1 h calm end
 
-pub steps_quiet : (c last : List NodeRecord) (es fs : List Event) (n : ℕ) → replay c es ≡ Some last → HasNoRace c es → IsTerminal last → IsSome (replay c fs) → steps_of n fs ≤ steps_of n es
+pub steps_quiet : (c last : List NodeRecord) (es fs : List Event) (n : ℕ) → replay c es ≡ Some last → HasNoRace c es → IsTerminal last → IsSome (replay c fs) → count_steps n fs ≤ count_steps n es
 steps_quiet c last es fs n h calm end k = no_more c es fs n (beginning_quiet c last es fs h calm end k)
 
 pub end_quiet : (c last now : List NodeRecord) (es fs : List Event) → replay c es ≡ Some last → HasNoRace c es → IsTerminal last → replay c fs ≡ Some now → IsTerminal now → AreReorderings c es fs × (now ≡ last)

@@ -9,7 +9,7 @@ use Rattle.std.proofs.lemmas.Option.{same_Some}
 use Rattle.ga_ports.specs.declared.side.Side.{Side}
 use Rattle.ga_ports.specs.declared.side.Side.TheVariants.{Right, Down, Left, Up}
 use Rattle.ga_node.specs.Record.{NodeRecord, record_of}
-use Rattle.ga_node.specs.Table.{t, own, refusal, refused_by, sent, taken}
+use Rattle.ga_node.specs.Table.{t, own, refusal, wait_refusal, sent, taken}
 use Rattle.ga_node.specs.declared.wait.Wait.{Wait}
 use Rattle.ga_node.specs.declared.wait.Wait.TheVariants.{Nothing, Fetch, Read, Write}
 use Rattle.ga_grid.specs.Grid.{neighbour_of}
@@ -18,10 +18,10 @@ use Rattle.ga_grid.specs.declared.node_id.NodeId.{NodeId}
 use Rattle.ga_event.specs.declared.event.Event.{Event}
 use Rattle.ga_event.specs.declared.event.Event.TheVariants.{Own, Pass}
 use Rattle.ga_event.specs.Touches.{touches}
-use Rattle.ga_event.specs.Apply.{shows, beside_in, neighbour_states, is_open, unmatched, after, replay}
-use Rattle.ga_event.specs.Told.{steps_of}
+use Rattle.ga_event.specs.Apply.{shown_state, shown_neighbour_state, neighbour_states, is_transfer_ready, unmatched_unless, after, replay}
+use Rattle.ga_event.specs.Told.{count_steps}
 use Rattle.ga_races.specs.Orders.{IsEnabled}
-use Rattle.ga_races.specs.Rounds.{PassesBy, events_without, IsRound, HasNoRound}
+use Rattle.ga_races.specs.Rounds.{IsNoTransferWith, events_without, IsPollingRound, HasNoPollingRound}
 use Rattle.ga_races.proofs.Exact.{replay_into}
 use Rattle.ga_races.proofs.Independence.{first_of, replay_more, stays}
 
@@ -68,9 +68,9 @@ same_waits n c b a w m = elim (cases_eq m n) [
   | inr ne ↦ ap (λ (z : NodeRecord). z.wait) (a.same m ne)
 ]
 
-beside_same : (c b : List NodeRecord) → ((m : ℕ) → (record_at c m).wait ≡ (record_at b m).wait) → (side : Side) (o : Option ℕ) → beside_in c side o ≡ beside_in b side o
+beside_same : (c b : List NodeRecord) → ((m : ℕ) → (record_at c m).wait ≡ (record_at b m).wait) → (side : Side) (o : Option ℕ) → shown_neighbour_state c side o ≡ shown_neighbour_state b side o
 beside_same c b w side None = refl
-beside_same c b w side (Some m) = ap (λ (z : Wait). shows z side) (w m)
+beside_same c b w side (Some m) = ap (λ (z : Wait). shown_state z side) (w m)
 
 seen_same : (c b : List NodeRecord) → ((m : ℕ) → (record_at c m).wait ≡ (record_at b m).wait) → (m : ℕ) → neighbour_states c m ≡ neighbour_states b m
 unfolding neighbour_states
@@ -101,8 +101,8 @@ also n c b (Pass w r side) alike shown f can =
     let y = record_at c r.number in
     record {
       can =
-          ap (λ (z : NodeRecord). unmatched (is_open w.number r.number side z.wait (record_at b r.number).wait)) (sym from)
-          ∙ ap (λ (z : NodeRecord). unmatched (is_open w.number r.number side (record_at c w.number).wait z.wait)) (sym to)
+          ap (λ (z : NodeRecord). unmatched_unless (is_transfer_ready w.number r.number side z.wait (record_at b r.number).wait)) (sym from)
+          ∙ ap (λ (z : NodeRecord). unmatched_unless (is_transfer_ready w.number r.number side (record_at c w.number).wait z.wait)) (sym to)
           ∙ can;
       alike =
           subst (λ z. AreBut n (set (set c w.number (sent x)) r.number (taken (t x) y)) (set (set b w.number (sent z)) r.number (taken (t z) (record_at b r.number)))) from
@@ -112,7 +112,7 @@ also n c b (Pass w r side) alike shown f can =
 
 -- ---- a node that makes an event of its own runs until then
 
-runs_of : (wait : Wait) (stop : ℕ) → refused_by wait stop ≡ None → wait ≡ Nothing
+runs_of : (wait : Wait) (stop : ℕ) → wait_refusal wait stop ≡ None → wait ≡ Nothing
 runs_of Nothing stop h = refl
 runs_of (Fetch sides) stop h = absurd (cc)
 runs_of (Read sides) stop h = absurd (cc)
@@ -121,30 +121,30 @@ runs_of (Write side) stop h = absurd (cc)
 some_touches : ℕ → List Event → Bool
 some_touches n es = list_any (λ e. touches e n) es
 
-own_alone : (n : ℕ) (e : Event) → PassesBy n e → touches e n ≡ true → (m : ℕ) → (m ≡ n → ⊥) → touches e m ≡ false
+own_alone : (n : ℕ) (e : Event) → IsNoTransferWith n e → touches e n ≡ true → (m : ℕ) → (m ≡ n → ⊥) → touches e m ≡ false
 own_alone n (Own a) own h m ne = elim (or_cases (a.number == n) false h) [
   | inl q ↦ or_from (a.number == m) false (ne_eqb a.number m (λ e. ne (sym e ∙ eqb-true a.number n q))) refl
   | inr q ↦ absurd (both_ways false refl q)
 ]
 own_alone n (Pass w r side) own h m ne = absurd (both_ways (touches (Pass w r side) n) own h)
 
-own_runs : (n : ℕ) (c : List NodeRecord) (e : Event) → PassesBy n e → touches e n ≡ true → IsEnabled c e → (record_at c n).wait ≡ Nothing
+own_runs : (n : ℕ) (c : List NodeRecord) (e : Event) → IsNoTransferWith n e → touches e n ≡ true → IsEnabled c e → (record_at c n).wait ≡ Nothing
 own_runs n c (Own a) own h can = elim (or_cases (a.number == n) false h) [
   | inl q ↦ subst (λ z. (record_at c z).wait ≡ Nothing) (eqb-true a.number n q) (runs_of (record_at c a.number).wait (record_at c a.number).stop can)
   | inr q ↦ absurd (both_ways false refl q)
 ]
 own_runs n c (Pass w r side) own h can = absurd (both_ways (touches (Pass w r side) n) own h)
 
-running : (n : ℕ) (es : List Event) (c last : List NodeRecord) → replay c es ≡ Some last → All (PassesBy n) es → some_touches n es ≡ true → (record_at c n).wait ≡ Nothing
+running : (n : ℕ) (es : List Event) (c last : List NodeRecord) → replay c es ≡ Some last → All (IsNoTransferWith n) es → some_touches n es ≡ true → (record_at c n).wait ≡ Nothing
 unfolding some_touches
 running n [] c last led own some = absurd (both_ways false refl some)
 running n (e ∷ es) c last led own some =
     let p = first_of c e es last led in
     elim (cases_Bool (touches e n)) [
-      | inl h ↦ own_runs n c e (All-head (PassesBy n) e es own) h p.can
+      | inl h ↦ own_runs n c e (All-head (IsNoTransferWith n) e es own) h p.can
       | inr f ↦ elim (or_cases (touches e n) (some_touches n es) some) [
         | inl h ↦ absurd (both_ways (touches e n) f h)
-        | inr more ↦ ap (λ (z : NodeRecord). z.wait) ((stays c e p.can).same n f) ∙ running n es (after c e).0 last p.then (All-tail (PassesBy n) e es own) more
+        | inr more ↦ ap (λ (z : NodeRecord). z.wait) ((stays c e p.can).same n f) ∙ running n es (after c e).0 last p.then (All-tail (IsNoTransferWith n) e es own) more
       ]
     ]
 
@@ -193,16 +193,16 @@ kept n e es b last f can k =
 still_waits : (n : ℕ) (b : List NodeRecord) (e : Event) → touches e n ≡ false → IsEnabled b e → (record_at b n).wait ≡ Nothing → (record_at (after b e).0 n).wait ≡ Nothing
 still_waits n b e f can w = ap (λ (z : NodeRecord). z.wait) (sym ((stays b e can).same n f)) ∙ w
 
-left : (n : ℕ) (es : List Event) (c b last : List NodeRecord) → replay c es ≡ Some last → All (PassesBy n) es → AreBut n c b → record_at last n ≡ record_at b n
+left : (n : ℕ) (es : List Event) (c b last : List NodeRecord) → replay c es ≡ Some last → All (IsNoTransferWith n) es → AreBut n c b → record_at last n ≡ record_at b n
     → (some_touches n es ≡ true → (record_at b n).wait ≡ Nothing) → IsLeft n es b last
 unfolding some_touches
 left n [] c b last led own a back runs = left_idle n [] c b last led refl a back
 left n (e ∷ es) c b last led own a back runs =
     let p = first_of c e es last led in
-    let others : All (PassesBy n) es = All-tail (PassesBy n) e es own in
+    let others : All (IsNoTransferWith n) es = All-tail (IsNoTransferWith n) e es own in
     elim (cases_Bool (touches e n)) [
       | inl h ↦ dropped n e es b last h
-          (left n es (after c e).0 b last p.then others (but-own n c b e (own_alone n e (All-head (PassesBy n) e es own) h) p.can a) back (λ _. runs (or_left (touches e n) (some_touches n es) h)))
+          (left n es (after c e).0 b last p.then others (but-own n c b e (own_alone n e (All-head (IsNoTransferWith n) e es own) h) p.can a) back (λ _. runs (or_left (touches e n) (some_touches n es) h)))
       | inr f ↦ elim (cases_Bool (some_touches n es)) [
         | inl more ↦ (let there : (record_at b n).wait ≡ Nothing = runs (or_right (touches e n) (some_touches n es) more) in
             let here : (record_at c n).wait ≡ Nothing = running n (e ∷ es) c last led own (or_right (touches e n) (some_touches n es) more) in
@@ -215,30 +215,30 @@ left n (e ∷ es) c b last led own a back runs =
 
 -- ---- as the law states it
 
-taken_out : (n : ℕ) (c : List NodeRecord) (es : List Event) → (r : IsRound c n es) → replay c (events_without n es) ≡ Some r.last
+taken_out : (n : ℕ) (c : List NodeRecord) (es : List Event) → (r : IsPollingRound c n es) → replay c (events_without n es) ≡ Some r.last
 taken_out n c es r = left n es c c r.last r.led r.own (record { size = refl; same = λ m ne. refl }) r.back (λ some. running n es c r.last r.led r.own some)
 
-pub round_alone : (c : List NodeRecord) (n : ℕ) (es : List Event) → IsRound c n es → events_without n es ≡ [] → replay c es ≡ Some c
+pub round_alone : (c : List NodeRecord) (n : ℕ) (es : List Event) → IsPollingRound c n es → events_without n es ≡ [] → replay c es ≡ Some c
 round_alone c n es r none = r.led ∙ sym (taken_out n c es r) ∙ ap (λ (z : List Event). replay c z) none
 
-pub round_left : (c now : List NodeRecord) (before round later : List Event) (n : ℕ) → replay c before ≡ Some now → IsRound now n round
+pub round_left : (c now : List NodeRecord) (before round later : List Event) (n : ℕ) → replay c before ≡ Some now → IsPollingRound now n round
     → replay c (before ++ round ++ later) ≡ replay c (before ++ events_without n round ++ later)
 round_left c now before round later n led r =
     replay_into (before ++ round) later c r.last (replay_into before round c now led ∙ r.led)
     ∙ sym (replay_into (before ++ events_without n round) later c r.last (replay_into before (events_without n round) c now led ∙ taken_out n now round r))
 
-pub shorter : (n : ℕ) (es : List Event) → length (events_without n es) + steps_of n es ≡ length es
+pub shorter : (n : ℕ) (es : List Event) → length (events_without n es) + count_steps n es ≡ length es
 shorter n [] = refl
 shorter n (e ∷ es) =
     ap (λ z. length (cond (not (touches e n)) (e ∷ events_without n es) (events_without n es)) + z) (sum_by-cons (λ (x : Event). cond (touches x n) 1 0) e es)
     ∙ go (touches e n) (shorter n es)
   where
-    go : (b : Bool) → length (events_without n es) + steps_of n es ≡ length es
-        → length (cond (not b) (e ∷ events_without n es) (events_without n es)) + (cond b 1 0 + steps_of n es) ≡ length (e ∷ es)
+    go : (b : Bool) → length (events_without n es) + count_steps n es ≡ length es
+        → length (cond (not b) (e ∷ events_without n es) (events_without n es)) + (cond b 1 0 + count_steps n es) ≡ length (e ∷ es)
     go true h = omega (arith, h)
     go false h = omega (arith, h)
 
-pub shortest_has_none : (c last : List NodeRecord) (es : List Event) → replay c es ≡ Some last → ((others : List Event) → replay c others ≡ Some last → length es ≤ length others) → HasNoRound c es
+pub shortest_has_none : (c last : List NodeRecord) (es : List Event) → replay c es ≡ Some last → ((others : List Event) → replay c others ≡ Some last → length es ≤ length others) → HasNoPollingRound c es
 shortest_has_none c last es led short before round later now n is first r =
     let few : length es ≤ length (before ++ events_without n round ++ later) =
     short (before ++ events_without n round ++ later) (sym (round_left c now before round later n first r) ∙ ap (λ (z : List Event). replay c z) (sym is) ∙ led) in

@@ -14,12 +14,12 @@ use Rattle.ga_grid.specs.declared.node_id.NodeId.{NodeId}
 use Rattle.ga_grid.proofs.NodeIds.{neighbour_of-back}
 use Rattle.ga_event.specs.declared.event.Event.{Event}
 use Rattle.ga_event.specs.declared.event.Event.TheVariants.{Own, Pass}
-use Rattle.ga_event.specs.Apply.{shows, beside_in, neighbour_states, is_number, after}
+use Rattle.ga_event.specs.Apply.{shown_state, shown_neighbour_state, neighbour_states, equals_some, after}
 use Rattle.ga_races.specs.declared.act.EventAccess.{EventAccess}
-use Rattle.ga_races.specs.declared.act.Sides.{Sides}
+use Rattle.ga_races.specs.declared.act.SideSet.{SideSet}
 use Rattle.ga_races.specs.Orders.{IsEnabled}
 use Rattle.ga_races.specs.HappensBefore.{action_of}
-use Rattle.ga_races.specs.Acts.{side_leads_to, shown_by}
+use Rattle.ga_races.specs.Acts.{has_side_to, changes_shown_to}
 use Rattle.ga_races.specs.inner.{shown_as, is_changed, HasChangedSides}
 use Rattle.ga_races.proofs.Independence.{stays}
 use Rattle.ga_races.proofs.Reaching.{or4_cases, or4_from}
@@ -114,17 +114,17 @@ not_false : (b : Bool) → not b ≡ false → b ≡ true
 not_false true h = refl
 not_false false h = absurd (both_ways false refl (sym h))
 
-bits_at : (c d : List NodeRecord) (side : Side) (o : Option ℕ) → changed_at c d side o ≡ false → bits (shown_as (beside_in d side o)) ≡ bits (shown_as (beside_in c side o))
+bits_at : (c d : List NodeRecord) (side : Side) (o : Option ℕ) → changed_at c d side o ≡ false → bits (shown_as (shown_neighbour_state d side o)) ≡ bits (shown_as (shown_neighbour_state c side o))
 bits_at c d side None h = refl
 bits_at c d side (Some k) h =
-    ap bits (sym (eqb-true (shown_as (shows (record_at c k).wait side)) (shown_as (shows (record_at d k).wait side))
-    (not_false (shown_as (shows (record_at c k).wait side) == shown_as (shows (record_at d k).wait side)) h)))
+    ap bits (sym (eqb-true (shown_as (shown_state (record_at c k).wait side)) (shown_as (shown_state (record_at d k).wait side))
+    (not_false (shown_as (shown_state (record_at c k).wait side) == shown_as (shown_state (record_at d k).wait side)) h)))
 
-unchanged_at : (c d : List NodeRecord) (side : Side) (o : Option ℕ) → bits (shown_as (beside_in d side o)) ≡ bits (shown_as (beside_in c side o)) → changed_at c d side o ≡ false
+unchanged_at : (c d : List NodeRecord) (side : Side) (o : Option ℕ) → bits (shown_as (shown_neighbour_state d side o)) ≡ bits (shown_as (shown_neighbour_state c side o)) → changed_at c d side o ≡ false
 unchanged_at c d side None h = refl
 unchanged_at c d side (Some k) h =
-    ap not (eq-eqb (shown_as (shows (record_at c k).wait side)) (shown_as (shows (record_at d k).wait side))
-    (sym (unbits_back (shows (record_at c k).wait side)) ∙ ap unbits (sym h) ∙ unbits_back (shows (record_at d k).wait side)))
+    ap not (eq-eqb (shown_as (shown_state (record_at c k).wait side)) (shown_as (shown_state (record_at d k).wait side))
+    (sym (unbits_back (shown_state (record_at c k).wait side)) ∙ ap unbits (sym h) ∙ unbits_back (shown_state (record_at d k).wait side)))
 
 changed_some : List NodeRecord → List NodeRecord → ℕ → Bool
 changed_some c d n =
@@ -133,14 +133,14 @@ changed_some c d n =
 
 module _ (c d : List NodeRecord) (n : ℕ) where
   abbrev part : List NodeRecord → Side → ℕ
-  part chip side = bits (shown_as (beside_in chip side (neighbour_of n side)))
+  part chip side = bits (shown_as (shown_neighbour_state chip side (neighbour_of n side)))
 
   word_at : (chip : List NodeRecord) → io_word (neighbour_states chip n) ≡ word_of_bits (part chip Right) (part chip Down) (part chip Left) (part chip Up)
   unfolding neighbour_states
   word_at chip = word_is (neighbour_states chip n)
 
   few : (chip : List NodeRecord) (side : Side) → part chip side ≤ 3
-  few chip side = bits_few (beside_in chip side (neighbour_of n side))
+  few chip side = bits_few (shown_neighbour_state chip side (neighbour_of n side))
 
   same_all : io_word (neighbour_states d n) ≡ io_word (neighbour_states c n) → changed_some c d n ≡ false
   unfolding changed_some
@@ -179,28 +179,28 @@ alike true false f g = absurd (both_ways false refl (f refl))
 alike false true f g = absurd (both_ways false refl (g refl))
 alike false false f g = refl
 
-is_number_of : (o : Option ℕ) (n : ℕ) → o ≡ Some n → is_number o n ≡ true
-is_number_of o n h = ap (λ (z : Option ℕ). is_number z n) h ∙ eq-eqb n n refl
+is_number_of : (o : Option ℕ) (n : ℕ) → o ≡ Some n → equals_some o n ≡ true
+is_number_of o n h = ap (λ (z : Option ℕ). equals_some z n) h ∙ eq-eqb n n refl
 
 -- a link leads both ways
-link_back : (m n : ℕ) (side : Side) → m < 144 → n < 144 → is_number (neighbour_of m side) n ≡ is_number (neighbour_of n side) m
+link_back : (m n : ℕ) (side : Side) → m < 144 → n < 144 → equals_some (neighbour_of m side) n ≡ equals_some (neighbour_of n side) m
 link_back m n side k l =
-    alike (is_number (neighbour_of m side) n) (is_number (neighbour_of n side) m)
+    alike (equals_some (neighbour_of m side) n) (equals_some (neighbour_of n side) m)
     (λ h. is_number_of (neighbour_of n side) m (neighbour_of-back m n side k (number_is (neighbour_of m side) n h)))
     (λ h. is_number_of (neighbour_of m side) n (neighbour_of-back n m side l (number_is (neighbour_of n side) m h)))
 
 -- the change of one node on a side of another
 abbrev of_node : List NodeRecord → List NodeRecord → ℕ → ℕ → Side → Bool
-of_node c d m n side = is_changed (record_at c m).wait (record_at d m).wait side && is_number (neighbour_of m side) n
+of_node c d m n side = is_changed (record_at c m).wait (record_at d m).wait side && equals_some (neighbour_of m side) n
 
 unchanged : (c d : List NodeRecord) (k : ℕ) (side : Side) → record_at c k ≡ record_at d k → is_changed (record_at c k).wait (record_at d k).wait side ≡ false
 unchanged c d k side same =
-    ap (λ (z : NodeRecord). is_changed (record_at c k).wait z.wait side) (sym same) ∙ ap not (eq-eqb (shown_as (shows (record_at c k).wait side)) (shown_as (shows (record_at c k).wait side)) refl)
+    ap (λ (z : NodeRecord). is_changed (record_at c k).wait z.wait side) (sym same) ∙ ap not (eq-eqb (shown_as (shown_state (record_at c k).wait side)) (shown_as (shown_state (record_at c k).wait side)) refl)
 
 -- which gives the side of the other all that changes there, where no other node has changed
 node_to : (c d : List NodeRecord) (m n : ℕ) (side : Side) → m < 144 → n < 144 → of_node c d m n side ≡ true → changed_at c d side (neighbour_of n side) ≡ true
 node_to c d m n side k l h =
-    let p = and_parts (is_changed (record_at c m).wait (record_at d m).wait side) (is_number (neighbour_of m side) n) h in
+    let p = and_parts (is_changed (record_at c m).wait (record_at d m).wait side) (equals_some (neighbour_of m side) n) h in
     ap (changed_at c d side) (neighbour_of-back m n side k (number_is (neighbour_of m side) n p.1)) ∙ p.0
 
 to_node : (c d : List NodeRecord) (m n k : ℕ) (side : Side) → n < 144 → neighbour_of n side ≡ Some k → k ≡ m → changed_at c d side (neighbour_of n side) ≡ true → of_node c d m n side ≡ true
@@ -286,17 +286,17 @@ or8 a b c d x y z w = alike ((a || (b || (c || d))) || (x || (y || (z || w)))) (
 four : (a b c d x y z w : Bool) → a ≡ x → b ≡ y → c ≡ z → d ≡ w → (a || (b || (c || d))) ≡ (x || (y || (z || w)))
 four a b c d x y z w p q r s = ap₂ (λ (i j : Bool). i || j) p (ap₂ (λ (i j : Bool). i || j) q (ap₂ (λ (i j : Bool). i || j) r s))
 
-sides_of : (e : Event) (c : List NodeRecord) (act : EventAccess) (n : ℕ) → n < 144 → IsEnabled c e → HasChangedSides c (after c e).0 act e → shown_by e act.first act.second n ≡ changed_some c (after c e).0 n
+sides_of : (e : Event) (c : List NodeRecord) (act : EventAccess) (n : ℕ) → n < 144 → IsEnabled c e → HasChangedSides c (after c e).0 act e → changes_shown_to e act.first act.second n ≡ changed_some c (after c e).0 n
 unfolding changed_some
 sides_of (Own m) c act n l can has =
-    ap (λ (s : Sides). side_leads_to s m.number n) has
+    ap (λ (s : SideSet). has_side_to s m.number n) has
     ∙ four _ _ _ _ _ _ _ _ (own_side c n l m Right can) (own_side c n l m Down can) (own_side c n l m Left can) (own_side c n l m Up can)
 sides_of (Pass w r s) c act n l can has =
-    ap₂ (λ (x y : Sides). side_leads_to x w.number n || side_leads_to y r.number n) has.0 has.1
+    ap₂ (λ (x y : SideSet). has_side_to x w.number n || has_side_to y r.number n) has.0 has.1
     ∙ or8 (of_node c (after c (Pass w r s)).0 w.number n Right) (of_node c (after c (Pass w r s)).0 w.number n Down) (of_node c (after c (Pass w r s)).0 w.number n Left) (of_node c (after c (Pass w r s)).0 w.number n Up) (of_node c (after c (Pass w r s)).0 r.number n Right) (of_node c (after c (Pass w r s)).0 r.number n Down) (of_node c (after c (Pass w r s)).0 r.number n Left) (of_node c (after c (Pass w r s)).0 r.number n Up)
     ∙ four _ _ _ _ _ _ _ _ (pass_side c n l w r s Right can) (pass_side c n l w r s Down can) (pass_side c n l w r s Left can) (pass_side c n l w r s Up can)
 
 pub act_changes : (c : List NodeRecord) (e : Event) (act : EventAccess) (n : ℕ) → n < 144 → IsEnabled c e → act.cause.event ≡ e → HasChangedSides c (after c e).0 act e
-    → shown_by act.cause.event act.first act.second n ≡ (action_of c e).changes n
+    → changes_shown_to act.cause.event act.first act.second n ≡ (action_of c e).changes n
 act_changes c e act n l can is has =
-    ap (λ (z : Event). shown_by z act.first act.second n) is ∙ sides_of e c act n l can has ∙ sym (changes_is c (after c e).0 n)
+    ap (λ (z : Event). changes_shown_to z act.first act.second n) is ∙ sides_of e c act n l can has ∙ sym (changes_is c (after c e).0 n)

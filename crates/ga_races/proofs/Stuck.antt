@@ -13,7 +13,7 @@ use Rattle.ga_grid.proofs.NodeIds.{neighbour_of-back}
 use Rattle.ga_event.specs.declared.event.Event.{Event}
 use Rattle.ga_event.specs.declared.event.Event.TheVariants.{Own, Pass}
 use Rattle.ga_event.specs.declared.event.Cause.{Cause}
-use Rattle.ga_event.specs.Apply.{EventOutcome, cause_of, writes_to, reads_from, is_number, refusal_of, when_allowed, after, run, replay, Agree}
+use Rattle.ga_event.specs.Apply.{EventOutcome, cause_of, waits_to_write_side, waits_to_read_side, equals_some, refusal_of, some_if_allowed, after, run, replay, AgreeOutsideMarks}
 use Rattle.ga_event.specs.Touches.{touches}
 use Rattle.ga_event.proofs.Locality.{apply_keeps}
 use Rattle.ga_races.specs.Acts.{AreDeadlocked}
@@ -22,13 +22,13 @@ use Rattle.ga_races.proofs.Conflicts.{matched_of as matched, number_of}
 -- the ends of an enabled pass
 record Open (chip : List NodeRecord) (w r : NodeId) (side : Side) : Type 0 where
   near : neighbour_of w.number side ≡ Some r.number
-  writes : writes_to (record_at chip w.number).wait side ≡ true
-  reads : reads_from (record_at chip r.number).wait side ≡ true
+  writes : waits_to_write_side (record_at chip w.number).wait side ≡ true
+  reads : waits_to_read_side (record_at chip r.number).wait side ≡ true
 
 opened : (chip : List NodeRecord) (w r : NodeId) (side : Side) → refusal_of chip (Pass w r side) ≡ None → Open chip w r side
 opened chip w r side can =
-    let all = and_parts (is_number (neighbour_of w.number side) r.number && writes_to (record_at chip w.number).wait side) (reads_from (record_at chip r.number).wait side) (matched _ can) in
-    let ends = and_parts (is_number (neighbour_of w.number side) r.number) (writes_to (record_at chip w.number).wait side) all.0 in
+    let all = and_parts (equals_some (neighbour_of w.number side) r.number && waits_to_write_side (record_at chip w.number).wait side) (waits_to_read_side (record_at chip r.number).wait side) (matched _ can) in
+    let ends = and_parts (equals_some (neighbour_of w.number side) r.number) (waits_to_write_side (record_at chip w.number).wait side) all.0 in
     record { near = number_of (neighbour_of w.number side) r.number ends.0; writes = ends.1; reads = all.1 }
 
 -- an enabled event touches none of them
@@ -38,12 +38,12 @@ not_passed chip marks w r side s o mw mr = true≢false (sym o.reads ∙ s.apart
 writer_free : (chip : List NodeRecord) (marks : ℕ → Bool) (w r : NodeId) (side : Side) → AreDeadlocked chip marks → Open chip w r side → marks w.number ≡ true → ⊥
 writer_free chip marks w r side s o m =
     not_passed chip marks w r side s o m
-    (s.inside w.number r.number side m (or_left (writes_to (record_at chip w.number).wait side) (reads_from (record_at chip w.number).wait side) o.writes) o.near)
+    (s.inside w.number r.number side m (or_left (waits_to_write_side (record_at chip w.number).wait side) (waits_to_read_side (record_at chip w.number).wait side) o.writes) o.near)
 
 reader_free : (chip : List NodeRecord) (marks : ℕ → Bool) (w r : NodeId) (side : Side) → AreDeadlocked chip marks → Open chip w r side → marks r.number ≡ true → ⊥
 reader_free chip marks w r side s o m =
     not_passed chip marks w r side s o
-    (s.inside r.number w.number side m (or_right (writes_to (record_at chip r.number).wait side) (reads_from (record_at chip r.number).wait side) o.reads)
+    (s.inside r.number w.number side m (or_right (waits_to_write_side (record_at chip r.number).wait side) (waits_to_read_side (record_at chip r.number).wait side) o.reads)
     (neighbour_of-back w.number r.number side w.in_range o.near)) m
 
 apart_from : (a n : ℕ) → (n ≡ a → ⊥) → (a == n) ≡ false
@@ -64,13 +64,13 @@ Stand c d marks = (n : ℕ) → marks n ≡ true → record_at c n ≡ record_at
 stuck_on : (c d : List NodeRecord) (marks : ℕ → Bool) → AreDeadlocked c marks → Stand c d marks → AreDeadlocked d marks
 stuck_on c d marks s same = record {
   halted = λ n m h. s.halted n m (ap refusal (same n m) ∙ h);
-  inside = λ n k side m h near. s.inside n k side m (ap (λ (z : NodeRecord). writes_to z.wait side || reads_from z.wait side) (same n m) ∙ h) near;
-  apart = λ n k side m mk near h. ap (λ (z : NodeRecord). reads_from z.wait side) (sym (same k mk)) ∙ s.apart n k side m mk near (ap (λ (z : NodeRecord). writes_to z.wait side) (same n m) ∙ h);
+  inside = λ n k side m h near. s.inside n k side m (ap (λ (z : NodeRecord). waits_to_write_side z.wait side || waits_to_read_side z.wait side) (same n m) ∙ h) near;
+  apart = λ n k side m mk near h. ap (λ (z : NodeRecord). waits_to_read_side z.wait side) (sym (same k mk)) ∙ s.apart n k side m mk near (ap (λ (z : NodeRecord). waits_to_write_side z.wait side) (same n m) ∙ h);
 }
 
 stand_after : (c : List NodeRecord) (marks : ℕ → Bool) (e : Event) → AreDeadlocked c marks → refusal_of c e ≡ None → Stand c (after c e).0 marks
 stand_after c marks e s can n m =
-    let a : Agree (touches e) c (after c e).0 = subst (λ o. IfSome (when_allowed o (after c e)) (λ done. Agree (touches e) c done.0)) can (apply_keeps c e) in
+    let a : AgreeOutsideMarks (touches e) c (after c e).0 = subst (λ o. IfSome (some_if_allowed o (after c e)) (λ done. AgreeOutsideMarks (touches e) c done.0)) can (apply_keeps c e) in
     a.same n (untouched c marks e n s can m)
 
 pub stays : (c : List NodeRecord) (events : List Event) (marks : ℕ → Bool) → AreDeadlocked c marks → IfSome (replay c events) (λ later. Stand c later marks)
@@ -86,6 +86,6 @@ stays c (e ∷ es) marks s = go (refusal_of c e) refl
 
     go : (o : Option NotReady) → refusal_of c e ≡ o
         → (refusal_of c e ≡ None → IfSome (replay (after c e).0 es) (λ later. Stand (after c e).0 later marks))
-        → IfSome (option_map {U = List NodeRecord} (λ done. done.0) (option_and_then (λ first. option_map {U = List NodeRecord × List (Cause × EventOutcome)} (λ rest. (rest.0, (cause_of c e, first.1) ∷ rest.1)) (run first.0 es)) (when_allowed o (after c e)))) (λ later. Stand c later marks)
+        → IfSome (option_map {U = List NodeRecord} (λ done. done.0) (option_and_then (λ first. option_map {U = List NodeRecord × List (Cause × EventOutcome)} (λ rest. (rest.0, (cause_of c e, first.1) ∷ rest.1)) (run first.0 es)) (some_if_allowed o (after c e)))) (λ later. Stand c later marks)
     go None is later = more (after c e) (run (after c e).0 es) (stand_after c marks e s is) (later is)
     go (Some why) is later = tt

@@ -12,10 +12,10 @@ use Rattle.ga_grid.proofs.NodeIds.{neighbour_of-other}
 use Rattle.ga_event.specs.declared.event.Event.{Event}
 use Rattle.ga_event.specs.declared.event.Event.TheVariants.{Pass}
 use Rattle.ga_event.specs.Touches.{touches}
-use Rattle.ga_event.specs.Apply.{writes_to, reads_from, is_number, unmatched, after, replay}
+use Rattle.ga_event.specs.Apply.{waits_to_write_side, waits_to_read_side, equals_some, unmatched_unless, after, replay}
 use Rattle.ga_causal.proofs.Equivalences.{touched_of}
 use Rattle.ga_races.specs.Orders.{IsEnabled, AreReorderings, same, later, joined, IsRace, AreConflicting}
-use Rattle.ga_races.specs.HappensBefore.{Action, action_of, actions, action_at, are_dependent, IsDirectlyBefore, HappensBefore, directly, through, chip_at, made_at, IsRacingPair, IsContended}
+use Rattle.ga_races.specs.HappensBefore.{Action, action_of, actions, action_at, are_dependent, IsDirectlyBefore, HappensBefore, directly, through, chip_at, event_at_place, IsRacingPair, IsContendedPass}
 use Rattle.ga_races.proofs.Independence.{replay_more, first_of, can_back, stays, apart-sym, touches_reader}
 use Rattle.ga_races.proofs.Orders.{is_some_of, enabled_after}
 use Rattle.ga_races.proofs.Exact.{replay_into}
@@ -225,14 +225,14 @@ near_first c last e mid y post h n =
       bound = ap₂ are_dependent (action_before mid (after c e).0 (y ∷ post) j l) there ∙ u;
     }))))
 
-near_at_first : (c last : List NodeRecord) (e : Event) (es : List Event) (j : ℕ) → replay c (e ∷ es) ≡ Some last → IsRacingPair c (e ∷ es) 0 (suc j) → IsRace c (e ∷ es) e (made_at c (e ∷ es) (suc j))
+near_at_first : (c last : List NodeRecord) (e : Event) (es : List Event) (j : ℕ) → replay c (e ∷ es) ≡ Some last → IsRacingPair c (e ∷ es) 0 (suc j) → IsRace c (e ∷ es) e (event_at_place c (e ∷ es) (suc j))
 near_at_first c last e es j h n =
     let size : length (actions (after c e).0 es) ≡ length es = actions_length (after c e).0 es in
     let l : suc j < suc (length (actions (after c e).0 es)) = n.bound.within in
     let s : Split es j = split_at es j (omega (arith, l, size)) in
     go s.mid s.post s.is s.size (omega (arith, l, size))
   where
-    go : (mid post : List Event) → es ≡ mid ++ post → length mid ≡ j → j < length es → IsRace c (e ∷ es) e (made_at c (e ∷ es) (suc j))
+    go : (mid post : List Event) → es ≡ mid ++ post → length mid ≡ j → j < length es → IsRace c (e ∷ es) e (event_at_place c (e ∷ es) (suc j))
     go mid [] is size l =
         let k : length es ≡ length (mid ++ []) = ap length is in
         let m : length (mid ++ []) ≡ length mid + 0 = length-append mid [] in
@@ -242,8 +242,8 @@ near_at_first c last e es j h n =
         near_first c last e mid y post (subst (λ (z : List Event). replay c (e ∷ z) ≡ Some last) is h)
         (subst₂ (λ (z : List Event) (k : ℕ). IsRacingPair c (e ∷ z) 0 (suc k)) is (sym size) n) in
         let b = begins mid (y ∷ post) (after c e).0 last ((first_of c e (mid ++ y ∷ post) last (subst (λ (z : List Event). replay c (e ∷ z) ≡ Some last) is h)).then) in
-        let there : made_at c (e ∷ (mid ++ y ∷ post)) (suc (length mid)) ≡ y = ap (λ (a : Action). a.cause.event) (action_there mid (after c e).0 b.0 y post b.1) in
-        subst₂ (λ (z : List Event) (k : ℕ). IsRace c (e ∷ z) e (made_at c (e ∷ z) (suc k))) (sym is) size
+        let there : event_at_place c (e ∷ (mid ++ y ∷ post)) (suc (length mid)) ≡ y = ap (λ (a : Action). a.cause.event) (action_there mid (after c e).0 b.0 y post b.1) in
+        subst₂ (λ (z : List Event) (k : ℕ). IsRace c (e ∷ z) e (event_at_place c (e ∷ z) (suc k))) (sym is) size
         (subst (IsRace c (e ∷ (mid ++ y ∷ post)) e) (sym there) found)
 
 near_tail : (c : List NodeRecord) (e : Event) (es : List Event) (i j : ℕ) → IsRacingPair c (e ∷ es) (suc i) (suc j) → IsRacingPair (after c e).0 es i j
@@ -256,21 +256,21 @@ near_tail c e es i j n =
       none = λ middle a b. n.none (suc middle) (happens_later (action_of c e) (actions (after c e).0 es) i middle a) (happens_later (action_of c e) (actions (after c e).0 es) middle j b);
     }
 
-pub near_races : (es : List Event) (c last : List NodeRecord) (i j : ℕ) → replay c es ≡ Some last → IsRacingPair c es i j → IsRace c es (made_at c es i) (made_at c es j)
+pub near_races : (es : List Event) (c last : List NodeRecord) (i j : ℕ) → replay c es ≡ Some last → IsRacingPair c es i j → IsRace c es (event_at_place c es i) (event_at_place c es j)
 near_races [] c last i j h n = let m : j < 0 = n.bound.within in absurd (omega (arith, m))
 near_races (e ∷ es) c last i zero h n = let l : i < 0 = n.bound.before in absurd (omega (arith, l))
 near_races (e ∷ es) c last zero (suc j) h n = near_at_first c last e es j h n
 near_races (e ∷ es) c last (suc i) (suc j) h n =
     let p = first_of c e es last h in
-    race_later c e es (made_at (after c e).0 es i) (made_at (after c e).0 es j) p.can (near_races es (after c e).0 last i j p.then (near_tail c e es i j n))
+    race_later c e es (event_at_place (after c e).0 es i) (event_at_place (after c e).0 es j) p.can (near_races es (after c e).0 last i j p.then (near_tail c e es i j n))
 
 -- ---- what is contended races
 
-can_pass : (c : List NodeRecord) (w r : NodeId) (side : Side) → neighbour_of w.number side ≡ Some r.number → writes_to (record_at c w.number).wait side ≡ true → reads_from (record_at c r.number).wait side ≡ true → IsEnabled c (Pass w r side)
+can_pass : (c : List NodeRecord) (w r : NodeId) (side : Side) → neighbour_of w.number side ≡ Some r.number → waits_to_write_side (record_at c w.number).wait side ≡ true → waits_to_read_side (record_at c r.number).wait side ≡ true → IsEnabled c (Pass w r side)
 can_pass c w r side near writes reads =
-    let beside : is_number (neighbour_of w.number side) r.number ≡ true = ap (λ o. is_number o r.number) near ∙ eq-eqb r.number r.number refl in
-    ap unmatched (and_from (is_number (neighbour_of w.number side) r.number && writes_to (record_at c w.number).wait side) (reads_from (record_at c r.number).wait side)
-    (and_from (is_number (neighbour_of w.number side) r.number) (writes_to (record_at c w.number).wait side) beside writes) reads)
+    let neighbour_on_side : equals_some (neighbour_of w.number side) r.number ≡ true = ap (λ o. equals_some o r.number) near ∙ eq-eqb r.number r.number refl in
+    ap unmatched_unless (and_from (equals_some (neighbour_of w.number side) r.number && waits_to_write_side (record_at c w.number).wait side) (waits_to_read_side (record_at c r.number).wait side)
+    (and_from (equals_some (neighbour_of w.number side) r.number) (waits_to_write_side (record_at c w.number).wait side) neighbour_on_side writes) reads)
 
 -- a node that no event of a list touches
 untouched_run : (fs : List Event) (c d : List NodeRecord) (n : ℕ) → replay c fs ≡ Some d → list_any (λ (a : Action). touches a.cause.event n) (actions c fs) ≡ false → record_at c n ≡ record_at d n
@@ -286,7 +286,7 @@ writer_apart w r x side other ne near =
     (or_from (r.number == x.number) false (ne_eqb r.number x.number (neighbour_of-other x.number r.number other near)) refl)
 
 contended_split : (mid : List Event) (c d last : List NodeRecord) (e other : Event) (post : List Event) (rivals : AreConflicting e other) → IsEnabled c e → replay (after c e).0 mid ≡ Some d
-    → neighbour_of rivals.second.number rivals.other ≡ Some rivals.reader.number → reads_from (record_at c rivals.reader.number).wait rivals.other ≡ true → writes_to (record_at d rivals.second.number).wait rivals.other ≡ true
+    → neighbour_of rivals.second.number rivals.other ≡ Some rivals.reader.number → waits_to_read_side (record_at c rivals.reader.number).wait rivals.other ≡ true → waits_to_write_side (record_at d rivals.second.number).wait rivals.other ≡ true
     → ((j : ℕ) → j < length mid → reached (actions c (e ∷ [])) (actions (after c e).0 mid) j ≡ true → touches (action_at (actions (after c e).0 mid) j).cause.event rivals.second.number ≡ false)
     → IsRace c (e ∷ (mid ++ post)) e other
 contended_split mid c d last e other post rivals can h near reads writes kind =
@@ -299,7 +299,7 @@ contended_split mid c d last e other post rivals can h near reads writes kind =
     let at_writer : record_at s.now x ≡ record_at d x = (stays s.now e s.can).same x out ∙ untouched_run s.behind (after s.now e).0 d x s.then s.none in
     let can_other : IsEnabled s.now other =
     subst (IsEnabled s.now) (sym rivals.two) (can_pass s.now rivals.second rivals.reader rivals.other near
-    (ap (λ (z : NodeRecord). writes_to z.wait rivals.other) at_writer ∙ writes) (ap (λ (z : NodeRecord). reads_from z.wait rivals.other) (s.kept r read) ∙ reads)) in
+    (ap (λ (z : NodeRecord). waits_to_write_side z.wait rivals.other) at_writer ∙ writes) (ap (λ (z : NodeRecord). waits_to_read_side z.wait rivals.other) (s.kept r read) ∙ reads)) in
     record {
       before = s.before;
       later = s.behind ++ post;
@@ -318,24 +318,24 @@ chip_there (f ∷ fs) c d ys h = chip_there fs (after c f).0 d ys (first_of c f 
 
 -- after k of the events the node waits to write, and none of its steps among them happens after the first event
 abbrev IsPosted : List NodeRecord → Event → ℕ → Side → List Event → ℕ → Type 0
-IsPosted c e x side es k = (writes_to (record_at (chip_at c (e ∷ es) k) x).wait side ≡ true)
-    × ((step : ℕ) → step < k → touches (made_at c (e ∷ es) step) x ≡ true → HappensBefore (actions c (e ∷ es)) 0 step → ⊥)
+IsPosted c e x side es k = (waits_to_write_side (record_at (chip_at c (e ∷ es) k) x).wait side ≡ true)
+    × ((step : ℕ) → step < k → touches (event_at_place c (e ∷ es) step) x ≡ true → HappensBefore (actions c (e ∷ es)) 0 step → ⊥)
 
 contended_mid : (c last : List NodeRecord) (e : Event) (mid post : List Event) (other : Event) (rivals : AreConflicting e other) → replay c (e ∷ (mid ++ post)) ≡ Some last
-    → neighbour_of rivals.second.number rivals.other ≡ Some rivals.reader.number → reads_from (record_at c rivals.reader.number).wait rivals.other ≡ true
+    → neighbour_of rivals.second.number rivals.other ≡ Some rivals.reader.number → waits_to_read_side (record_at c rivals.reader.number).wait rivals.other ≡ true
     → IsPosted c e rivals.second.number rivals.other (mid ++ post) (suc (length mid)) → IsRace c (e ∷ (mid ++ post)) e other
 contended_mid c last e mid post other rivals h near reads posted =
     let p = first_of c e (mid ++ post) last h in
     let b = begins mid post (after c e).0 last p.then in
     contended_split mid c b.0 last e other post rivals p.can b.1 near reads
-    (ap (λ (z : List NodeRecord). writes_to (record_at z rivals.second.number).wait rivals.other) (sym (chip_there mid (after c e).0 b.0 post b.1)) ∙ posted.0)
+    (ap (λ (z : List NodeRecord). waits_to_write_side (record_at z rivals.second.number).wait rivals.other) (sym (chip_there mid (after c e).0 b.0 post b.1)) ∙ posted.0)
     (λ j l t. false_from_ne_true (touches (action_at (actions (after c e).0 mid) j).cause.event rivals.second.number)
     (λ u. posted.1 (suc j) (omega (arith, l)) (ap (λ (a : Action). touches a.cause.event rivals.second.number) (action_before mid (after c e).0 post j l) ∙ u)
     (reached_first c e mid post b.0 j b.1 l t)))
 
 contended_now : (c : List NodeRecord) (e : Event) (es : List Event) (other : Event) (rivals : AreConflicting e other)
-    → neighbour_of rivals.second.number rivals.other ≡ Some rivals.reader.number → reads_from (record_at c rivals.reader.number).wait rivals.other ≡ true
-    → writes_to (record_at c rivals.second.number).wait rivals.other ≡ true → IsRace c (e ∷ es) e other
+    → neighbour_of rivals.second.number rivals.other ≡ Some rivals.reader.number → waits_to_read_side (record_at c rivals.reader.number).wait rivals.other ≡ true
+    → waits_to_write_side (record_at c rivals.second.number).wait rivals.other ≡ true → IsRace c (e ∷ es) e other
 contended_now c e es other rivals near reads writes =
     let r : ℕ = rivals.reader.number in
     record {
@@ -351,7 +351,7 @@ contended_now c e es other rivals near reads writes =
     }
 
 contended_first : (c last : List NodeRecord) (e : Event) (es : List Event) (other : Event) (rivals : AreConflicting e other) (k : ℕ) → replay c (e ∷ es) ≡ Some last → k ≤ length (e ∷ es)
-    → neighbour_of rivals.second.number rivals.other ≡ Some rivals.reader.number → reads_from (record_at c rivals.reader.number).wait rivals.other ≡ true
+    → neighbour_of rivals.second.number rivals.other ≡ Some rivals.reader.number → waits_to_read_side (record_at c rivals.reader.number).wait rivals.other ≡ true
     → IsPosted c e rivals.second.number rivals.other es k → IsRace c (e ∷ es) e other
 contended_first c last e es other rivals zero h l near reads posted = contended_now c e es other rivals near reads posted.0
 contended_first c last e es other rivals (suc k) h l near reads posted =
@@ -360,19 +360,19 @@ contended_first c last e es other rivals (suc k) h l near reads posted =
     (contended_mid c last e s.mid s.post other rivals (subst (λ (z : List Event). replay c (e ∷ z) ≡ Some last) s.is h) near reads
     (subst₂ (λ (z : List Event) (n : ℕ). IsPosted c e rivals.second.number rivals.other z (suc n)) s.is (sym s.size) posted))
 
-contended_at : (es : List Event) (c last : List NodeRecord) (i k : ℕ) (other : Event) (rivals : AreConflicting (made_at c es i) other) → replay c es ≡ Some last → i < length es → i ≤ k → k ≤ length es
-    → neighbour_of rivals.second.number rivals.other ≡ Some rivals.reader.number → reads_from (record_at (chip_at c es i) rivals.reader.number).wait rivals.other ≡ true
-    → writes_to (record_at (chip_at c es k) rivals.second.number).wait rivals.other ≡ true
-    → ((step : ℕ) → step < k → touches (made_at c es step) rivals.second.number ≡ true → HappensBefore (actions c es) i step → ⊥)
-    → IsRace c es (made_at c es i) other
+contended_at : (es : List Event) (c last : List NodeRecord) (i k : ℕ) (other : Event) (rivals : AreConflicting (event_at_place c es i) other) → replay c es ≡ Some last → i < length es → i ≤ k → k ≤ length es
+    → neighbour_of rivals.second.number rivals.other ≡ Some rivals.reader.number → waits_to_read_side (record_at (chip_at c es i) rivals.reader.number).wait rivals.other ≡ true
+    → waits_to_write_side (record_at (chip_at c es k) rivals.second.number).wait rivals.other ≡ true
+    → ((step : ℕ) → step < k → touches (event_at_place c es step) rivals.second.number ≡ true → HappensBefore (actions c es) i step → ⊥)
+    → IsRace c es (event_at_place c es i) other
 contended_at [] c last i k other rivals h s l m near reads writes none = absurd (omega (arith, s))
 contended_at (e ∷ es) c last zero k other rivals h s l m near reads writes none = contended_first c last e es other rivals k h m near reads (writes, none)
 contended_at (e ∷ es) c last (suc i) zero other rivals h s l m near reads writes none = absurd (omega (arith, l))
 contended_at (e ∷ es) c last (suc i) (suc k) other rivals h s l m near reads writes none =
     let p = first_of c e es last h in
-    race_later c e es (made_at (after c e).0 es i) other p.can
+    race_later c e es (event_at_place (after c e).0 es i) other p.can
     (contended_at es (after c e).0 last i k other rivals p.then (omega (arith, s)) (omega (arith, l)) (omega (arith, m)) near reads writes
     (λ step n t b. none (suc step) (omega (arith, n)) t (happens_later (action_of c e) (actions (after c e).0 es) i step b)))
 
-pub contended_races : (c last : List NodeRecord) (es : List Event) (i : ℕ) (other : Event) → replay c es ≡ Some last → IsContended c es i other → IsRace c es (made_at c es i) other
+pub contended_races : (c last : List NodeRecord) (es : List Event) (i : ℕ) (other : Event) → replay c es ≡ Some last → IsContendedPass c es i other → IsRace c es (event_at_place c es i) other
 contended_races c last es i other h n = contended_at es c last i n.posted other n.rivals h n.stands n.before n.within n.near n.reads n.writes n.none

@@ -6,7 +6,7 @@ use Rattle.ga_grid.specs.Chip.{record_at}
 use Rattle.ga_event.specs.declared.event.Event.{Event}
 use Rattle.ga_event.specs.Touches.{touches}
 use Rattle.ga_event.specs.Apply.{after, replay}
-use Rattle.ga_event.specs.Told.{steps_of}
+use Rattle.ga_event.specs.Told.{count_steps}
 use Rattle.ga_causal.specs.Words.{local_history_with_reads}
 use Rattle.ga_causal.proofs.Words.{same_node}
 use Rattle.ga_races.specs.Orders.{AreReorderings}
@@ -27,7 +27,7 @@ prefix_same (x ∷ us) vs (y ∷ ws) zs h k =
     let p = head_is x y (us ++ vs) (ws ++ zs) h in
     ap₂ (λ (u : Entry) (z : List Entry). u ∷ z) p.0 (prefix_same us vs ws zs p.1 (omega (arith, k)))
 
-pub tally_total : (n : ℕ) (fs : List Event) (c : List NodeRecord) → tally n (actions c fs) (length fs) ≡ steps_of n fs
+pub tally_total : (n : ℕ) (fs : List Event) (c : List NodeRecord) → tally n (actions c fs) (length fs) ≡ count_steps n fs
 tally_total n [] c = refl
 tally_total n (f ∷ fs) c = ap (λ (z : ℕ). cond (touches f n) 1 0 + z) (tally_total n fs (after c f).0) ∙ sym (sum_by-cons (λ (x : Event). cond (touches x n) 1 0) f fs)
 
@@ -35,7 +35,7 @@ tally_zero : (n : ℕ) (xs : List Action) → tally n xs 0 ≡ 0
 tally_zero n [] = refl
 tally_zero n (a ∷ xs) = refl
 
-tally_front : (n : ℕ) (fs ys : List Event) (c : List NodeRecord) → tally n (actions c (fs ++ ys)) (length fs) ≡ steps_of n fs
+tally_front : (n : ℕ) (fs ys : List Event) (c : List NodeRecord) → tally n (actions c (fs ++ ys)) (length fs) ≡ count_steps n fs
 tally_front n [] ys c = tally_zero n (actions c ys)
 tally_front n (f ∷ fs) ys c = ap (λ (z : ℕ). cond (touches f n) 1 0 + z) (tally_front n fs ys (after c f).0) ∙ sym (sum_by-cons (λ (x : Event). cond (touches x n) 1 0) f fs)
 

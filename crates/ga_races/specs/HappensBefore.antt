@@ -7,7 +7,7 @@ use Rattle.std.specs.Prelude.{◌≡◌, ℕ, Bool, true, ◌||◌, ◌⊎◌, S
 use Rattle.ga_ports.specs.declared.side.Side.{Side}
 use Rattle.ga_ports.specs.declared.side.Side.TheVariants.{Right, Down, Left, Up}
 use Rattle.ga_grid.specs.Grid.{neighbour_of}
-use Rattle.ga_event.specs.Apply.{is_number, writes_to, reads_from, neighbour_states, after, cause_of}
+use Rattle.ga_event.specs.Apply.{equals_some, waits_to_write_side, waits_to_read_side, neighbour_states, after, cause_of}
 use Rattle.std.specs.List.{list_any}
 use Rattle.ga_node.specs.Io.{io_word}
 use Rattle.ga_node.specs.Record.{NodeRecord}
@@ -15,8 +15,8 @@ use Rattle.ga_grid.specs.Chip.{record_at}
 use Rattle.ga_event.specs.declared.event.Event.{Event}
 use Rattle.ga_event.specs.declared.event.Cause.{Cause}
 use Rattle.ga_event.specs.Touches.{touches}
-use Rattle.ga_causal.specs.Dependence.{cause_nodes, cause_touches, no_cause}
-use Rattle.ga_causal.specs.Steps.{touching, IsStep}
+use Rattle.ga_causal.specs.Dependence.{touched_nodes, cause_touches, default_cause}
+use Rattle.ga_causal.specs.Steps.{count_touching_events, IsKthStep}
 use Rattle.ga_races.specs.Orders.{AreConflicting}
 
 -- ---- nodes at which an event can change what the next event is: those that it touches and their neighbours (F18A Technology
@@ -28,9 +28,9 @@ abbrev pub IsMarkedOrBeside : (ℕ → Bool) → ℕ → Type 0
 IsMarkedOrBeside marks n = (t : ℕ) × (marks t ≡ true) × ((n ≡ t) ⊎ ((side : Side) × (neighbour_of t side ≡ Some n)))
 
 -- the nodes of these numbers are neighbours
-abbrev pub are_linked : ℕ → ℕ → Bool
-are_linked n m =
-    is_number (neighbour_of n Right) m || (is_number (neighbour_of n Down) m || (is_number (neighbour_of n Left) m || is_number (neighbour_of n Up) m))
+abbrev pub are_neighbours : ℕ → ℕ → Bool
+are_neighbours n m =
+    equals_some (neighbour_of n Right) m || (equals_some (neighbour_of n Down) m || (equals_some (neighbour_of n Left) m || equals_some (neighbour_of n Up) m))
 
 -- an event as it was made (a symbol of a trace's alphabet): with whether it looked, and the nodes to which it changed what
 -- their neighbours show
@@ -50,25 +50,25 @@ abbrev pub actions : List NodeRecord → List Event → List Action
 actions chip [] = []
 actions chip (event ∷ events) = action_of chip event ∷ actions (after chip event).0 events
 
-abbrev pub causes_in : List Action → List Cause
-causes_in actions = map (λ (action : Action). action.cause) actions
+abbrev pub causes_of_actions : List Action → List Cause
+causes_of_actions actions = map (λ (action : Action). action.cause) actions
 
 -- the action that is read past the end of a list
 abbrev pub no_action : Action
-no_action = record { cause = no_cause; changes = λ n. false }
+no_action = record { cause = default_cause; changes = λ n. false }
 
 abbrev pub action_at : List Action → ℕ → Action
 action_at actions place = slice_index_or actions place no_action
 
 -- the first action is a look, and the second changes what is shown to it
-abbrev pub is_shown : Action → Action → Bool
-is_shown look change = look.cause.look && list_any change.changes (cause_nodes look.cause)
+abbrev pub is_look_changed_by : Action → Action → Bool
+is_look_changed_by look change = look.cause.look && list_any change.changes (touched_nodes look.cause)
 
 -- Whether two actions touch a common node, or one is a look and the other changes what is shown to it, in whichever order: the
 -- dependence of a trace's symbols. Neighbours in a list are so exactly if they are not independent (law `happens_before`).
 abbrev pub are_dependent : Action → Action → Bool
 are_dependent first second =
-    list_any (cause_touches first.cause) (cause_nodes second.cause) || (is_shown first second || is_shown second first)
+    list_any (cause_touches first.cause) (touched_nodes second.cause) || (is_look_changed_by first second || is_look_changed_by second first)
 
 -- whether the action at the place `later` depends directly on the one at the place `earlier`
 pub record IsDirectlyBefore (actions : List Action) (earlier later : ℕ) : Type 0 where
@@ -83,12 +83,12 @@ pub data HappensBefore (actions : List Action) (first : ℕ) : ℕ → Type 0 wh
 
 -- the action at the place is the k-th that touches the node: the node's step k
 abbrev pub IsStepOf : List NodeRecord → List Event → ℕ → ℕ → ℕ → Type 0
-IsStepOf chip events n k place = IsStep (causes_in (actions chip events)) n k place
+IsStepOf chip events n k place = IsKthStep (causes_of_actions (actions chip events)) n k place
 
 -- whether, in another order of a list, the event at the place `first` comes before the one at the place `later`: each is a step
 -- there of the same number of each of its nodes
-abbrev pub StandsBefore : List NodeRecord → List Event → List Event → ℕ → ℕ → Type 0
-StandsBefore chip events others first later = (n k m l p q : ℕ) → IsStepOf chip events n k first → IsStepOf chip events m l later
+abbrev pub IsEarlierIn : List NodeRecord → List Event → List Event → ℕ → ℕ → Type 0
+IsEarlierIn chip events others first later = (n k m l p q : ℕ) → IsStepOf chip events n k first → IsStepOf chip events m l later
     → IsStepOf chip others n k p → IsStepOf chip others m l q → p < q
 
 -- the chip after `place` of the events
@@ -97,8 +97,8 @@ chip_at chip [] place = chip
 chip_at chip (event ∷ events) zero = chip
 chip_at chip (event ∷ events) (suc place) = chip_at (after chip event).0 events place
 
-abbrev pub made_at : List NodeRecord → List Event → ℕ → Event
-made_at chip events place = (action_at (actions chip events) place).cause.event
+abbrev pub event_at_place : List NodeRecord → List Event → ℕ → Event
+event_at_place chip events place = (action_at (actions chip events) place).cause.event
 
 -- Two dependent actions that touch no common node, and between which nothing happens.
 pub record AreRacing (actions : List Action) (first later : ℕ) : Type 0 where
@@ -112,23 +112,23 @@ IsRacingPair chip events first later = AreRacing (actions chip events) first lat
 
 -- The event at the place is a pass, and another writer could have been there first: the reader waits for it too, and after
 -- `posted` events, none of which is a step of this writer that happens after the pass, it waits to write to the reader.
-pub record IsContended (chip : List NodeRecord) (events : List Event) (place : ℕ) (other : Event) : Type 0 where
-  pub rivals : AreConflicting (made_at chip events place) other
+pub record IsContendedPass (chip : List NodeRecord) (events : List Event) (place : ℕ) (other : Event) : Type 0 where
+  pub rivals : AreConflicting (event_at_place chip events place) other
   pub stands : place < length events
   pub posted : ℕ
   pub before : place ≤ posted
   pub within : posted ≤ length events
   pub near : neighbour_of rivals.second.number rivals.other ≡ Some rivals.reader.number
-  pub reads : reads_from (record_at (chip_at chip events place) rivals.reader.number).wait rivals.other ≡ true
-  pub writes : writes_to (record_at (chip_at chip events posted) rivals.second.number).wait rivals.other ≡ true
-  pub none : (step : ℕ) → step < posted → touches (made_at chip events step) rivals.second.number ≡ true
+  pub reads : waits_to_read_side (record_at (chip_at chip events place) rivals.reader.number).wait rivals.other ≡ true
+  pub writes : waits_to_write_side (record_at (chip_at chip events posted) rivals.second.number).wait rivals.other ≡ true
+  pub none : (step : ℕ) → step < posted → touches (event_at_place chip events step) rivals.second.number ≡ true
       → HappensBefore (actions chip events) place step → ⊥
 
 -- The clock of the place has of each node how many of its steps happen before the action there or are it (the vector clocks of Fidge,
 -- "Timestamps in message-passing systems that preserve the partial ordering", 1988, and Mattern, "Virtual time and global states of
 -- distributed systems", 1989).
 abbrev pub IsClock : List Action → ℕ → (ℕ → ℕ) → Type 0
-IsClock actions place clock = (n k step : ℕ) → IsStep (causes_in actions) n k step
+IsClock actions place clock = (n k step : ℕ) → IsKthStep (causes_of_actions actions) n k step
     → (k ≤ clock n ↔ ((step ≡ place) ⊎ HappensBefore actions step place))
 
 -- the greatest number that one of some clocks has for a node; each clock is paired with its place
@@ -137,6 +137,6 @@ joined [] n = 0
 joined (known ∷ others) n = max (known.1 n) (joined others n)
 
 -- the clock of a place made of clocks of earlier ones: of a node that the action touches its own step there
-abbrev pub clock_after : List Action → ℕ → List (ℕ × (ℕ → ℕ)) → ℕ → ℕ
-clock_after actions place known n =
-    if cause_touches (action_at actions place).cause n then touching n (take (place + 1) (causes_in actions)) else joined known n
+abbrev pub merged_clock : List Action → ℕ → List (ℕ × (ℕ → ℕ)) → ℕ → ℕ
+merged_clock actions place known n =
+    if cause_touches (action_at actions place).cause n then count_touching_events n (take (place + 1) (causes_of_actions actions)) else joined known n

@@ -8,14 +8,14 @@ use Rattle.ga_grid.specs.Chip.{record_at}
 use Rattle.ga_grid.specs.declared.node_id.NodeId.{NodeId}
 use Rattle.ga_event.specs.declared.event.Event.{Event}
 use Rattle.ga_event.specs.declared.event.Event.TheVariants.{Pass}
-use Rattle.ga_event.specs.Apply.{writes_to, reads_from, replay}
+use Rattle.ga_event.specs.Apply.{waits_to_write_side, waits_to_read_side, replay}
 
 -- Whenever a node takes a word in the list, no other neighbour on the sides on which it then waits writes to it at any time of the
 -- list.
 pub record HasOneWriter (chip : List NodeRecord) (events : List Event) : Type 0 where
   pub only : (before later first others : List Event) (now then : List NodeRecord) (writer reader neighbour : NodeId) (side another : Side)
       → events ≡ before ++ Pass writer reader side ∷ later → replay chip before ≡ Some now
-      → reads_from (record_at now reader.number).wait another ≡ true
+      → waits_to_read_side (record_at now reader.number).wait another ≡ true
       → events ≡ first ++ others → replay chip first ≡ Some then
-      → neighbour_of neighbour.number another ≡ Some reader.number → writes_to (record_at then neighbour.number).wait another ≡ true
+      → neighbour_of neighbour.number another ≡ Some reader.number → waits_to_write_side (record_at then neighbour.number).wait another ≡ true
       → another ≡ side

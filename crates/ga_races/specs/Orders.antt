@@ -11,7 +11,7 @@ use Rattle.ga_event.specs.declared.event.Event.{Event}
 use Rattle.ga_event.specs.declared.event.Event.TheVariants.{Pass}
 use Rattle.ga_event.specs.Touches.{touches}
 use Rattle.ga_event.specs.Apply.{refusal_of, after, replay}
-use Rattle.ga_causal.specs.Words.{word_of}
+use Rattle.ga_causal.specs.Words.{received_word}
 
 -- ---- A set of nodes that holds those that have an event
 
@@ -20,9 +20,9 @@ abbrev pub has_event : List NodeRecord → ℕ → Bool
 has_event chip n = nat_lt n 144 && is_ok (next chip (node_id n))
 
 -- the first of k numbers from this one on, round the chip, that passes a test
-abbrev pub first_in : (ℕ → Bool) → ℕ → ℕ → Option NodeId
-first_in test n zero = None
-first_in test n (suc k) = if test (n % 144) then Some (node_id n) else first_in test (n + 1) k
+abbrev pub first_node_from : (ℕ → Bool) → ℕ → ℕ → Option NodeId
+first_node_from test n zero = None
+first_node_from test n (suc k) = if test (n % 144) then Some (node_id n) else first_node_from test (n + 1) k
 
 -- whether the event is enabled on the chip
 abbrev pub IsEnabled : List NodeRecord → Event → Type 0
@@ -35,8 +35,8 @@ IsTerminal chip = (event : Event) → IsEnabled chip event → ⊥
 -- Two events touch no common node, and to each comes the same word from outside (in a pass, in `io`) where the other is made first.
 pub record AreIndependentOn (chip : List NodeRecord) (e f : Event) : Type 0 where
   pub apart : (n : ℕ) → touches e n ≡ true → touches f n ≡ false
-  pub first : word_of (after chip f).0 e ≡ word_of chip e
-  pub second : word_of (after chip e).0 f ≡ word_of chip f
+  pub first : received_word (after chip f).0 e ≡ received_word chip e
+  pub second : received_word (after chip e).0 f ≡ received_word chip f
 
 -- On a chip, the one list is the other in another order: they differ by swaps of neighbours that are independent where they
 -- are.
@@ -79,15 +79,15 @@ pub record AreConflicting (e f : Event) : Type 0 where
 -- ---- sets of lists that meet every order in which the nodes of a chip can run (after Flanagan and Godefroid, "Dynamic partial-order reduction for model checking software", 2005, and Abdulla and others, "Optimal dynamic partial order reduction", 2014: source sets).
 
 -- the event comes first in an order of the list
-abbrev pub ComesFirst : List NodeRecord → List Event → Event → Type 0
-ComesFirst chip events event = (others : List Event) × AreReorderings chip events (event ∷ others)
+abbrev pub IsFirstInReordering : List NodeRecord → List Event → Event → Type 0
+IsFirstInReordering chip events event = (others : List Event) × AreReorderings chip events (event ∷ others)
 
 -- The set has lists that can be made, the empty one among them. It continues each list after which some event is enabled, by
 -- some event. And it reverses races. Suppose that it continued with an event, that an order of the list from there on has some
 -- steps before this event, and that another event, dependent with it, is enabled after these steps. Then the set also continues
 -- with an event that comes first in an order of these steps and the other event. This is required only if the other event comes
 -- directly after in that order, or both are passes to one reader, of which the list may never make the other.
-pub record IsExplored (chip : List NodeRecord) (has : List Event → Type 0) : Type 0 where
+pub record IsCompleteExploration (chip : List NodeRecord) (has : List Event → Type 0) : Type 0 where
   pub made : (events : List Event) → has events → IsSome (replay chip events)
   pub begun : has []
   pub onward : (events : List Event) (now : List NodeRecord) (event : Event) → has events → replay chip events ≡ Some now → IsEnabled now event
@@ -96,4 +96,4 @@ pub record IsExplored (chip : List NodeRecord) (has : List Event → Type 0) : T
       → has (events ++ event ∷ behind) → replay chip events ≡ Some now → AreReorderings now (event ∷ behind) (before ++ event ∷ later)
       → replay now before ≡ Some there → IsEnabled there other → event ≢ other → (AreIndependentOn there event other → ⊥)
       → AreConflicting event other ⊎ ((more : List Event) × (later ≡ other ∷ more))
-      → (next : Event) × ComesFirst now (before ++ other ∷ []) next × has (events ++ next ∷ [])
+      → (next : Event) × IsFirstInReordering now (before ++ other ∷ []) next × has (events ++ next ∷ [])

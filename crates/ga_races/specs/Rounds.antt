@@ -9,12 +9,12 @@ use Rattle.ga_event.specs.declared.event.Event.{Event}
 use Rattle.ga_event.specs.declared.event.Event.TheVariants.{Own, Pass}
 use Rattle.ga_event.specs.Touches.{touches}
 use Rattle.ga_event.specs.Apply.{replay}
-use Rattle.ga_event.specs.Told.{steps_of}
+use Rattle.ga_event.specs.Told.{count_steps}
 
 -- whether the event transfers no word to or from the node
-abbrev pub PassesBy : ℕ → Event → Type 0
-PassesBy n (Own a) = Unit {0}
-PassesBy n (Pass w r side) = touches (Pass w r side) n ≡ false
+abbrev pub IsNoTransferWith : ℕ → Event → Type 0
+IsNoTransferWith n (Own a) = Unit {0}
+IsNoTransferWith n (Pass w r side) = touches (Pass w r side) n ≡ false
 
 -- the events that don't touch the node
 abbrev pub events_without : ℕ → List Event → List Event
@@ -22,13 +22,13 @@ events_without n events = filter (λ e. not (touches e n)) events
 
 -- On the chip, the node's events in the list are its own, and lead back to its record before them. Events of other nodes may be
 -- in between.
-pub record IsRound (chip : List NodeRecord) (n : ℕ) (events : List Event) : Type 0 where
+pub record IsPollingRound (chip : List NodeRecord) (n : ℕ) (events : List Event) : Type 0 where
   pub last : List NodeRecord
   pub led : replay chip events ≡ Some last
-  pub own : All (PassesBy n) events
+  pub own : All (IsNoTransferWith n) events
   pub back : record_at last n ≡ record_at chip n
 
 -- no node makes a round in the list
-abbrev pub HasNoRound : List NodeRecord → List Event → Type 0
-HasNoRound chip events = (before round later : List Event) (now : List NodeRecord) (n : ℕ) → events ≡ before ++ round ++ later
-    → replay chip before ≡ Some now → IsRound now n round → steps_of n round ≡ 0
+abbrev pub HasNoPollingRound : List NodeRecord → List Event → Type 0
+HasNoPollingRound chip events = (before round later : List Event) (now : List NodeRecord) (n : ℕ) → events ≡ before ++ round ++ later
+    → replay chip before ≡ Some now → IsPollingRound now n round → count_steps n round ≡ 0

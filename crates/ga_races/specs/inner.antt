@@ -2,12 +2,12 @@
 use Rattle.std.specs.Prelude.{◌≡◌, ◌<◌, ◌≤◌, ◌⊎◌, ◌&&◌, ℕ, Bool, true, List, Contains, ◌==◌, not, length, false, ◌||◌, Option, Some, None, is_some}
 use Rattle.ga_ports.specs.declared.side.Side.{Side}
 use Rattle.ga_grid.specs.Grid.{neighbour_of}
-use Rattle.ga_event.specs.Apply.{is_number, shows, writes_to, reads_from}
+use Rattle.ga_event.specs.Apply.{equals_some, shown_state, waits_to_write_side, waits_to_read_side}
 use Rattle.ga_races.specs.declared.act.EventAccess.{EventAccess}
-use Rattle.ga_races.specs.declared.act.Sides.{Sides}
+use Rattle.ga_races.specs.declared.act.SideSet.{SideSet}
 use Rattle.ga_races.specs.declared.racing_pairs.RacingPair.{RacingPair}
 use Rattle.ga_races.specs.HappensBefore.{action_at, Action, are_dependent, HappensBefore}
-use Rattle.ga_races.specs.Acts.{side_leads_to, actions_in, is_look_of, IsNearLook, awaits}
+use Rattle.ga_races.specs.Acts.{has_side_to, actions_of_accesses, is_look_of, IsRacingLook, awaits}
 use Rattle.ga_ports.specs.declared.side.Side.TheVariants.{Right, Down, Left, Up}
 use Rattle.ga_node.specs.declared.seen.NeighbourState.{NeighbourState}
 use Rattle.ga_node.specs.declared.seen.NeighbourState.TheVariants.{Nobody, Idle, Reading, Writing}
@@ -20,15 +20,15 @@ use Rattle.ga_node.specs.Table.{refusal}
 use Rattle.ga_causal.specs.inner.{any_of}
 use Rattle.std.specs.List.{list_any}
 use Rattle.ga_event.specs.Touches.{touches}
-use Rattle.ga_causal.specs.Dependence.{cause_nodes}
+use Rattle.ga_causal.specs.Dependence.{touched_nodes}
 
 -- ---- which racing pairs a part of a list adds
 
 -- A list of pairs after an addition: it has its old pairs, else only racing pairs, and all racing pairs of the requested ones.
 pub record IsMore (acts : List EventAccess) (asked : RacingPair → Type 0) (old new : List RacingPair) : Type 0 where
   pub kept : (near : RacingPair) → Contains old near → Contains new near
-  pub sound : (near : RacingPair) → Contains new near → Contains old near ⊎ IsNearLook acts near
-  pub all : (near : RacingPair) → asked near → IsNearLook acts near → Contains new near
+  pub sound : (near : RacingPair) → Contains new near → Contains old near ⊎ IsRacingLook acts near
+  pub all : (near : RacingPair) → asked near → IsRacingLook acts near → Contains new near
 
 -- whether the look and the change are at these two places
 abbrev pub OfPair : ℕ → ℕ → RacingPair → Type 0
@@ -41,15 +41,15 @@ OfLook look from near = (near.look ≡ look) × (near.change < look) × (from �
 -- whether the change is at this place, and before it a look of the node
 abbrev pub OfChange : List EventAccess → ℕ → ℕ → RacingPair → Type 0
 OfChange acts change n near =
-    (near.change ≡ change) × (near.look < change) × (is_look_of (action_at (actions_in acts) near.look) n ≡ true)
+    (near.change ≡ change) × (near.look < change) × (is_look_of (action_at (actions_of_accesses acts) near.look) n ≡ true)
 
 -- whether the change is at this place, and before it a look of the neighbour on a side of a node, if `has` is true
 abbrev pub OverSide : List EventAccess → ℕ → ℕ → Side → Bool → RacingPair → Type 0
-OverSide acts change m side has near = (n : ℕ) × OfChange acts change n near × ((has && is_number (neighbour_of m side) n) ≡ true)
+OverSide acts change m side has near = (n : ℕ) × OfChange acts change n near × ((has && equals_some (neighbour_of m side) n) ≡ true)
 
 -- whether the change is at this place, and before it a look of the neighbour on one of the sides of a node
-abbrev pub OverSides : List EventAccess → ℕ → ℕ → Sides → RacingPair → Type 0
-OverSides acts change m sides near = (n : ℕ) × OfChange acts change n near × (side_leads_to sides m n ≡ true)
+abbrev pub OverSides : List EventAccess → ℕ → ℕ → SideSet → RacingPair → Type 0
+OverSides acts change m sides near = (n : ℕ) × OfChange acts change n near × (has_side_to sides m n ≡ true)
 
 -- whether the later of the look and the change is at the place
 abbrev pub AtPlace : ℕ → RacingPair → Type 0
@@ -61,7 +61,7 @@ BelowPlace place near = (near.look < place) × (near.change < place)
 
 -- each node that looks before the place is marked
 abbrev pub LooksAreMarked : List EventAccess → ℕ → (ℕ → Bool) → Type 0
-LooksAreMarked acts place marks = (q n : ℕ) → q < place → is_look_of (action_at (actions_in acts) q) n ≡ true → marks n ≡ true
+LooksAreMarked acts place marks = (q n : ℕ) → q < place → is_look_of (action_at (actions_of_accesses acts) q) n ≡ true → marks n ≡ true
 
 -- ---- on which sides of a node what it shows there changes
 
@@ -74,9 +74,9 @@ shown_as Writing = 2
 
 -- a node that waited so, and then so, shows something else on the side
 abbrev pub is_changed : Wait → Wait → Side → Bool
-is_changed before behind side = not (shown_as (shows before side) == shown_as (shows behind side))
+is_changed before behind side = not (shown_as (shown_state before side) == shown_as (shown_state behind side))
 
-abbrev pub changed_sides : Wait → Wait → Sides
+abbrev pub changed_sides : Wait → Wait → SideSet
 changed_sides before behind = record {
   right = is_changed before behind Right;
   down = is_changed before behind Down;
@@ -103,7 +103,7 @@ pub record AreAlike (xs ys : List Action) : Type 0 where
 -- a word from the node now
 abbrev pub frees : List NodeRecord → (ℕ → Bool) → Wait → Side → Option ℕ → Bool
 frees chip marks wait side None = false
-frees chip marks wait side (Some m) = not (marks m) || (writes_to wait side && reads_from (record_at chip m).wait side)
+frees chip marks wait side (Some m) = not (marks m) || (waits_to_write_side wait side && waits_to_read_side (record_at chip m).wait side)
 
 -- whether a node awaits a neighbour that may free it: on this side, and in `is_freed` on any
 abbrev pub is_freed_on : List NodeRecord → (ℕ → Bool) → ℕ → Side → Bool
@@ -125,7 +125,7 @@ IsSettled chip marks = (n : ℕ) → marks n ≡ true → is_freed chip marks n 
 -- ---- sides of a node with a marked neighbour
 
 -- the neighbour on one of the sides of a node is marked
-abbrev pub shows_marked : (ℕ → Bool) → Sides → ℕ → Bool
+abbrev pub shows_marked : (ℕ → Bool) → SideSet → ℕ → Bool
 shows_marked marks sides m =
     (sides.right && any_of marks (neighbour_of m Right)) || ((sides.down && any_of marks (neighbour_of m Down))
     || ((sides.left && any_of marks (neighbour_of m Left)) || (sides.up && any_of marks (neighbour_of m Up))))
@@ -143,15 +143,15 @@ abbrev pub has_looked : Action → ℕ → Bool
 has_looked action n = action.cause.look && touches action.cause.event n
 
 -- an event whose nodes change on these sides what they show, shows something else to a marked node
-abbrev pub is_shown_to : (ℕ → Bool) → Event → Sides → Sides → Bool
+abbrev pub is_shown_to : (ℕ → Bool) → Event → SideSet → SideSet → Bool
 is_shown_to marks (Own m) first second = shows_marked marks first m.number
 is_shown_to marks (Pass w r side) first second = shows_marked marks first w.number || shows_marked marks second r.number
 
 -- whether an action is dependent with one of some that touch these nodes, change what is shown to those, and look in these
 abbrev pub is_met : (ℕ → Bool) → (ℕ → Bool) → (ℕ → Bool) → EventAccess → Bool
 is_met touched shown looked act =
-    list_any touched (cause_nodes act.cause)
-    || ((act.cause.look && list_any shown (cause_nodes act.cause)) || is_shown_to looked act.cause.event act.first act.second)
+    list_any touched (touched_nodes act.cause)
+    || ((act.cause.look && list_any shown (touched_nodes act.cause)) || is_shown_to looked act.cause.event act.first act.second)
 
 -- the action at the place is the first, or that happens before it
 abbrev pub IsOnward : List Action → ℕ → ℕ → Type 0

@@ -3,10 +3,10 @@
 ghost use Rattle.std.specs.Prelude.{◌≡◌, ◌&&◌, ◌||◌};
 ghost use Rattle.std.specs.List.{list_any};
 ghost use Rattle.ga_grid.specs.Grid.{neighbour_of};
-ghost use Rattle.ga_event.specs.Apply.{is_number};
-ghost use Rattle.ga_causal.specs.Dependence.{cause_touches, cause_nodes};
-ghost use Rattle.ga_races.specs.Acts.{side_leads_to, action_in};
-ghost use Rattle.ga_races.specs.HappensBefore.{are_dependent, is_shown};
+ghost use Rattle.ga_event.specs.Apply.{equals_some};
+ghost use Rattle.ga_causal.specs.Dependence.{cause_touches, touched_nodes};
+ghost use Rattle.ga_races.specs.Acts.{has_side_to, action_of_access};
+ghost use Rattle.ga_races.specs.HappensBefore.{are_dependent, is_look_changed_by};
 
 use ga_event::{Cause, Event, touches};
 use ga_grid::{NodeId, neighbour};
@@ -14,7 +14,7 @@ use ga_ports::Side;
 
 /// Sides of a node.
 #[derive(Clone, Copy, PartialEq, Eq, Debug)]
-pub struct Sides {
+pub struct SideSet {
     /// Whether side right is one of the sides.
     pub right: bool,
     /// Whether side down is one of the sides.
@@ -31,14 +31,14 @@ pub struct EventAccess {
     /// The event, with whether it looked.
     pub cause: Cause,
     /// The sides on which the node of the event changed what it shows; of a pass those of the writer.
-    pub first: Sides,
+    pub first: SideSet,
     /// The sides on which the reader of a pass changed what it shows.
-    pub second: Sides,
+    pub second: SideSet,
 }
 
 // Whether a side, if it is one of some, leads from the first node to the second.
 fn leads_over(from: NodeId, side: Side, has: bool, to: NodeId) -> bool
-    ensures { result ≡ (has && is_number (neighbour_of from.number side) to.number) }
+    ensures { result ≡ (has && equals_some (neighbour_of from.number side) to.number) }
 {
     match neighbour(from, side) {
         Some(other) => has && other.number == to.number,
@@ -46,10 +46,10 @@ fn leads_over(from: NodeId, side: Side, has: bool, to: NodeId) -> bool
     }
 }
 
-impl Sides {
+impl SideSet {
     /// Whether one of the sides leads from the first node to the second.
-    pub fn lead(&self, from: NodeId, to: NodeId) -> bool
-        ensures { result ≡ side_leads_to self.now from.number to.number }
+    pub fn leads_between(&self, from: NodeId, to: NodeId) -> bool
+        ensures { result ≡ has_side_to self.now from.number to.number }
     {
         leads_over(from, Side::Right, self.right, to)
             || leads_over(from, Side::Down, self.down, to)
@@ -61,19 +61,19 @@ impl Sides {
 impl EventAccess {
     /// Whether the event changed what is shown to the node.
     pub fn changes(&self, node: NodeId) -> bool
-        ensures { result ≡ (action_in self.now).changes node.number }
+        ensures { result ≡ (action_of_access self.now).changes node.number }
     {
         match self.cause.event {
-            Event::Own(own) => self.first.lead(own, node),
+            Event::Own(own) => self.first.leads_between(own, node),
             Event::Pass { writer, reader, .. } => {
-                self.first.lead(writer, node) || self.second.lead(reader, node)
+                self.first.leads_between(writer, node) || self.second.leads_between(reader, node)
             }
         }
     }
 
     // Whether the event changed what is shown to one of the nodes that another event touches.
     fn changes_some(&self, event: &Cause) -> bool
-        ensures { result ≡ list_any (action_in self.now).changes (cause_nodes event.now) }
+        ensures { result ≡ list_any (action_of_access self.now).changes (touched_nodes event.now) }
     {
         match event.event {
             Event::Own(node) => self.changes(node),
@@ -82,8 +82,8 @@ impl EventAccess {
     }
 
     // Whether two events touch a common node.
-    fn meets(&self, event: &Cause) -> bool
-        ensures { result ≡ list_any (cause_touches self.now.cause) (cause_nodes event.now) }
+    fn has_common_node(&self, event: &Cause) -> bool
+        ensures { result ≡ list_any (cause_touches self.now.cause) (touched_nodes event.now) }
     {
         match event.event {
             Event::Own(node) => touches(self.cause.event, node),
@@ -94,23 +94,25 @@ impl EventAccess {
     }
 
     // Whether the event is a look, and the other changes what is shown to it.
-    fn is_shown(&self, other: &EventAccess) -> bool
-        ensures { result ≡ is_shown (action_in self.now) (action_in other.now) }
+    fn is_look_changed_by(&self, other: &EventAccess) -> bool
+        ensures { result ≡ is_look_changed_by (action_of_access self.now) (action_of_access other.now) }
     {
         self.cause.look && other.changes_some(&self.cause)
     }
 
     /// Whether two events keep their order in each order of a list in which they are neighbours.
     pub fn is_dependent(&self, other: &EventAccess) -> bool
-        ensures { result ≡ are_dependent (action_in self.now) (action_in other.now) }
+        ensures { result ≡ are_dependent (action_of_access self.now) (action_of_access other.now) }
     {
-        self.meets(&other.cause) || self.is_shown(other) || other.is_shown(self)
+        self.has_common_node(&other.cause)
+            || self.is_look_changed_by(other)
+            || other.is_look_changed_by(self)
     }
 
     /// Whether two events touch a common node.
     pub fn shares_node(&self, other: &EventAccess) -> bool
-        ensures { result ≡ list_any (cause_touches self.now.cause) (cause_nodes other.now.cause) }
+        ensures { result ≡ list_any (cause_touches self.now.cause) (touched_nodes other.now.cause) }
     {
-        self.meets(&other.cause)
+        self.has_common_node(&other.cause)
     }
 }

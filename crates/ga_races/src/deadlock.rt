@@ -51,7 +51,7 @@ fn is_freed(chip: &Chip, marks: &[bool; 144], node: NodeId) -> bool
 
 // A marked node that is freed.
 fn first_freed(chip: &Chip, marks: &[bool; 144]) -> Option<NodeId>
-    ensures marked { IfSome result (λ node. is_marked marks.now node.number ≡ true) }
+    ensures marked_nodes { IfSome result (λ node. is_marked marks.now node.number ≡ true) }
     ensures freed { IfSome result (λ node. is_freed (records_of chip.now) (is_marked marks.now) node.number ≡ true) }
     ensures none { IfNone result ((n : ℕ) → n < 144 → is_marked marks.now n ≡ true →
         is_freed (records_of chip.now) (is_marked marks.now) n ≡ false) }

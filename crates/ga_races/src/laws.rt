@@ -9,14 +9,14 @@ ghost use Rattle.ga_event.specs.declared.event.Event.TheVariants.{Pass};
 ghost use Rattle.ga_event.specs.Touches.{touches};
 ghost use Rattle.ga_event.specs.declared.event.Cause.{Cause};
 ghost use Rattle.ga_event.specs.Apply.{EventOutcome, after, replay, run, apply};
-ghost use Rattle.ga_event.specs.Told.{steps_of, events_in};
-ghost use Rattle.ga_causal.specs.Dependence.{rewound_list, HasNoLooks};
+ghost use Rattle.ga_event.specs.Told.{count_steps, events_of_causes};
+ghost use Rattle.ga_causal.specs.Dependence.{events_after_rewind, HasNoLooks};
 ghost use Rattle.ga_causal.specs.Equivalence.{AreEquivalent};
 ghost use Rattle.ga_causal.specs.Words.{local_history_with_reads};
-ghost use Rattle.ga_races.specs.Orders.{IsExplored, IsEnabled, IsTerminal, AreReorderings, AreIndependentOn, IsRace, HasNoRace, AreConflicting};
-ghost use Rattle.ga_races.specs.HappensBefore.{Action, action_at, IsDirectlyBefore, IsClock, clock_after, action_of, actions, causes_in, are_dependent, HappensBefore, IsStepOf, StandsBefore, made_at, IsRacingPair, IsContended, IsMarkedOrBeside};
+ghost use Rattle.ga_races.specs.Orders.{IsCompleteExploration, IsEnabled, IsTerminal, AreReorderings, AreIndependentOn, IsRace, HasNoRace, AreConflicting};
+ghost use Rattle.ga_races.specs.HappensBefore.{Action, action_at, IsDirectlyBefore, IsClock, merged_clock, action_of, actions, causes_of_actions, are_dependent, HappensBefore, IsStepOf, IsEarlierIn, event_at_place, IsRacingPair, IsContendedPass, IsMarkedOrBeside};
 ghost use Rattle.ga_races.specs.Kahn.{HasOneWriter};
-ghost use Rattle.ga_races.specs.Rounds.{events_without, IsRound, HasNoRound};
+ghost use Rattle.ga_races.specs.Rounds.{events_without, IsPollingRound, HasNoPollingRound};
 ghost use Rattle.ga_grid.specs.Chip.{record_at};
 ghost use Rattle.ga_event.specs.Next.{next};
 ghost use Rattle.ga_races.specs.Acts.{AreDeadlocked};
@@ -36,7 +36,7 @@ pub fn diamond()
 #[tactic(auto, using(crate::proofs::Orders::beginning_within))]
 pub fn race_free_prefixes_extend()
     ensures { (chip : List NodeRecord) (events others : List Event) → IsSome (replay chip events) → HasNoRace chip events →
-        IsSome (replay chip others) → ((n : ℕ) → steps_of n others ≤ steps_of n events) →
+        IsSome (replay chip others) → ((n : ℕ) → count_steps n others ≤ count_steps n events) →
         (later : List Event) × AreReorderings chip events (others ++ later) }
 {}
 
@@ -56,7 +56,7 @@ pub fn race_free_end_is_unique()
         (later : List Event) × AreReorderings chip events (others ++ later) }
     ensures steps { (chip last : List NodeRecord) (events others : List Event) (n : ℕ) → replay chip events ≡ Some last →
         HasNoRace chip events → IsTerminal last → IsSome (replay chip others) →
-        steps_of n others ≤ steps_of n events }
+        count_steps n others ≤ count_steps n events }
     ensures chip { (chip last now : List NodeRecord) (events others : List Event) → replay chip events ≡ Some last →
         HasNoRace chip events → IsTerminal last → replay chip others ≡ Some now → IsTerminal now →
         AreReorderings chip events others × (now ≡ last) }
@@ -66,17 +66,17 @@ pub fn race_free_end_is_unique()
 /// step leaves a chip on which two neighbours wait to write to the node while it waits for both: what `rewind` of a step leaves
 /// shows each race. (A race of two passes shows there also if an event is enabled at the end.)
 pub fn rollbacks_reveal_races()
-    ensures shows { (chip last : List NodeRecord) (events : List Event) (steps : List (Cause × EventOutcome)) (w x r : NodeId) (side other : Side) →
+    ensures shown_state { (chip last : List NodeRecord) (events : List Event) (steps : List (Cause × EventOutcome)) (w x r : NodeId) (side other : Side) →
         run chip events ≡ Some (last, steps) → let causes = map (λ (s : Cause × EventOutcome). s.0) steps in
         HasNoLooks causes → IsRace chip events (Pass w r side) (Pass x r other) → AreConflicting (Pass w r side) (Pass x r other) →
-        (k : ℕ) × (now : List NodeRecord) × (replay chip (events_in (rewound_list causes r.number k)) ≡ Some now)
+        (k : ℕ) × (now : List NodeRecord) × (replay chip (events_of_causes (events_after_rewind causes r.number k)) ≡ Some now)
         × IsEnabled now (Pass w r side) × IsEnabled now (Pass x r other) }
     ensures decided { (chip last : List NodeRecord) (events : List Event) (steps : List (Cause × EventOutcome)) →
         run chip events ≡ Some (last, steps) → let causes = map (λ (s : Cause × EventOutcome). s.0) steps in
         HasNoLooks causes → IsTerminal last →
         (HasNoRace chip events ↔
         ((k : ℕ) (now : List NodeRecord) (w x r : NodeId) (side other : Side) →
-        replay chip (events_in (rewound_list causes r.number k)) ≡ Some now →
+        replay chip (events_of_causes (events_after_rewind causes r.number k)) ≡ Some now →
         IsEnabled now (Pass w r side) → IsEnabled now (Pass x r other) → side ≢ other → ⊥)) }
 {}
 
@@ -104,11 +104,11 @@ pub fn equivalent_lists_are_reorderings()
 /// race covers every order: each list that can be made is, in another order, a prefix of a list of the set, and each that ends
 /// without an enabled event is a list of the set in another order. The set is therefore enough to know how all of them end.
 pub fn exploration_is_complete()
-    ensures all { (chip : List NodeRecord) (has : List Event → Bool) (most : ℕ) → IsExplored chip (λ events. has events ≡ true) →
+    ensures all { (chip : List NodeRecord) (has : List Event → Bool) (most : ℕ) → IsCompleteExploration chip (λ events. has events ≡ true) →
         ((events : List Event) → IsSome (replay chip events) → length events ≤ most) →
         (others : List Event) → IsSome (replay chip others) →
         (met : List Event) × (more : List Event) × (has met ≡ true) × AreReorderings chip met (others ++ more) }
-    ensures ends { (chip last : List NodeRecord) (has : List Event → Bool) (most : ℕ) → IsExplored chip (λ events. has events ≡ true) →
+    ensures ends { (chip last : List NodeRecord) (has : List Event → Bool) (most : ℕ) → IsCompleteExploration chip (λ events. has events ≡ true) →
         ((events : List Event) → IsSome (replay chip events) → length events ≤ most) →
         (others : List Event) → replay chip others ≡ Some last → IsTerminal last →
         (met : List Event) × (has met ≡ true) × AreReorderings chip met others }
@@ -122,20 +122,20 @@ pub fn happens_before()
     ensures free { (chip : List NodeRecord) (e f : Event) → IsEnabled chip e → IsEnabled (after chip e).0 f →
         ((are_dependent (action_of chip e) (action_of (after chip e).0 f) ≡ false) ↔ (IsEnabled chip f × AreIndependentOn chip e f)) }
     ensures causes { (chip last : List NodeRecord) (events : List Event) (steps : List (Cause × EventOutcome)) → run chip events ≡ Some (last, steps) →
-        causes_in (actions chip events) ≡ map (λ (s : Cause × EventOutcome). s.0) steps }
+        causes_of_actions (actions chip events) ≡ map (λ (s : Cause × EventOutcome). s.0) steps }
     ensures named { (chip : List NodeRecord) (events : List Event) (place : ℕ) → place < length events →
         (n : ℕ) × (k : ℕ) × IsStepOf chip events n k place }
     ensures stands { (chip : List NodeRecord) (events others : List Event) (n k place : ℕ) → AreReorderings chip events others →
         IsStepOf chip events n k place → (there : ℕ) × IsStepOf chip others n k there }
     ensures every { (chip : List NodeRecord) (events others : List Event) (first later : ℕ) → HappensBefore (actions chip events) first later →
-        AreReorderings chip events others → StandsBefore chip events others first later }
+        AreReorderings chip events others → IsEarlierIn chip events others first later }
     ensures some { (chip : List NodeRecord) (events : List Event) (first later : ℕ) → IsSome (replay chip events) →
         first < later → later < length events → ¬ HappensBefore (actions chip events) first later →
-        (others : List Event) × AreReorderings chip events others × StandsBefore chip events others later first }
+        (others : List Event) × AreReorderings chip events others × IsEarlierIn chip events others later first }
     ensures exact { (chip : List NodeRecord) (events : List Event) (first later : ℕ) → IsSome (replay chip events) →
         first < later → later < length events →
         (HappensBefore (actions chip events) first later
-        ↔ ((others : List Event) → AreReorderings chip events others → StandsBefore chip events others first later)) }
+        ↔ ((others : List Event) → AreReorderings chip events others → IsEarlierIn chip events others first later)) }
 {}
 
 /// Which events of a list race can be read from the list alone, by happens-before (after Netzer and Miller). A look and a
@@ -145,15 +145,15 @@ pub fn happens_before()
 /// chip (`race_free_end_is_unique`).
 pub fn races_read_from_list()
     ensures looks { (chip last : List NodeRecord) (events : List Event) (first later : ℕ) → replay chip events ≡ Some last →
-        IsRacingPair chip events first later → IsRace chip events (made_at chip events first) (made_at chip events later) }
+        IsRacingPair chip events first later → IsRace chip events (event_at_place chip events first) (event_at_place chip events later) }
     ensures passes { (chip last : List NodeRecord) (events : List Event) (place : ℕ) (other : Event) → replay chip events ≡ Some last →
-        IsContended chip events place other → IsRace chip events (made_at chip events place) other }
+        IsContendedPass chip events place other → IsRace chip events (event_at_place chip events place) other }
     ensures rivals { (chip last : List NodeRecord) (events : List Event) (step other : Event) → replay chip events ≡ Some last →
         IsRace chip events step other → AreConflicting step other →
-        (place : ℕ) × (made_at chip events place ≡ step) × IsContended chip events place other }
+        (place : ℕ) × (event_at_place chip events place ≡ step) × IsContendedPass chip events place other }
     ensures decided { (chip last : List NodeRecord) (events : List Event) → replay chip events ≡ Some last → IsTerminal last →
         (HasNoRace chip events
-        ↔ (((first later : ℕ) → ¬ IsRacingPair chip events first later) × ((place : ℕ) (other : Event) → ¬ IsContended chip events place other))) }
+        ↔ (((first later : ℕ) → ¬ IsRacingPair chip events first later) × ((place : ℕ) (other : Event) → ¬ IsContendedPass chip events place other))) }
 {}
 
 /// Of two actions that touch a common node the earlier happens before the later. A clock can be made of those of earlier
@@ -168,12 +168,12 @@ pub fn vector_clocks_exact()
         All (λ (clock : ℕ × (ℕ → ℕ)). IsDirectlyBefore actions clock.0 place × IsClock actions clock.0 clock.1) known →
         ((earlier : ℕ) → IsDirectlyBefore actions earlier place →
         (clock : ℕ × (ℕ → ℕ)) × Contains known clock × ((earlier ≡ clock.0) ⊎ HappensBefore actions earlier clock.0)) →
-        IsClock actions place (clock_after actions place known) }
+        IsClock actions place (merged_clock actions place known) }
 {}
 
 /// An event changes what the next event of a node is at the nodes that it touches and at their neighbours alone.
 #[tactic(auto, using(crate::proofs::Nexts::changes_near))]
-pub fn next_changes_near_alone()
+pub fn next_event_changes_locally()
     ensures { (chip : List NodeRecord) (event : Event) →
         IfSome (apply chip event) (λ done. (node : NodeId) → IsMarkedOrBeside (touches event) node.number ⊎ (next chip node ≡ next done.0 node)) }
 {}
@@ -190,10 +190,10 @@ pub fn deadlock_is_permanent()
 /// shows them nothing: a list without a round leads to the same chip, whatever the looks of the round read. A shortest list to
 /// a chip has no round, so the lists without one reach each chip that any list reaches.
 pub fn polling_rounds_removable()
-    ensures alone { (chip : List NodeRecord) (n : ℕ) (round : List Event) → IsRound chip n round → events_without n round ≡ [] →
+    ensures alone { (chip : List NodeRecord) (n : ℕ) (round : List Event) → IsPollingRound chip n round → events_without n round ≡ [] →
         replay chip round ≡ Some chip }
     ensures left { (chip now : List NodeRecord) (before round later : List Event) (n : ℕ) → replay chip before ≡ Some now →
-        IsRound now n round → replay chip (before ++ round ++ later) ≡ replay chip (before ++ events_without n round ++ later) }
+        IsPollingRound now n round → replay chip (before ++ round ++ later) ≡ replay chip (before ++ events_without n round ++ later) }
     ensures shortest { (chip last : List NodeRecord) (events : List Event) → replay chip events ≡ Some last →
-        ((others : List Event) → replay chip others ≡ Some last → length events ≤ length others) → HasNoRound chip events }
+        ((others : List Event) → replay chip others ≡ Some last → length events ≤ length others) → HasNoPollingRound chip events }
 {}

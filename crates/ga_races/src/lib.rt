@@ -8,8 +8,8 @@ mod links;
 mod racing_pairs;
 mod same;
 
-pub use act::{EventAccess, Sides};
+pub use act::{EventAccess, SideSet};
 pub use deadlock::{awaits, find_deadlocked};
-pub use links::are_linked;
+pub use links::are_neighbours;
 pub use racing_pairs::{RacingPair, find_racing_pairs};
 pub use same::is_same_node;

@@ -1,20 +1,20 @@
 //! Which nodes have a link.
 
 ghost use Rattle.std.specs.Prelude.{◌≡◌};
-ghost use Rattle.ga_races.specs.HappensBefore.{are_linked};
+ghost use Rattle.ga_races.specs.HappensBefore.{are_neighbours};
 
-use crate::act::Sides;
+use crate::act::SideSet;
 use ga_grid::NodeId;
 
 /// Whether two nodes are neighbours, so that words can go between them.
-pub fn are_linked(node: NodeId, other: NodeId) -> bool
-    ensures { result ≡ are_linked node.number other.number }
+pub fn are_neighbours(node: NodeId, other: NodeId) -> bool
+    ensures { result ≡ are_neighbours node.number other.number }
 {
-    let sides = Sides {
+    let sides = SideSet {
         right: true,
         down: true,
         left: true,
         up: true,
     };
-    sides.lead(node, other)
+    sides.leads_between(node, other)
 }

@@ -3,15 +3,15 @@
 ghost use Rattle.std.specs.Prelude.{◌≡◌, ◌≢◌, ◌<◌, ◌^◌, ◌↔◌, ◌⊎◌, ◌&&◌, ◌||◌, ◌++◌, ◌∷◌, [], ℕ, true, false, length, Contains, OnOk, IfOk};
 ghost use Rattle.ga_grid.specs.Grid.{neighbour_of};
 ghost use Rattle.std.specs.List.{list_any};
-ghost use Rattle.ga_causal.specs.Dependence.{cause_touches, cause_nodes, is_marked};
-ghost use Rattle.ga_event.specs.Apply.{is_number};
+ghost use Rattle.ga_causal.specs.Dependence.{cause_touches, touched_nodes, is_marked};
+ghost use Rattle.ga_event.specs.Apply.{equals_some};
 ghost use Rattle.ga_races.specs.declared.racing_pairs.RacingPair.{RacingPair};
 ghost use Rattle.ga_races.specs.HappensBefore.{action_at, AreRacing};
-ghost use Rattle.ga_races.specs.Acts.{side_leads_to, action_in, actions_in, is_own_of, is_look_of, IsNearLook};
+ghost use Rattle.ga_races.specs.Acts.{has_side_to, action_of_access, actions_of_accesses, is_own_event_of, is_look_of, IsRacingLook};
 ghost use Rattle.ga_races.specs.inner.{IsMore, OfPair, OfLook, OfChange, OverSide, OverSides, AtPlace, LooksAreMarked};
 
-use crate::act::{EventAccess, Sides};
-use ga_causal::Nodes;
+use crate::act::{EventAccess, SideSet};
+use ga_causal::NodeSet;
 use ga_event::{Cause, Event};
 use ga_grid::{Memory, NodeId, neighbour};
 use ga_ports::Side;
@@ -32,7 +32,7 @@ pub struct RacingPair {
 // The action at a place.
 fn act_at(acts: &[EventAccess], place: usize) -> EventAccess
     requires { place < length acts.now }
-    ensures { action_in result ≡ action_at (actions_in acts.now) place }
+    ensures { action_of_access result ≡ action_at (actions_of_accesses acts.now) place }
 {
     acts[place]
 }
@@ -41,7 +41,7 @@ fn act_at(acts: &[EventAccess], place: usize) -> EventAccess
 fn is_near(acts: &[EventAccess], first: usize, later: usize) -> bool
     requires order { first < later }
     requires within { later < length acts.now }
-    ensures { (result ≡ true) ↔ AreRacing (actions_in acts.now) first later }
+    ensures { (result ≡ true) ↔ AreRacing (actions_of_accesses acts.now) first later }
 {
     let act = act_at(acts, first);
     let end = act_at(acts, later);
@@ -56,7 +56,7 @@ fn are_near(acts: &[EventAccess], one: usize, other: usize) -> bool
     requires one { one < length acts.now }
     requires other { other < length acts.now }
     requires apart { one ≢ other }
-    ensures { (result ≡ true) ↔ (AreRacing (actions_in acts.now) one other ⊎ AreRacing (actions_in acts.now) other one) }
+    ensures { (result ≡ true) ↔ (AreRacing (actions_of_accesses acts.now) one other ⊎ AreRacing (actions_of_accesses acts.now) other one) }
 {
     if one < other {
         is_near(acts, one, other)
@@ -68,7 +68,7 @@ fn are_near(acts: &[EventAccess], one: usize, other: usize) -> bool
 // Whether the action at a place is a look of the node.
 fn is_look_of(acts: &[EventAccess], place: usize, node: NodeId) -> bool
     requires { place < length acts.now }
-    ensures { result ≡ is_look_of (action_at (actions_in acts.now) place) node.number }
+    ensures { result ≡ is_look_of (action_at (actions_of_accesses acts.now) place) node.number }
 {
     let act = act_at(acts, place);
     match act.cause.event {
@@ -80,7 +80,7 @@ fn is_look_of(acts: &[EventAccess], place: usize, node: NodeId) -> bool
 // Whether the action at a place changes what is shown to the node.
 fn changes(acts: &[EventAccess], place: usize, node: NodeId) -> bool
     requires { place < length acts.now }
-    ensures { result ≡ (action_at (actions_in acts.now) place).changes node.number }
+    ensures { result ≡ (action_at (actions_of_accesses acts.now) place).changes node.number }
 {
     act_at(acts, place).changes(node)
 }
@@ -110,8 +110,8 @@ fn add_near(
     requires change { change < length acts.now }
     requires apart { look ≢ change }
     requires few { length acts.now < 2 ^ 32 }
-    requires looks { is_look_of (action_at (actions_in acts.now) look) node.number ≡ true }
-    requires changes { (action_at (actions_in acts.now) change).changes node.number ≡ true }
+    requires looks { is_look_of (action_at (actions_of_accesses acts.now) look) node.number ≡ true }
+    requires changes { (action_at (actions_of_accesses acts.now) change).changes node.number ≡ true }
     ensures { OnOk result (IsMore acts.now (OfPair look change) list.old.items list.new.items) }
 {
     if !are_near(acts, look, change) {
@@ -131,7 +131,7 @@ fn add_change(
     requires order { change < look }
     requires within { look < length acts.now }
     requires few { length acts.now < 2 ^ 32 }
-    requires looks { is_look_of (action_at (actions_in acts.now) look) node.number ≡ true }
+    requires looks { is_look_of (action_at (actions_of_accesses acts.now) look) node.number ≡ true }
     ensures { OnOk result (IsMore acts.now (OfPair look change) list.old.items list.new.items) }
 {
     if !changes(acts, change, node) {
@@ -150,7 +150,7 @@ fn add_changes(
 ) -> Result<(), Memory>
     requires within { look < length acts.now }
     requires few { length acts.now < 2 ^ 32 }
-    requires own { is_own_of (action_at (actions_in acts.now) look).cause.event node.number ≡ true }
+    requires own { is_own_event_of (action_at (actions_of_accesses acts.now) look).cause.event node.number ≡ true }
     ensures { OnOk result (IsMore acts.now (OfLook look 0) list.old.items list.new.items) }
 {
     if !is_look_of(acts, look, node) {
@@ -171,8 +171,8 @@ fn add_changes(
 fn hides(acts: &[EventAccess], place: usize, change: usize, node: NodeId) -> bool
     requires place { place < length acts.now }
     requires change { change < length acts.now }
-    ensures { result ≡ ((action_at (actions_in acts.now) place).changes node.number
-        && list_any (cause_touches (action_at (actions_in acts.now) place).cause) (cause_nodes (action_at (actions_in acts.now) change).cause)) }
+    ensures { result ≡ ((action_at (actions_of_accesses acts.now) place).changes node.number
+        && list_any (cause_touches (action_at (actions_of_accesses acts.now) place).cause) (touched_nodes (action_at (actions_of_accesses acts.now) change).cause)) }
 {
     let act = act_at(acts, place);
     let end = act_at(acts, change);
@@ -189,7 +189,7 @@ fn add_look(
 ) -> Result<(), Memory>
     requires within { change < length acts.now }
     requires few { length acts.now < 2 ^ 32 }
-    requires changes { (action_at (actions_in acts.now) change).changes node.number ≡ true }
+    requires changes { (action_at (actions_of_accesses acts.now) change).changes node.number ≡ true }
     ensures { OnOk result (IsMore acts.now (OfChange acts.now change node.number) list.old.items list.new.items) }
 {
     let mut place = change;
@@ -210,14 +210,14 @@ fn add_look_over(
     list: &mut Vec<RacingPair>,
     acts: &[EventAccess],
     change: usize,
-    looked: &Nodes,
+    looked: &NodeSet,
     over: (NodeId, Side, bool),
 ) -> Result<(), Memory>
     requires within { change < length acts.now }
     requires few { length acts.now < 2 ^ 32 }
     requires looked { LooksAreMarked acts.now change (is_marked looked.now) }
-    requires changes { (n : ℕ) → (over.2 && is_number (neighbour_of over.0.number over.1) n) ≡ true →
-        (action_at (actions_in acts.now) change).changes n ≡ true }
+    requires changes { (n : ℕ) → (over.2 && equals_some (neighbour_of over.0.number over.1) n) ≡ true →
+        (action_at (actions_of_accesses acts.now) change).changes n ≡ true }
     ensures { OnOk result (IsMore acts.now (OverSide acts.now change over.0.number over.1 over.2) list.old.items list.new.items) }
 {
     let (from, side, has) = over;
@@ -238,14 +238,14 @@ fn add_looks_beside(
     list: &mut Vec<RacingPair>,
     acts: &[EventAccess],
     change: usize,
-    looked: &Nodes,
-    from: (NodeId, Sides),
+    looked: &NodeSet,
+    from: (NodeId, SideSet),
 ) -> Result<(), Memory>
     requires within { change < length acts.now }
     requires few { length acts.now < 2 ^ 32 }
     requires looked { LooksAreMarked acts.now change (is_marked looked.now) }
-    requires changes { (n : ℕ) → side_leads_to from.1 from.0.number n ≡ true →
-        (action_at (actions_in acts.now) change).changes n ≡ true }
+    requires changes { (n : ℕ) → has_side_to from.1 from.0.number n ≡ true →
+        (action_at (actions_of_accesses acts.now) change).changes n ≡ true }
     ensures { OnOk result (IsMore acts.now (OverSides acts.now change from.0.number from.1) list.old.items list.new.items) }
 {
     let (node, sides) = from;
@@ -261,7 +261,7 @@ fn add_at(
     list: &mut Vec<RacingPair>,
     acts: &[EventAccess],
     place: usize,
-    looked: &Nodes,
+    looked: &NodeSet,
 ) -> Result<(), Memory>
     requires within { place < length acts.now }
     requires few { length acts.now < 2 ^ 32 }
@@ -290,10 +290,10 @@ fn add_at(
 /// `Memory` alone.
 pub fn find_racing_pairs(alloc: Global, acts: &[EventAccess]) -> Result<Vec<RacingPair>, Memory>
     requires few { length acts.now < 2 ^ 32 }
-    ensures exact { IfOk result (λ list. (near : RacingPair) → Contains list.items near ↔ IsNearLook acts.now near) }
+    ensures exact { IfOk result (λ list. (near : RacingPair) → Contains list.items near ↔ IsRacingLook acts.now near) }
 {
     let mut list = Vec::new(alloc);
-    let mut looked = Nodes::none();
+    let mut looked = NodeSet::none();
     'acts: for place in 0..acts.len() {
         add_at(&mut list, acts, place, &looked)?;
         let act = act_at(acts, place);

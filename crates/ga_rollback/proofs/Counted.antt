@@ -7,11 +7,11 @@ use Rattle.std.proofs.lemmas.List.Sums.{sum_by-cons, sum_by-append, sum_by-set}
 use Rattle.std.specs.Prelude.{option_map, slice_get}
 use Rattle.ga_event.specs.declared.event.Event.{Event}
 use Rattle.ga_event.specs.declared.event.Effect.{Effect}
-use Rattle.ga_event.specs.Undo.{IsOfKind}
+use Rattle.ga_event.specs.Undo.{IsEffectOfEvent}
 use Rattle.ga_journal.specs.declared.entry.Act.TheVariants.{Own, Sent, Took}
-use Rattle.ga_journal.specs.Histories.{EntryRecord, past, own_outcome, history, no_histories, with_entry, appended}
-use Rattle.ga_journal.specs.Logs.{Stamped, histories_of_log, IsLog}
-use Rattle.ga_journal.specs.Marks.{is_counted}
+use Rattle.ga_journal.specs.Histories.{EntryRecord, past, own_outcome, history, no_histories, with_entry, histories_with_event}
+use Rattle.ga_journal.specs.Logs.{StampedEvent, histories_of_log, IsStampedLog}
+use Rattle.ga_journal.specs.Marks.{counts_event}
 use Rattle.ga_journal.proofs.Logs.{history-no_histories, length-built}
 use Rattle.ga_rollback.specs.inner.{staying, counted_in, counted_of, one_counted}
 
@@ -35,11 +35,11 @@ sum_none f d (x ∷ xs) h = sum_by-cons f x xs ∙ ap (λ z. z + sum_by f xs) (h
 abbrev one_if : Bool → ℕ
 one_if b = cond b 1 0
 
-counted-cons : (x : EntryRecord) (h : List EntryRecord) → counted_in (x ∷ h) ≡ one_if (is_counted x.act) + counted_in h
-counted-cons x h = sum_by-cons (λ (e : EntryRecord). cond (is_counted e.act) 1 0) x h
+counted-cons : (x : EntryRecord) (h : List EntryRecord) → counted_in (x ∷ h) ≡ one_if (counts_event x.act) + counted_in h
+counted-cons x h = sum_by-cons (λ (e : EntryRecord). cond (counts_event e.act) 1 0) x h
 
 -- by one entry more
-pub counted_next : (p : ℕ) (h : List EntryRecord) → counted_in (take (suc p) h) ≡ counted_in (take p h) + one_counted (option_map (λ (e : EntryRecord). is_counted e.act) (slice_get h p))
+pub counted_next : (p : ℕ) (h : List EntryRecord) → counted_in (take (suc p) h) ≡ counted_in (take p h) + one_counted (option_map (λ (e : EntryRecord). counts_event e.act) (slice_get h p))
 counted_next zero [] = refl
 counted_next (suc p) [] = refl
 counted_next zero (x ∷ xs) = let a = counted-cons x [] in omega arith
@@ -63,15 +63,15 @@ counted_fewer (h ∷ hs) (k ∷ going) =
     omega arith
 
 -- by an entry more of a node
-counted_pushed : (hs : List (List EntryRecord)) (n : ℕ) (e : EntryRecord) → n < length hs → counted_of (with_entry hs n e) ≡ counted_of hs + one_if (is_counted e.act)
+counted_pushed : (hs : List (List EntryRecord)) (n : ℕ) (e : EntryRecord) → n < length hs → counted_of (with_entry hs n e) ≡ counted_of hs + one_if (counts_event e.act)
 counted_pushed hs n e l =
     let a : counted_of (set hs n (history hs n ++ e ∷ [])) + counted_in (history hs n) ≡ counted_of hs + counted_in (history hs n ++ e ∷ []) = sum_by-set counted_in hs n (history hs n ++ e ∷ []) [] l in
-    let b : counted_in (history hs n ++ e ∷ []) ≡ counted_in (history hs n) + counted_in (e ∷ []) = sum_by-append (λ (e : EntryRecord). cond (is_counted e.act) 1 0) (history hs n) (e ∷ []) in
+    let b : counted_in (history hs n ++ e ∷ []) ≡ counted_in (history hs n) + counted_in (e ∷ []) = sum_by-append (λ (e : EntryRecord). cond (counts_event e.act) 1 0) (history hs n) (e ∷ []) in
     let c = counted-cons e [] in
     omega arith
 
 -- by those of one event more
-counted_more : (hs : List (List EntryRecord)) (s : ℕ) (e : Event) (done : Effect) → IsOfKind e done → length hs ≡ 144 → counted_of (appended hs s e done) ≡ counted_of hs + 1
+counted_more : (hs : List (List EntryRecord)) (s : ℕ) (e : Event) (done : Effect) → IsEffectOfEvent e done → length hs ≡ 144 → counted_of (histories_with_event hs s e done) ≡ counted_of hs + 1
 counted_more hs s (event.Own node) (effect.Own kind saved) k size = counted_pushed hs node.number (past s (Own (own_outcome kind false)) saved) (omega (arith, size, node.in_range))
 counted_more hs s (event.Own node) (effect.Look kind saved) k size = counted_pushed hs node.number (past s (Own (own_outcome kind true)) saved) (omega (arith, size, node.in_range))
 counted_more hs s (event.Pass w r side) (effect.Pass word sent took) k size =
@@ -86,7 +86,7 @@ counted_more hs s (event.Pass w r side) (effect.Own kind saved) k size = absurd 
 counted_more hs s (event.Pass w r side) (effect.Look kind saved) k size = absurd k
 
 -- each event of a log is counted once
-pub counted_log : (log : List Stamped) (top : ℕ) → IsLog log top → counted_of (histories_of_log log) ≡ length log
+pub counted_log : (log : List StampedEvent) (top : ℕ) → IsStampedLog log top → counted_of (histories_of_log log) ≡ length log
 counted_log [] top l = sum_none counted_in [] no_histories (λ i. ap counted_in (history-no_histories i))
 counted_log (x ∷ older) top l =
     let a = counted_more (histories_of_log older) x.stamp x.event x.effect l.1 (length-built older) in

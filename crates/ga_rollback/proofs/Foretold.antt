@@ -4,18 +4,18 @@ use Rattle.std.specs.List.{sum_by}
 use Rattle.std.proofs.lemmas.Bool.{cases_eq, cases_lt}
 use Rattle.std.proofs.lemmas.List.{length-take-le, set_past}
 use Rattle.std.proofs.lemmas.List.Sums.{sum_by-set}
-use Rattle.ga_journal.specs.Histories.{one_more, EntryRecord, JournalState, history}
-use Rattle.ga_journal.specs.Events.{kept_of, causes_in_book, events_of}
-use Rattle.ga_event.specs.Told.{steps_of, events_in}
-use Rattle.ga_journal.specs.Logs.{Stamped, histories_of_log, IsLog, IsWhole}
+use Rattle.ga_journal.specs.Histories.{one_more_tick, EntryRecord, JournalState, history}
+use Rattle.ga_journal.specs.Events.{kept_outcomes, journal_causes, journal_events}
+use Rattle.ga_event.specs.Told.{count_steps, events_of_causes}
+use Rattle.ga_journal.specs.Logs.{StampedEvent, histories_of_log, IsStampedLog, AreConsistentHistories}
 use Rattle.ga_journal.specs.inner.Histories.{older_causes}
-use Rattle.ga_journal.specs.Marks.{AreMarks, mark_of, entries_to_remove, is_pending, counted_at, raised, IsAtRest}
+use Rattle.ga_journal.specs.Marks.{HasValidMarks, mark_of, entries_to_remove, is_pending, counts_event_at, with_raised_mark, IsOutsideRollback}
 use Rattle.ga_journal.specs.inner.Marks.{to_go}
 use Rattle.ga_journal.proofs.Logs.{steps_log, length-built}
-use Rattle.ga_causal.specs.Dependence.{rewound_list}
+use Rattle.ga_causal.specs.Dependence.{events_after_rewind}
 use Rattle.ga_causal.proofs.Places.{touching_in}
 use Rattle.ga_rollback.specs.Rolled.{without_dropped}
-use Rattle.ga_rollback.specs.Rewound.{WouldGo}
+use Rattle.ga_rollback.specs.Rewound.{IsRollbackForecast}
 use Rattle.ga_rollback.specs.inner.{staying, IsMarked, IsUnseen, counted_in, counted_of, counted_staying, one_counted, IsRaising, AreCounted}
 use Rattle.ga_rollback.proofs.Counted.{sum_none, counted_next, counted_fewer, counted_log}
 use Rattle.ga_rollback.proofs.Lowering.{staying_lost, length-staying, staying_at, staying_set, staying_none, node_within}
@@ -24,17 +24,17 @@ use Rattle.ga_rollback.proofs.Causes.{length_older, steps_older}
 use Rattle.ga_rollback.proofs.Rewinding.{IsCut, is_cut, causes_log, number_log, same_length}
 
 -- nothing is raised yet
-pub raising_none : (first : JournalState) → AreMarks first → IsRaising first first 0
+pub raising_none : (first : JournalState) → HasValidMarks first → IsRaising first first 0
 raising_none first sound = record {
   others = refl;
   sized = sound.going_size;
-  ticked = refl;
+  tick_counted = refl;
   number = omega arith;
 }
 
 -- one entry more
-pub raising_more : (first book : JournalState) (events n : ℕ) (new : JournalState) (now : ℕ) → AreMarks book → IsRaising first book events → mark_of book n < length (history book.histories n) → new ≡ raised book n
-    → now ≡ events + one_counted (counted_at book.histories n (mark_of book n)) → IsRaising first new now
+pub raising_more : (first book : JournalState) (events n : ℕ) (new : JournalState) (now : ℕ) → HasValidMarks book → IsRaising first book events → mark_of book n < length (history book.histories n) → new ≡ with_raised_mark book n
+    → now ≡ events + one_counted (counts_event_at book.histories n (mark_of book n)) → IsRaising first new now
 raising_more first book events n new now sound raising some same counted =
     let in_book : n < length book.histories = node_within book.histories n (mark_of book n) some in
     let in_going : n < length book.going = (let a = sound.size in let b = sound.going_size in omega arith) in
@@ -43,30 +43,30 @@ raising_more first book events n new now sound raising some same counted =
     let place : length h - (get_or book.going n 0 - 1) ≡ suc (length h - get_or book.going n 0) = omega arith in
     let stay : counted_of (staying book.histories (set book.going n (get_or book.going n 0 - 1))) + counted_in (take (length h - get_or book.going n 0) h) ≡ counted_of (staying book.histories book.going) + counted_in (take (length h - (get_or book.going n 0 - 1)) h) =
     staying_set counted_in book.histories book.going n (get_or book.going n 0 - 1) (sound.size ∙ sym sound.going_size) in_book in
-    let one : counted_in (take (length h - (get_or book.going n 0 - 1)) h) ≡ counted_in (take (length h - get_or book.going n 0) h) + one_counted (counted_at book.histories n (mark_of book n)) =
+    let one : counted_in (take (length h - (get_or book.going n 0 - 1)) h) ≡ counted_in (take (length h - get_or book.going n 0) h) + one_counted (counts_event_at book.histories n (mark_of book n)) =
     ap (λ z. counted_in (take z h)) place ∙ counted_next (length h - get_or book.going n 0) h in
     let go : sum_by (λ (x : ℕ). x) (set book.going n (get_or book.going n 0 - 1)) + get_or book.going n 0 ≡ sum_by (λ (x : ℕ). x) book.going + (get_or book.going n 0 - 1) =
     sum_by-set (λ (x : ℕ). x) book.going n (get_or book.going n 0 - 1) 0 in_going in
-    let after : IsRaising first (raised book n) now = record {
-      others = ap (λ (b : JournalState). record b { going = set book.going n (get_or book.going n 0 - 1); ticks = one_more book.ticks }) raising.others;
+    let after : IsRaising first (with_raised_mark book n) now = record {
+      others = ap (λ (b : JournalState). record b { going = set book.going n (get_or book.going n 0 - 1); ticks = one_more_tick book.ticks }) raising.others;
       sized = length-set book.going n (get_or book.going n 0 - 1) ∙ raising.sized;
-      ticked = let a = raising.ticked in omega arith;
+      tick_counted = let a = raising.tick_counted in omega arith;
       number = let a = raising.number in omega arith;
     } in
     subst (λ z. IsRaising first z now) (sym same) after
 
 -- there is room for the events
-pub raising_few : (first book : JournalState) (events n most : ℕ) → AreMarks book → IsRaising first book events → mark_of book n < length (history book.histories n) → counted_of first.histories < most
-    → events + one_counted (counted_at book.histories n (mark_of book n)) < most
+pub raising_few : (first book : JournalState) (events n most : ℕ) → HasValidMarks book → IsRaising first book events → mark_of book n < length (history book.histories n) → counted_of first.histories < most
+    → events + one_counted (counts_event_at book.histories n (mark_of book n)) < most
 raising_few first book events n most sound raising some few =
-    let after : IsRaising first (raised book n) (events + one_counted (counted_at book.histories n (mark_of book n))) = raising_more first book events n (raised book n) _ sound raising some refl refl in
+    let after : IsRaising first (with_raised_mark book n) (events + one_counted (counts_event_at book.histories n (mark_of book n))) = raising_more first book events n (with_raised_mark book n) _ sound raising some refl refl in
     let same : counted_of book.histories ≡ counted_of first.histories = ap (λ (b : JournalState). counted_of b.histories) raising.others in
     let a = after.number in
-    let b = counted_fewer book.histories (raised book n).going in
+    let b = counted_fewer book.histories (with_raised_mark book n).going in
     omega arith
 
 -- the marks, raised
-pub raised_less : (book new : JournalState) (n m : ℕ) → new ≡ raised book n → entries_to_remove book m ≡ 0 → entries_to_remove new m ≡ 0
+pub raised_less : (book new : JournalState) (n m : ℕ) → new ≡ with_raised_mark book n → entries_to_remove book m ≡ 0 → entries_to_remove new m ≡ 0
 raised_less book new n m same none =
     ap (λ (b : JournalState). get_or b.going m 0) same ∙ ⊎_elim
     (λ is. ⊎_elim
@@ -76,12 +76,12 @@ raised_less book new n m same none =
     (λ ne. get_or-set_other book.going n m (get_or book.going n 0 - 1) 0 ne ∙ none)
     (cases_eq m n)
 
-pub raised_same : (book new : JournalState) (n m : ℕ) → new ≡ raised book n → m ≢ n → entries_to_remove new m ≡ entries_to_remove book m
+pub raised_same : (book new : JournalState) (n m : ℕ) → new ≡ with_raised_mark book n → m ≢ n → entries_to_remove new m ≡ entries_to_remove book m
 raised_same book new n m same ne =
     ap (λ (b : JournalState). get_or b.going m 0) same ∙ get_or-set_other book.going n m (get_or book.going n 0 - 1) 0 ne
 
 -- how many entries are to go falls
-pub raised_fewer : (book new : JournalState) (n : ℕ) → AreMarks book → mark_of book n < length (history book.histories n) → new ≡ raised book n → to_go new < to_go book
+pub raised_fewer : (book new : JournalState) (n : ℕ) → HasValidMarks book → mark_of book n < length (history book.histories n) → new ≡ with_raised_mark book n → to_go new < to_go book
 raised_fewer book new n sound some same =
     let in_book : n < length book.histories = node_within book.histories n (mark_of book n) some in
     let go : sum_by (λ (x : ℕ). x) (set book.going n (get_or book.going n 0 - 1)) + get_or book.going n 0 ≡ sum_by (λ (x : ℕ). x) book.going + (get_or book.going n 0 - 1) =
@@ -90,13 +90,13 @@ raised_fewer book new n sound some same =
     omega arith
 
 -- all events are counted
-pub counted_all : (old : JournalState) → IsWhole old.histories old.made → counted_of old.histories ≡ length (kept_of old)
+pub counted_all : (old : JournalState) → AreConsistentHistories old.histories old.made → counted_of old.histories ≡ length (kept_outcomes old)
 counted_all old whole = ap counted_of whole.records.histories ∙ counted_log whole.log old.made whole.records.order ∙ sym (number_log whole.log old whole.records)
 
 -- those that stay are counted by the entries that stay
-counted_left : (log : List Stamped) (old mid : JournalState) (n j : ℕ) → IsLog log old.made → AreMarks mid → IsCut log mid n j → counted_staying mid ≡ length (without_dropped log (gone (mark_of mid) log))
+counted_left : (log : List StampedEvent) (old mid : JournalState) (n j : ℕ) → IsStampedLog log old.made → HasValidMarks mid → IsCut log mid n j → counted_staying mid ≡ length (without_dropped log (gone (mark_of mid) log))
 counted_left log old mid n j order sound cut =
-    let stay : List Stamped = without_dropped log (gone (mark_of mid) log) in
+    let stay : List StampedEvent = without_dropped log (gone (mark_of mid) log) in
     let same : staying mid.histories mid.going ≡ histories_of_log stay =
     ext_get_or [] (staying mid.histories mid.going) (histories_of_log stay) (length-staying mid.histories mid.going ∙ sound.size ∙ sym (length-built stay))
     (λ m l. staying_at mid.histories mid.going m (sound.size ∙ sym sound.going_size)
@@ -104,40 +104,40 @@ counted_left log old mid n j order sound cut =
     ∙ sym (left_cut (mark_of mid) log old.made order cut.closed m)) in
     ap counted_of same ∙ counted_log stay old.made (left_log log (gone (mark_of mid) log) old.made order)
 
-pub would_go : (old mid new : JournalState) (n k events : ℕ) (steps : List ℕ) → IsWhole old.histories old.made → 0 < k → k ≤ length (history old.histories n) → mid ≡ record old { going = mid.going; waiting = mid.waiting; ticks = mid.ticks }
+pub would_go : (old mid new : JournalState) (n k events : ℕ) (steps : List ℕ) → AreConsistentHistories old.histories old.made → 0 < k → k ≤ length (history old.histories n) → mid ≡ record old { going = mid.going; waiting = mid.waiting; ticks = mid.ticks }
     → IsMarked mid mid.going n (k - 1) → ((m : ℕ) → IsUnseen mid m) → IsRaising mid new events → ((m : ℕ) → entries_to_remove new m ≡ 0) → ((m : ℕ) → get_or steps m 0 ≡ entries_to_remove mid m)
-    → WouldGo old n k events steps
-would_go old mid new n k events steps whole some there same marked saw raising none each =
-    let log : List Stamped = whole.log in
-    let order : IsLog log old.made = whole.records.order in
-    let cut : IsCut log mid n (k - 1) = is_cut old n (k - 1) mid log whole.records (omega (arith, some, there)) same marked saw in
-    let stay : List Stamped = without_dropped log (gone (mark_of mid) log) in
+    → IsRollbackForecast old n k events steps
+would_go old mid new n k events steps whole some there same marked_nodes saw raising none each =
+    let log : List StampedEvent = whole.log in
+    let order : IsStampedLog log old.made = whole.records.order in
+    let cut : IsCut log mid n (k - 1) = is_cut old n (k - 1) mid log whole.records (omega (arith, some, there)) same marked_nodes saw in
+    let stay : List StampedEvent = without_dropped log (gone (mark_of mid) log) in
     let step : suc (k - 1) ≡ k = omega (arith, some) in
-    let list : rewound_list (causes_in_book old) n k ≡ older_causes stay =
-    ap (λ z. rewound_list z n k) (causes_log log old whole.records) ∙ ap (rewound_list (older_causes log) n) (sym step) ∙ sym cut.events in
+    let list : events_after_rewind (journal_causes old) n k ≡ older_causes stay =
+    ap (λ z. events_after_rewind z n k) (causes_log log old whole.records) ∙ ap (events_after_rewind (older_causes log) n) (sym step) ∙ sym cut.events in
     let all : counted_staying new ≡ length log =
     ap counted_of (staying_none new.histories new.going none) ∙ ap (λ (b : JournalState). counted_of b.histories) raising.others ∙ ap counted_of cut.same ∙ counted_log log old.made order in
-    let few : counted_staying mid ≡ length stay = counted_left log old mid n (k - 1) order marked.sound cut in
-    let long : length (rewound_list (causes_in_book old) n k) ≡ length stay = ap length list ∙ length_older stay in
-    let total : length (events_of old) ≡ length log = same_length old ∙ number_log log old whole.records in
+    let few : counted_staying mid ≡ length stay = counted_left log old mid n (k - 1) order marked_nodes.sound cut in
+    let long : length (events_after_rewind (journal_causes old) n k) ≡ length stay = ap length list ∙ length_older stay in
+    let total : length (journal_events old) ≡ length log = same_length old ∙ number_log log old whole.records in
     record {
       stands = (some, subst (λ z. k ≤ z) (steps_log old n whole) there);
       number = let a = raising.number in omega arith;
       each = λ m.
           let a = each m in
-          let b : length (history old.histories m) ≡ steps_of m (events_of old) = steps_log old m whole in
-          let w : entries_to_remove mid m ≤ length (history mid.histories m) = marked.sound.within m in
+          let b : length (history old.histories m) ≡ count_steps m (journal_events old) = steps_log old m whole in
+          let w : entries_to_remove mid m ≤ length (history mid.histories m) = marked_nodes.sound.within m in
           let h : length (history mid.histories m) ≡ length (history old.histories m) = ap (λ (z : JournalState). length (history z.histories m)) same in
           let i : length (history (histories_of_log log) m) ≡ length (history mid.histories m) = ap (λ z. length (history z m)) (sym cut.same) in
-          let d : steps_of m (events_in (rewound_list (causes_in_book old) n k)) ≡ length (history (histories_of_log stay) m) =
-          ap (λ z. steps_of m (events_in z)) list ∙ sym (touching_in m (older_causes stay)) ∙ sym (steps_older stay old.made m (left_log log (gone (mark_of mid) log) old.made order)) in
+          let d : count_steps m (events_of_causes (events_after_rewind (journal_causes old) n k)) ≡ length (history (histories_of_log stay) m) =
+          ap (λ z. count_steps m (events_of_causes z)) list ∙ sym (touching_in m (older_causes stay)) ∙ sym (steps_older stay old.made m (left_log log (gone (mark_of mid) log) old.made order)) in
           let e : length (history (histories_of_log stay) m) ≡ mark_of mid m =
           ap length (left_cut (mark_of mid) log old.made order cut.closed m) ∙ length-take-le (mark_of mid m) (history (histories_of_log log) m) (omega arith) in
           omega arith;
     }
 
 -- the journal is as before, but for its ticks
-pub as_before : (old mid new : JournalState) (events : ℕ) → AreMarks old → IsAtRest old → AreMarks mid → mid ≡ record old { going = mid.going; waiting = mid.waiting; ticks = mid.ticks } → ((m : ℕ) → is_pending mid m ≡ false)
+pub as_before : (old mid new : JournalState) (events : ℕ) → HasValidMarks old → IsOutsideRollback old → HasValidMarks mid → mid ≡ record old { going = mid.going; waiting = mid.waiting; ticks = mid.ticks } → ((m : ℕ) → is_pending mid m ≡ false)
     → IsRaising mid new events → ((m : ℕ) → entries_to_remove new m ≡ 0) → new ≡ record old { ticks = new.ticks }
 as_before old mid new events sound rest marks same idle raising none =
     let going : new.going ≡ old.going = ext_get_or 0 new.going old.going (raising.sized ∙ sym sound.going_size) (λ m l. none m ∙ sym (rest.settled m)) in
@@ -148,7 +148,7 @@ as_before old mid new events sound rest marks same idle raising none =
     ∙ ap (λ z. record old { waiting = z; ticks = new.ticks }) waiting
 
 -- its ticks
-pub forecast_ticks : (old mid new : JournalState) (events : ℕ) (steps : List ℕ) → AreMarks mid → AreCounted old mid → IsRaising mid new events → ((m : ℕ) → entries_to_remove new m ≡ 0) → length steps ≡ 144 → ((m : ℕ) → get_or steps m 0 ≡ entries_to_remove mid m)
+pub forecast_ticks : (old mid new : JournalState) (events : ℕ) (steps : List ℕ) → HasValidMarks mid → AreCounted old mid → IsRaising mid new events → ((m : ℕ) → entries_to_remove new m ≡ 0) → length steps ≡ 144 → ((m : ℕ) → get_or steps m 0 ≡ entries_to_remove mid m)
     → new.ticks.count ≤ old.ticks.count + 9 * sum_by (λ (x : ℕ). x) steps
 forecast_ticks old mid new events steps sound counted raising none size each =
     let zero : to_go new ≡ 0 = sum_none (λ (x : ℕ). x) 0 new.going none in
@@ -157,12 +157,12 @@ forecast_ticks old mid new events steps sound counted raising none size each =
     let found = counted.looks in
     let vain = counted.searches in
     let most = counted.most in
-    let a = raising.ticked in
+    let a = raising.tick_counted in
     omega arith
 
 -- the steps of the node
-pub steps_whole : (book : JournalState) (n steps : ℕ) → IsWhole book.histories book.made → IsAtRest book → steps ≡ mark_of book n → steps ≡ steps_of n (events_of book)
+pub steps_whole : (book : JournalState) (n steps : ℕ) → AreConsistentHistories book.histories book.made → IsOutsideRollback book → steps ≡ mark_of book n → steps ≡ count_steps n (journal_events book)
 steps_whole book n steps whole rest is =
     let none : entries_to_remove book n ≡ 0 = rest.settled n in
-    let long : length (history book.histories n) ≡ steps_of n (events_of book) = steps_log book n whole in
+    let long : length (history book.histories n) ≡ count_steps n (journal_events book) = steps_log book n whole in
     omega arith

@@ -63,8 +63,8 @@ some_beside n number side (Some k) e under =
 
 -- and where there is none
 pub none_beside : (n number : ℕ) (side : Side) (o : Option ℕ) → is_link n side number o ≡ true → 144 ≤ number → None ≡ o
-none_beside n number side None e over = refl
-none_beside n number side (Some k) e over =
+none_beside n number side None e overlay_nodes = refl
+none_beside n number side (Some k) e overlay_nodes =
     let (is, rest) = both (number == k) (nat_lt number 144 && is_number n (neighbour_of number side)) e in
     let (within, back) = both (nat_lt number 144) (is_number n (neighbour_of number side)) rest in
-    let h = below number 144 within in absurd (omega (arith, h, over))
+    let h = below number 144 within in absurd (omega (arith, h, overlay_nodes))

@@ -8,13 +8,13 @@ use Rattle.std.proofs.lemmas.List.{get_or_past, take_all}
 use Rattle.std.proofs.lemmas.List.Sums.{sum_by-set, sum_by-cons}
 use Rattle.ga_journal.specs.declared.entry.Act.{Act}
 use Rattle.ga_journal.specs.declared.entry.Act.TheVariants.{Own, Sent, Took}
-use Rattle.ga_journal.specs.Histories.{Work, EntryRecord, JournalState, history}
-use Rattle.ga_journal.specs.Marks.{partner_of, entry_at, mark_of, entries_to_remove, is_pending, lowered, AreMarks}
+use Rattle.ga_journal.specs.Histories.{RollbackWork, EntryRecord, JournalState, history}
+use Rattle.ga_journal.specs.Marks.{partner_of, entry_at, mark_of, entries_to_remove, is_pending, with_lowered_mark, HasValidMarks}
 use Rattle.ga_journal.specs.inner.Marks.{to_go, in_line}
-use Rattle.ga_journal.specs.Events.{has_looked_in}
-use Rattle.ga_journal.specs.Looks.{SawNoneToGo, HasLook}
+use Rattle.ga_journal.specs.Events.{act_has_looked}
+use Rattle.ga_journal.specs.Looks.{HasNoLookToRemove, HasLook}
 use Rattle.ga_rollback.specs.inner.{stamp_at, IsDue, Start, Later, Other, Saw, IsMarked, staying, IsUnseen}
-use Rattle.ga_rollback.specs.Rewound.{looks_in, looks_of}
+use Rattle.ga_rollback.specs.Rewound.{count_looks, count_all_looks}
 
 -- ---- how many looks there are, and how many of them stay
 
@@ -25,73 +25,73 @@ pub one_most : (b : Bool) → one_if b ≤ 1
 one_most true = omega arith
 one_most false = omega arith
 
-looks-cons : (x : EntryRecord) (h : List EntryRecord) → looks_in (x ∷ h) ≡ one_if (has_looked_in x.act) + looks_in h
-looks-cons x h = sum_by-cons (λ (e : EntryRecord). cond (has_looked_in e.act) 1 0) x h
+looks-cons : (x : EntryRecord) (h : List EntryRecord) → count_looks (x ∷ h) ≡ one_if (act_has_looked x.act) + count_looks h
+looks-cons x h = sum_by-cons (λ (e : EntryRecord). cond (act_has_looked e.act) 1 0) x h
 
 -- among the first entries of a history
-pub looks_less : (q k : ℕ) (h : List EntryRecord) → q ≤ k → looks_in (take q h) ≤ looks_in (take k h)
+pub looks_less : (q k : ℕ) (h : List EntryRecord) → q ≤ k → count_looks (take q h) ≤ count_looks (take k h)
 looks_less zero k h l = omega arith
 looks_less (suc q) zero h l = absurd (omega arith)
 looks_less (suc q) (suc k) [] l = omega arith
 looks_less (suc q) (suc k) (x ∷ h) l =
     let a = looks_less q k h (omega arith) in let b = looks-cons x (take q h) in let c = looks-cons x (take k h) in omega arith
 
-pub looks_one : (q k : ℕ) (h : List EntryRecord) (e : EntryRecord) → slice_get h q ≡ Some e → has_looked_in e.act ≡ true → q < k → looks_in (take q h) + 1 ≤ looks_in (take k h)
+pub looks_one : (q k : ℕ) (h : List EntryRecord) (e : EntryRecord) → slice_get h q ≡ Some e → act_has_looked e.act ≡ true → q < k → count_looks (take q h) + 1 ≤ count_looks (take k h)
 looks_one q zero h e found looked l = absurd (omega arith)
 looks_one q (suc k) [] e found looked l = absurd (none-some _ found)
 looks_one zero (suc k) (x ∷ h) e found looked l =
     let a = looks-cons x (take k h) in
-    let b : one_if (has_looked_in x.act) ≡ 1 = ap (λ (z : EntryRecord). one_if (has_looked_in z.act)) (same_Some x e found) ∙ ap (λ z. one_if z) looked in
+    let b : one_if (act_has_looked x.act) ≡ 1 = ap (λ (z : EntryRecord). one_if (act_has_looked z.act)) (same_Some x e found) ∙ ap (λ z. one_if z) looked in
     omega arith
 looks_one (suc q) (suc k) (x ∷ h) e found looked l =
     let a = looks_one q k h e found looked (omega arith) in let b = looks-cons x (take q h) in let c = looks-cons x (take k h) in omega arith
 
-looks_front : (k : ℕ) (h : List EntryRecord) → looks_in (take k h) ≤ looks_in h
+looks_front : (k : ℕ) (h : List EntryRecord) → count_looks (take k h) ≤ count_looks h
 looks_front zero h = omega arith
 looks_front (suc k) [] = omega arith
 looks_front (suc k) (x ∷ h) = let a = looks_front k h in let b = looks-cons x (take k h) in let c = looks-cons x h in omega arith
 
-looks_within : (h : List EntryRecord) → looks_in h ≤ length h
+looks_within : (h : List EntryRecord) → count_looks h ≤ length h
 looks_within [] = omega arith
-looks_within (x ∷ h) = let a = looks_within h in let b = looks-cons x h in let c = one_most (has_looked_in x.act) in omega arith
+looks_within (x ∷ h) = let a = looks_within h in let b = looks-cons x h in let c = one_most (act_has_looked x.act) in omega arith
 
-looks_lost : (k : ℕ) (h : List EntryRecord) → looks_in h ≤ looks_in (take k h) + (length h - k)
+looks_lost : (k : ℕ) (h : List EntryRecord) → count_looks h ≤ count_looks (take k h) + (length h - k)
 looks_lost zero h = let a = looks_within h in omega arith
 looks_lost (suc k) [] = omega arith
 looks_lost (suc k) (x ∷ h) = let a = looks_lost k h in let b = looks-cons x (take k h) in let c = looks-cons x h in omega arith
 
 -- among all entries
-pub looks_under : (hs : List (List EntryRecord)) → looks_of hs ≤ sum_by length hs
+pub looks_under : (hs : List (List EntryRecord)) → count_all_looks hs ≤ sum_by length hs
 looks_under [] = omega arith
 looks_under (h ∷ hs) =
-    let a = looks_under hs in let b = looks_within h in let c = sum_by-cons looks_in h hs in let d = sum_by-cons length h hs in omega arith
+    let a = looks_under hs in let b = looks_within h in let c = sum_by-cons count_looks h hs in let d = sum_by-cons length h hs in omega arith
 
 -- a history with a look counts
-some_in : (h : List EntryRecord) (p : ℕ) (e : EntryRecord) → slice_get h p ≡ Some e → has_looked_in e.act ≡ true → 0 < looks_in h
+some_in : (h : List EntryRecord) (p : ℕ) (e : EntryRecord) → slice_get h p ≡ Some e → act_has_looked e.act ≡ true → 0 < count_looks h
 some_in h p e found looked = let a = looks_one p (p + 1) h e found looked (omega arith) in let b = looks_front (p + 1) h in omega arith
 
-pub some_looks : (hs : List (List EntryRecord)) (m : ℕ) → HasLook (history hs m) → 0 < looks_of hs
+pub some_looks : (hs : List (List EntryRecord)) (m : ℕ) → HasLook (history hs m) → 0 < count_all_looks hs
 some_looks [] m look = absurd (none-some _ look.2)
-some_looks (h ∷ hs) zero look = let a = some_in h look.0 look.1 look.2 look.3 in let b = sum_by-cons looks_in h hs in omega arith
-some_looks (h ∷ hs) (suc m) look = let a = some_looks hs m look in let b = sum_by-cons looks_in h hs in omega arith
+some_looks (h ∷ hs) zero look = let a = some_in h look.0 look.1 look.2 look.3 in let b = sum_by-cons count_looks h hs in omega arith
+some_looks (h ∷ hs) (suc m) look = let a = some_looks hs m look in let b = sum_by-cons count_looks h hs in omega arith
 
 -- among those that stay
-staying-cons : (h : List EntryRecord) (hs : List (List EntryRecord)) (k : ℕ) (going : List ℕ) → looks_of (staying (h ∷ hs) (k ∷ going)) ≡ looks_in (take (length h - k) h) + looks_of (staying hs going)
-staying-cons h hs k going = sum_by-cons looks_in (take (length h - k) h) (staying hs going)
+staying-cons : (h : List EntryRecord) (hs : List (List EntryRecord)) (k : ℕ) (going : List ℕ) → count_all_looks (staying (h ∷ hs) (k ∷ going)) ≡ count_looks (take (length h - k) h) + count_all_looks (staying hs going)
+staying-cons h hs k going = sum_by-cons count_looks (take (length h - k) h) (staying hs going)
 
-pub staying_fewer : (hs : List (List EntryRecord)) (going : List ℕ) → looks_of (staying hs going) ≤ looks_of hs
+pub staying_fewer : (hs : List (List EntryRecord)) (going : List ℕ) → count_all_looks (staying hs going) ≤ count_all_looks hs
 staying_fewer [] going = omega arith
-staying_fewer (h ∷ hs) [] = let a = staying_fewer hs [] in let b = sum_by-cons looks_in h (staying hs []) in let c = sum_by-cons looks_in h hs in omega arith
+staying_fewer (h ∷ hs) [] = let a = staying_fewer hs [] in let b = sum_by-cons count_looks h (staying hs []) in let c = sum_by-cons count_looks h hs in omega arith
 staying_fewer (h ∷ hs) (k ∷ going) =
-    let a = staying_fewer hs going in let b = staying-cons h hs k going in let c = sum_by-cons looks_in h hs in let d = looks_front (length h - k) h in omega arith
+    let a = staying_fewer hs going in let b = staying-cons h hs k going in let c = sum_by-cons count_looks h hs in let d = looks_front (length h - k) h in omega arith
 
-pub staying_lost : (hs : List (List EntryRecord)) (going : List ℕ) → looks_of hs ≤ looks_of (staying hs going) + sum_by (λ (x : ℕ). x) going
+pub staying_lost : (hs : List (List EntryRecord)) (going : List ℕ) → count_all_looks hs ≤ count_all_looks (staying hs going) + sum_by (λ (x : ℕ). x) going
 staying_lost [] going = omega arith
-staying_lost (h ∷ hs) [] = let a = staying_lost hs [] in let b = sum_by-cons looks_in h (staying hs []) in let c = sum_by-cons looks_in h hs in omega arith
+staying_lost (h ∷ hs) [] = let a = staying_lost hs [] in let b = sum_by-cons count_looks h (staying hs []) in let c = sum_by-cons count_looks h hs in omega arith
 staying_lost (h ∷ hs) (k ∷ going) =
     let a = staying_lost hs going in
     let b = staying-cons h hs k going in
-    let c = sum_by-cons looks_in h hs in
+    let c = sum_by-cons count_looks h hs in
     let d = looks_lost (length h - k) h in
     let e = sum_by-cons (λ (x : ℕ). x) k going in
     omega arith
@@ -137,49 +137,49 @@ pub node_within : (hs : List (List EntryRecord)) (n k : ℕ) → k < length (his
 node_within hs n k l = ⊎_elim (λ q. q) (λ q. absurd (let j : length (history hs n) ≡ 0 = ap length (get_or_past hs n [] q) in omega arith)) (cases_lt n (length hs))
 
 -- a mark lowered
-pub lowered_same : (book : JournalState) (j q : ℕ) → AreMarks book → q < mark_of book j → (entries_to_remove (lowered book j q) j ≡ length (history book.histories j) - q) × (mark_of (lowered book j q) j ≡ q) × (is_pending (lowered book j q) j ≡ true)
+pub lowered_same : (book : JournalState) (j q : ℕ) → HasValidMarks book → q < mark_of book j → (entries_to_remove (with_lowered_mark book j q) j ≡ length (history book.histories j) - q) × (mark_of (with_lowered_mark book j q) j ≡ q) × (is_pending (with_lowered_mark book j q) j ≡ true)
 lowered_same book j q sound l =
     let in_book : j < length book.histories = node_within book.histories j q (omega arith) in
     let g : get_or (set book.going j (length (history book.histories j) - q)) j 0 ≡ length (history book.histories j) - q = get_or-set_same book.going j (length (history book.histories j) - q) 0 (let a = sound.size in let b = sound.going_size in omega arith) in
     (g, omega arith, get_or-set_same book.waiting j true false (let a = sound.size in let b = sound.waiting_size in omega arith))
 
-pub lowered_other : (book : JournalState) (j q m : ℕ) → m ≢ j → (entries_to_remove (lowered book j q) m ≡ entries_to_remove book m) × (mark_of (lowered book j q) m ≡ mark_of book m) × (is_pending (lowered book j q) m ≡ is_pending book m)
+pub lowered_other : (book : JournalState) (j q m : ℕ) → m ≢ j → (entries_to_remove (with_lowered_mark book j q) m ≡ entries_to_remove book m) × (mark_of (with_lowered_mark book j q) m ≡ mark_of book m) × (is_pending (with_lowered_mark book j q) m ≡ is_pending book m)
 lowered_other book j q m ne =
     let g : get_or (set book.going j (length (history book.histories j) - q)) m 0 ≡ get_or book.going m 0 = get_or-set_other book.going j m (length (history book.histories j) - q) 0 ne in
     (g, ap (λ z. length (history book.histories m) - z) g, get_or-set_other book.waiting j m true false ne)
 
-pub lowered_sound : (book : JournalState) (j q : ℕ) → AreMarks book → q < mark_of book j → AreMarks (lowered book j q)
+pub lowered_sound : (book : JournalState) (j q : ℕ) → HasValidMarks book → q < mark_of book j → HasValidMarks (with_lowered_mark book j q)
 lowered_sound book j q sound l = record {
   size = sound.size;
   matched = sound.matched;
   going_size = length-set book.going j (length (history book.histories j) - q) ∙ sound.going_size;
   waiting_size = length-set book.waiting j true ∙ sound.waiting_size;
   within = λ m. ⊎_elim
-      (λ same. subst (λ z. entries_to_remove (lowered book j q) z ≤ length (history book.histories z)) (sym same) (let k = (lowered_same book j q sound l).0 in omega arith))
+      (λ same. subst (λ z. entries_to_remove (with_lowered_mark book j q) z ≤ length (history book.histories z)) (sym same) (let k = (lowered_same book j q sound l).0 in omega arith))
       (λ ne. let k = (lowered_other book j q m ne).0 in let w = sound.within m in omega arith)
       (cases_eq m j);
 }
 
-pub lowered_falls : (book : JournalState) (j q m : ℕ) → AreMarks book → q < mark_of book j → mark_of (lowered book j q) m ≤ mark_of book m
+pub lowered_falls : (book : JournalState) (j q m : ℕ) → HasValidMarks book → q < mark_of book j → mark_of (with_lowered_mark book j q) m ≤ mark_of book m
 lowered_falls book j q m sound l = ⊎_elim
-    (λ same. subst (λ z. mark_of (lowered book j q) z ≤ mark_of book z) (sym same) (let k = (lowered_same book j q sound l).1 in omega arith))
+    (λ same. subst (λ z. mark_of (with_lowered_mark book j q) z ≤ mark_of book z) (sym same) (let k = (lowered_same book j q sound l).1 in omega arith))
     (λ ne. let k = (lowered_other book j q m ne).1 in omega arith)
     (cases_eq m j)
 
-due_lowered : (book : JournalState) (j q s m p : ℕ) (e : EntryRecord) → AreMarks book → q < mark_of book j → IsDue book s m p e → IsDue (lowered book j q) s m p e
+due_lowered : (book : JournalState) (j q s m p : ℕ) (e : EntryRecord) → HasValidMarks book → q < mark_of book j → IsDue book s m p e → IsDue (with_lowered_mark book j q) s m p e
 due_lowered book j q s m p e sound l (Start h) = Start h
 due_lowered book j q s m p e sound l (Later h) = Later (let k = lowered_falls book j q m sound l in omega arith)
 due_lowered book j q s m p e sound l (Other i r names h) = Other i r names (let k = lowered_falls book j q i sound l in omega arith)
 due_lowered book j q s m p e sound l (Saw i r side f looked beside there h before) = Saw i r side f looked beside there (let k = lowered_falls book j q i sound l in omega arith) before
 
 -- a look names no other entry
-look_alone : (act : Act) (x : ℕ × ℕ) → has_looked_in act ≡ true → partner_of act ≡ Some x → ⊥
+look_alone : (act : Act) (x : ℕ × ℕ) → act_has_looked act ≡ true → partner_of act ≡ Some x → ⊥
 look_alone (Own deed) x looked names = none-some _ names
 look_alone (Sent to side at word) x looked names = both_ways false refl looked
 look_alone (Took from side at word) x looked names = both_ways false refl looked
 
 -- the other entry of a pass is due as the one is
-pub due_partner : (book : JournalState) (s m p j q : ℕ) (e f : EntryRecord) → AreMarks book → q < mark_of book j → entry_at book.histories m p ≡ Some e → partner_of e.act ≡ Some (j, q) → entry_at book.histories j q ≡ Some f → IsDue book s m p e → IsDue (lowered book j q) s j q f
+pub due_partner : (book : JournalState) (s m p j q : ℕ) (e f : EntryRecord) → HasValidMarks book → q < mark_of book j → entry_at book.histories m p ≡ Some e → partner_of e.act ≡ Some (j, q) → entry_at book.histories j q ≡ Some f → IsDue book s m p e → IsDue (with_lowered_mark book j q) s j q f
 due_partner book s m p j q e f sound l found names there (Start h) = Start (sym (sound.matched.same m p j q e f found names there) ∙ h)
 due_partner book s m p j q e f sound l found names there (Later h) =
     let apart : j ≢ m = sound.matched.other m p j q e found names in
@@ -191,34 +191,34 @@ due_partner book s m p j q e f sound l found names there (Other i r other h) =
 due_partner book s m p j q e f sound l found names there (Saw i r side g looked beside visited h before) = absurd (look_alone e.act (j, q) looked names)
 
 -- a mark lowered to an entry that is due then
-pub marked_lowered : (book : JournalState) (visited : List ℕ) (n k j q : ℕ) → IsMarked book visited n k → q < mark_of book j → ((f : EntryRecord) → entry_at book.histories j q ≡ Some f → IsDue (lowered book j q) (stamp_at book n k) j q f) → IsMarked (lowered book j q) visited n k
-marked_lowered book visited n k j q marked l due = record {
-  sound = lowered_sound book j q marked.sound l;
-  start = let f = lowered_falls book j q n marked.sound l in let b = marked.start in omega arith;
+pub marked_lowered : (book : JournalState) (visited : List ℕ) (n k j q : ℕ) → IsMarked book visited n k → q < mark_of book j → ((f : EntryRecord) → entry_at book.histories j q ≡ Some f → IsDue (with_lowered_mark book j q) (stamp_at book n k) j q f) → IsMarked (with_lowered_mark book j q) visited n k
+marked_lowered book visited n k j q marked_nodes l due = record {
+  sound = lowered_sound book j q marked_nodes.sound l;
+  start = let f = lowered_falls book j q n marked_nodes.sound l in let b = marked_nodes.start in omega arith;
   caused = λ x r f there to_go. ⊎_elim
       (λ same. ⊎_elim
-      (λ here. subst (λ z. IsDue (lowered book j q) (stamp_at book n k) z r f) (sym same)
-      (subst (λ z. IsDue (lowered book j q) (stamp_at book n k) j z f) (sym here)
+      (λ here. subst (λ z. IsDue (with_lowered_mark book j q) (stamp_at book n k) z r f) (sym same)
+      (subst (λ z. IsDue (with_lowered_mark book j q) (stamp_at book n k) j z f) (sym here)
       (due f (ap (λ z. slice_get (history book.histories z) q) (sym same) ∙ ap (λ z. entry_at book.histories x z) (sym here) ∙ there))))
       (λ off. ⊎_elim
-      (λ below. absurd (let a : mark_of (lowered book j q) j ≤ r = subst (λ z. mark_of (lowered book j q) z ≤ r) same to_go in let b = (lowered_same book j q marked.sound l).1 in omega arith))
-      (λ above. Later (subst (λ z. mark_of (lowered book j q) z < r) (sym same) (let b = (lowered_same book j q marked.sound l).1 in omega arith)))
+      (λ below. absurd (let a : mark_of (with_lowered_mark book j q) j ≤ r = subst (λ z. mark_of (with_lowered_mark book j q) z ≤ r) same to_go in let b = (lowered_same book j q marked_nodes.sound l).1 in omega arith))
+      (λ above. Later (subst (λ z. mark_of (with_lowered_mark book j q) z < r) (sym same) (let b = (lowered_same book j q marked_nodes.sound l).1 in omega arith)))
       off)
       (cases_order r q))
-      (λ ne. due_lowered book j q (stamp_at book n k) x r f marked.sound l (marked.caused x r f there (let b = (lowered_other book j q x ne).1 in omega arith)))
+      (λ ne. due_lowered book j q (stamp_at book n k) x r f marked_nodes.sound l (marked_nodes.caused x r f there (let b = (lowered_other book j q x ne).1 in omega arith)))
       (cases_eq x j);
-  whole = λ x r i t looked named. let a = marked.whole x r i t looked named in let b = lowered_falls book j q i marked.sound l in omega arith;
+  whole = λ x r i t looked named. let a = marked_nodes.whole x r i t looked named in let b = lowered_falls book j q i marked_nodes.sound l in omega arith;
 }
 
 -- what it costs in ticks
-pub lowered_line : (book : JournalState) (j q : ℕ) → AreMarks book → q < mark_of book j → in_line (lowered book j q) ≤ in_line book + 1
+pub lowered_line : (book : JournalState) (j q : ℕ) → HasValidMarks book → q < mark_of book j → in_line (with_lowered_mark book j q) ≤ in_line book + 1
 lowered_line book j q sound l =
     let in_book : j < length book.histories = node_within book.histories j q (omega arith) in
     let k : count_by (λ (b : Bool). b) (set book.waiting j true) + cond (get_or book.waiting j false) 1 0 ≡ count_by (λ (b : Bool). b) book.waiting + 1 =
     sum_by-set (λ (b : Bool). cond b 1 0) book.waiting j true false (let a = sound.size in let b = sound.waiting_size in omega arith) in
     omega arith
 
-pub line_grows : (book : JournalState) (j q : ℕ) → AreMarks book → q < mark_of book j → in_line book ≤ in_line (lowered book j q)
+pub line_grows : (book : JournalState) (j q : ℕ) → HasValidMarks book → q < mark_of book j → in_line book ≤ in_line (with_lowered_mark book j q)
 line_grows book j q sound l =
     let in_book : j < length book.histories = node_within book.histories j q (omega arith) in
     let k : count_by (λ (b : Bool). b) (set book.waiting j true) + cond (get_or book.waiting j false) 1 0 ≡ count_by (λ (b : Bool). b) book.waiting + 1 =
@@ -226,7 +226,7 @@ line_grows book j q sound l =
     let one = one_most (get_or book.waiting j false) in
     omega arith
 
-pub lowered_go : (book : JournalState) (j q : ℕ) → AreMarks book → q < mark_of book j → to_go book + 1 ≤ to_go (lowered book j q)
+pub lowered_go : (book : JournalState) (j q : ℕ) → HasValidMarks book → q < mark_of book j → to_go book + 1 ≤ to_go (with_lowered_mark book j q)
 lowered_go book j q sound l =
     let in_book : j < length book.histories = node_within book.histories j q (omega arith) in
     let k : sum_by (λ (x : ℕ). x) (set book.going j (length (history book.histories j) - q)) + get_or book.going j 0 ≡ sum_by (λ (x : ℕ). x) book.going + (length (history book.histories j) - q) =
@@ -234,28 +234,28 @@ lowered_go book j q sound l =
     omega arith
 
 -- how many looks stay then
-looks_lowered : (book : JournalState) (j q : ℕ) → AreMarks book → q < mark_of book j
-    → looks_of (staying book.histories (lowered book j q).going) + looks_in (take (mark_of book j) (history book.histories j)) ≡ looks_of (staying book.histories book.going) + looks_in (take q (history book.histories j))
+looks_lowered : (book : JournalState) (j q : ℕ) → HasValidMarks book → q < mark_of book j
+    → count_all_looks (staying book.histories (with_lowered_mark book j q).going) + count_looks (take (mark_of book j) (history book.histories j)) ≡ count_all_looks (staying book.histories book.going) + count_looks (take q (history book.histories j))
 looks_lowered book j q sound l =
     let in_book : j < length book.histories = node_within book.histories j q (omega arith) in
     let place : length (history book.histories j) - (length (history book.histories j) - q) ≡ q = omega arith in
-    staying_set looks_in book.histories book.going j (length (history book.histories j) - q) (sound.size ∙ sym sound.going_size) in_book
-    ∙ ap (λ z. looks_of (staying book.histories book.going) + looks_in (take z (history book.histories j))) place
+    staying_set count_looks book.histories book.going j (length (history book.histories j) - q) (sound.size ∙ sym sound.going_size) in_book
+    ∙ ap (λ z. count_all_looks (staying book.histories book.going) + count_looks (take z (history book.histories j))) place
 
-pub fewer_lowered : (book : JournalState) (j q : ℕ) → AreMarks book → q < mark_of book j → looks_of (staying book.histories (lowered book j q).going) ≤ looks_of (staying book.histories book.going)
+pub fewer_lowered : (book : JournalState) (j q : ℕ) → HasValidMarks book → q < mark_of book j → count_all_looks (staying book.histories (with_lowered_mark book j q).going) ≤ count_all_looks (staying book.histories book.going)
 fewer_lowered book j q sound l =
     let a = looks_lowered book j q sound l in let b = looks_less q (mark_of book j) (history book.histories j) (omega arith) in omega arith
 
-pub one_lowered : (book : JournalState) (j q : ℕ) (e : EntryRecord) → AreMarks book → q < mark_of book j → entry_at book.histories j q ≡ Some e → has_looked_in e.act ≡ true
-    → looks_of (staying book.histories (lowered book j q).going) + 1 ≤ looks_of (staying book.histories book.going)
+pub one_lowered : (book : JournalState) (j q : ℕ) (e : EntryRecord) → HasValidMarks book → q < mark_of book j → entry_at book.histories j q ≡ Some e → act_has_looked e.act ≡ true
+    → count_all_looks (staying book.histories (with_lowered_mark book j q).going) + 1 ≤ count_all_looks (staying book.histories book.going)
 one_lowered book j q e sound l found looked =
     let a = looks_lowered book j q sound l in let b = looks_one q (mark_of book j) (history book.histories j) e found looked l in omega arith
 
 -- ticks change no mark
-abbrev pub with_ticks : JournalState → Work → JournalState
+abbrev pub with_ticks : JournalState → RollbackWork → JournalState
 with_ticks book work = record book { ticks = work }
 
-pub sound_with : (book : JournalState) (work : Work) → AreMarks book → AreMarks (with_ticks book work)
+pub sound_with : (book : JournalState) (work : RollbackWork) → HasValidMarks book → HasValidMarks (with_ticks book work)
 sound_with book work sound = record {
   size = sound.size;
   matched = sound.matched;
@@ -264,24 +264,24 @@ sound_with book work sound = record {
   within = sound.within;
 }
 
-pub due_with : (book : JournalState) (work : Work) (s m p : ℕ) (e : EntryRecord) → IsDue book s m p e → IsDue (with_ticks book work) s m p e
+pub due_with : (book : JournalState) (work : RollbackWork) (s m p : ℕ) (e : EntryRecord) → IsDue book s m p e → IsDue (with_ticks book work) s m p e
 due_with book work s m p e (Start h) = Start h
 due_with book work s m p e (Later h) = Later h
 due_with book work s m p e (Other i r names h) = Other i r names h
 due_with book work s m p e (Saw i r side f looked beside there h before) = Saw i r side f looked beside there h before
 
-pub marked_with : (book : JournalState) (work : Work) (visited : List ℕ) (n k : ℕ) → IsMarked book visited n k → IsMarked (with_ticks book work) visited n k
-marked_with book work visited n k marked = record {
-  sound = sound_with book work marked.sound;
-  start = marked.start;
-  caused = λ x p e found due. due_with book work (stamp_at book n k) x p e (marked.caused x p e found due);
-  whole = marked.whole;
+pub marked_with : (book : JournalState) (work : RollbackWork) (visited : List ℕ) (n k : ℕ) → IsMarked book visited n k → IsMarked (with_ticks book work) visited n k
+marked_with book work visited n k marked_nodes = record {
+  sound = sound_with book work marked_nodes.sound;
+  start = marked_nodes.start;
+  caused = λ x p e found due. due_with book work (stamp_at book n k) x p e (marked_nodes.caused x p e found due);
+  whole = marked_nodes.whole;
 }
 
 -- what no look saw stays unseen
-pub saw_lowered : (book : JournalState) (j q node m : ℕ) → AreMarks book → q < mark_of book j → node ≢ j → SawNoneToGo book node m → SawNoneToGo (lowered book j q) node m
+pub saw_lowered : (book : JournalState) (j q node m : ℕ) → HasValidMarks book → q < mark_of book j → node ≢ j → HasNoLookToRemove book node m → HasNoLookToRemove (with_lowered_mark book j q) node m
 saw_lowered book j q node m sound l ne saw p e f below found looked first =
     saw p e f (let k = lowered_falls book j q m sound l in omega arith) found looked (subst (λ z. entry_at book.histories node z ≡ Some f) ((lowered_other book j q node ne).1) first)
 
-pub unseen_lowered : (book : JournalState) (j q node : ℕ) → AreMarks book → q < mark_of book j → node ≢ j → IsUnseen book node → IsUnseen (lowered book j q) node
+pub unseen_lowered : (book : JournalState) (j q node : ℕ) → HasValidMarks book → q < mark_of book j → node ≢ j → IsUnseen book node → IsUnseen (with_lowered_mark book j q) node
 unseen_lowered book j q node sound l ne unseen m side beside = saw_lowered book j q node m sound l ne (unseen m side beside)

@@ -4,16 +4,16 @@ use Rattle.ga_node.specs.Record.{NodeState}
 use Rattle.ga_grid.specs.Chip.{node_at}
 use Rattle.ga_event.specs.Undo.{CanRestore}
 use Rattle.ga_journal.specs.Histories.{EntryRecord, JournalState, history}
-use Rattle.ga_journal.specs.Walked.{walked_back}
-use Rattle.ga_journal.specs.Marks.{mark_of, entries, partner_of, partner_at, entry_at, entries_to_remove, is_pending, ticked, ticked_in_vain, lowered, AreMarks, is_counted}
+use Rattle.ga_journal.specs.Walked.{node_before_entries}
+use Rattle.ga_journal.specs.Marks.{mark_of, entries, partner_of, partner_at, entry_at, entries_to_remove, is_pending, tick_counted, failed_search_counted, with_lowered_mark, HasValidMarks, counts_event}
 use Rattle.ga_journal.specs.inner.Marks.{to_go, in_line}
 use Rattle.ga_ports.specs.declared.side.Side.{Side}
 use Rattle.ga_ports.specs.declared.side.Side.TheVariants.{Right, Down, Left, Up}
 use Rattle.ga_grid.specs.Grid.{neighbour_of}
 use Rattle.std.specs.List.{sum_by, count_by}
-use Rattle.ga_journal.specs.Events.{has_looked_in}
-use Rattle.ga_journal.specs.Looks.{HasLook, IsLookToGo, SawNoneToGo}
-use Rattle.ga_rollback.specs.Rewound.{looks_of}
+use Rattle.ga_journal.specs.Events.{act_has_looked}
+use Rattle.ga_journal.specs.Looks.{HasLook, IsLookToRemove, HasNoLookToRemove}
+use Rattle.ga_rollback.specs.Rewound.{count_all_looks}
 
 -- ---- the ends of histories, restored
 
@@ -25,14 +25,14 @@ end_of hs gs n = drop (length (history gs n)) (history hs n)
 abbrev pub CanGoBack : List NodeState → List (List EntryRecord) → Type 0
 CanGoBack chip hs =
     (n : ℕ) (front end : List EntryRecord) (e : EntryRecord) → history hs n ≡ front ++ e ∷ end
-    → CanRestore (walked_back (node_at chip n) end) e.saved
+    → CanRestore (node_before_entries (node_at chip n) end) e.saved
 
 -- some of the entries that are to be removed are removed, and the nodes restored by them; each of them was a tick
 pub record IsRestoring (chip : List NodeState) (first : JournalState) (now : List NodeState) (book : JournalState) : Type 0 where
   pub nodes : length now ≡ length chip
   pub size : length book.histories ≡ length first.histories
   pub ends : (m : ℕ) → history first.histories m ≡ history book.histories m ++ end_of first.histories book.histories m
-  pub restored : (m : ℕ) → node_at now m ≡ walked_back (node_at chip m) (end_of first.histories book.histories m)
+  pub with_restored_values : (m : ℕ) → node_at now m ≡ node_before_entries (node_at chip m) (end_of first.histories book.histories m)
   pub marks : (m : ℕ) → mark_of book m ≡ mark_of first m
   pub sized : length book.going ≡ 144
   pub others : book ≡ record first { histories = book.histories; ready = book.ready; going = book.going; ticks = book.ticks }
@@ -78,13 +78,13 @@ pub data IsDue (book : JournalState) (s m p : ℕ) (e : EntryRecord) : Type 0 wh
   Start : e.stamp ≡ s → IsDue book s m p e
   Later : mark_of book m < p → IsDue book s m p e
   Other : (j q : ℕ) → partner_of e.act ≡ Some (j, q) → mark_of book j < q → IsDue book s m p e
-  Saw : (j q : ℕ) (side : Side) (f : EntryRecord) → has_looked_in e.act ≡ true → neighbour_of m side ≡ Some j
+  Saw : (j q : ℕ) (side : Side) (f : EntryRecord) → act_has_looked e.act ≡ true → neighbour_of m side ≡ Some j
       → entry_at book.histories j q ≡ Some f → mark_of book j ≤ q → f.stamp < e.stamp → IsDue book s m p e
 
 -- the marks of a rollback of node n from its entry at k on: each entry to go has a cause, and what an entry that was visited
 -- names is to go with it
 pub record IsMarked (book : JournalState) (visited : List ℕ) (n k : ℕ) : Type 0 where
-  pub sound : AreMarks book
+  pub sound : HasValidMarks book
   pub start : mark_of book n ≤ k
   pub caused : (m p : ℕ) (e : EntryRecord) → entry_at book.histories m p ≡ Some e → mark_of book m ≤ p
       → IsDue book (stamp_at book n k) m p e
@@ -93,23 +93,23 @@ pub record IsMarked (book : JournalState) (visited : List ℕ) (n k : ℕ) : Typ
 -- an entry visited: the mark of the node that it names is low enough, or is lowered
 pub data IsFollowed (old : JournalState) (m p : ℕ) (new : JournalState) : Type 0 where
   Passed : ((j q : ℕ) → partner_at old.histories m p ≡ Some (j, q) → mark_of old j ≤ q)
-      → new ≡ ticked old → IsFollowed old m p new
+      → new ≡ tick_counted old → IsFollowed old m p new
   Lowered : (j q : ℕ) → partner_at old.histories m p ≡ Some (j, q) → q < mark_of old j
-      → new ≡ lowered (ticked old) j q → IsFollowed old m p new
+      → new ≡ with_lowered_mark (tick_counted old) j q → IsFollowed old m p new
 
 -- no look of a neighbour that is to stay came after an entry of node j that is to go
 abbrev pub IsUnseen : JournalState → ℕ → Type 0
-IsUnseen book j = (m : ℕ) (side : Side) → neighbour_of j side ≡ Some m → SawNoneToGo book j m
+IsUnseen book j = (m : ℕ) (side : Side) → neighbour_of j side ≡ Some m → HasNoLookToRemove book j m
 
 -- marks of a node's neighbours lowered one after another, each to a look that came after an entry of the node that is to be
--- removed, in two ticks; and `fruitless` searches that found none, each of a node that has a look, in one tick
+-- removed, in two ticks; and `failed_searches` searches that found none, each of a node that has a look, in one tick
 pub data AreLowered (old : JournalState) (node : ℕ) : ℕ → JournalState → Type 0 where
   Same : {vain : ℕ} {new : JournalState} → vain ≡ 0 → new ≡ old → AreLowered old node vain new
   Further : {vain : ℕ} {new : JournalState} (book : JournalState) (m p : ℕ) (side : Side) → AreLowered old node vain book
-      → neighbour_of m side ≡ Some node → IsLookToGo book node m p → new ≡ lowered (ticked book) m p
+      → neighbour_of m side ≡ Some node → IsLookToRemove book node m p → new ≡ with_lowered_mark (tick_counted book) m p
       → AreLowered old node vain new
   Vain : {vain : ℕ} {new : JournalState} (book : JournalState) (before m : ℕ) → AreLowered old node before book
-      → HasLook (history book.histories m) → vain ≡ before + 1 → new ≡ ticked_in_vain book → AreLowered old node vain new
+      → HasLook (history book.histories m) → vain ≡ before + 1 → new ≡ failed_search_counted book → AreLowered old node vain new
 
 -- marks of a node's neighbours were lowered as in `AreLowered`, with at most `most` searches that found none
 pub record AreLoweredBy (most : ℕ) (old : JournalState) (node : ℕ) (new : JournalState) : Type 0 where
@@ -127,16 +127,16 @@ staying (h ∷ hs) (k ∷ going) = take (length h - k) h ∷ staying hs going
 -- visited, a search for a look to be removed or a mark lowered; at most four more searches in vain can come for each pending
 -- node, and `more` besides
 pub record IsMarking (first : JournalState) (n k : ℕ) (book : JournalState) (visited : List ℕ) (more : ℕ) : Type 0 where
-  pub marked : IsMarked book visited n k
+  pub marked_nodes : IsMarked book visited n k
   pub others : book ≡ record first { going = book.going; waiting = book.waiting; ticks = book.ticks }
   pub size : length visited ≡ 144
   pub fits : (m : ℕ) → slice_index visited m ≤ entries_to_remove book m
   pub found : ℕ
   pub vain : ℕ
   pub apart : book.ticks.vain ≡ first.ticks.vain + vain
-  pub looks : looks_of (staying book.histories book.going) + found ≤ looks_of book.histories
+  pub looks : count_all_looks (staying book.histories book.going) + found ≤ count_all_looks book.histories
   pub searches : vain + 4 * in_line book + more ≤ 4 * to_go book
-  pub blind : looks_of book.histories ≡ 0 → vain ≡ 0
+  pub blind : count_all_looks book.histories ≡ 0 → vain ≡ 0
   pub least : first.ticks.count + 2 + sum_by (λ (x : ℕ). x) visited + vain ≤ book.ticks.count + in_line book
   pub bound : book.ticks.count + in_line book ≤ first.ticks.count + 2 * to_go book + sum_by (λ (x : ℕ). x) visited + found + vain
 
@@ -148,7 +148,7 @@ IsDone book visited m = is_pending book m ≡ false → (entries_to_remove book 
 
 -- how many events are counted by these entries
 abbrev pub counted_in : List EntryRecord → ℕ
-counted_in entries = count_by (λ (e : EntryRecord). is_counted e.act) entries
+counted_in entries = count_by (λ (e : EntryRecord). counts_event e.act) entries
 
 abbrev pub counted_of : List (List EntryRecord) → ℕ
 counted_of hs = sum_by counted_in hs
@@ -166,7 +166,7 @@ one_counted (Some b) = if b then 1 else 0
 pub record IsRaising (first book : JournalState) (events : ℕ) : Type 0 where
   pub others : book ≡ record first { going = book.going; ticks = book.ticks }
   pub sized : length book.going ≡ 144
-  pub ticked : book.ticks.count + to_go book ≡ first.ticks.count + to_go first
+  pub tick_counted : book.ticks.count + to_go book ≡ first.ticks.count + to_go first
   pub number : events + counted_staying first ≡ counted_staying book
 
 -- ---- the ticks of lowering the marks, counted
@@ -176,9 +176,9 @@ pub record AreCounted (old new : JournalState) : Type 0 where
   pub found : ℕ
   pub vain : ℕ
   pub apart : new.ticks.vain ≡ old.ticks.vain + vain
-  pub looks : looks_of (staying new.histories new.going) + found ≤ looks_of new.histories
+  pub looks : count_all_looks (staying new.histories new.going) + found ≤ count_all_looks new.histories
   pub searches : vain ≤ 4 * to_go new
-  pub blind : looks_of new.histories ≡ 0 → vain ≡ 0
+  pub blind : count_all_looks new.histories ≡ 0 → vain ≡ 0
   pub least : old.ticks.count + to_go new + 2 + vain ≤ new.ticks.count
   pub most : new.ticks.count ≤ old.ticks.count + 3 * to_go new + found + vain
 

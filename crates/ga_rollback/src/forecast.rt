@@ -2,17 +2,17 @@
 
 ghost use Rattle.std.specs.Prelude.{◌≡◌, ◌+◌, ◌*◌, ◌^◌, ◌<◌, ◌≤◌, ◌⊎◌, ◌↔◌, ℕ, length, slice_index, IfOk, OnErr, Err};
 ghost use Rattle.std.specs.List.{sum_by};
-ghost use Rattle.ga_event.specs.Told.{steps_of};
+ghost use Rattle.ga_event.specs.Told.{count_steps};
 ghost use Rattle.ga_journal.specs.Histories.{history};
-ghost use Rattle.ga_journal.specs.Events.{events_of};
-ghost use Rattle.ga_journal.specs.Logs.{IsWhole};
-ghost use Rattle.ga_journal.specs.Marks.{AreMarks, IsAtRest, mark_of, entries_to_remove, counted_at, raised, entries};
+ghost use Rattle.ga_journal.specs.Events.{journal_events};
+ghost use Rattle.ga_journal.specs.Logs.{AreConsistentHistories};
+ghost use Rattle.ga_journal.specs.Marks.{HasValidMarks, IsOutsideRollback, mark_of, entries_to_remove, counts_event_at, with_raised_mark, entries};
 ghost use Rattle.ga_journal.specs.inner.Marks.{to_go};
-ghost use Rattle.ga_rollback.specs.Rewound.{WouldGo};
+ghost use Rattle.ga_rollback.specs.Rewound.{IsRollbackForecast};
 ghost use Rattle.ga_rollback.specs.inner.{counted_of, one_counted, IsRaising};
 
 use crate::rollback::{RollbackFault, mark};
-use crate::visited::Visited;
+use crate::visited::VisitedEntries;
 use ga_grid::NodeId;
 use ga_journal::Journal;
 
@@ -22,7 +22,7 @@ pub struct RollbackForecast {
     /// How many events a rollback would take.
     pub events: u32,
     /// How many steps of each node a rollback would take.
-    pub steps: Visited,
+    pub steps: VisitedEntries,
 }
 
 /// Returns what `rewind` would remove. Nothing is removed: the journal is as before, except for its ticks. No memory is taken.
@@ -30,22 +30,22 @@ pub struct RollbackForecast {
 ///
 /// # Errors
 /// `NoStep`, where the node has no such step.
-pub fn would_rewind(
+pub fn forecast_rollback(
     journal: &mut Journal,
     node: NodeId,
     step: u32,
 ) -> Result<RollbackForecast, RollbackFault>
-    requires rest { IsAtRest journal.old }
-    requires whole { IsWhole journal.old.histories journal.old.made }
+    requires rest { IsOutsideRollback journal.old }
+    requires whole { AreConsistentHistories journal.old.histories journal.old.made }
     requires fits { journal.old.ticks.count + 40 * entries journal.old + 8 < 2 ^ 64 }
-    ensures ok { IfOk result (λ going. WouldGo journal.old node.number step going.events going.steps) }
+    ensures ok { IfOk result (λ going. IsRollbackForecast journal.old node.number step going.events going.steps) }
     ensures same { journal.new ≡ record journal.old { ticks = journal.new.ticks } }
-    ensures ticked { IfOk result (λ going.
+    ensures tick_counted { IfOk result (λ going.
         journal.new.ticks.count ≤ journal.old.ticks.count + 9 * sum_by (λ (x : ℕ). x) going.steps) }
 
     // `NoStep`, exactly if the step is 0 or past the node's steps
     ensures refused { (result ≡ Err RollbackFault.NoStep)
-        ↔ ((step ≡ 0) ⊎ (steps_of node.number (events_of journal.old) < step)) }
+        ↔ ((step ≡ 0) ⊎ (count_steps node.number (journal_events journal.old) < step)) }
     ensures journal { OnErr result (journal.new ≡ journal.old) }
 {
     let steps = journal.mark_of(node);
@@ -55,7 +55,7 @@ pub fn would_rewind(
     // So few that their number can't overflow.
     let kept = journal.kept();
     prove!(kept <= u32::MAX);
-    let mut going = Visited::none();
+    let mut going = VisitedEntries::none();
     mark(journal, node, step - 1, &mut going);
     let events = release(journal, &going);
     Ok(RollbackForecast {
@@ -65,9 +65,9 @@ pub fn would_rewind(
 }
 
 /// Raises all marks up to the ends of the histories, and returns how many events have an entry that was to be removed.
-fn release(journal: &mut Journal, going: &Visited) -> u32
+fn release(journal: &mut Journal, going: &VisitedEntries) -> u32
     requires going { (m : ℕ) → slice_index going.now m ≡ entries_to_remove journal.old m }
-    requires sound { AreMarks journal.old }
+    requires sound { HasValidMarks journal.old }
     requires few { counted_of journal.old.histories < 2 ^ 32 }
     requires fits { journal.old.ticks.count + to_go journal.old < 2 ^ 64 }
     ensures done { IsRaising journal.old journal.new result }
@@ -86,11 +86,11 @@ fn release(journal: &mut Journal, going: &Visited) -> u32
 /// Raises a node's mark by one entry, and counts the event of that entry where it is counted by it.
 fn let_stay(journal: &mut Journal, node: NodeId, events: u32) -> u32
     requires going { mark_of journal.old node.number < length (history journal.old.histories node.number) }
-    requires few { events + one_counted (counted_at journal.old.histories node.number (mark_of journal.old node.number)) < 2 ^ 32 }
+    requires few { events + one_counted (counts_event_at journal.old.histories node.number (mark_of journal.old node.number)) < 2 ^ 32 }
     requires fits { journal.old.ticks.count + 1 < 2 ^ 64 }
     ensures counted { result
-        ≡ events + one_counted (counted_at journal.old.histories node.number (mark_of journal.old node.number)) }
-    ensures raised { journal.new ≡ raised journal.old node.number }
+        ≡ events + one_counted (counts_event_at journal.old.histories node.number (mark_of journal.old node.number)) }
+    ensures with_raised_mark { journal.new ≡ with_raised_mark journal.old node.number }
 {
     if journal.raise(node) {
         events + 1

@@ -6,14 +6,14 @@ use std::marker::Model;
 /// How many entries of each node were visited, from its last one on, and a window that contains all nodes with some, so that
 /// not every count is read.
 #[derive(Drop)]
-pub struct Visited {
+pub struct VisitedEntries {
     counts: [u32; 144],
     // The least node that may have visited entries, and one past the greatest.
     first: u8,
     past: u8,
 }
 
-impl Model for Visited {
+impl Model for VisitedEntries {
     ghost use Rattle.std.specs.Prelude.{ℕ, List};
     ghost use Rattle.ga_rollback.specs.inner.{IsWindow};
 
@@ -24,7 +24,7 @@ impl Model for Visited {
     ghost invariant = { λ s. IsWindow s.counts s.first s.past };
 }
 
-impl Visited {
+impl VisitedEntries {
     ghost use Rattle.std.specs.Prelude.{◌≡◌, ◌+◌, ◌<◌, ◌≤◌, ◌^◌, ℕ, length, slice_index, slice_set};
 
     /// No visited entry of any node.
@@ -32,7 +32,7 @@ impl Visited {
         ensures size { length result ≡ 144 }
         ensures zero { (n : ℕ) → slice_index result n ≡ 0 }
     {
-        Visited {
+        VisitedEntries {
             counts: [0; 144],
             first: 144,
             past: 0,

@@ -5,20 +5,20 @@ use Rattle.std.proofs.lemmas.Bool.{cases_lt, eqb-true}
 use Rattle.std.proofs.lemmas.Option.{same_Some, slice_get_within, get_or_from_slice_get}
 use Rattle.std.proofs.lemmas.List.{drop_more, drop_all, take-append-drop, length-take}
 use Rattle.ga_grid.specs.declared.node_id.NodeId.{NodeId}
-use Rattle.ga_event.specs.Told.{steps_of, made_in, made_after, causes_told, events_told}
+use Rattle.ga_event.specs.Told.{count_steps, made_event_in, made_event_after, causes_without_outcomes, events_without_outcomes}
 use Rattle.ga_event.specs.declared.made.Made.{Made}
-use Rattle.ga_lab.specs.Machine.{State, NodeAtStep, node_at_step, earlier, undone, outcomes_of_kept, BackwardState, backward_state, made_before, causes_of, rest_answer}
+use Rattle.ga_lab.specs.Machine.{State, NodeAtStep, node_at_step, earlier, state_after_undo, outcomes_of_kept, BackwardState, backward_state, made_event_before, causes_of, removed_count}
 use Rattle.ga_scheduler.specs.declared.condition.Condition.{Condition}
-use Rattle.ga_scheduler.specs.Conditions.{holds, first_held, is_step_of}
-use Rattle.ga_scheduler.specs.Running.{held_told}
-use Rattle.ga_scheduler.specs.Backward.{held_behind, is_among, is_asked_held, newest_before, IsNewestHeld, undone_often, find_newest_holding, number_of_step, gone_from}
+use Rattle.ga_scheduler.specs.Conditions.{holds, first_holding_condition, is_step_of}
+use Rattle.ga_scheduler.specs.Running.{condition_held_by}
+use Rattle.ga_scheduler.specs.Backward.{condition_held_after, is_considered_event, is_held_at, newest_holding_before, IsNewestHolding, machine_after_undos, find_newest_holding, step_number_of_event, removed_event_count}
 use Rattle.ga_scheduler.specs.inner.{held_one, is_held, held_upto, all_upto, newest_place}
 use Rattle.ga_scheduler.proofs.Newest.{undone_earlier, whole_earlier, of_made, ToldAt, told_at}
 use Rattle.std.specs.Result.{result_ok}
 use Rattle.ga_event.specs.declared.event.Event.{Event}
 use Rattle.ga_event.specs.declared.event.Event.TheVariants as event
 use Rattle.ga_event.specs.declared.event.Cause.{Cause}
-use Rattle.ga_event.specs.Apply.{EventOutcome, Did, Carried}
+use Rattle.ga_event.specs.Apply.{EventOutcome, ExecutedOwn, PassedWord}
 use Rattle.ga_event.specs.declared.made.Made.TheVariants as made
 use Rattle.ga_causal.specs.Dependence.{cause_touches, position_of_step}
 use Rattle.ga_causal.proofs.Places.{touching_in, place_split}
@@ -41,19 +41,19 @@ upto_more c only s n m b e h =
     ap (held_upto c only s) (e ∙ add-one n) ∙ ap (λ (z : Bool). cond z (suc n) (held_upto c only s n)) h ∙ ap (λ (z : ℕ). cond b z (held_upto c only s n)) (sym (add-one n) ∙ sym e)
 
 -- the report of the event
-pub held_as : (c : Condition) (only : Option NodeId) (s : State) (n : ℕ) (m : Made) (a h : Bool) → made_in (outcomes_of_kept s) n ≡ Some m → a ≡ is_among only (Some m)
+pub held_as : (c : Condition) (only : Option NodeId) (s : State) (n : ℕ) (m : Made) (a h : Bool) → made_event_in (outcomes_of_kept s) n ≡ Some m → a ≡ is_considered_event only (Some m)
     → h ≡ holds c m (earlier s (n + 1)) → is_held c only s n ≡ a && h
 held_as c only s n m a h is among here =
-    ap (λ (z : Option Made). is_among only z && held_one c z (earlier s (n + 1))) is
+    ap (λ (z : Option Made). is_considered_event only z && held_one c z (earlier s (n + 1))) is
     ∙ ap (λ (z : Bool). z && holds c m (earlier s (n + 1))) (sym among) ∙ ap (λ (z : Bool). a && z) (sym here)
 
 and_false : (a : Bool) → a && false ≡ false
 and_false true = refl
 and_false false = refl
 
-pub not_among : (c : Condition) (only : Option NodeId) (s : State) (n : ℕ) (m : Made) → made_in (outcomes_of_kept s) n ≡ Some m → false ≡ is_among only (Some m) → is_held c only s n ≡ false
+pub not_among : (c : Condition) (only : Option NodeId) (s : State) (n : ℕ) (m : Made) → made_event_in (outcomes_of_kept s) n ≡ Some m → false ≡ is_considered_event only (Some m) → is_held c only s n ≡ false
 not_among c only s n m is among =
-    ap (λ (z : Option Made). is_among only z && held_one c z (earlier s (n + 1))) is ∙ ap (λ (z : Bool). z && holds c m (earlier s (n + 1))) (sym among)
+    ap (λ (z : Option Made). is_considered_event only z && held_one c z (earlier s (n + 1))) is ∙ ap (λ (z : Bool). z && holds c m (earlier s (n + 1))) (sym among)
 
 -- ---- some conditions
 
@@ -69,13 +69,13 @@ some_first : (b : Bool) (o : Option ℕ) → is_some (cond b (Some 0) (option_ma
 some_first true o = refl
 some_first false o = some_mapped o
 
-some_held : (c : Condition) (cs : List Condition) (told : Option Made) (t : State) → is_some (held_told (c ∷ cs) told t) ≡ held_one c told t || is_some (held_told cs told t)
-unfolding first_held
+some_held : (c : Condition) (cs : List Condition) (told : Option Made) (t : State) → is_some (condition_held_by (c ∷ cs) told t) ≡ held_one c told t || is_some (condition_held_by cs told t)
+unfolding first_holding_condition
 some_held c cs None t = refl
-some_held c cs (Some m) t = some_first (holds c m t) (first_held cs m t)
+some_held c cs (Some m) t = some_first (holds c m t) (first_holding_condition cs m t)
 
-none_asked : (told : Option Made) (t : State) → is_some (held_told [] told t) ≡ false
-unfolding first_held
+none_asked : (told : Option Made) (t : State) → is_some (condition_held_by [] told t) ≡ false
+unfolding first_holding_condition
 none_asked None t = refl
 none_asked (Some m) t = refl
 
@@ -87,17 +87,17 @@ max_step true false true n x y l k = omega (arith, l)
 max_step true false false n x y l k = refl
 
 all_step : (cs : List Condition) (only : Option NodeId) (s : State) (n : ℕ)
-    → all_upto cs only s (suc n) ≡ cond (is_among only (made_in (outcomes_of_kept s) n) && is_some (held_behind cs s n)) (suc n) (all_upto cs only s n)
+    → all_upto cs only s (suc n) ≡ cond (is_considered_event only (made_event_in (outcomes_of_kept s) n) && is_some (condition_held_after cs s n)) (suc n) (all_upto cs only s n)
 all_step [] only s n =
-    sym (ap (λ (z : Bool). cond z (suc n) 0) (ap (λ (z : Bool). is_among only (made_in (outcomes_of_kept s) n) && z) (none_asked (made_in (outcomes_of_kept s) n) (earlier s (n + 1)))
-    ∙ and_false (is_among only (made_in (outcomes_of_kept s) n))))
+    sym (ap (λ (z : Bool). cond z (suc n) 0) (ap (λ (z : Bool). is_considered_event only (made_event_in (outcomes_of_kept s) n) && z) (none_asked (made_event_in (outcomes_of_kept s) n) (earlier s (n + 1)))
+    ∙ and_false (is_considered_event only (made_event_in (outcomes_of_kept s) n))))
 all_step (c ∷ cs) only s n =
-    let a : Bool = is_among only (made_in (outcomes_of_kept s) n) in
-    let h : Bool = held_one c (made_in (outcomes_of_kept s) n) (earlier s (n + 1)) in
-    let g : Bool = is_some (held_behind cs s n) in
+    let a : Bool = is_considered_event only (made_event_in (outcomes_of_kept s) n) in
+    let h : Bool = held_one c (made_event_in (outcomes_of_kept s) n) (earlier s (n + 1)) in
+    let g : Bool = is_some (condition_held_after cs s n) in
     ap (λ (z : ℕ). max (held_upto c only s (suc n)) z) (all_step cs only s n)
     ∙ max_step a h g n (held_upto c only s n) (all_upto cs only s n) (upto_within c only s n) (all_within cs only s n)
-    ∙ ap (λ (z : Bool). cond (a && z) (suc n) (max (held_upto c only s n) (all_upto cs only s n))) (sym (some_held c cs (made_in (outcomes_of_kept s) n) (earlier s (n + 1))))
+    ∙ ap (λ (z : Bool). cond (a && z) (suc n) (max (held_upto c only s n) (all_upto cs only s n))) (sym (some_held c cs (made_event_in (outcomes_of_kept s) n) (earlier s (n + 1))))
 
 all_zero : (cs : List Condition) (only : Option NodeId) (s : State) → all_upto cs only s 0 ≡ 0
 all_zero [] only s = refl
@@ -107,10 +107,10 @@ place_step : (b : Bool) (n x : ℕ) → cond b (Some n) (newest_place x) ≡ new
 place_step true n x = refl
 place_step false n x = refl
 
-pub newest_is : (cs : List Condition) (only : Option NodeId) (s : State) (n : ℕ) → newest_before cs only s n ≡ newest_place (all_upto cs only s n)
+pub newest_is : (cs : List Condition) (only : Option NodeId) (s : State) (n : ℕ) → newest_holding_before cs only s n ≡ newest_place (all_upto cs only s n)
 newest_is cs only s zero = ap newest_place (sym (all_zero cs only s))
 newest_is cs only s (suc n) =
-    let b : Bool = is_among only (made_in (outcomes_of_kept s) n) && is_some (held_behind cs s n) in
+    let b : Bool = is_considered_event only (made_event_in (outcomes_of_kept s) n) && is_some (condition_held_after cs s n) in
     ap (λ (o : Option ℕ). cond b (Some n) o) (newest_is cs only s n)
     ∙ place_step b n (all_upto cs only s n)
     ∙ ap newest_place (sym (all_step cs only s n))
@@ -120,42 +120,42 @@ place_behind upto n e = ap newest_place (sym (add-one n) ∙ sym e)
 
 -- ---- what is found, as a law
 
-pub newest_found : (cs : List Condition) (only : Option NodeId) (s : State) (n place : ℕ) → newest_before cs only s n ≡ Some place → IsNewestHeld cs only s n place
+pub newest_found : (cs : List Condition) (only : Option NodeId) (s : State) (n place : ℕ) → newest_holding_before cs only s n ≡ Some place → IsNewestHolding cs only s n place
 newest_found cs only s zero place h = absurd (cc)
-newest_found cs only s (suc n) place h = by_test (is_asked_held cs only s n) refl h (λ k. newest_found cs only s n place k)
+newest_found cs only s (suc n) place h = by_test (is_held_at cs only s n) refl h (λ k. newest_found cs only s n place k)
   where
-    by_test : (b : Bool) → is_asked_held cs only s n ≡ b → cond b (Some n) (newest_before cs only s n) ≡ Some place
-        → (newest_before cs only s n ≡ Some place → IsNewestHeld cs only s n place) → IsNewestHeld cs only s (suc n) place
+    by_test : (b : Bool) → is_held_at cs only s n ≡ b → cond b (Some n) (newest_holding_before cs only s n) ≡ Some place
+        → (newest_holding_before cs only s n ≡ Some place → IsNewestHolding cs only s n place) → IsNewestHolding cs only s (suc n) place
     by_test true is k before =
         let e : n ≡ place = same_Some n place k in
         record {
           within = omega (arith, e);
-          here = ap (is_asked_held cs only s) (sym e) ∙ is;
+          here = ap (is_held_at cs only s) (sym e) ∙ is;
           later = λ p l m. absurd (omega (arith, e, l, m));
         }
     by_test false is k before =
-        let r : IsNewestHeld cs only s n place = before k in
+        let r : IsNewestHolding cs only s n place = before k in
         record {
           within = omega (arith, r.within);
           here = r.here;
-          later = λ p l m. ⊎_elim (λ less. r.later p l less) (λ more. (let e : p ≡ n = omega (arith, more, m) in ap (is_asked_held cs only s) e ∙ is)) (cases_lt p n);
+          later = λ p l m. ⊎_elim (λ less. r.later p l less) (λ more. (let e : p ≡ n = omega (arith, more, m) in ap (is_held_at cs only s) e ∙ is)) (cases_lt p n);
         }
 
-pub none_found : (cs : List Condition) (only : Option NodeId) (s : State) (n : ℕ) → newest_before cs only s n ≡ None → (p : ℕ) → p < n → is_asked_held cs only s p ≡ false
+pub none_found : (cs : List Condition) (only : Option NodeId) (s : State) (n : ℕ) → newest_holding_before cs only s n ≡ None → (p : ℕ) → p < n → is_held_at cs only s p ≡ false
 none_found cs only s zero h p l = absurd (omega arith)
-none_found cs only s (suc n) h p l = by_test (is_asked_held cs only s n) refl h (λ k q m. none_found cs only s n k q m)
+none_found cs only s (suc n) h p l = by_test (is_held_at cs only s n) refl h (λ k q m. none_found cs only s n k q m)
   where
-    by_test : (b : Bool) → is_asked_held cs only s n ≡ b → cond b (Some n) (newest_before cs only s n) ≡ None
-        → (newest_before cs only s n ≡ None → (q : ℕ) → q < n → is_asked_held cs only s q ≡ false) → is_asked_held cs only s p ≡ false
+    by_test : (b : Bool) → is_held_at cs only s n ≡ b → cond b (Some n) (newest_holding_before cs only s n) ≡ None
+        → (newest_holding_before cs only s n ≡ None → (q : ℕ) → q < n → is_held_at cs only s q ≡ false) → is_held_at cs only s p ≡ false
     by_test true is k before = absurd (cc)
-    by_test false is k before = ⊎_elim (λ less. before k p less) (λ more. (let e : p ≡ n = omega (arith, more, l) in ap (is_asked_held cs only s) e ∙ is)) (cases_lt p n)
+    by_test false is k before = ⊎_elim (λ less. before k p less) (λ more. (let e : p ≡ n = omega (arith, more, l) in ap (is_held_at cs only s) e ∙ is)) (cases_lt p n)
 
 -- ---- the walk over the events
 
 -- the report of the event just before a place
-pub told_prev : (s : State) (n : ℕ) (m : Made) → 0 < n → Some m ≡ made_before s n → made_in (outcomes_of_kept s) (n - 1) ≡ Some m
+pub told_prev : (s : State) (n : ℕ) (m : Made) → 0 < n → Some m ≡ made_event_before s n → made_event_in (outcomes_of_kept s) (n - 1) ≡ Some m
 told_prev s zero m l h = absurd (omega arith)
-told_prev s (suc n) m l h = ap (made_in (outcomes_of_kept s)) (let e : suc n - 1 ≡ n = omega arith in e) ∙ sym h
+told_prev s (suc n) m l h = ap (made_event_in (outcomes_of_kept s)) (let e : suc n - 1 ≡ n = omega arith in e) ∙ sym h
 
 -- if no event is found at it, the search continues below, and ends where it may
 pub below : (c : Condition) (only : Option NodeId) (s : State) (least n m total : ℕ) → m + 1 ≡ n → is_held c only s m ≡ false
@@ -173,15 +173,15 @@ pub ended : (c : Condition) (only : Option NodeId) (s : State) (least n total : 
 ended c only s least n total l same = (let q : least ≡ max least (held_upto c only s n) = omega (arith, l, upto_within c only s n) in q) ∙ same
 
 -- a walk that is after the event which the other events precede
-pub stands_now : (w : NodeAtStep) (t : BackwardState) (s : State) (n : NodeId) (k place m : ℕ) → w.machine ≡ s → w.node ≡ n → w.step ≡ k → k ≡ steps_of n.number (take place s.kept)
-    → t ≡ backward_state s m → m + 1 ≡ place → w ≡ node_at_step t.machine n (steps_of n.number (take (t.place + 1) t.machine.kept))
+pub stands_now : (w : NodeAtStep) (t : BackwardState) (s : State) (n : NodeId) (k place m : ℕ) → w.machine ≡ s → w.node ≡ n → w.step ≡ k → k ≡ count_steps n.number (take place s.kept)
+    → t ≡ backward_state s m → m + 1 ≡ place → w ≡ node_at_step t.machine n (count_steps n.number (take (t.place + 1) t.machine.kept))
 stands_now w t s n k place m machine node step at told e =
     let here : w ≡ node_at_step s n k = ap (λ (z : State). node_at_step z w.node w.step) machine ∙ ap (λ (z : NodeId). node_at_step s z w.step) node ∙ ap (node_at_step s n) step in
-    subst (λ (z : BackwardState). w ≡ node_at_step z.machine n (steps_of n.number (take (z.place + 1) z.machine.kept))) (sym told)
-    (here ∙ ap (node_at_step s n) at ∙ ap (λ (z : ℕ). node_at_step s n (steps_of n.number (take z s.kept))) (sym e))
+    subst (λ (z : BackwardState). w ≡ node_at_step z.machine n (count_steps n.number (take (z.place + 1) z.machine.kept))) (sym told)
+    (here ∙ ap (node_at_step s n) at ∙ ap (λ (z : ℕ). node_at_step s n (count_steps n.number (take z s.kept))) (sym e))
 
-pub steps_whole : (s : State) (n place : ℕ) → place ≡ length s.kept → steps_of n (take place s.kept) ≡ steps_of n s.kept
-steps_whole s n place e = ap (λ (z : ℕ). steps_of n (take z s.kept)) e ∙ ap (steps_of n) (take_all (length s.kept) s.kept (omega arith))
+pub steps_whole : (s : State) (n place : ℕ) → place ≡ length s.kept → count_steps n (take place s.kept) ≡ count_steps n s.kept
+steps_whole s n place e = ap (λ (z : ℕ). count_steps n (take z s.kept)) e ∙ ap (count_steps n) (take_all (length s.kept) s.kept (omega arith))
 
 -- one condition more
 pub one_more : (cs : List Condition) (only : Option NodeId) (s : State) (n i upto next total : ℕ) (d : Condition) → i < length cs
@@ -197,16 +197,16 @@ none_more cs only s n i upto total l same =
 
 -- ---- undos
 
-pub undone_once : (s : State) (n m : ℕ) → n ≤ length s.kept → m + 1 ≡ n → undone (earlier s n) ≡ earlier s m
-undone_once s n m l e = ap (λ (z : ℕ). undone (earlier s z)) (sym e) ∙ undone_earlier s m (omega (arith, l, e))
+pub undone_once : (s : State) (n m : ℕ) → n ≤ length s.kept → m + 1 ≡ n → state_after_undo (earlier s n) ≡ earlier s m
+undone_once s n m l e = ap (λ (z : ℕ). state_after_undo (earlier s z)) (sym e) ∙ undone_earlier s m (omega (arith, l, e))
 
-pub undone_all : (s : State) (count : ℕ) → count ≤ length s.kept → undone_often count s ≡ earlier s (length s.kept - count)
+pub undone_all : (s : State) (count : ℕ) → count ≤ length s.kept → machine_after_undos count s ≡ earlier s (length s.kept - count)
 undone_all s zero l = sym (whole_earlier s) ∙ (let e : length s.kept ≡ length s.kept - 0 = omega arith in ap (earlier s) e)
 undone_all s (suc count) l =
-    ap undone (undone_all s count (omega (arith, l)))
+    ap state_after_undo (undone_all s count (omega (arith, l)))
     ∙ undone_once s (length s.kept - count) (length s.kept - suc count) (omega arith) (omega (arith, l))
 
-pub undone_from : (s : State) (place : ℕ) → place ≤ length s.kept → undone_often (length s.kept - place) s ≡ earlier s place
+pub undone_from : (s : State) (place : ℕ) → place ≤ length s.kept → machine_after_undos (length s.kept - place) s ≡ earlier s place
 undone_from s place l =
     undone_all s (length s.kept - place) (omega arith)
     ∙ (let e : length s.kept - (length s.kept - place) ≡ place = omega (arith, l) in ap (earlier s) e)
@@ -214,34 +214,34 @@ undone_from s place l =
 -- ---- the step of a node that a search backwards finds is the event at that place
 
 -- the report of an event has the number of its step of each of its nodes
-number_behind : (before : List Event) (e : Event) (what : EventOutcome) (m : Made) (n : ℕ) → made_after before e what ≡ Some m → is_step_of n m ≡ true
-    → number_of_step n (Some m) ≡ steps_of n before + 1
-number_behind before (event.Own node) (Did kind) m n is own =
-    let e : made.Own node (steps_of node.number before + 1) kind ≡ m = same_Some (made.Own node (steps_of node.number before + 1) kind) m is in
-    ap (λ (z : Made). number_of_step n (Some z)) (sym e)
-    ∙ ap (λ (z : ℕ). steps_of z before + 1) (eqb-true node.number n (ap (is_step_of n) e ∙ own))
-number_behind before (event.Own node) (Carried word) m n is own = absurd (cc)
-number_behind before (event.Pass w r side) (Did kind) m n is own = absurd (cc)
-number_behind before (event.Pass w r side) (Carried word) m n is own =
-    let e : made.Pass w (steps_of w.number before + 1) r (steps_of r.number before + 1) word ≡ m =
-    same_Some (made.Pass w (steps_of w.number before + 1) r (steps_of r.number before + 1) word) m is in
-    ap (λ (z : Made). number_of_step n (Some z)) (sym e) ∙ by_end (w.number == n) refl (ap (is_step_of n) e ∙ own)
+number_behind : (before : List Event) (e : Event) (what : EventOutcome) (m : Made) (n : ℕ) → made_event_after before e what ≡ Some m → is_step_of n m ≡ true
+    → step_number_of_event n (Some m) ≡ count_steps n before + 1
+number_behind before (event.Own node) (ExecutedOwn kind) m n is own =
+    let e : made.Own node (count_steps node.number before + 1) kind ≡ m = same_Some (made.Own node (count_steps node.number before + 1) kind) m is in
+    ap (λ (z : Made). step_number_of_event n (Some z)) (sym e)
+    ∙ ap (λ (z : ℕ). count_steps z before + 1) (eqb-true node.number n (ap (is_step_of n) e ∙ own))
+number_behind before (event.Own node) (PassedWord word) m n is own = absurd (cc)
+number_behind before (event.Pass w r side) (ExecutedOwn kind) m n is own = absurd (cc)
+number_behind before (event.Pass w r side) (PassedWord word) m n is own =
+    let e : made.Pass w (count_steps w.number before + 1) r (count_steps r.number before + 1) word ≡ m =
+    same_Some (made.Pass w (count_steps w.number before + 1) r (count_steps r.number before + 1) word) m is in
+    ap (λ (z : Made). step_number_of_event n (Some z)) (sym e) ∙ by_end (w.number == n) refl (ap (is_step_of n) e ∙ own)
   where
     by_end : (b : Bool) → (w.number == n) ≡ b → (b || (r.number == n)) ≡ true
-        → cond b (steps_of w.number before + 1) (steps_of r.number before + 1) ≡ steps_of n before + 1
-    by_end true at h = ap (λ (z : ℕ). steps_of z before + 1) (eqb-true w.number n at)
-    by_end false at h = ap (λ (z : ℕ). steps_of z before + 1) (eqb-true r.number n h)
+        → cond b (count_steps w.number before + 1) (count_steps r.number before + 1) ≡ count_steps n before + 1
+    by_end true at h = ap (λ (z : ℕ). count_steps z before + 1) (eqb-true w.number n at)
+    by_end false at h = ap (λ (z : ℕ). count_steps z before + 1) (eqb-true r.number n h)
 
-causes_apart : (xs ys : List (Cause × EventOutcome)) → causes_told (xs ++ ys) ≡ causes_told xs ++ causes_told ys
+causes_apart : (xs ys : List (Cause × EventOutcome)) → causes_without_outcomes (xs ++ ys) ≡ causes_without_outcomes xs ++ causes_without_outcomes ys
 causes_apart [] ys = refl
 causes_apart (x ∷ xs) ys = ap (λ (z : List Cause). x.0 ∷ z) (causes_apart xs ys)
 
-causes_many : (xs : List (Cause × EventOutcome)) → length (causes_told xs) ≡ length xs
+causes_many : (xs : List (Cause × EventOutcome)) → length (causes_without_outcomes xs) ≡ length xs
 causes_many [] = refl
 causes_many (x ∷ xs) = ap suc (causes_many xs)
 
-placed : (told : List (Cause × EventOutcome)) (n place : ℕ) (m : Made) → made_in told place ≡ Some m → is_step_of n m ≡ true
-    → position_of_step (causes_told told) n (number_of_step n (Some m)) ≡ Some place
+placed : (told : List (Cause × EventOutcome)) (n place : ℕ) (m : Made) → made_event_in told place ≡ Some m → is_step_of n m ≡ true
+    → position_of_step (causes_without_outcomes told) n (step_number_of_event n (Some m)) ≡ Some place
 placed told n place m is own =
     let a : ToldAt told place m = told_at told place m is in
     let within : place < length told = slice_get_within told place a.one a.is in
@@ -250,17 +250,17 @@ placed told n place m is own =
     let apart : before ++ a.one ∷ behind ≡ told =
     ap (λ (z : List (Cause × EventOutcome)). before ++ z) (sym (drop_more told place a.one within ∙ ap (λ (z : Cause × EventOutcome). z ∷ behind) (get_or_from_slice_get told place a.one a.one a.is)))
     ∙ take-append-drop place told in
-    let number : number_of_step n (Some m) ≡ suc (steps_of n (events_told before)) =
-    number_behind (events_told before) a.one.0.event a.one.1 m n a.made own ∙ add-one (steps_of n (events_told before)) in
-    let touched : cause_touches a.one.0 n ≡ true = of_made (events_told before) a.one.0.event a.one.1 m n a.made ∙ own in
-    let many : length (causes_told before) ≡ place = causes_many before ∙ (let q : length before ≡ place = omega (arith, length-take place told, within) in q) in
-    ap (position_of_step (causes_told told) n) number
-    ∙ ap (λ (z : List Cause). position_of_step z n (suc (steps_of n (events_told before)))) (sym (ap causes_told apart) ∙ causes_apart before (a.one ∷ behind))
-    ∙ place_split n (steps_of n (events_told before)) (causes_told before) a.one.0 (causes_told behind) (touching_in n (causes_told before)) touched
+    let number : step_number_of_event n (Some m) ≡ suc (count_steps n (events_without_outcomes before)) =
+    number_behind (events_without_outcomes before) a.one.0.event a.one.1 m n a.made own ∙ add-one (count_steps n (events_without_outcomes before)) in
+    let touched : cause_touches a.one.0 n ≡ true = of_made (events_without_outcomes before) a.one.0.event a.one.1 m n a.made ∙ own in
+    let many : length (causes_without_outcomes before) ≡ place = causes_many before ∙ (let q : length before ≡ place = omega (arith, length-take place told, within) in q) in
+    ap (position_of_step (causes_without_outcomes told) n) number
+    ∙ ap (λ (z : List Cause). position_of_step z n (suc (count_steps n (events_without_outcomes before)))) (sym (ap causes_without_outcomes apart) ∙ causes_apart before (a.one ∷ behind))
+    ∙ place_split n (count_steps n (events_without_outcomes before)) (causes_without_outcomes before) a.one.0 (causes_without_outcomes behind) (touching_in n (causes_without_outcomes before)) touched
     ∙ ap Some many
 
-among_placed : (s : State) (node : NodeId) (place : ℕ) (o : Option Made) → made_in (outcomes_of_kept s) place ≡ o → is_among (Some node) o ≡ true
-    → position_of_step (causes_of s) node.number (number_of_step node.number o) ≡ Some place
+among_placed : (s : State) (node : NodeId) (place : ℕ) (o : Option Made) → made_event_in (outcomes_of_kept s) place ≡ o → is_considered_event (Some node) o ≡ true
+    → position_of_step (causes_of s) node.number (step_number_of_event node.number o) ≡ Some place
 among_placed s node place None is h = absurd (cc)
 among_placed s node place (Some m) is h = placed (outcomes_of_kept s) node.number place m is h
 
@@ -269,22 +269,22 @@ left_true true b h = refl
 left_true false b h = h
 
 pub found_placed : (until : List Condition) (node : NodeId) (s : State) (place : ℕ) → find_newest_holding until (Some node) s ≡ Some place
-    → position_of_step (causes_of s) node.number (number_of_step node.number (made_in (outcomes_of_kept s) place)) ≡ Some place
+    → position_of_step (causes_of s) node.number (step_number_of_event node.number (made_event_in (outcomes_of_kept s) place)) ≡ Some place
 found_placed until node s place h =
-    let found : IsNewestHeld until (Some node) s (length s.kept) place = newest_found until (Some node) s (length s.kept) place h in
-    among_placed s node place (made_in (outcomes_of_kept s) place) refl (left_true (is_among (Some node) (made_in (outcomes_of_kept s) place)) _ found.here)
+    let found : IsNewestHolding until (Some node) s (length s.kept) place = newest_found until (Some node) s (length s.kept) place h in
+    among_placed s node place (made_event_in (outcomes_of_kept s) place) refl (left_true (is_considered_event (Some node) (made_event_in (outcomes_of_kept s) place)) _ found.here)
 
 -- so some events go
 some_goes : (s : State) (only : Option NodeId) (o : Option ℕ)
     → ((node : NodeId) (place : ℕ) → only ≡ Some node → o ≡ Some place
-    → position_of_step (causes_of s) node.number (number_of_step node.number (made_in (outcomes_of_kept s) place)) ≡ Some place)
-    → is_some (gone_from only s o) ≡ is_some o
+    → position_of_step (causes_of s) node.number (step_number_of_event node.number (made_event_in (outcomes_of_kept s) place)) ≡ Some place)
+    → is_some (removed_event_count only s o) ≡ is_some o
 some_goes s only None f = refl
 some_goes s None (Some place) f = refl
-some_goes s (Some node) (Some place) f = ap (λ (z : Option ℕ). is_some (result_ok (rest_answer (causes_of s) z))) (f node place refl refl)
+some_goes s (Some node) (Some place) f = ap (λ (z : Option ℕ). is_some (result_ok (removed_count (causes_of s) z))) (f node place refl refl)
 
-pub found_some : (until : List Condition) (only : Option NodeId) (s : State) → IsSome (gone_from only s (find_newest_holding until only s)) ↔ IsSome (find_newest_holding until only s)
+pub found_some : (until : List Condition) (only : Option NodeId) (s : State) → IsSome (removed_event_count only s (find_newest_holding until only s)) ↔ IsSome (find_newest_holding until only s)
 found_some until only s =
-    let same : is_some (gone_from only s (find_newest_holding until only s)) ≡ is_some (find_newest_holding until only s) =
+    let same : is_some (removed_event_count only s (find_newest_holding until only s)) ≡ is_some (find_newest_holding until only s) =
     some_goes s only (find_newest_holding until only s) (λ node place e h. found_placed until node s place (ap (λ (z : Option NodeId). find_newest_holding until z s) (sym e) ∙ h)) in
     (λ h. sym same ∙ h, λ h. same ∙ h)

@@ -10,14 +10,14 @@ use Rattle.rand_xoshiro.specs.SplitMix64.{mix_u64}
 use Rattle.ga_grid.specs.Grid.{node_id}
 use Rattle.ga_grid.specs.declared.node_id.NodeId.{NodeId}
 use Rattle.ga_grid.proofs.NodeIds.{node_id-number}
-use Rattle.ga_races.specs.Orders.{first_in}
+use Rattle.ga_races.specs.Orders.{first_node_from}
 use Rattle.ga_races.proofs.Ready.{first_same, none_of}
 use Rattle.ga_scheduler.specs.declared.schedule.Order.{Order}
 use Rattle.ga_scheduler.specs.declared.schedule.Order.TheVariants.{Rounds, Greedy, Random}
 use Rattle.ga_scheduler.specs.declared.schedule.Schedule.{Schedule}
 use Rattle.ga_scheduler.specs.declared.numbers.NumberSet.{NumberSet}
 use Rattle.ga_scheduler.specs.declared.drawing.Known.{Known}
-use Rattle.ga_scheduler.specs.Schedules.{numbers_below, node_drawn, node_in_order}
+use Rattle.ga_scheduler.specs.Schedules.{numbers_below, random_node, next_node_by_order}
 use Rattle.ga_scheduler.specs.inner.{IsAlone, IsKnown, is_random}
 
 -- ---- the numbers that pass a test
@@ -109,7 +109,7 @@ numbers_quiet f (suc n) m none l = elim (cases_Bool (f n)) [
 
 -- the number at the place
 pub drawn_is : (f : ℕ → Bool) (word place : ℕ) (numbers : List ℕ) (node : NodeId) → numbers ≡ numbers_below f 144 → place ≡ word % length numbers → 0 < length numbers
-    → node.number ≡ get_or numbers place 0 → Some node ≡ node_drawn f word
+    → node.number ≡ get_or numbers place 0 → Some node ≡ random_node f word
 drawn_is f word place numbers node listed at some is =
     let within : word % length (numbers_below f 144) < length (numbers_below f 144) = mod-lt word (subst (λ (z : List ℕ). 0 < length z) listed some) in
     let here : place ≡ word % length (numbers_below f 144) = at ∙ ap (λ (z : List ℕ). word % length z) listed in
@@ -119,11 +119,11 @@ drawn_is f word place numbers node listed at some is =
     ∙ sym (ap (option_map node_id) (slice_get-get_or (numbers_below f 144) (word % length (numbers_below f 144)) 0 within))
 
 -- there is none
-pub drawn_none : (f : ℕ → Bool) (word : ℕ) → length (numbers_below f 144) ≡ 0 → None ≡ node_drawn f word
+pub drawn_none : (f : ℕ → Bool) (word : ℕ) → length (numbers_below f 144) ≡ 0 → None ≡ random_node f word
 drawn_none f word none =
     sym (ap (option_map node_id) (slice_get_past (numbers_below f 144) (word % length (numbers_below f 144)) (omega (arith, none))))
 
-drawn_quiet : (f : ℕ → Bool) (word : ℕ) → node_drawn f word ≡ None → length (numbers_below f 144) ≡ 0
+drawn_quiet : (f : ℕ → Bool) (word : ℕ) → random_node f word ≡ None → length (numbers_below f 144) ≡ 0
 drawn_quiet f word h = elim (cases_eq (length (numbers_below f 144)) 0) [
   | inl none ↦ none
   | inr some ↦ absurd (
@@ -135,32 +135,32 @@ drawn_quiet f word h = elim (cases_eq (length (numbers_below f 144)) 0) [
 
 -- ---- the node that a schedule chooses
 
-pub chosen_same : (order : Order) (schedule : Schedule) (f g : ℕ → Bool) → ((m : ℕ) → m < 144 → f m ≡ g m) → node_in_order order schedule f ≡ node_in_order order schedule g
+pub chosen_same : (order : Order) (schedule : Schedule) (f g : ℕ → Bool) → ((m : ℕ) → m < 144 → f m ≡ g m) → next_node_by_order order schedule f ≡ next_node_by_order order schedule g
 chosen_same Rounds schedule f g same = first_same f g schedule.turn.number 144 same
 chosen_same Greedy schedule f g same = first_same f g schedule.turn.number 144 same
 chosen_same Random schedule f g same =
     ap (λ (z : List ℕ). option_map node_id (slice_get z ((mix_u64 schedule.generator).0 % length z))) (numbers_same f g 144 same)
 
 -- where it draws, and where it doesn't
-pub drawn_chosen : (order : Order) (schedule : Schedule) (f : ℕ → Bool) → true ≡ is_random order → node_drawn f (mix_u64 schedule.generator).0 ≡ node_in_order order schedule f
+pub drawn_chosen : (order : Order) (schedule : Schedule) (f : ℕ → Bool) → true ≡ is_random order → random_node f (mix_u64 schedule.generator).0 ≡ next_node_by_order order schedule f
 drawn_chosen Rounds schedule f is = absurd (true≢false is)
 drawn_chosen Greedy schedule f is = absurd (true≢false is)
 drawn_chosen Random schedule f is = refl
 
-pub first_chosen : (order : Order) (schedule : Schedule) (f : ℕ → Bool) → false ≡ is_random order → first_in f schedule.turn.number 144 ≡ node_in_order order schedule f
+pub first_chosen : (order : Order) (schedule : Schedule) (f : ℕ → Bool) → false ≡ is_random order → first_node_from f schedule.turn.number 144 ≡ next_node_by_order order schedule f
 first_chosen Rounds schedule f is = refl
 first_chosen Greedy schedule f is = refl
 first_chosen Random schedule f is = absurd (true≢false (sym is))
 
 -- none from the turn on, round the chip
-none_in_turn : (f : ℕ → Bool) (turn : NodeId) → first_in f turn.number 144 ≡ None → (n : ℕ) → n < 144 → f n ≡ false
+none_in_turn : (f : ℕ → Bool) (turn : NodeId) → first_node_from f turn.number 144 ≡ None → (n : ℕ) → n < 144 → f n ≡ false
 none_in_turn f turn none n l = elim (cases_lt n turn.number) [
   | inl less ↦ (let e : (turn.number + (n + 144 - turn.number)) % 144 ≡ n = omega arith in ap f (sym e) ∙ none_of f turn.number 144 (n + 144 - turn.number) none (omega arith))
   | inr more ↦ (let e : (turn.number + (n - turn.number)) % 144 ≡ n = omega arith in ap f (sym e) ∙ none_of f turn.number 144 (n - turn.number) none (omega arith))
 ]
 
 -- where it chooses none, each fails the test
-pub none_passes : (order : Order) (schedule : Schedule) (f : ℕ → Bool) → node_in_order order schedule f ≡ None → (n : ℕ) → n < 144 → f n ≡ false
+pub none_passes : (order : Order) (schedule : Schedule) (f : ℕ → Bool) → next_node_by_order order schedule f ≡ None → (n : ℕ) → n < 144 → f n ≡ false
 none_passes Rounds schedule f none n l = none_in_turn f schedule.turn none n l
 none_passes Greedy schedule f none n l = none_in_turn f schedule.turn none n l
 none_passes Random schedule f none n l = numbers_quiet f 144 n (drawn_quiet f (mix_u64 schedule.generator).0 none) l

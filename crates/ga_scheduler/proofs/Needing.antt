@@ -1,20 +1,20 @@
 -- Where an own event lacks what the conditions of a run need, none holds.
-use Rattle.ga_node.specs.declared.kind.Kind.TheVariants as kind
+use Rattle.ga_node.specs.declared.kind.OwnEventKind.TheVariants as kind
 use Rattle.ga_event.specs.declared.made.Made.TheVariants as made
 use Rattle.std.proofs.Common.{◌≡◌, ℕ, zero, suc, ◌+◌, ◌<◌, Bool, true, false, cond, List, [], ◌∷◌, length, take, Some, None, inl, inr, refl, sym, ◌∙◌, ap, arith, ◌%◌, ◌≤◌, ◌==◌, subst, eqb-true}
 use Rattle.std.specs.Prelude.{option_map, slice_get, ◌&&◌, ◌||◌, not, nat_lt, is_none}
 use Rattle.std.proofs.lemmas.Bool.{cases_lt, and_right, or_from, lt-ltb, ltb-true, false_from_ne_true, true≢false, not-true}
 use Rattle.std.proofs.lemmas.Option.{same_Some}
 use Rattle.ga_event.specs.declared.made.Made.{Made}
-use Rattle.ga_lab.specs.Machine.{State, chip_of, word_at}
+use Rattle.ga_lab.specs.Machine.{State, chip_of, memory_word_at}
 use Rattle.ga_scheduler.specs.declared.condition.Condition.{Condition}
-use Rattle.ga_scheduler.specs.Conditions.{holds, first_held, is_never, active_conditions, is_own_at, is_stop, is_wait, fetches_at, stored_at, names_cell, stores_in, node_before, is_word_asked}
+use Rattle.ga_scheduler.specs.Conditions.{holds, first_holding_condition, is_never, active_conditions, is_node_own_of_kind, is_stop_kind, is_wait_kind, fetches_at, stored_address, addresses_cell, stores_in_cell, node_before_newest, is_requested_word}
 use Rattle.ga_node.specs.Record.{NodeRecord}
 use Rattle.ga_node.specs.Table.{refusal}
-use Rattle.ga_node.specs.declared.kind.Kind.{Kind}
+use Rattle.ga_node.specs.declared.kind.OwnEventKind.{OwnEventKind}
 use Rattle.ga_grid.specs.declared.node_id.NodeId.{NodeId}
 use Rattle.ga_grid.specs.Chip.{record_at}
-use Rattle.ga_scheduler.specs.declared.condition.Condition.TheVariants.{Never, Passes, PassesNumber, Steps, Stops, StopsAt, WaitsAt, Holds, Reaches, Writes}
+use Rattle.ga_scheduler.specs.declared.condition.Condition.TheVariants.{Never, Passes, PassesNumber, Steps, Stops, StopsAt, WaitsAt, HoldsValue, Reaches, Writes}
 use Rattle.ga_scheduler.specs.declared.watching.Needs.{Needs}
 use Rattle.ga_scheduler.specs.inner.{AreCounted, is_one_of, may_fetch, lacks, Covers, IsNeeded}
 
@@ -37,20 +37,20 @@ abbrev pub NoneOf : List Condition → Made → State → ℕ → Type 0
 NoneOf until m s n = (k : ℕ) (one : Condition) → slice_get until k ≡ Some one → k < n → holds one m s ≡ false
 
 pub held_first : (until : List Condition) (i : ℕ) (one : Condition) (m : Made) (s : State) → slice_get until i ≡ Some one → NoneOf until m s i
-    → holds one m s ≡ true → first_held until m s ≡ Some i
-unfolding first_held
+    → holds one m s ≡ true → first_holding_condition until m s ≡ Some i
+unfolding first_holding_condition
 held_first [] i one m s is before h = absurd (cc)
 held_first (c ∷ cs) zero one m s is before h =
-    ap (λ (b : Bool). cond b (Some 0) (option_map suc (first_held cs m s))) (ap (λ z. holds z m s) (same_Some c one is) ∙ h)
+    ap (λ (b : Bool). cond b (Some 0) (option_map suc (first_holding_condition cs m s))) (ap (λ z. holds z m s) (same_Some c one is) ∙ h)
 held_first (c ∷ cs) (suc i) one m s is before h =
-    ap (λ (b : Bool). cond b (Some 0) (option_map suc (first_held cs m s))) (before 0 c refl (omega arith))
+    ap (λ (b : Bool). cond b (Some 0) (option_map suc (first_holding_condition cs m s))) (before 0 c refl (omega arith))
     ∙ ap (option_map suc) (held_first cs i one m s is (λ k other at l. before (suc k) other at (omega arith)) h)
 
-pub none_held : (until : List Condition) (m : Made) (s : State) → NoneOf until m s (length until) → first_held until m s ≡ None
-unfolding first_held
+pub none_held : (until : List Condition) (m : Made) (s : State) → NoneOf until m s (length until) → first_holding_condition until m s ≡ None
+unfolding first_holding_condition
 none_held [] m s h = refl
 none_held (c ∷ cs) m s h =
-    ap (λ (b : Bool). cond b (Some 0) (option_map suc (first_held cs m s))) (h 0 c refl (omega arith))
+    ap (λ (b : Bool). cond b (Some 0) (option_map suc (first_holding_condition cs m s))) (h 0 c refl (omega arith))
     ∙ ap (option_map suc) (none_held cs m s (λ k other at l. h (suc k) other at (omega arith)))
 
 -- Those before the first one that holds never.
@@ -91,7 +91,7 @@ covers_more a b (Steps node step) h more fetches = omega (arith, h, more)
 covers_more a b Stops h more fetches = tt
 covers_more a b (StopsAt node) h more fetches = tt
 covers_more a b (WaitsAt node) h more fetches = tt
-covers_more a b (Holds node test) h more fetches = omega (arith, h, more)
+covers_more a b (HoldsValue node test) h more fetches = omega (arith, h, more)
 covers_more a b (Reaches node address) h more fetches = fetches h
 covers_more a b (Writes node address word) h more fetches = omega (arith, h, more)
 
@@ -115,43 +115,43 @@ is_other opcodes code c off many above below = false_from_ne_true (code == c) (�
     let few : (code + 244) % 256 < opcodes = omega (arith, is, above, below, many) in
     true≢false (sym (lt-ltb ((code + 244) % 256) opcodes few) ∙ off))
 
-stores_nowhere : (opcodes code : ℕ) (n : NodeRecord) → is_one_of opcodes code ≡ false → 4 ≤ opcodes → stored_at code n ≡ None
+stores_nowhere : (opcodes code : ℕ) (n : NodeRecord) → is_one_of opcodes code ≡ false → 4 ≤ opcodes → stored_address code n ≡ None
 stores_nowhere opcodes code n off many =
     ap (λ (b : Bool). cond b (Some n.p) (cond ((code == 0x0d) || (code == 0x0f)) (Some n.a) (cond (code == 0x0e) (Some n.b) None))) (is_other opcodes code 0x0c off many (omega arith) (omega arith))
     ∙ ap (λ (b : Bool). cond b (Some n.a) (cond (code == 0x0e) (Some n.b) None))
     (or_from (code == 0x0d) (code == 0x0f) (is_other opcodes code 0x0d off many (omega arith) (omega arith)) (is_other opcodes code 0x0f off many (omega arith) (omega arith)))
     ∙ ap (λ (b : Bool). cond b (Some n.b) None) (is_other opcodes code 0x0e off many (omega arith) (omega arith))
 
-stores_none : (needs : Needs) (cell : ℕ) (before n : NodeRecord) (what : Kind) → 4 ≤ needs.opcodes → lacks needs n what ≡ true → stores_in cell before what ≡ false
+stores_none : (needs : Needs) (cell : ℕ) (before n : NodeRecord) (what : OwnEventKind) → 4 ≤ needs.opcodes → lacks needs n what ≡ true → stores_in_cell cell before what ≡ false
 stores_none needs cell before n kind.Fetch many off = refl
 stores_none needs cell before n (kind.Run code) many off =
-    ap (names_cell cell) (stores_nowhere needs.opcodes code before (not-true (is_one_of needs.opcodes code) (both (not (is_one_of needs.opcodes code)) (not (may_fetch needs n)) off).0) many)
+    ap (addresses_cell cell) (stores_nowhere needs.opcodes code before (not-true (is_one_of needs.opcodes code) (both (not (is_one_of needs.opcodes code)) (not (may_fetch needs n)) off).0) many)
 stores_none needs cell before n kind.Wait many off = refl
 stores_none needs cell before n (kind.Stop code) many off = refl
 
 not_due : (needs : Needs) (n : NodeRecord) → needs.slot ≡ 4 → not (may_fetch needs n) ≡ true → (n.slot == 4) ≡ false
 not_due needs n h off = subst (λ (z : ℕ). (n.slot == z) ≡ false) h (not-true (n.slot == needs.slot) off)
 
-fetches_not : (needs : Needs) (n : NodeRecord) (what : Kind) → needs.slot ≡ 4 → lacks needs n what ≡ true → (n.slot == 4) ≡ false
+fetches_not : (needs : Needs) (n : NodeRecord) (what : OwnEventKind) → needs.slot ≡ 4 → lacks needs n what ≡ true → (n.slot == 4) ≡ false
 fetches_not needs n kind.Fetch h off = not_due needs n h (both (nat_lt needs.opcodes 256) (not (may_fetch needs n)) off).1
 fetches_not needs n (kind.Run code) h off = not_due needs n h (both (not (is_one_of needs.opcodes code)) (not (may_fetch needs n)) off).1
 fetches_not needs n kind.Wait h off = absurd (true≢false (sym off))
 fetches_not needs n (kind.Stop code) h off = absurd (true≢false (sym off))
 
-stops_not : (needs : Needs) (n : NodeRecord) (what : Kind) → lacks needs n what ≡ true → is_stop what ≡ false
+stops_not : (needs : Needs) (n : NodeRecord) (what : OwnEventKind) → lacks needs n what ≡ true → is_stop_kind what ≡ false
 stops_not needs n kind.Fetch off = refl
 stops_not needs n (kind.Run code) off = refl
 stops_not needs n kind.Wait off = refl
 stops_not needs n (kind.Stop code) off = absurd (true≢false (sym off))
 
-waits_not : (needs : Needs) (n : NodeRecord) (what : Kind) → lacks needs n what ≡ true → is_wait what ≡ false
+waits_not : (needs : Needs) (n : NodeRecord) (what : OwnEventKind) → lacks needs n what ≡ true → is_wait_kind what ≡ false
 waits_not needs n kind.Fetch off = refl
 waits_not needs n (kind.Run code) off = refl
 waits_not needs n kind.Wait off = absurd (true≢false (sym off))
 waits_not needs n (kind.Stop code) off = refl
 
 -- of all opcodes none lacks it, and no fetch
-none_lacks : (needs : Needs) (n : NodeRecord) (what : Kind) → 256 ≤ needs.opcodes → lacks needs n what ≡ true → ⊥
+none_lacks : (needs : Needs) (n : NodeRecord) (what : OwnEventKind) → 256 ≤ needs.opcodes → lacks needs n what ≡ true → ⊥
 none_lacks needs n kind.Fetch all off =
     let less : nat_lt needs.opcodes 256 ≡ true = (both (nat_lt needs.opcodes 256) (not (may_fetch needs n)) off).0 in
     omega (arith, all, ltb-true needs.opcodes 256 less)
@@ -170,35 +170,35 @@ writes_not true true w off = absurd (true≢false off)
 writes_not true false w off = refl
 writes_not false s w off = refl
 
-held_own : (needs : Needs) (one : Condition) (s : State) (node : NodeId) (step : ℕ) (what : Kind) → Covers needs one → lacks needs (record_at (chip_of s) node.number) what ≡ true
+held_own : (needs : Needs) (one : Condition) (s : State) (node : NodeId) (step : ℕ) (what : OwnEventKind) → Covers needs one → lacks needs (record_at (chip_of s) node.number) what ≡ true
     → holds one (made.Own node step what) s ≡ false
 held_own needs Never s node step what h off = refl
 held_own needs (Passes writer reader comparison word) s node step what h off = refl
 held_own needs (PassesNumber writer reader number) s node step what h off = refl
 held_own needs (Steps at k) s node step what h off = absurd (none_lacks needs (record_at (chip_of s) node.number) what h off)
 held_own needs Stops s node step what h off = stops_not needs (record_at (chip_of s) node.number) what off
-held_own needs (StopsAt at) s node step what h off = and_right (node.number == at.number) (is_stop what) (stops_not needs (record_at (chip_of s) node.number) what off)
-held_own needs (WaitsAt at) s node step what h off = and_right (node.number == at.number) (is_wait what) (waits_not needs (record_at (chip_of s) node.number) what off)
-held_own needs (Holds at test) s node step what h off = absurd (none_lacks needs (record_at (chip_of s) node.number) what h off)
+held_own needs (StopsAt at) s node step what h off = and_right (node.number == at.number) (is_stop_kind what) (stops_not needs (record_at (chip_of s) node.number) what off)
+held_own needs (WaitsAt at) s node step what h off = and_right (node.number == at.number) (is_wait_kind what) (waits_not needs (record_at (chip_of s) node.number) what off)
+held_own needs (HoldsValue at test) s node step what h off = absurd (none_lacks needs (record_at (chip_of s) node.number) what h off)
 held_own needs (Reaches at address) s node step what h off = guarded (node.number == at.number) (fetches_at address (record_at (chip_of s) at.number)) (λ same.
     let is : node.number ≡ at.number = eqb-true node.number at.number same in
     subst (λ (z : ℕ). fetches_at address (record_at (chip_of s) z) ≡ false) is
     (first_not ((record_at (chip_of s) node.number).slot == 4) ((record_at (chip_of s) node.number).p == address) (is_none (refusal (record_at (chip_of s) node.number)))
     (fetches_not needs (record_at (chip_of s) node.number) what h off)))
 held_own needs (Writes at address word) s node step what h off =
-    writes_not (nat_lt address 128) (is_own_at at.number (stores_in (address % 64) (node_before s at.number)) (made.Own node step what)) (is_word_asked word (word_at (record_at (chip_of s) at.number) address))
-    (and_right (node.number == at.number) (stores_in (address % 64) (node_before s at.number) what)
-    (stores_none needs (address % 64) (node_before s at.number) (record_at (chip_of s) node.number) what h off))
+    writes_not (nat_lt address 128) (is_node_own_of_kind at.number (stores_in_cell (address % 64) (node_before_newest s at.number)) (made.Own node step what)) (is_requested_word word (memory_word_at (record_at (chip_of s) at.number) address))
+    (and_right (node.number == at.number) (stores_in_cell (address % 64) (node_before_newest s at.number) what)
+    (stores_none needs (address % 64) (node_before_newest s at.number) (record_at (chip_of s) node.number) what h off))
 
-pub none_held_lacking : (needs : Needs) (until : List Condition) (m : Made) (s : State) (node : NodeId) (step : ℕ) (what : Kind) → m ≡ made.Own node step what
-    → IsNeeded needs until → lacks needs (record_at (chip_of s) node.number) what ≡ true → first_held until m s ≡ None
+pub none_held_lacking : (needs : Needs) (until : List Condition) (m : Made) (s : State) (node : NodeId) (step : ℕ) (what : OwnEventKind) → m ≡ made.Own node step what
+    → IsNeeded needs until → lacks needs (record_at (chip_of s) node.number) what ≡ true → first_holding_condition until m s ≡ None
 none_held_lacking needs until m s node step what own needed off =
     none_held until m s (λ k one is l. ap (λ z. holds one z s) own ∙ held_own needs one s node step what (needed k one is) off)
 
 -- Where there are no conditions.
 
-pub none_of_none : (until : List Condition) (m : Made) (s : State) → (length until == 0) ≡ true → first_held until m s ≡ None
-unfolding first_held
+pub none_of_none : (until : List Condition) (m : Made) (s : State) → (length until == 0) ≡ true → first_holding_condition until m s ≡ None
+unfolding first_holding_condition
 none_of_none [] m s is = refl
 none_of_none (one ∷ others) m s is = absurd (let e : suc (length others) ≡ 0 = eqb-true (suc (length others)) 0 is in omega (arith, e))
 

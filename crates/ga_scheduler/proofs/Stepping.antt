@@ -13,7 +13,7 @@ use Rattle.ga_grid.specs.Chip.{record_at}
 use Rattle.ga_event.specs.declared.event.Event.{Event}
 use Rattle.ga_event.specs.declared.event.Event.TheVariants as event
 use Rattle.ga_event.specs.Touches.{touches}
-use Rattle.ga_event.specs.Apply.{Agree, EventOutcome, apply, after, when_allowed, refusal_of, replay}
+use Rattle.ga_event.specs.Apply.{AgreeOutsideMarks, EventOutcome, apply, after, some_if_allowed, refusal_of, replay}
 use Rattle.ga_event.specs.Next.{next}
 use Rattle.ga_event.specs.declared.made.Made.{Made}
 use Rattle.ga_event.specs.declared.made.Made.TheVariants as made
@@ -32,7 +32,7 @@ use Rattle.ga_event.proofs.Nexts.{next_can}
 use Rattle.ga_rollback.proofs.Rewinding.{run_snoc}
 use Rattle.ga_lab.specs.declared.fault.LabFault.{LabFault}
 use Rattle.ga_lab.specs.declared.fault.LabFault.TheVariants.{Full, Memory, Spent}
-use Rattle.ga_lab.specs.Machine.{State, chip_of, made_next, answer_to, step_answer, with_event, unless_refused, stepped}
+use Rattle.ga_lab.specs.Machine.{State, chip_of, made_next_event, answer_to_event, step_answer, with_event, unless_refused, state_after_step}
 use Rattle.ga_lab.proofs.Called.{Runs, runs_of, chip_is}
 use Rattle.ga_scheduler.specs.Running.{IsQuiescent, IsRefusedFor}
 
@@ -85,7 +85,7 @@ near_right d ready n t (inr h) a = a.beside h.0 n h.1
 own_touched : (n : NodeId) (t : ℕ) → touches (event.Own n) t ≡ true → t ≡ n.number
 own_touched n t h = ⊎_elim (λ u. sym (eqb-true n.number t u)) (λ u. absurd (true≢false (sym u))) (or_cases (n.number == t) false h)
 
-marked : (c d : List NodeRecord) (e : Event) (old new : NumberSet) → Agree (touches e) c d → HoldsReady c old → StaysRight d old new
+marked : (c d : List NodeRecord) (e : Event) (old new : NumberSet) → AgreeOutsideMarks (touches e) c d → HoldsReady c old → StaysRight d old new
     → ((t : ℕ) → touches e t ≡ true → IsRightAround d new t) → HoldsReady d new
 marked c d e old new a was stays right n = elim (cases_lt n 144) [
   | inl less ↦ ⊎_elim
@@ -96,7 +96,7 @@ marked c d e old new a was stays right n = elim (cases_lt n 144) [
 ]
 
 -- after an event, with its report considered
-pub refreshed : (c d : List NodeRecord) (e : Event) (told : Made) (old new : NumberSet) → IsOf e told → Agree (touches e) c d
+pub refreshed : (c d : List NodeRecord) (e : Event) (told : Made) (old new : NumberSet) → IsOf e told → AgreeOutsideMarks (touches e) c d
     → ((n : NodeId) → e ≡ event.Own n → refusal (record_at c n.number) ≡ None)
     → HoldsReady c old → StaysRight d old new → IsRefreshed d told new → HoldsReady d new
 refreshed c d (event.Own n) (made.Own m step kind) old new of a ran was stays (inl runs) = λ k.
@@ -119,7 +119,7 @@ refreshed c d (event.Pass w r side) (made.Own m step kind) old new of a ran was 
 pub record StepIs (s : State) (n : NodeId) (m : Made) : Type 0 where
   pub what : Event
   pub is : next (chip_of s) n ≡ Ok what
-  pub told : made_next s what ≡ m
+  pub told : made_next_event s what ≡ m
 
 told_is : (a b : Bool) (here m : Made) → cond a (Err Full) (cond b (Err Spent) (Ok here)) ≡ Ok m → here ≡ m
 told_is true b here m h = absurd (cc)
@@ -129,40 +129,40 @@ told_is false false here m h = cc
 pub step_is : (s : State) (n : NodeId) (m : Made) → step_answer s n ≡ Ok m → StepIs s n m
 step_is s n m h = go (next (chip_of s) n) refl h
   where
-    go : (o : Result Event NotReady) → next (chip_of s) n ≡ o → answer_to s o ≡ Ok m → StepIs s n m
+    go : (o : Result Event NotReady) → next (chip_of s) n ≡ o → answer_to_event s o ≡ Ok m → StepIs s n m
     go (Err why) is k = absurd (cc)
-    go (Ok e) is k = record { what = e; is = is; told = told_is (nat_le s.limit (length s.kept)) (nat_le (2 ^ 64 - 1) s.made) (made_next s e) m k }
+    go (Ok e) is k = record { what = e; is = is; told = told_is (nat_le s.limit (length s.kept)) (nat_le (2 ^ 64 - 1) s.made) (made_next_event s e) m k }
 
 -- the chip after it
 chip_with : (s : State) (e : Event) → IsSome (replay s.load s.kept) → refusal_of (chip_of s) e ≡ None → chip_of (with_event s (Ok e)) ≡ (after (chip_of s) e).0
 chip_with s e some can =
     let r : Runs s = runs_of s some in
-    let made : apply r.last e ≡ Some ((after r.last e).0, (after r.last e).1) = ap (λ o. when_allowed o (after r.last e)) (ap (λ z. refusal_of z e) (sym (chip_is s r)) ∙ can) in
+    let made : apply r.last e ≡ Some ((after r.last e).0, (after r.last e).1) = ap (λ o. some_if_allowed o (after r.last e)) (ap (λ z. refusal_of z e) (sym (chip_is s r)) ∙ can) in
     ap (λ (o : Option (List NodeRecord × List (Cause × EventOutcome))). unwrap_or (option_map (λ (x : List NodeRecord × List (Cause × EventOutcome)). x.0) o) [])
     (run_snoc s.load r.last (after r.last e).0 s.kept r.told e (after r.last e).1 r.run_is made)
     ∙ ap (λ z. (after z e).0) (sym (chip_is s r))
 
-pub stepped_is : (s : State) (n : NodeId) (m : Made) (e : Event) → step_answer s n ≡ Ok m → next (chip_of s) n ≡ Ok e → stepped s n ≡ with_event s (Ok e)
+pub stepped_is : (s : State) (n : NodeId) (m : Made) (e : Event) → step_answer s n ≡ Ok m → next (chip_of s) n ≡ Ok e → state_after_step s n ≡ with_event s (Ok e)
 stepped_is s n m e h is =
     ap (λ (a : Result Made LabFault). unless_refused s a (with_event s (next (chip_of s) n))) h
     ∙ ap (with_event s) is
 
-keeps : (c : List NodeRecord) (e : Event) → refusal_of c e ≡ None → Agree (touches e) c (after c e).0
-keeps c e can = subst (λ o. IfSome (when_allowed o (after c e)) (λ done. Agree (touches e) c done.0)) can (apply_keeps c e)
+keeps : (c : List NodeRecord) (e : Event) → refusal_of c e ≡ None → AgreeOutsideMarks (touches e) c (after c e).0
+keeps c e can = subst (λ o. IfSome (some_if_allowed o (after c e)) (λ done. AgreeOutsideMarks (touches e) c done.0)) can (apply_keeps c e)
 
-of_told : (s : State) (e : Event) → IsOf e (made_next s e)
+of_told : (s : State) (e : Event) → IsOf e (made_next_event s e)
 of_told s (event.Own n) = refl
 of_told s (event.Pass w r side) = (refl, refl)
 
 -- the set of the nodes that have an event, after a step
 pub stepped_ready : (s : State) (n : NodeId) (m : Made) (old new : NumberSet) → IsSome (replay s.load s.kept) → step_answer s n ≡ Ok m
-    → HoldsReady (chip_of s) old → StaysRight (chip_of (stepped s n)) old new → IsRefreshed (chip_of (stepped s n)) m new → HoldsReady (chip_of (stepped s n)) new
+    → HoldsReady (chip_of s) old → StaysRight (chip_of (state_after_step s n)) old new → IsRefreshed (chip_of (state_after_step s n)) m new → HoldsReady (chip_of (state_after_step s n)) new
 stepped_ready s n m old new some h was stays right =
     let i : StepIs s n m = step_is s n m h in
     let can : refusal_of (chip_of s) i.what ≡ None = next_can (chip_of s) n i.what i.is in
-    let chip : chip_of (stepped s n) ≡ (after (chip_of s) i.what).0 = ap chip_of (stepped_is s n m i.what h i.is) ∙ chip_with s i.what some can in
-    let agree : Agree (touches i.what) (chip_of s) (chip_of (stepped s n)) = subst (λ z. Agree (touches i.what) (chip_of s) z) (sym chip) (keeps (chip_of s) i.what can) in
-    refreshed (chip_of s) (chip_of (stepped s n)) i.what m old new (subst (IsOf i.what) i.told (of_told s i.what)) agree
+    let chip : chip_of (state_after_step s n) ≡ (after (chip_of s) i.what).0 = ap chip_of (stepped_is s n m i.what h i.is) ∙ chip_with s i.what some can in
+    let agree : AgreeOutsideMarks (touches i.what) (chip_of s) (chip_of (state_after_step s n)) = subst (λ z. AgreeOutsideMarks (touches i.what) (chip_of s) z) (sym chip) (keeps (chip_of s) i.what can) in
+    refreshed (chip_of s) (chip_of (state_after_step s n)) i.what m old new (subst (IsOf i.what) i.told (of_told s i.what)) agree
     (λ k e. subst (λ z. refusal_of (chip_of s) z ≡ None) e can) was stays right
 
 -- what the set holds is who can go

@@ -4,18 +4,18 @@ use Rattle.std.specs.Prelude.{slice_get, option_to_list, Option, IsSome, slice_i
 use Rattle.ga_event.specs.declared.made.Made.{Made}
 use Rattle.ga_event.specs.declared.made.Made.TheVariants as made
 use Rattle.ga_scheduler.specs.declared.words.Transfer.{Transfer}
-use Rattle.ga_scheduler.specs.Words.{carried_as, one_over, words_after, is_over, end_of, word_count}
+use Rattle.ga_scheduler.specs.Words.{transfer_of_event, transfer_count_of_event, numbered_transfers, is_transfer_over, link_end_node, link_transfer_count}
 use Rattle.std.proofs.lemmas.Option.{none-some}
 use Rattle.ga_grid.specs.declared.node_id.NodeId.{NodeId}
 use Rattle.ga_event.specs.declared.event.Event.{Event}
 use Rattle.ga_event.specs.declared.event.Event.TheVariants as event
 use Rattle.ga_event.specs.declared.event.Cause.{Cause}
 use Rattle.ga_event.specs.Touches.{touches}
-use Rattle.ga_event.specs.Apply.{EventOutcome, Did, Carried, apply, after, when_allowed, cause_of, refusal_of, replay}
-use Rattle.ga_event.specs.Told.{made_after, mades_after, mades_of, events_told}
-use Rattle.ga_lab.specs.Machine.{State, outcomes_of_kept, history_of, chip_of, made_next, step_answer, with_event, stepped, told_by}
+use Rattle.ga_event.specs.Apply.{EventOutcome, ExecutedOwn, PassedWord, apply, after, some_if_allowed, cause_of, refusal_of, replay}
+use Rattle.ga_event.specs.Told.{made_event_after, made_events_after, made_events_of, events_without_outcomes}
+use Rattle.ga_lab.specs.Machine.{State, outcomes_of_kept, history_of, chip_of, made_next_event, step_answer, with_event, state_after_step, outcomes_of_run}
 use Rattle.std.proofs.lemmas.List.{append-nil}
-use Rattle.ga_node.specs.declared.kind.Kind.{Kind}
+use Rattle.ga_node.specs.declared.kind.OwnEventKind.{OwnEventKind}
 use Rattle.ga_event.proofs.Nexts.{next_can}
 use Rattle.ga_causal.proofs.Consistent.{made_of}
 use Rattle.ga_rollback.proofs.Rewinding.{run_snoc}
@@ -57,7 +57,7 @@ over_none : (b : Bool) (sent : Transfer) → [] ≡ (if b then sent ∷ [] else 
 over_none true sent h = absurd (cc)
 over_none false sent h = refl
 
-not_over : (writer reader number : ℕ) (told : Made) → [] ≡ carried_as writer reader number told → one_over writer reader told ≡ 0
+not_over : (writer reader number : ℕ) (told : Made) → [] ≡ transfer_of_event writer reader number told → transfer_count_of_event writer reader told ≡ 0
 not_over writer reader number (made.Own n k kind) h = refl
 not_over writer reader number (made.Pass w k r j carried) h = over_none ((w.number == writer) && (r.number == reader)) _ h
 
@@ -65,19 +65,19 @@ over_some : (b : Bool) (sent other : Transfer) → other ∷ [] ≡ (if b then s
 over_some true sent other h = refl
 over_some false sent other h = absurd (cc)
 
-carries_one : (writer reader number : ℕ) (told : Made) (sent : Transfer) → sent ∷ [] ≡ carried_as writer reader number told → one_over writer reader told ≡ 1
+carries_one : (writer reader number : ℕ) (told : Made) (sent : Transfer) → sent ∷ [] ≡ transfer_of_event writer reader number told → transfer_count_of_event writer reader told ≡ 1
 carries_one writer reader number (made.Own n k kind) sent h = absurd (cc)
 carries_one writer reader number (made.Pass w k r j carried) sent h = over_some ((w.number == writer) && (r.number == reader)) _ sent h
 
-pub passed_over : (writer reader before : ℕ) (told : Made) (rest : List Made) → [] ≡ carried_as writer reader (before + 1) told → words_after writer reader before (told ∷ rest) ≡ words_after writer reader before rest
+pub passed_over : (writer reader before : ℕ) (told : Made) (rest : List Made) → [] ≡ transfer_of_event writer reader (before + 1) told → numbered_transfers writer reader before (told ∷ rest) ≡ numbered_transfers writer reader before rest
 passed_over writer reader before told rest h =
-    ap (λ z. z ++ words_after writer reader (before + one_over writer reader told) rest) (sym h)
-    ∙ ap (λ (z : ℕ). words_after writer reader z rest) (let q : before + one_over writer reader told ≡ before = omega (arith, not_over writer reader (before + 1) told h) in q)
+    ap (λ z. z ++ numbered_transfers writer reader (before + transfer_count_of_event writer reader told) rest) (sym h)
+    ∙ ap (λ (z : ℕ). numbered_transfers writer reader z rest) (let q : before + transfer_count_of_event writer reader told ≡ before = omega (arith, not_over writer reader (before + 1) told h) in q)
 
-pub told_word : (writer reader before : ℕ) (told : Made) (rest : List Made) (sent : Transfer) → sent ∷ [] ≡ carried_as writer reader (before + 1) told → words_after writer reader before (told ∷ rest) ≡ sent ∷ words_after writer reader (before + 1) rest
+pub told_word : (writer reader before : ℕ) (told : Made) (rest : List Made) (sent : Transfer) → sent ∷ [] ≡ transfer_of_event writer reader (before + 1) told → numbered_transfers writer reader before (told ∷ rest) ≡ sent ∷ numbered_transfers writer reader (before + 1) rest
 told_word writer reader before told rest sent h =
-    ap (λ z. z ++ words_after writer reader (before + one_over writer reader told) rest) (sym h)
-    ∙ ap (λ (z : ℕ). sent ∷ words_after writer reader z rest) (let q : before + one_over writer reader told ≡ before + 1 = omega (arith, carries_one writer reader (before + 1) told sent h) in q)
+    ap (λ z. z ++ numbered_transfers writer reader (before + transfer_count_of_event writer reader told) rest) (sym h)
+    ∙ ap (λ (z : ℕ). sent ∷ numbered_transfers writer reader z rest) (let q : before + transfer_count_of_event writer reader told ≡ before + 1 = omega (arith, carries_one writer reader (before + 1) told sent h) in q)
 
 -- ---- the steps of both ends list the same words of a link
 
@@ -86,16 +86,16 @@ none_if : (b : Bool) (sent : Transfer) → b ≡ false → [] ≡ (if b then sen
 none_if true sent h = absurd (cc)
 none_if false sent h = refl
 
-carried_none : (w r n : ℕ) (x : Made) → is_over w r x ≡ false → [] ≡ carried_as w r n x
+carried_none : (w r n : ℕ) (x : Made) → is_transfer_over w r x ≡ false → [] ≡ transfer_of_event w r n x
 carried_none w r n (made.Own m k kind) h = refl
 carried_none w r n (made.Pass a k b j carried) h = none_if ((a.number == w) && (b.number == r)) _ h
 
-left_out : (w r n : ℕ) (has : Bool) (x : Made) (xs : List Made) → is_over w r x ≡ false
-    → words_after w r n ((if has then x ∷ [] else []) ++ xs) ≡ words_after w r n xs
+left_out : (w r n : ℕ) (has : Bool) (x : Made) (xs : List Made) → is_transfer_over w r x ≡ false
+    → numbered_transfers w r n ((if has then x ∷ [] else []) ++ xs) ≡ numbered_transfers w r n xs
 left_out w r n true x xs h = passed_over w r n x xs (carried_none w r (n + 1) x h)
 left_out w r n false x xs h = refl
 
-not_told : (w r n : ℕ) (has : Bool) (xs : List Made) → words_after w r n ((if has then [] else []) ++ xs) ≡ words_after w r n xs
+not_told : (w r n : ℕ) (has : Bool) (xs : List Made) → numbered_transfers w r n ((if has then [] else []) ++ xs) ≡ numbered_transfers w r n xs
 not_told w r n true xs = refl
 not_told w r n false xs = refl
 
@@ -114,43 +114,43 @@ had : (has : Bool) (x : Made) (xs : List Made) → has ≡ true → (if has then
 had true x xs h = refl
 had false x xs h = absurd (cc)
 
-one_pass : (w r n : ℕ) (x : Made) (xs ys : List Made) (at_w at_r over : Bool) → is_over w r x ≡ over → (over ≡ true → (at_w ≡ true) × (at_r ≡ true))
-    → ((m : ℕ) → words_after w r m xs ≡ words_after w r m ys)
-    → words_after w r n ((if at_r then x ∷ [] else []) ++ xs) ≡ words_after w r n ((if at_w then x ∷ [] else []) ++ ys)
+one_pass : (w r n : ℕ) (x : Made) (xs ys : List Made) (at_w at_r over : Bool) → is_transfer_over w r x ≡ over → (over ≡ true → (at_w ≡ true) × (at_r ≡ true))
+    → ((m : ℕ) → numbered_transfers w r m xs ≡ numbered_transfers w r m ys)
+    → numbered_transfers w r n ((if at_r then x ∷ [] else []) ++ xs) ≡ numbered_transfers w r n ((if at_w then x ∷ [] else []) ++ ys)
 one_pass w r n x xs ys at_w at_r false is at same = left_out w r n at_r x xs is ∙ same n ∙ sym (left_out w r n at_w x ys is)
 one_pass w r n x xs ys at_w at_r true is at same =
-    ap (words_after w r n) (had at_r x xs (at refl).1)
-    ∙ ap (λ z. carried_as w r (n + 1) x ++ z) (same (n + one_over w r x))
-    ∙ sym (ap (words_after w r n) (had at_w x ys (at refl).0))
+    ap (numbered_transfers w r n) (had at_r x xs (at refl).1)
+    ∙ ap (λ z. transfer_of_event w r (n + 1) x ++ z) (same (n + transfer_count_of_event w r x))
+    ∙ sym (ap (numbered_transfers w r n) (had at_w x ys (at refl).0))
 
-one_event : (w r n : ℕ) (before : List Event) (e : Event) (what : EventOutcome) (xs ys : List Made) → ((m : ℕ) → words_after w r m xs ≡ words_after w r m ys)
-    → words_after w r n ((if touches e r then option_to_list (made_after before e what) else []) ++ xs)
-    ≡ words_after w r n ((if touches e w then option_to_list (made_after before e what) else []) ++ ys)
-one_event w r n before (event.Own node) (Did kind) xs ys same =
+one_event : (w r n : ℕ) (before : List Event) (e : Event) (what : EventOutcome) (xs ys : List Made) → ((m : ℕ) → numbered_transfers w r m xs ≡ numbered_transfers w r m ys)
+    → numbered_transfers w r n ((if touches e r then option_to_list (made_event_after before e what) else []) ++ xs)
+    ≡ numbered_transfers w r n ((if touches e w then option_to_list (made_event_after before e what) else []) ++ ys)
+one_event w r n before (event.Own node) (ExecutedOwn kind) xs ys same =
     left_out w r n (touches (event.Own node) r) _ xs refl ∙ same n ∙ sym (left_out w r n (touches (event.Own node) w) _ ys refl)
-one_event w r n before (event.Own node) (Carried word) xs ys same =
+one_event w r n before (event.Own node) (PassedWord word) xs ys same =
     not_told w r n (touches (event.Own node) r) xs ∙ same n ∙ sym (not_told w r n (touches (event.Own node) w) ys)
-one_event w r n before (event.Pass a b side) (Did kind) xs ys same =
+one_event w r n before (event.Pass a b side) (ExecutedOwn kind) xs ys same =
     not_told w r n (touches (event.Pass a b side) r) xs ∙ same n ∙ sym (not_told w r n (touches (event.Pass a b side) w) ys)
-one_event w r n before (event.Pass a b side) (Carried word) xs ys same =
+one_event w r n before (event.Pass a b side) (PassedWord word) xs ys same =
     one_pass w r n _ xs ys (touches (event.Pass a b side) w) (touches (event.Pass a b side) r) ((a.number == w) && (b.number == r)) refl
     (λ h. (in_writer (a.number == w) (b.number == r) _ h, in_reader (a.number == w) (b.number == r) (a.number == r) _ h)) same
 
-both_ends : (w r n : ℕ) (before : List Event) (told : List (Cause × EventOutcome)) → words_after w r n (mades_after before told r) ≡ words_after w r n (mades_after before told w)
+both_ends : (w r n : ℕ) (before : List Event) (told : List (Cause × EventOutcome)) → numbered_transfers w r n (made_events_after before told r) ≡ numbered_transfers w r n (made_events_after before told w)
 both_ends w r n before [] = refl
 both_ends w r n before (x ∷ xs) =
-    one_event w r n before x.0.event x.1 (mades_after (before ++ x.0.event ∷ []) xs r) (mades_after (before ++ x.0.event ∷ []) xs w)
+    one_event w r n before x.0.event x.1 (made_events_after (before ++ x.0.event ∷ []) xs r) (made_events_after (before ++ x.0.event ∷ []) xs w)
     (λ m. both_ends w r m (before ++ x.0.event ∷ []) xs)
 
 -- whichever end is read
 pub by_either : (s : State) (w r : NodeId) (n : ℕ) (by_reader : Bool)
-    → words_after w.number r.number n (history_of s (end_of by_reader w r)) ≡ words_after w.number r.number n (history_of s w.number)
+    → numbered_transfers w.number r.number n (history_of s (link_end_node by_reader w r)) ≡ numbered_transfers w.number r.number n (history_of s w.number)
 by_either s w r n true = both_ends w.number r.number n [] (outcomes_of_kept s)
 by_either s w r n false = refl
 
 -- while none was read
 pub at_first : (s : State) (w r : NodeId) (n place : ℕ) (a b : Bool) → place ≡ 0
-    → words_after w.number r.number n (drop place (history_of s (end_of a w r))) ≡ words_after w.number r.number n (drop place (history_of s (end_of b w r)))
+    → numbered_transfers w.number r.number n (drop place (history_of s (link_end_node a w r))) ≡ numbered_transfers w.number r.number n (drop place (history_of s (link_end_node b w r)))
 at_first s w r n zero a b h = by_either s w r n a ∙ sym (by_either s w r n b)
 at_first s w r n (suc place) a b h = absurd (omega (arith, h))
 
@@ -161,63 +161,63 @@ carried_one : (b : Bool) (sent : Transfer) → length (if b then sent ∷ [] els
 carried_one true sent = refl
 carried_one false sent = refl
 
-carried_many : (w r n : ℕ) (x : Made) → length (carried_as w r n x) ≡ one_over w r x
+carried_many : (w r n : ℕ) (x : Made) → length (transfer_of_event w r n x) ≡ transfer_count_of_event w r x
 carried_many w r n (made.Own m k kind) = refl
 carried_many w r n (made.Pass a k b j carried) = carried_one ((a.number == w) && (b.number == r)) _
 
-in_front : (w r n : ℕ) (x : Made) (xs : List Made) → length (words_after w r n (x ∷ xs)) ≡ one_over w r x + length (words_after w r (n + one_over w r x) xs)
+in_front : (w r n : ℕ) (x : Made) (xs : List Made) → length (numbered_transfers w r n (x ∷ xs)) ≡ transfer_count_of_event w r x + length (numbered_transfers w r (n + transfer_count_of_event w r x) xs)
 in_front w r n x xs =
-    length-append (carried_as w r (n + 1) x) (words_after w r (n + one_over w r x) xs)
-    ∙ ap (λ (z : ℕ). z + length (words_after w r (n + one_over w r x) xs)) (carried_many w r (n + 1) x)
+    length-append (transfer_of_event w r (n + 1) x) (numbered_transfers w r (n + transfer_count_of_event w r x) xs)
+    ∙ ap (λ (z : ℕ). z + length (numbered_transfers w r (n + transfer_count_of_event w r x) xs)) (carried_many w r (n + 1) x)
 
 -- how many they are doesn't hang on the number of the first
-same_many : (w r a b : ℕ) (xs : List Made) → length (words_after w r a xs) ≡ length (words_after w r b xs)
+same_many : (w r a b : ℕ) (xs : List Made) → length (numbered_transfers w r a xs) ≡ length (numbered_transfers w r b xs)
 same_many w r a b [] = refl
 same_many w r a b (x ∷ xs) =
-    in_front w r a x xs ∙ ap (λ (z : ℕ). one_over w r x + z) (same_many w r (a + one_over w r x) (b + one_over w r x) xs) ∙ sym (in_front w r b x xs)
+    in_front w r a x xs ∙ ap (λ (z : ℕ). transfer_count_of_event w r x + z) (same_many w r (a + transfer_count_of_event w r x) (b + transfer_count_of_event w r x) xs) ∙ sym (in_front w r b x xs)
 
-one_counted : (w r : ℕ) (x : Made) (xs : List Made) → length (words_after w r 0 (x ∷ xs)) ≡ one_over w r x + length (words_after w r 0 xs)
-one_counted w r x xs = in_front w r 0 x xs ∙ ap (λ (z : ℕ). one_over w r x + z) (same_many w r (0 + one_over w r x) 0 xs)
+one_counted : (w r : ℕ) (x : Made) (xs : List Made) → length (numbered_transfers w r 0 (x ∷ xs)) ≡ transfer_count_of_event w r x + length (numbered_transfers w r 0 xs)
+one_counted w r x xs = in_front w r 0 x xs ∙ ap (λ (z : ℕ). transfer_count_of_event w r x + z) (same_many w r (0 + transfer_count_of_event w r x) 0 xs)
 
 pub one_more : (w r : ℕ) (list : List Made) (i : ℕ) (x : Made) → Some x ≡ slice_get list i
-    → length (words_after w r 0 (drop i list)) ≡ one_over w r x + length (words_after w r 0 (drop (i + 1) list))
-one_more w r list i x h = ap (λ z. length (words_after w r 0 z)) (read_on list i x h) ∙ one_counted w r x (drop (i + 1) list)
+    → length (numbered_transfers w r 0 (drop i list)) ≡ transfer_count_of_event w r x + length (numbered_transfers w r 0 (drop (i + 1) list))
+one_more w r list i x h = ap (λ z. length (numbered_transfers w r 0 z)) (read_on list i x h) ∙ one_counted w r x (drop (i + 1) list)
 
 at_most_one : (b : Bool) → one_if b ≤ 1
 at_most_one true = omega arith
 at_most_one false = omega arith
 
 -- they are no more than the events
-pub few_words : (w r : ℕ) (xs : List Made) → length (words_after w r 0 xs) ≤ length xs
+pub few_words : (w r : ℕ) (xs : List Made) → length (numbered_transfers w r 0 xs) ≤ length xs
 few_words w r [] = omega arith
-few_words w r (x ∷ xs) = omega (arith, one_counted w r x xs, few_words w r xs, at_most_one (is_over w r x))
+few_words w r (x ∷ xs) = omega (arith, one_counted w r x xs, few_words w r xs, at_most_one (is_transfer_over w r x))
 
 -- one more event at the end
-pub behind : (w r : ℕ) (xs : List Made) (x : Made) → length (words_after w r 0 (xs ++ x ∷ [])) ≡ length (words_after w r 0 xs) + one_over w r x
-behind w r [] x = one_counted w r x [] ∙ (let q : one_over w r x + 0 ≡ 0 + one_over w r x = omega arith in q)
+pub behind : (w r : ℕ) (xs : List Made) (x : Made) → length (numbered_transfers w r 0 (xs ++ x ∷ [])) ≡ length (numbered_transfers w r 0 xs) + transfer_count_of_event w r x
+behind w r [] x = one_counted w r x [] ∙ (let q : transfer_count_of_event w r x + 0 ≡ 0 + transfer_count_of_event w r x = omega arith in q)
 behind w r (y ∷ xs) x =
-    one_counted w r y (xs ++ x ∷ []) ∙ ap (λ (z : ℕ). one_over w r y + z) (behind w r xs x)
-    ∙ (let q : one_over w r y + (length (words_after w r 0 xs) + one_over w r x) ≡ (one_over w r y + length (words_after w r 0 xs)) + one_over w r x = omega arith in q)
-    ∙ ap (λ (z : ℕ). z + one_over w r x) (sym (one_counted w r y xs))
+    one_counted w r y (xs ++ x ∷ []) ∙ ap (λ (z : ℕ). transfer_count_of_event w r y + z) (behind w r xs x)
+    ∙ (let q : transfer_count_of_event w r y + (length (numbered_transfers w r 0 xs) + transfer_count_of_event w r x) ≡ (transfer_count_of_event w r y + length (numbered_transfers w r 0 xs)) + transfer_count_of_event w r x = omega arith in q)
+    ∙ ap (λ (z : ℕ). z + transfer_count_of_event w r x) (sym (one_counted w r y xs))
 
 -- what a node's history has of the last of a list
 abbrev pub last_of : List Event → Cause × EventOutcome → ℕ → List Made
-last_of before x n = if touches x.0.event n then option_to_list (made_after before x.0.event x.1) else []
+last_of before x n = if touches x.0.event n then option_to_list (made_event_after before x.0.event x.1) else []
 
 pub history_behind : (before : List Event) (xs : List (Cause × EventOutcome)) (x : Cause × EventOutcome) (n : ℕ)
-    → mades_after before (xs ++ x ∷ []) n ≡ mades_after before xs n ++ last_of (before ++ events_told xs) x n
+    → made_events_after before (xs ++ x ∷ []) n ≡ made_events_after before xs n ++ last_of (before ++ events_without_outcomes xs) x n
 history_behind before [] x n = append-nil (last_of before x n) ∙ ap (λ (z : List Event). last_of z x n) (sym (append-nil before))
 history_behind before (y ∷ xs) x n =
     ap (λ (z : List Made). last_of before y n ++ z) (history_behind (before ++ y.0.event ∷ []) xs x n)
-    ∙ ap (λ (z : List Event). last_of before y n ++ (mades_after (before ++ y.0.event ∷ []) xs n ++ last_of z x n)) (append_assoc before (y.0.event ∷ []) (events_told xs))
-    ∙ sym (append_assoc (last_of before y n) (mades_after (before ++ y.0.event ∷ []) xs n) (last_of (before ++ events_told (y ∷ xs)) x n))
+    ∙ ap (λ (z : List Event). last_of before y n ++ (made_events_after (before ++ y.0.event ∷ []) xs n ++ last_of z x n)) (append_assoc before (y.0.event ∷ []) (events_without_outcomes xs))
+    ∙ sym (append_assoc (last_of before y n) (made_events_after (before ++ y.0.event ∷ []) xs n) (last_of (before ++ events_without_outcomes (y ∷ xs)) x n))
 
 -- an event that doesn't touch the writer carried no word of it
 pub other_writer : (p q x : Bool) → (p || q) ≡ false → one_if (p && x) ≡ 0
 other_writer true q x h = absurd (cc)
 other_writer false q x h = refl
 
-none_over : (s : State) (e : Event) (w r : ℕ) → touches e w ≡ false → one_over w r (made_next s e) ≡ 0
+none_over : (s : State) (e : Event) (w r : ℕ) → touches e w ≡ false → transfer_count_of_event w r (made_next_event s e) ≡ 0
 none_over s (event.Own n) w r h = refl
 none_over s (event.Pass a b side) w r h = other_writer (a.number == w) _ (b.number == r) h
 
@@ -225,67 +225,67 @@ told_behind : (s : State) (e : Event) → IsSome (replay s.load s.kept) → refu
     → outcomes_of_kept (with_event s (Ok e)) ≡ outcomes_of_kept s ++ (cause_of (chip_of s) e, (after (chip_of s) e).1) ∷ []
 told_behind s e some can =
     let r : Runs s = runs_of s some in
-    let done : apply r.last e ≡ Some ((after r.last e).0, (after r.last e).1) = ap (λ o. when_allowed o (after r.last e)) (ap (λ z. refusal_of z e) (sym (chip_is s r)) ∙ can) in
-    ap told_by (run_snoc s.load r.last (after r.last e).0 s.kept r.told e (after r.last e).1 r.run_is done)
+    let done : apply r.last e ≡ Some ((after r.last e).0, (after r.last e).1) = ap (λ o. some_if_allowed o (after r.last e)) (ap (λ z. refusal_of z e) (sym (chip_is s r)) ∙ can) in
+    ap outcomes_of_run (run_snoc s.load r.last (after r.last e).0 s.kept r.told e (after r.last e).1 r.run_is done)
     ∙ ap (λ z. z ++ (cause_of r.last e, (after r.last e).1) ∷ []) (sym (told_is s r))
     ∙ ap (λ z. outcomes_of_kept s ++ (cause_of z e, (after z e).1) ∷ []) (sym (chip_is s r))
 
-pub kept_told : (s : State) → IsSome (replay s.load s.kept) → events_told (outcomes_of_kept s) ≡ s.kept
+pub kept_told : (s : State) → IsSome (replay s.load s.kept) → events_without_outcomes (outcomes_of_kept s) ≡ s.kept
 kept_told s some =
     let r : Runs s = runs_of s some in
-    ap events_told (told_is s r) ∙ (made_of s.load r.last s.kept r.told r.run_is).1
+    ap events_without_outcomes (told_is s r) ∙ (made_of s.load r.last s.kept r.told r.run_is).1
 
-last_is : (s : State) (e : Event) (n : ℕ) (c : Cause) → c.event ≡ e → last_of s.kept (c, (after (chip_of s) e).1) n ≡ (if touches e n then made_next s e ∷ [] else [])
+last_is : (s : State) (e : Event) (n : ℕ) (c : Cause) → c.event ≡ e → last_of s.kept (c, (after (chip_of s) e).1) n ≡ (if touches e n then made_next_event s e ∷ [] else [])
 last_is s e n c is =
-    ap (λ (z : Event). if touches z n then option_to_list (made_after s.kept z (after (chip_of s) e).1) else []) is
+    ap (λ (z : Event). if touches z n then option_to_list (made_event_after s.kept z (after (chip_of s) e).1) else []) is
     ∙ ap (λ (o : Option Made). if touches e n then option_to_list o else []) (told_last s e)
 
 history_with : (s : State) (e : Event) (n : ℕ) → IsSome (replay s.load s.kept) → refusal_of (chip_of s) e ≡ None
-    → history_of (with_event s (Ok e)) n ≡ history_of s n ++ (if touches e n then made_next s e ∷ [] else [])
+    → history_of (with_event s (Ok e)) n ≡ history_of s n ++ (if touches e n then made_next_event s e ∷ [] else [])
 history_with s e n some can =
-    ap (λ z. mades_of z n) (told_behind s e some can)
+    ap (λ z. made_events_of z n) (told_behind s e some can)
     ∙ history_behind [] (outcomes_of_kept s) (cause_of (chip_of s) e, (after (chip_of s) e).1) n
     ∙ ap (λ (z : List Event). history_of s n ++ last_of z (cause_of (chip_of s) e, (after (chip_of s) e).1) n) (kept_told s some)
     ∙ ap (λ (z : List Made). history_of s n ++ z) (last_is s e n (cause_of (chip_of s) e) refl)
 
 counted_with : (s : State) (e : Event) (w r : ℕ) (b : Bool) → touches e w ≡ b
-    → length (words_after w r 0 (history_of s w ++ (if b then made_next s e ∷ [] else []))) ≡ word_count s w r + one_over w r (made_next s e)
-counted_with s e w r true is = behind w r (history_of s w) (made_next s e)
+    → length (numbered_transfers w r 0 (history_of s w ++ (if b then made_next_event s e ∷ [] else []))) ≡ link_transfer_count s w r + transfer_count_of_event w r (made_next_event s e)
+counted_with s e w r true is = behind w r (history_of s w) (made_next_event s e)
 counted_with s e w r false is =
-    ap (λ z. length (words_after w r 0 z)) (append-nil (history_of s w))
-    ∙ (let q : word_count s w r ≡ word_count s w r + one_over w r (made_next s e) = omega (arith, none_over s e w r is) in q)
+    ap (λ z. length (numbered_transfers w r 0 z)) (append-nil (history_of s w))
+    ∙ (let q : link_transfer_count s w r ≡ link_transfer_count s w r + transfer_count_of_event w r (made_next_event s e) = omega (arith, none_over s e w r is) in q)
 
 -- how many words of a link are kept after a step
 pub counted_step : (s : State) (n : NodeId) (m : Made) → IsSome (replay s.load s.kept) → step_answer s n ≡ Ok m
-    → (w r : ℕ) → word_count (stepped s n) w r ≡ word_count s w r + one_over w r m
+    → (w r : ℕ) → link_transfer_count (state_after_step s n) w r ≡ link_transfer_count s w r + transfer_count_of_event w r m
 counted_step s n m some h w r =
     let i : StepIs s n m = step_is s n m h in
     let can : refusal_of (chip_of s) i.what ≡ None = next_can (chip_of s) n i.what i.is in
-    ap (λ z. word_count z w r) (stepped_is s n m i.what h i.is)
-    ∙ ap (λ z. length (words_after w r 0 z)) (history_with s i.what w some can)
+    ap (λ z. link_transfer_count z w r) (stepped_is s n m i.what h i.is)
+    ∙ ap (λ z. length (numbered_transfers w r 0 z)) (history_with s i.what w some can)
     ∙ counted_with s i.what w r (touches i.what w) refl
-    ∙ ap (λ z. word_count s w r + one_over w r z) i.told
+    ∙ ap (λ z. link_transfer_count s w r + transfer_count_of_event w r z) i.told
 
 -- the same of the words that a condition counts
-over_on : (link : Option (NodeId × NodeId)) (s t : State) (m : Made) → ((w r : ℕ) → word_count t w r ≡ word_count s w r + one_over w r m)
+over_on : (link : Option (NodeId × NodeId)) (s t : State) (m : Made) → ((w r : ℕ) → link_transfer_count t w r ≡ link_transfer_count s w r + transfer_count_of_event w r m)
     → count_over link t ≡ count_over link s + more_over link m
 over_on None s t m h = omega arith
 over_on (Some link) s t m h = h link.0.number link.1.number
 
-pub counted_on : (until : Condition) (s t : State) (m : Made) → ((w r : ℕ) → word_count t w r ≡ word_count s w r + one_over w r m)
+pub counted_on : (until : Condition) (s t : State) (m : Made) → ((w r : ℕ) → link_transfer_count t w r ≡ link_transfer_count s w r + transfer_count_of_event w r m)
     → counted until t ≡ counted until s + counted_by until m
 counted_on until s t m h = over_on (counted_link until) s t m h
 
-pub all_counted_on : (until : List Condition) (s t : State) (m : Made) (words : List ℕ) → ((w r : ℕ) → word_count t w r ≡ word_count s w r + one_over w r m)
+pub all_counted_on : (until : List Condition) (s t : State) (m : Made) (words : List ℕ) → ((w r : ℕ) → link_transfer_count t w r ≡ link_transfer_count s w r + transfer_count_of_event w r m)
     → AreCounted until s words → WereCounted until t m words
 all_counted_on until s t m words h before k one is = counted_on one s t m h ∙ ap (λ (z : ℕ). z + counted_by one m) (before k one is)
 
 -- an own event carries none
-own_over : (link : Option (NodeId × NodeId)) (node : NodeId) (step : ℕ) (kind : Kind) → more_over link (made.Own node step kind) ≡ 0
+own_over : (link : Option (NodeId × NodeId)) (node : NodeId) (step : ℕ) (kind : OwnEventKind) → more_over link (made.Own node step kind) ≡ 0
 own_over None node step kind = refl
 own_over (Some link) node step kind = refl
 
-pub none_counted : (until : List Condition) (s : State) (m : Made) (words : List ℕ) (node : NodeId) (step : ℕ) (kind : Kind) → m ≡ made.Own node step kind
+pub none_counted : (until : List Condition) (s : State) (m : Made) (words : List ℕ) (node : NodeId) (step : ℕ) (kind : OwnEventKind) → m ≡ made.Own node step kind
     → WereCounted until s m words → AreCounted until s words
 none_counted until s m words node step kind own h k one is =
     let none : counted_by one m ≡ 0 = ap (counted_by one) own ∙ own_over (counted_link one) node step kind in
@@ -293,7 +293,7 @@ none_counted until s m words node step kind own h k one is =
 
 -- how many they are is no more than the writer's steps
 pub few_more : (until : Condition) (link : NodeId × NodeId) (s : State) (m : Made) (words : ℕ) → Some link ≡ counted_link until → counted until s ≡ words + counted_by until m
-    → words + one_over link.0.number link.1.number m ≤ length (history_of s link.0.number)
+    → words + transfer_count_of_event link.0.number link.1.number m ≤ length (history_of s link.0.number)
 few_more until link s m words is h =
-    let here : word_count s link.0.number link.1.number ≡ words + one_over link.0.number link.1.number m = subst (λ o. count_over o s ≡ words + more_over o m) (sym is) h in
+    let here : link_transfer_count s link.0.number link.1.number ≡ words + transfer_count_of_event link.0.number link.1.number m = subst (λ o. count_over o s ≡ words + more_over o m) (sym is) h in
     omega (arith, here, few_words link.0.number link.1.number (history_of s link.0.number))

@@ -1,54 +1,54 @@
 -- Conditions on what an event was and on the machine right after it (F18A Technology Reference DB001, opcodes and memory map). Two are
 -- edges: they hold where an event makes something so, and not as long as it is.
 use Rattle.std.specs.Prelude.{ℕ, suc, ◌%◌, ◌==◌, nat_lt, Bool, true, false, ◌&&◌, ◌||◌, if◌then◌else◌, is_none, List, [], ◌∷◌, Option, Some, None, option_map}
-use Rattle.ga_ports.specs.Address.{classified}
+use Rattle.ga_ports.specs.Address.{address_target}
 use Rattle.ga_ports.specs.declared.address.Target.{Target}
 use Rattle.ga_ports.specs.declared.address.Target.TheVariants as target
 use Rattle.ga_grid.specs.Chip.{record_at}
 use Rattle.ga_node.specs.Record.{NodeRecord}
 use Rattle.ga_node.specs.Table.{refusal}
-use Rattle.ga_node.specs.declared.kind.Kind.{Kind}
-use Rattle.ga_node.specs.declared.kind.Kind.TheVariants as kind
-use Rattle.ga_event.specs.Told.{steps_of}
+use Rattle.ga_node.specs.declared.kind.OwnEventKind.{OwnEventKind}
+use Rattle.ga_node.specs.declared.kind.OwnEventKind.TheVariants as kind
+use Rattle.ga_event.specs.Told.{count_steps}
 use Rattle.ga_event.specs.declared.made.Made.{Made}
 use Rattle.ga_event.specs.declared.made.Made.TheVariants as made
-use Rattle.ga_lab.specs.Machine.{State, chip_of, undone, word_at}
-use Rattle.ga_scheduler.specs.Words.{is_over, word_count}
+use Rattle.ga_lab.specs.Machine.{State, chip_of, state_after_undo, memory_word_at}
+use Rattle.ga_scheduler.specs.Words.{is_transfer_over, link_transfer_count}
 use Rattle.ga_scheduler.specs.Values.{compares, passes}
 use Rattle.ga_scheduler.specs.declared.value_test.Comparison.{Comparison}
 use Rattle.ga_scheduler.specs.declared.condition.Condition.{Condition}
-use Rattle.ga_scheduler.specs.declared.condition.Condition.TheVariants.{Never, Passes, PassesNumber, Steps, Stops, StopsAt, WaitsAt, Holds, Reaches, Writes}
+use Rattle.ga_scheduler.specs.declared.condition.Condition.TheVariants.{Never, Passes, PassesNumber, Steps, Stops, StopsAt, WaitsAt, HoldsValue, Reaches, Writes}
 
 -- the event passed a word from the writer to the reader that compares so with this one
-abbrev pub is_pass : ℕ → ℕ → Comparison → ℕ → Made → Bool
-is_pass writer reader comparison word (made.Own n k what) = false
-is_pass writer reader comparison word (made.Pass w k r j carried) = (w.number == writer) && (r.number == reader) && compares comparison carried word
+abbrev pub is_matching_pass : ℕ → ℕ → Comparison → ℕ → Made → Bool
+is_matching_pass writer reader comparison word (made.Own n k what) = false
+is_matching_pass writer reader comparison word (made.Pass w k r j carried) = (w.number == writer) && (r.number == reader) && compares comparison carried word
 
 -- the event was this step of the node
-abbrev pub is_step : ℕ → ℕ → Made → Bool
-is_step node step (made.Own n k what) = (n.number == node) && (k == step)
-is_step node step (made.Pass w k r j carried) = ((w.number == node) && (k == step)) || ((r.number == node) && (j == step))
+abbrev pub is_node_step : ℕ → ℕ → Made → Bool
+is_node_step node step (made.Own n k what) = (n.number == node) && (k == step)
+is_node_step node step (made.Pass w k r j carried) = ((w.number == node) && (k == step)) || ((r.number == node) && (j == step))
 
-abbrev pub is_stop : Kind → Bool
-is_stop kind.Fetch = false
-is_stop (kind.Run code) = false
-is_stop kind.Wait = false
-is_stop (kind.Stop code) = true
+abbrev pub is_stop_kind : OwnEventKind → Bool
+is_stop_kind kind.Fetch = false
+is_stop_kind (kind.Run code) = false
+is_stop_kind kind.Wait = false
+is_stop_kind (kind.Stop code) = true
 
-abbrev pub is_wait : Kind → Bool
-is_wait kind.Fetch = false
-is_wait (kind.Run code) = false
-is_wait kind.Wait = true
-is_wait (kind.Stop code) = false
+abbrev pub is_wait_kind : OwnEventKind → Bool
+is_wait_kind kind.Fetch = false
+is_wait_kind (kind.Run code) = false
+is_wait_kind kind.Wait = true
+is_wait_kind (kind.Stop code) = false
 
 -- a node's own event of a kind
-abbrev pub is_own : (Kind → Bool) → Made → Bool
-is_own test (made.Own n k what) = test what
-is_own test (made.Pass w k r j carried) = false
+abbrev pub is_own_of_kind : (OwnEventKind → Bool) → Made → Bool
+is_own_of_kind test (made.Own n k what) = test what
+is_own_of_kind test (made.Pass w k r j carried) = false
 
-abbrev pub is_own_at : ℕ → (Kind → Bool) → Made → Bool
-is_own_at node test (made.Own n k what) = (n.number == node) && test what
-is_own_at node test (made.Pass w k r j carried) = false
+abbrev pub is_node_own_of_kind : ℕ → (OwnEventKind → Bool) → Made → Bool
+is_node_own_of_kind node test (made.Own n k what) = (n.number == node) && test what
+is_node_own_of_kind node test (made.Pass w k r j carried) = false
 
 -- the event was a step of the node
 abbrev pub is_step_of : ℕ → Made → Bool
@@ -60,8 +60,8 @@ abbrev pub fetches_at : ℕ → NodeRecord → Bool
 fetches_at address n = (n.slot == 4) && (n.p == address) && is_none (refusal n)
 
 -- the address at which an opcode with this code stores: `!p` at P, `!+` and `!` at A, `!b` at B
-abbrev pub stored_at : ℕ → NodeRecord → Option ℕ
-stored_at code n =
+abbrev pub stored_address : ℕ → NodeRecord → Option ℕ
+stored_address code n =
     if code == 0x0c then Some n.p
     else if (code == 0x0d) || (code == 0x0f) then Some n.a
     else if code == 0x0e then Some n.b
@@ -75,46 +75,46 @@ is_target_cell cell target.Io = false
 is_target_cell cell (target.Ports sides) = false
 is_target_cell cell target.Bad = false
 
-abbrev pub names_cell : ℕ → Option ℕ → Bool
-names_cell cell None = false
-names_cell cell (Some address) = is_target_cell cell (classified address)
+abbrev pub addresses_cell : ℕ → Option ℕ → Bool
+addresses_cell cell None = false
+addresses_cell cell (Some address) = is_target_cell cell (address_target address)
 
 -- an event of this kind of a node that was so before it stored in the cell
-abbrev pub stores_in : ℕ → NodeRecord → Kind → Bool
-stores_in cell before kind.Fetch = false
-stores_in cell before (kind.Run code) = names_cell cell (stored_at code before)
-stores_in cell before kind.Wait = false
-stores_in cell before (kind.Stop code) = false
+abbrev pub stores_in_cell : ℕ → NodeRecord → OwnEventKind → Bool
+stores_in_cell cell before kind.Fetch = false
+stores_in_cell cell before (kind.Run code) = addresses_cell cell (stored_address code before)
+stores_in_cell cell before kind.Wait = false
+stores_in_cell cell before (kind.Stop code) = false
 
 -- a node as it was before the newest event
-abbrev pub node_before : State → ℕ → NodeRecord
-node_before s node = record_at (chip_of (undone s)) node
+abbrev pub node_before_newest : State → ℕ → NodeRecord
+node_before_newest s node = record_at (chip_of (state_after_undo s)) node
 
 -- the word is the requested one, if one is
-abbrev pub is_word_asked : Option ℕ → ℕ → Bool
-is_word_asked None word = true
-is_word_asked (Some asked) word = word == asked
+abbrev pub is_requested_word : Option ℕ → ℕ → Bool
+is_requested_word None word = true
+is_requested_word (Some asked) word = word == asked
 
 -- The condition holds right after this was made, where the machine is this. Memory from address 80 hexadecimal on is ROM, where no
 -- event stores.
 abbrev pub holds : Condition → Made → State → Bool
 holds Never told s = false
-holds (Passes writer reader comparison word) told s = is_pass writer.number reader.number comparison word told
-holds (PassesNumber writer reader number) told s = is_over writer.number reader.number told && (word_count s writer.number reader.number == number)
-holds (Steps node step) told s = is_step node.number step told
-holds Stops told s = is_own is_stop told
-holds (StopsAt node) told s = is_own_at node.number is_stop told
-holds (WaitsAt node) told s = is_own_at node.number is_wait told
-holds (Holds node test) told s = passes test (record_at (chip_of s) node.number) (steps_of node.number s.kept)
+holds (Passes writer reader comparison word) told s = is_matching_pass writer.number reader.number comparison word told
+holds (PassesNumber writer reader number) told s = is_transfer_over writer.number reader.number told && (link_transfer_count s writer.number reader.number == number)
+holds (Steps node step) told s = is_node_step node.number step told
+holds Stops told s = is_own_of_kind is_stop_kind told
+holds (StopsAt node) told s = is_node_own_of_kind node.number is_stop_kind told
+holds (WaitsAt node) told s = is_node_own_of_kind node.number is_wait_kind told
+holds (HoldsValue node test) told s = passes test (record_at (chip_of s) node.number) (count_steps node.number s.kept)
 holds (Reaches node address) told s = is_step_of node.number told && fetches_at address (record_at (chip_of s) node.number)
 holds (Writes node address word) told s =
-    nat_lt address 128 && is_own_at node.number (stores_in (address % 64) (node_before s node.number)) told
-    && is_word_asked word (word_at (record_at (chip_of s) node.number) address)
+    nat_lt address 128 && is_node_own_of_kind node.number (stores_in_cell (address % 64) (node_before_newest s node.number)) told
+    && is_requested_word word (memory_word_at (record_at (chip_of s) node.number) address)
 
 -- the place of the first of some conditions that holds right after this was made, where the machine is this
-unfoldable pub first_held : List Condition → Made → State → Option ℕ
-first_held [] told s = None
-first_held (until ∷ others) told s = if holds until told s then Some 0 else option_map suc (first_held others told s)
+unfoldable pub first_holding_condition : List Condition → Made → State → Option ℕ
+first_holding_condition [] told s = None
+first_holding_condition (until ∷ others) told s = if holds until told s then Some 0 else option_map suc (first_holding_condition others told s)
 
 -- the condition holds never
 abbrev pub is_never : Condition → Bool
@@ -125,7 +125,7 @@ is_never (Steps node step) = false
 is_never Stops = false
 is_never (StopsAt node) = false
 is_never (WaitsAt node) = false
-is_never (Holds node test) = false
+is_never (HoldsValue node test) = false
 is_never (Reaches node address) = false
 is_never (Writes node address word) = false
 

@@ -7,13 +7,13 @@ use Rattle.ga_grid.specs.declared.node_id.NodeId.{NodeId}
 use Rattle.ga_event.specs.declared.made.Made.{Made}
 use Rattle.ga_lab.specs.declared.fault.LabFault.{LabFault}
 use Rattle.ga_lab.specs.declared.fault.LabFault.TheVariants.{Memory}
-use Rattle.ga_lab.specs.Machine.{State, chip_of, step_answer, stepped}
+use Rattle.ga_lab.specs.Machine.{State, chip_of, step_answer, state_after_step}
 use Rattle.ga_scheduler.specs.declared.schedule.Schedule.{Schedule}
 use Rattle.ga_scheduler.specs.declared.condition.Condition.{Condition}
 use Rattle.ga_scheduler.specs.declared.running.RunEnd.{RunEnd}
 use Rattle.ga_scheduler.specs.declared.running.RunEnd.TheVariants as the_end
-use Rattle.ga_scheduler.specs.Schedules.{next_node, turn_after}
-use Rattle.ga_scheduler.specs.Conditions.{first_held}
+use Rattle.ga_scheduler.specs.Schedules.{next_node, schedule_after}
+use Rattle.ga_scheduler.specs.Conditions.{first_holding_condition}
 use Rattle.ga_races.specs.Orders.{has_event}
 
 -- a machine with the schedule by which its events are made
@@ -29,41 +29,41 @@ abbrev pub node_to_run : Running → Option NodeId
 node_to_run r = next_node r.schedule (has_event (chip_of r.state))
 
 -- the report of the next event of a machine, which this node makes, if there is one
-abbrev pub told_by_step : State → Option NodeId → Option Made
-told_by_step s None = None
-told_by_step s (Some node) = result_ok (step_answer s node)
+abbrev pub event_by_step : State → Option NodeId → Option Made
+event_by_step s None = None
+event_by_step s (Some node) = result_ok (step_answer s node)
 
-abbrev pub next_made : Running → Option Made
-next_made r = told_by_step r.state (node_to_run r)
+abbrev pub next_run_event : Running → Option Made
+next_run_event r = event_by_step r.state (node_to_run r)
 
 -- a machine with its schedule after the next event, which this node makes; as it was where there is none
-abbrev pub moved_by : Running → Option NodeId → Running
-moved_by r None = r
-moved_by r (Some node) = record { state = stepped r.state node; schedule = turn_after r.schedule node }
+abbrev pub run_after_step : Running → Option NodeId → Running
+run_after_step r None = r
+run_after_step r (Some node) = record { state = state_after_step r.state node; schedule = schedule_after r.schedule node }
 
-abbrev pub run_moved : Running → Running
-run_moved r = moved_by r (node_to_run r)
+abbrev pub run_after_next : Running → Running
+run_after_next r = run_after_step r (node_to_run r)
 
 -- a machine with its schedule after `n` events
-abbrev pub after_events : Running → ℕ → Running
-after_events r zero = r
-after_events r (suc events) = run_moved (after_events r events)
+abbrev pub run_after_events : Running → ℕ → Running
+run_after_events r zero = r
+run_after_events r (suc events) = run_after_next (run_after_events r events)
 
 -- each of the next `n` events can be made
-abbrev pub AreMade : Running → ℕ → Type 0
-AreMade r events = (k : ℕ) → k < events → IsSome (next_made (after_events r k))
+abbrev pub HasNextEvents : Running → ℕ → Type 0
+HasNextEvents r events = (k : ℕ) → k < events → IsSome (next_run_event (run_after_events r k))
 
 -- the place of the first of the conditions that holds right after the next event
-abbrev pub held_told : List Condition → Option Made → State → Option ℕ
-held_told until None s = None
-held_told until (Some made) s = first_held until made s
+abbrev pub condition_held_by : List Condition → Option Made → State → Option ℕ
+condition_held_by until None s = None
+condition_held_by until (Some made) s = first_holding_condition until made s
 
-abbrev pub held_next : List Condition → Running → Option ℕ
-held_next until r = held_told until (next_made r) (run_moved r).state
+abbrev pub condition_held_next : List Condition → Running → Option ℕ
+condition_held_next until r = condition_held_by until (next_run_event r) (run_after_next r).state
 
 -- none of some conditions holds just after one of the first `n` events
-abbrev pub NeverHolds : List Condition → Running → ℕ → Type 0
-NeverHolds until r events = (k : ℕ) → k < events → held_next until (after_events r k) ≡ None
+abbrev pub HasNoConditionHeld : List Condition → Running → ℕ → Type 0
+HasNoConditionHeld until r events = (k : ℕ) → k < events → condition_held_next until (run_after_events r k) ≡ None
 
 -- no node has an event
 abbrev pub IsQuiescent : List NodeRecord → Type 0
@@ -74,16 +74,16 @@ abbrev pub IsRefusedFor : LabFault → Result Made LabFault → Type 0
 IsRefusedFor why answer = (answer ≡ Err why) ⊎ ((why ≡ Memory) × IsOk answer)
 
 -- why no event follows in a run
-abbrev pub IsHalted : Running → RunEnd → Type 0
-IsHalted r the_end.Quiet = IsQuiescent (chip_of r.state)
-IsHalted r (the_end.Refused why) = (node : NodeId) × (node_to_run r ≡ Some node) × IsRefusedFor why (step_answer r.state node)
-IsHalted r (the_end.Reached made which) = ⊥
-IsHalted r the_end.Made = ⊥
+abbrev pub IsRunHalted : Running → RunEnd → Type 0
+IsRunHalted r the_end.Quiet = IsQuiescent (chip_of r.state)
+IsRunHalted r (the_end.Refused why) = (node : NodeId) × (node_to_run r ≡ Some node) × IsRefusedFor why (step_answer r.state node)
+IsRunHalted r (the_end.Reached made which) = ⊥
+IsRunHalted r the_end.Made = ⊥
 
 -- how a run ended after `n` events, of at most the requested number
-abbrev pub HasEnded : Running → ℕ → List Condition → ℕ → RunEnd → Type 0
-HasEnded r most until events (the_end.Reached made which) =
-    (k : ℕ) × (events ≡ k + 1) × NeverHolds until r k × (next_made (after_events r k) ≡ Some made) × (held_next until (after_events r k) ≡ Some which)
-HasEnded r most until events the_end.Made = (events ≡ most) × NeverHolds until r events
-HasEnded r most until events the_end.Quiet = (events < most) × NeverHolds until r events × IsHalted (after_events r events) the_end.Quiet
-HasEnded r most until events (the_end.Refused why) = (events < most) × NeverHolds until r events × IsHalted (after_events r events) (the_end.Refused why)
+abbrev pub HasRunEnded : Running → ℕ → List Condition → ℕ → RunEnd → Type 0
+HasRunEnded r most until events (the_end.Reached made which) =
+    (k : ℕ) × (events ≡ k + 1) × HasNoConditionHeld until r k × (next_run_event (run_after_events r k) ≡ Some made) × (condition_held_next until (run_after_events r k) ≡ Some which)
+HasRunEnded r most until events the_end.Made = (events ≡ most) × HasNoConditionHeld until r events
+HasRunEnded r most until events the_end.Quiet = (events < most) × HasNoConditionHeld until r events × IsRunHalted (run_after_events r events) the_end.Quiet
+HasRunEnded r most until events (the_end.Refused why) = (events < most) × HasNoConditionHeld until r events × IsRunHalted (run_after_events r events) (the_end.Refused why)

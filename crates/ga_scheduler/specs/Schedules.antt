@@ -5,7 +5,7 @@ use Rattle.std.specs.List.{slice_get}
 use Rattle.rand_xoshiro.specs.SplitMix64.{mix_u64}
 use Rattle.ga_grid.specs.declared.node_id.NodeId.{NodeId}
 use Rattle.ga_grid.specs.Grid.{node_id}
-use Rattle.ga_races.specs.Orders.{first_in}
+use Rattle.ga_races.specs.Orders.{first_node_from}
 use Rattle.ga_scheduler.specs.declared.schedule.Order.{Order}
 use Rattle.ga_scheduler.specs.declared.schedule.Order.TheVariants.{Rounds, Greedy, Random}
 use Rattle.ga_scheduler.specs.declared.schedule.Schedule.{Schedule}
@@ -16,26 +16,26 @@ numbers_below test zero = []
 numbers_below test (suc n) = if test n then numbers_below test n ++ n ∷ [] else numbers_below test n
 
 -- the node that is drawn, of those that pass a test: its place among them is a word modulo their number
-abbrev pub node_drawn : (ℕ → Bool) → ℕ → Option NodeId
-node_drawn test word = option_map node_id (slice_get (numbers_below test 144) (word % length (numbers_below test 144)))
+abbrev pub random_node : (ℕ → Bool) → ℕ → Option NodeId
+random_node test word = option_map node_id (slice_get (numbers_below test 144) (word % length (numbers_below test 144)))
 
 -- the node, of those that pass a test, that makes the next event
-abbrev pub node_in_order : Order → Schedule → (ℕ → Bool) → Option NodeId
-node_in_order Rounds schedule test = first_in test schedule.turn.number 144
-node_in_order Greedy schedule test = first_in test schedule.turn.number 144
-node_in_order Random schedule test = node_drawn test (mix_u64 schedule.generator).0
+abbrev pub next_node_by_order : Order → Schedule → (ℕ → Bool) → Option NodeId
+next_node_by_order Rounds schedule test = first_node_from test schedule.turn.number 144
+next_node_by_order Greedy schedule test = first_node_from test schedule.turn.number 144
+next_node_by_order Random schedule test = random_node test (mix_u64 schedule.generator).0
 
 abbrev pub next_node : Schedule → (ℕ → Bool) → Option NodeId
-next_node schedule test = node_in_order schedule.order schedule test
+next_node schedule test = next_node_by_order schedule.order schedule test
 
 -- the schedule after an event that this node made
-abbrev pub passed_by : Order → Schedule → NodeId → Schedule
-passed_by Rounds schedule node = record schedule { turn = node_id (node.number + 1) }
-passed_by Greedy schedule node = record schedule { turn = node }
-passed_by Random schedule node = record schedule { generator = (mix_u64 schedule.generator).1 }
+abbrev pub advanced_schedule : Order → Schedule → NodeId → Schedule
+advanced_schedule Rounds schedule node = record schedule { turn = node_id (node.number + 1) }
+advanced_schedule Greedy schedule node = record schedule { turn = node }
+advanced_schedule Random schedule node = record schedule { generator = (mix_u64 schedule.generator).1 }
 
-abbrev pub turn_after : Schedule → NodeId → Schedule
-turn_after schedule node = passed_by schedule.order schedule node
+abbrev pub schedule_after : Schedule → NodeId → Schedule
+schedule_after schedule node = advanced_schedule schedule.order schedule node
 
 -- where a schedule of each order begins
 abbrev pub round_robin : Schedule

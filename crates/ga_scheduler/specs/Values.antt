@@ -3,7 +3,7 @@
 use Rattle.std.specs.Prelude.{ℕ, ◌==◌, nat_lt, nat_le, Bool, true, false, not, ◌||◌, if◌then◌else◌, slice_index}
 use Rattle.std.specs.Int.{from_bool}
 use Rattle.ga_node.specs.Record.{NodeRecord}
-use Rattle.ga_lab.specs.Machine.{word_at}
+use Rattle.ga_lab.specs.Machine.{memory_word_at}
 use Rattle.ga_scheduler.specs.declared.value_test.NodeValue.{NodeValue}
 use Rattle.ga_scheduler.specs.declared.value_test.NodeValue.TheVariants as value
 use Rattle.ga_scheduler.specs.declared.value_test.Comparison.{Comparison}
@@ -18,18 +18,18 @@ abbrev pub return_word : NodeRecord → ℕ → ℕ
 return_word n place = if nat_lt place 9 then slice_index n.r place else 0
 
 -- a value of a node that made `steps` steps
-abbrev pub value_held : NodeRecord → ℕ → NodeValue → ℕ
-value_held n steps value.Step = steps
-value_held n steps value.P = n.p
-value_held n steps value.A = n.a
-value_held n steps value.B = n.b
-value_held n steps value.I = n.i
-value_held n steps value.Slot = n.slot
-value_held n steps value.Carry = from_bool n.carry
-value_held n steps value.Io = n.io
-value_held n steps (value.DataWord place) = data_word n place
-value_held n steps (value.ReturnWord place) = return_word n place
-value_held n steps (value.Cell address) = word_at n address
+abbrev pub node_value : NodeRecord → ℕ → NodeValue → ℕ
+node_value n steps value.Step = steps
+node_value n steps value.P = n.p
+node_value n steps value.A = n.a
+node_value n steps value.B = n.b
+node_value n steps value.I = n.i
+node_value n steps value.Slot = n.slot
+node_value n steps value.Carry = from_bool n.carry
+node_value n steps value.Io = n.io
+node_value n steps (value.DataWord place) = data_word n place
+node_value n steps (value.ReturnWord place) = return_word n place
+node_value n steps (value.Cell address) = memory_word_at n address
 
 abbrev pub compares : Comparison → ℕ → ℕ → Bool
 compares comparison.Equal value number = value == number
@@ -41,7 +41,7 @@ compares comparison.AtLeast value number = nat_le number value
 
 -- a node that made `steps` steps passes the test
 abbrev pub passes : ValueTest → NodeRecord → ℕ → Bool
-passes test n steps = compares test.comparison (value_held n steps test.value) test.number
+passes test n steps = compares test.comparison (node_value n steps test.value) test.number
 
 -- the value is the number of steps, and no word
 abbrev pub is_step_count : NodeValue → Bool

@@ -2,15 +2,15 @@
 use Rattle.std.specs.Prelude.{ℕ, zero, suc, ◌+◌, ◌&&◌, if◌then◌else◌, max, List, [], ◌∷◌, Bool, false, Option, Some, None, ◌≡◌, ◌-◌, length, slice_index, ◌/◌, ◌%◌, ◌==◌, ◌≢◌, ◌<◌, true, ◌⊎◌, ◌≤◌, nat_lt, not, IfSome}
 use Rattle.ga_grid.specs.declared.node_id.NodeId.{NodeId}
 use Rattle.ga_grid.specs.Grid.{node_id, neighbour_of}
-use Rattle.ga_event.specs.Told.{made_in}
+use Rattle.ga_event.specs.Told.{made_event_in}
 use Rattle.ga_event.specs.declared.made.Made.{Made}
 use Rattle.ga_lab.specs.Machine.{State, outcomes_of_kept, earlier}
 use Rattle.ga_scheduler.specs.declared.condition.Condition.{Condition}
-use Rattle.ga_scheduler.specs.declared.condition.Condition.TheVariants.{Holds, Reaches, Writes, PassesNumber, Passes, Steps, Stops, StopsAt, WaitsAt, Never}
-use Rattle.ga_scheduler.specs.Conditions.{holds, is_pass, is_step, is_own, is_own_at, is_stop, is_wait}
-use Rattle.ga_scheduler.specs.Backward.{is_among}
+use Rattle.ga_scheduler.specs.declared.condition.Condition.TheVariants.{HoldsValue, Reaches, Writes, PassesNumber, Passes, Steps, Stops, StopsAt, WaitsAt, Never}
+use Rattle.ga_scheduler.specs.Conditions.{holds, is_matching_pass, is_node_step, is_own_of_kind, is_node_own_of_kind, is_stop_kind, is_wait_kind}
+use Rattle.ga_scheduler.specs.Backward.{is_considered_event}
 use Rattle.std.specs.List.{slice_get}
-use Rattle.ga_scheduler.specs.Words.{is_over, one_over, word_count}
+use Rattle.ga_scheduler.specs.Words.{is_transfer_over, transfer_count_of_event, link_transfer_count}
 use Rattle.std.specs.Int.{bit_at}
 use Rattle.ga_scheduler.specs.declared.numbers.NumberSet.{NumberSet}
 use Rattle.ga_scheduler.specs.declared.drawing.Known.{Known}
@@ -23,18 +23,18 @@ use Rattle.ga_node.specs.Table.{refusal}
 use Rattle.ga_grid.specs.Chip.{record_at}
 use Rattle.ga_event.specs.declared.made.Made.TheVariants.{Own, Pass}
 use Rattle.ga_races.specs.Orders.{has_event}
-use Rattle.ga_node.specs.declared.kind.Kind.TheVariants as kind
+use Rattle.ga_node.specs.declared.kind.OwnEventKind.TheVariants as kind
 use Rattle.ga_scheduler.specs.declared.running.RunEnd.TheVariants as the_end
-use Rattle.ga_node.specs.declared.kind.Kind.{Kind}
+use Rattle.ga_node.specs.declared.kind.OwnEventKind.{OwnEventKind}
 use Rattle.ga_scheduler.specs.declared.watching.Needs.{Needs}
 use Rattle.ga_scheduler.specs.declared.running.RunEnd.{RunEnd}
-use Rattle.ga_scheduler.specs.Running.{Running, next_made, run_moved, held_next, IsHalted}
+use Rattle.ga_scheduler.specs.Running.{Running, next_run_event, run_after_next, condition_held_next, IsRunHalted}
 
 -- ---- what the search back for a condition cites
 
 -- the node whose registers or memory a condition asks for, and node 000 where it asks for none
 abbrev pub asked_node : Condition → NodeId
-asked_node (Holds node test) = node
+asked_node (HoldsValue node test) = node
 asked_node (Reaches node address) = node
 asked_node (Writes node address word) = node
 asked_node other = node_id 0
@@ -45,7 +45,7 @@ held_one until None s = false
 held_one until (Some told) s = holds until told s
 
 abbrev pub is_held : Condition → Option NodeId → State → ℕ → Bool
-is_held until only s place = is_among only (made_in (outcomes_of_kept s) place) && held_one until (made_in (outcomes_of_kept s) place) (earlier s (place + 1))
+is_held until only s place = is_considered_event only (made_event_in (outcomes_of_kept s) place) && held_one until (made_event_in (outcomes_of_kept s) place) (earlier s (place + 1))
 
 -- the length of the prefix of events up to the newest that is considered and after which a condition held; 0 if there is none
 abbrev pub held_upto : Condition → Option NodeId → State → ℕ → ℕ
@@ -73,7 +73,7 @@ counted_link other = None
 -- how many words of a link are kept, and none where there is no link
 abbrev pub count_over : Option (NodeId × NodeId) → State → ℕ
 count_over None s = 0
-count_over (Some link) s = word_count s link.0.number link.1.number
+count_over (Some link) s = link_transfer_count s link.0.number link.1.number
 
 abbrev pub counted : Condition → State → ℕ
 counted until s = count_over (counted_link until) s
@@ -81,7 +81,7 @@ counted until s = count_over (counted_link until) s
 -- how many words of a link an event carried, and none where there is no link
 abbrev pub more_over : Option (NodeId × NodeId) → Made → ℕ
 more_over None told = 0
-more_over (Some link) told = one_over link.0.number link.1.number told
+more_over (Some link) told = transfer_count_of_event link.0.number link.1.number told
 
 abbrev pub counted_by : Condition → Made → ℕ
 counted_by until told = more_over (counted_link until) told
@@ -96,17 +96,17 @@ WereCounted until s told words = (k : ℕ) (one : Condition) → slice_get until
 -- whether a condition holds by the event itself, given how many words of its link are in the history; what it requires of a
 -- node is not considered
 abbrev pub is_decided_by : Condition → Made → ℕ → Bool
-is_decided_by (Passes writer reader comparison word) told words = is_pass writer.number reader.number comparison word told
-is_decided_by (PassesNumber writer reader number) told words = is_over writer.number reader.number told && (words == number)
-is_decided_by (Steps node step) told words = is_step node.number step told
-is_decided_by Stops told words = is_own is_stop told
-is_decided_by (StopsAt node) told words = is_own_at node.number is_stop told
-is_decided_by (WaitsAt node) told words = is_own_at node.number is_wait told
+is_decided_by (Passes writer reader comparison word) told words = is_matching_pass writer.number reader.number comparison word told
+is_decided_by (PassesNumber writer reader number) told words = is_transfer_over writer.number reader.number told && (words == number)
+is_decided_by (Steps node step) told words = is_node_step node.number step told
+is_decided_by Stops told words = is_own_of_kind is_stop_kind told
+is_decided_by (StopsAt node) told words = is_node_own_of_kind node.number is_stop_kind told
+is_decided_by (WaitsAt node) told words = is_node_own_of_kind node.number is_wait_kind told
 is_decided_by other told words = false
 
 -- the report of the newest event in the history
 abbrev pub newest_told : State → Option Made
-newest_told s = made_in (outcomes_of_kept s) (length s.kept - 1)
+newest_told s = made_event_in (outcomes_of_kept s) (length s.kept - 1)
 
 -- ---- whether nodes are drawn
 
@@ -167,7 +167,7 @@ abbrev pub may_fetch : Needs → NodeRecord → Bool
 may_fetch needs n = n.slot == needs.slot
 
 -- an own event of this kind, which left its node so, lacks what it needs
-abbrev pub lacks : Needs → NodeRecord → Kind → Bool
+abbrev pub lacks : Needs → NodeRecord → OwnEventKind → Bool
 lacks needs n kind.Fetch = nat_lt needs.opcodes 256 && not (may_fetch needs n)
 lacks needs n (kind.Run code) = not (is_one_of needs.opcodes code) && not (may_fetch needs n)
 lacks needs n kind.Wait = false
@@ -182,7 +182,7 @@ Covers needs (Steps node step) = 256 ≤ needs.opcodes
 Covers needs Stops = Unit
 Covers needs (StopsAt node) = Unit
 Covers needs (WaitsAt node) = Unit
-Covers needs (Holds node test) = 256 ≤ needs.opcodes
+Covers needs (HoldsValue node test) = 256 ≤ needs.opcodes
 Covers needs (Reaches node address) = needs.slot ≡ 4
 Covers needs (Writes node address word) = 4 ≤ needs.opcodes
 
@@ -194,10 +194,10 @@ IsNeeded needs until = (k : ℕ) (one : Condition) → slice_get until k ≡ Som
 
 -- a run is over with its next event, which led here, or no event follows
 abbrev pub IsOver : List Condition → Running → Running → RunEnd → Type 0
-IsOver until r next (the_end.Reached made which) = (next_made r ≡ Some made) × (held_next until r ≡ Some which) × (next ≡ run_moved r)
+IsOver until r next (the_end.Reached made which) = (next_run_event r ≡ Some made) × (condition_held_next until r ≡ Some which) × (next ≡ run_after_next r)
 IsOver until r next the_end.Made = ⊥
-IsOver until r next the_end.Quiet = IsHalted r the_end.Quiet × (next ≡ r)
-IsOver until r next (the_end.Refused why) = IsHalted r (the_end.Refused why) × (next ≡ r)
+IsOver until r next the_end.Quiet = IsRunHalted r the_end.Quiet × (next ≡ r)
+IsOver until r next (the_end.Refused why) = IsRunHalted r (the_end.Refused why) × (next ≡ r)
 
 -- how many events there were at the end of a run, if `before` were made before it
 abbrev pub events_at : ℕ → RunEnd → ℕ

@@ -2,12 +2,12 @@
 
 ghost use Rattle.std.specs.Prelude.{◌≡◌, ◌<◌, ◌≤◌, ℕ, false, None, [], IfSome};
 ghost use Rattle.ga_scheduler.specs.inner.{has, IsKnown};
-ghost use Rattle.ga_scheduler.specs.Schedules.{numbers_below, node_drawn};
+ghost use Rattle.ga_scheduler.specs.Schedules.{numbers_below, random_node};
 
 use crate::numbers::NumberSet;
 use crate::ready::lowest_from;
 use arrayvec::ArrayVec;
-use ga_grid::{NODES, NodeId};
+use ga_grid::{CHIP_NODES, NodeId};
 
 /// What is known of a set of nodes until it changes.
 #[derive(Drop)]
@@ -17,7 +17,7 @@ pub(crate) struct Known {
     /// `numbers` has the numbers of its nodes, in their order.
     pub is_listed: bool,
     /// These numbers, or those of the set before it changed.
-    pub numbers: ArrayVec<u8, NODES>,
+    pub numbers: ArrayVec<u8, CHIP_NODES>,
 }
 
 impl Known {
@@ -48,13 +48,13 @@ impl Known {
 
 // Lists the numbers of the nodes in a set.
 #[inline(never)]
-fn list_numbers(ready: &NumberSet, numbers: &mut ArrayVec<u8, NODES>)
+fn list_numbers(ready: &NumberSet, numbers: &mut ArrayVec<u8, CHIP_NODES>)
     requires { (n : ℕ) → 144 ≤ n → n < 192 → has ready.now n ≡ false }
     ensures { numbers.new.items ≡ numbers_below (has ready.now) 144 }
 {
     numbers.truncate(0);
     let mut from = 0u8;
-    while from < NODES as u8 {
+    while from < CHIP_NODES as u8 {
         match lowest_from(ready, NodeId::new(from)) {
             Some(node) => {
                 numbers.push(node.number);
@@ -84,7 +84,7 @@ fn list_once(ready: &NumberSet, known: &mut Known)
 pub(crate) fn draw_node(ready: &NumberSet, known: &mut Known, word: u64) -> Option<NodeId>
     requires past { (n : ℕ) → 144 ≤ n → n < 192 → has ready.now n ≡ false }
     requires known { IsKnown ready.now known.old }
-    ensures drawn { result ≡ node_drawn (has ready.now) word }
+    ensures drawn { result ≡ random_node (has ready.now) word }
     ensures known { IsKnown ready.now known.new }
 {
     list_once(ready, known);

@@ -1,13 +1,13 @@
 //! What a rollback would take, without taking it.
 
 ghost use Rattle.std.specs.Prelude.{◌≡◌, ◌⊎◌, ◌↔◌, ◌+◌, ◌≤◌, ℕ, false, ◌++◌, slice_index, Ok, Err, IsOk, IfOk, OnOk, IfErr};
-ghost use Rattle.ga_event.specs.Told.{steps_of};
+ghost use Rattle.ga_event.specs.Told.{count_steps};
 ghost use Rattle.ga_lab.specs.Machine.{rewind_answer, has_step};
-ghost use Rattle.ga_scheduler.specs.Effects.{kept_steps, effect_on, effects_below, effects_of};
+ghost use Rattle.ga_scheduler.specs.Effects.{kept_steps, rollback_effect_on, effects_below, rollback_effects};
 
 use ga_grid::NodeId;
 use ga_lab::{Lab, LabFault};
-use ga_rollback::Visited;
+use ga_rollback::VisitedEntries;
 use std::alloc::Global;
 
 /// What a rollback would remove of a node: `steps` steps, all from the first on.
@@ -37,9 +37,9 @@ fn add_steps(
     node: NodeId,
     steps: u32,
 ) -> Result<(), LabFault>
-    requires { steps ≤ steps_of node.number lab.now.kept }
-    ensures ok { OnOk result ((left : ℕ → ℕ) → steps + left node.number ≡ steps_of node.number lab.now.kept →
-        list.new.items ≡ list.old.items ++ effect_on left (kept_steps lab.now) node.number) }
+    requires { steps ≤ count_steps node.number lab.now.kept }
+    ensures ok { OnOk result ((left : ℕ → ℕ) → steps + left node.number ≡ count_steps node.number lab.now.kept →
+        list.new.items ≡ list.old.items ++ rollback_effect_on left (kept_steps lab.now) node.number) }
     ensures err { IfErr result (λ why. why ≡ LabFault.Memory) }
 {
     if steps == 0 {
@@ -53,10 +53,10 @@ fn add_steps(
 }
 
 // What would be removed of each node, given how many steps would remain.
-fn listed(alloc: Global, lab: &Lab, steps: &Visited) -> Result<Vec<RollbackEffect>, LabFault>
-    requires { (m : ℕ) → slice_index steps.now m ≤ steps_of m lab.now.kept }
+fn listed(alloc: Global, lab: &Lab, steps: &VisitedEntries) -> Result<Vec<RollbackEffect>, LabFault>
+    requires { (m : ℕ) → slice_index steps.now m ≤ count_steps m lab.now.kept }
     ensures ok { IfOk result (λ list. (left : ℕ → ℕ) →
-        ((m : ℕ) → slice_index steps.now m + left m ≡ steps_of m lab.now.kept) →
+        ((m : ℕ) → slice_index steps.now m + left m ≡ count_steps m lab.now.kept) →
         list.items ≡ effects_below left (kept_steps lab.now) 144) }
     ensures err { IfErr result (λ why. why ≡ LabFault.Memory) }
 {
@@ -73,20 +73,20 @@ fn listed(alloc: Global, lab: &Lab, steps: &Visited) -> Result<Vec<RollbackEffec
 ///
 /// # Errors
 /// `NoStep`, where the node has no such step; then `Memory`.
-pub fn find_effects(
+pub fn find_rollback_effects(
     alloc: Global,
     lab: &mut Lab,
     node: NodeId,
     step: u32,
 ) -> Result<Effects, LabFault>
     ensures events { IfOk result (λ effects. rewind_answer lab.old node.number step ≡ Ok effects.events) }
-    ensures nodes { IfOk result (λ effects. effects.nodes.items ≡ effects_of lab.old node.number step) }
+    ensures nodes { IfOk result (λ effects. effects.nodes.items ≡ rollback_effects lab.old node.number step) }
     ensures err { IfErr result (λ why. (rewind_answer lab.old node.number step ≡ Err why)
         ⊎ ((why ≡ LabFault.Memory) × IsOk (rewind_answer lab.old node.number step))) }
     ensures refused { (result ≡ Err LabFault.NoStep) ↔ (has_step lab.old node.number step ≡ false) }
     ensures same { lab.new ≡ lab.old }
 {
-    match lab.would_rewind(node, step) {
+    match lab.forecast_rollback(node, step) {
         Ok(going) => match listed(alloc, lab, &going.steps) {
             Ok(nodes) => Ok(Effects {
                 events: going.events,

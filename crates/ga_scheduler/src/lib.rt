@@ -19,14 +19,14 @@ mod watching;
 mod words;
 
 pub use condition::Condition;
-pub use effects::{Effects, RollbackEffect, find_effects};
+pub use effects::{Effects, RollbackEffect, find_rollback_effects};
 pub use idle::find_idle;
 pub use reverse_search::{back_until, find_newest_holding};
 pub use running::{RunEnd, RunResult, run_schedule};
 pub use schedule::{Order, Schedule};
 pub use value_test::{Comparison, NodeValue, ValueTest};
 pub use watch::StopCondition;
-pub use watched::{WatchedEnd, WatchedRun, has_written, run_watched};
+pub use watched::{WatchedEnd, WatchedRun, has_stored_in_cell, run_watched};
 pub use watching::{MAX_CONDITIONS, active_conditions};
 pub use words::telling::count_transfers;
 pub use words::{Transfer, TransferIter};

@@ -5,13 +5,13 @@ ghost use Rattle.ga_grid.specs.Chip.{records_of};
 ghost use Rattle.ga_grid.specs.Grid.{neighbour_of};
 ghost use Rattle.ga_scheduler.specs.inner.{has, IsRight, HoldsReady, StaysRight, IsRightAround, IsRefreshed, IsAlone, IsKnown, is_random};
 ghost use Rattle.ga_scheduler.specs.Schedules.{next_node};
-ghost use Rattle.ga_races.specs.Orders.{first_in};
+ghost use Rattle.ga_races.specs.Orders.{first_node_from};
 
 use crate::drawing::{Known, draw_node};
 use crate::numbers::NumberSet;
 use crate::schedule::Schedule;
 use ga_event::next_event;
-use ga_grid::{Chip, NODES, NodeId, neighbour};
+use ga_grid::{CHIP_NODES, Chip, NodeId, neighbour};
 use ga_lab::Made;
 use ga_ports::Side;
 
@@ -53,7 +53,7 @@ pub(crate) fn ready_nodes(chip: &Chip) -> NumberSet
     ensures { HoldsReady (records_of chip.now) result }
 {
     let mut ready = NumberSet::none();
-    for number in 0..NODES as u8 {
+    for number in 0..CHIP_NODES as u8 {
         look(&mut ready, chip, NodeId::new(number));
     }
     ready
@@ -104,7 +104,7 @@ fn first_before(ready: &NumberSet, alone: &mut Option<NodeId>, turn: NodeId) -> 
     requires past { (n : ℕ) → 144 ≤ n → n < 192 → has ready.now n ≡ false }
     requires alone { IfSome alone.old (IsAlone ready.now) }
     requires ahead { (n : ℕ) → turn.number ≤ n → n < 144 → has ready.now n ≡ false }
-    ensures first { result ≡ first_in (has ready.now) turn.number 144 }
+    ensures first { result ≡ first_node_from (has ready.now) turn.number 144 }
     ensures alone { IfSome alone.new (IsAlone ready.now) }
 {
     match lowest_from(ready, NodeId::new(0)) {
@@ -123,7 +123,7 @@ fn first_before(ready: &NumberSet, alone: &mut Option<NodeId>, turn: NodeId) -> 
 fn first_behind(ready: &NumberSet, alone: &mut Option<NodeId>, turn: NodeId) -> Option<NodeId>
     requires past { (n : ℕ) → 144 ≤ n → n < 192 → has ready.now n ≡ false }
     requires alone { IfSome alone.old (IsAlone ready.now) }
-    ensures first { result ≡ first_in (has ready.now) turn.number 144 }
+    ensures first { result ≡ first_node_from (has ready.now) turn.number 144 }
     ensures alone { IfSome alone.new (IsAlone ready.now) }
 {
     match lowest_from(ready, turn) {
@@ -158,7 +158,7 @@ pub(crate) fn next_from(
 fn in_turn(ready: &NumberSet, alone: &mut Option<NodeId>, turn: NodeId) -> Option<NodeId>
     requires past { (n : ℕ) → 144 ≤ n → n < 192 → has ready.now n ≡ false }
     requires alone { IfSome alone.old (IsAlone ready.now) }
-    ensures first { result ≡ first_in (has ready.now) turn.number 144 }
+    ensures first { result ≡ first_node_from (has ready.now) turn.number 144 }
     ensures alone { IfSome alone.new (IsAlone ready.now) }
 {
     match *alone {

@@ -2,18 +2,18 @@
 
 ghost use Rattle.std.specs.Prelude.{◌≡◌, ◌≤◌, ◌+◌, ℕ, length, Ok, Err, IfOk, IfErr, IfSome, IsSome, IsOk, OnOk, OnErr, Some, None, ◌⊎◌, ◌<◌, ◌^◌};
 ghost use Rattle.ga_event.specs.Apply.{replay};
-ghost use Rattle.ga_lab.specs.Machine.{chip_of, step_answer, stepped};
-ghost use Rattle.ga_scheduler.specs.Words.{one_over, word_count};
+ghost use Rattle.ga_lab.specs.Machine.{chip_of, step_answer, state_after_step};
+ghost use Rattle.ga_scheduler.specs.Words.{transfer_count_of_event, link_transfer_count};
 ghost use Rattle.ga_scheduler.specs.inner.{HoldsReady, IsKnown, is_random, AreCounted, newest_told, IsNeeded, IsOver, events_at};
-ghost use Rattle.ga_scheduler.specs.Schedules.{turn_after};
-ghost use Rattle.ga_scheduler.specs.Running.{running, next_made, run_moved, held_next, after_events, AreMade, IsRefusedFor, HasEnded};
+ghost use Rattle.ga_scheduler.specs.Schedules.{schedule_after};
+ghost use Rattle.ga_scheduler.specs.Running.{running, next_run_event, run_after_next, condition_held_next, run_after_events, HasNextEvents, IsRefusedFor, HasRunEnded};
 
 use crate::condition::Condition;
 use crate::drawing::Known;
 use crate::numbers::NumberSet;
 use crate::ready::{next_from, ready_nodes, refresh};
 use crate::schedule::Schedule;
-use crate::watching::{LinkCounts, Needs, count_all, first_held, needs_of};
+use crate::watching::{LinkCounts, Needs, count_all, first_holding_condition, needs_of};
 use ga_grid::NodeId;
 use ga_lab::{Lab, LabFault, Made};
 
@@ -46,7 +46,7 @@ pub struct RunResult {
 #[inline(always)]
 fn step_once(lab: &mut Lab, node: NodeId, is_here: bool) -> Result<Made, LabFault>
     ensures answer { (result ≡ step_answer lab.old node) ⊎ ((result ≡ Err LabFault.Memory) × IsOk (step_answer lab.old node)) }
-    ensures ok { OnOk result (lab.new ≡ stepped lab.old node) }
+    ensures ok { OnOk result (lab.new ≡ state_after_step lab.old node) }
     ensures err { OnErr result (lab.new ≡ lab.old) }
 {
     if is_here {
@@ -72,12 +72,12 @@ pub(crate) fn make(
     requires replays { IsSome (replay lab.old.load lab.old.kept) }
     requires draws { draws ≡ is_random schedule.old.order }
     ensures ok { IfOk result (λ made. step_answer lab.old node ≡ Ok made) }
-    ensures state { OnOk result (lab.new ≡ stepped lab.old node) }
-    ensures schedule { OnOk result (schedule.new ≡ turn_after schedule.old node) }
+    ensures state { OnOk result (lab.new ≡ state_after_step lab.old node) }
+    ensures schedule { OnOk result (schedule.new ≡ schedule_after schedule.old node) }
     ensures ready { OnOk result (HoldsReady (chip_of lab.new) ready.new) }
     ensures known { OnOk result (IsKnown ready.new known.new) }
     ensures words { IfOk result (λ made. (writer reader : ℕ) →
-        word_count lab.new writer reader ≡ word_count lab.old writer reader + one_over writer reader made) }
+        link_transfer_count lab.new writer reader ≡ link_transfer_count lab.old writer reader + transfer_count_of_event writer reader made) }
     ensures newest { IfOk result (λ made. newest_told lab.new ≡ Some made) }
     ensures replays { OnOk result (IsSome (replay lab.new.load lab.new.kept)) }
     ensures draws { draws ≡ is_random schedule.new.order }
@@ -87,7 +87,7 @@ pub(crate) fn make(
 {
     match step_once(lab, node, is_here) {
         Ok(made) => {
-            *schedule = schedule.turn_after(node, draws);
+            *schedule = schedule.schedule_after(node, draws);
             refresh(ready, known, lab.chip(), &made);
             Ok(made)
         }
@@ -121,9 +121,9 @@ fn advance(
     requires most { length until.now ≤ 8 }
     requires size { length words.old ≡ 8 }
     requires counted { AreCounted until.now lab.old words.old }
-    ensures made { OnOk result (IsSome (next_made (running lab.old schedule.old))) }
-    ensures unmet { OnOk result (held_next until.now (running lab.old schedule.old) ≡ None) }
-    ensures moved { OnOk result (running lab.new schedule.new ≡ run_moved (running lab.old schedule.old)) }
+    ensures made { OnOk result (IsSome (next_run_event (running lab.old schedule.old))) }
+    ensures unmet { OnOk result (condition_held_next until.now (running lab.old schedule.old) ≡ None) }
+    ensures moved { OnOk result (running lab.new schedule.new ≡ run_after_next (running lab.old schedule.old)) }
     ensures ready { OnOk result (HoldsReady (chip_of lab.new) ready.new) }
     ensures known { OnOk result (IsKnown ready.new known.new) }
     ensures replays { OnOk result (IsSome (replay lab.new.load lab.new.kept)) }
@@ -137,7 +137,9 @@ fn advance(
             if lab.node(node).not_ready().is_none() {
                 match make(lab, ready, known, schedule, node, true, draws) {
                     Ok(made) => {
-                        if let Some(which) = first_held(until, needs, words, &made, lab) {
+                        if let Some(which) = first_holding_condition(
+                            until, needs, words, &made, lab,
+                        ) {
                             *end = RunEnd::Reached { made, which };
                             return Err(Over);
                         }
@@ -151,7 +153,9 @@ fn advance(
             } else {
                 match make(lab, ready, known, schedule, node, false, draws) {
                     Ok(made) => {
-                        if let Some(which) = first_held(until, needs, words, &made, lab) {
+                        if let Some(which) = first_holding_condition(
+                            until, needs, words, &made, lab,
+                        ) {
                             *end = RunEnd::Reached { made, which };
                             return Err(Over);
                         }
@@ -194,10 +198,10 @@ pub fn run_schedule(
     until: &[Condition],
 ) -> RunResult
     requires { length until.now ≤ 8 }
-    ensures state { running lab.new result.schedule ≡ after_events (running lab.old schedule) result.events }
-    ensures made { AreMade (running lab.old schedule) result.events }
+    ensures state { running lab.new result.schedule ≡ run_after_events (running lab.old schedule) result.events }
+    ensures made { HasNextEvents (running lab.old schedule) result.events }
     ensures most { result.events ≤ most }
-    ensures end { HasEnded (running lab.old schedule) most until.now result.events result.end }
+    ensures end { HasRunEnded (running lab.old schedule) most until.now result.events result.end }
 {
     let mut ready = ready_nodes(lab.chip());
     let mut known = Known::nothing();

@@ -65,7 +65,7 @@ fn following(node: NodeId) -> NodeId
 impl Schedule {
     ghost use Rattle.std.specs.Prelude.{◌≡◌};
     ghost use Rattle.rand_xoshiro.specs.SplitMix64.{mix_u64};
-    ghost use Rattle.ga_scheduler.specs.Schedules.{round_robin, greedy, random, turn_after};
+    ghost use Rattle.ga_scheduler.specs.Schedules.{round_robin, greedy, random, schedule_after};
     ghost use Rattle.ga_scheduler.specs.inner.{is_random};
 
     /// Rounds, the first of which begins at node 000.
@@ -121,9 +121,9 @@ impl Schedule {
 
     // The schedule after an event that this node made.
     #[inline(always)]
-    pub(crate) fn turn_after(self, node: NodeId, draws: bool) -> Self
+    pub(crate) fn schedule_after(self, node: NodeId, draws: bool) -> Self
         requires { draws ≡ is_random self.order }
-        ensures { result ≡ turn_after self node }
+        ensures { result ≡ schedule_after self node }
     {
         if draws {
             return Schedule {

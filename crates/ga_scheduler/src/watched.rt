@@ -7,7 +7,7 @@ ghost use Rattle.ga_scheduler.specs.declared.condition.Condition.TheVariants.{Wr
 ghost use Rattle.ga_scheduler.specs.Conditions.{holds};
 ghost use Rattle.ga_scheduler.specs.inner.{HoldsReady, IsKnown, is_random};
 ghost use Rattle.ga_scheduler.specs.Running.{running};
-ghost use Rattle.ga_scheduler.specs.Watched.{IsNewestMade, chosen_first, told_first, first_moved, after_first, AreMadeFirst, watching, watch_after, IsHaltedFirst, IsNewestSeen, HasEndedWatched};
+ghost use Rattle.ga_scheduler.specs.Watched.{IsNewestReport, precedence_node, precedence_event, precedence_run_after_next, precedence_run_after, HasNextPrecedenceEvents, watching, watch_after, IsPrecedenceRunHalted, IsNewestWatchedEvent, HasWatchedRunEnded};
 
 use crate::drawing::Known;
 use crate::edges::writes;
@@ -56,7 +56,7 @@ fn next_first(
     requires ready { HoldsReady (chip_of lab.now) ready.now }
     requires known { IsKnown ready.now known.old }
     requires draws { draws ≡ is_random schedule.now.order }
-    ensures chosen { result ≡ chosen_first first (running lab.now schedule.now) }
+    ensures chosen { result ≡ precedence_node first (running lab.now schedule.now) }
     ensures known { IsKnown ready.now known.new }
 {
     match first {
@@ -85,14 +85,14 @@ fn go(
     requires known { IsKnown ready.old known.old }
     requires replays { IsSome (replay lab.old.load lab.old.kept) }
     requires draws { draws ≡ is_random schedule.old.order }
-    ensures told { IfOk result (λ made. told_first first (running lab.old schedule.old) ≡ Some made) }
-    ensures moved { OnOk result (running lab.new schedule.new ≡ first_moved first (running lab.old schedule.old)) }
+    ensures told { IfOk result (λ made. precedence_event first (running lab.old schedule.old) ≡ Some made) }
+    ensures moved { OnOk result (running lab.new schedule.new ≡ precedence_run_after_next first (running lab.old schedule.old)) }
     ensures ready { OnOk result (HoldsReady (chip_of lab.new) ready.new) }
     ensures known { OnOk result (IsKnown ready.new known.new) }
     ensures draws { draws ≡ is_random schedule.new.order }
-    ensures newest { IfOk result (λ made. IsNewestMade lab.new made) }
+    ensures newest { IfOk result (λ made. IsNewestReport lab.new made) }
     ensures replays { OnOk result (IsSome (replay lab.new.load lab.new.kept)) }
-    ensures halted { IfErr result (IsHaltedFirst first (running lab.old schedule.old)) }
+    ensures halted { IfErr result (IsPrecedenceRunHalted first (running lab.old schedule.old)) }
     ensures same { OnErr result (lab.new ≡ lab.old) }
     ensures stays { OnErr result (schedule.new ≡ schedule.old) }
 {
@@ -115,12 +115,12 @@ pub fn run_watched<W: StopCondition>(
     most: u64,
     watch: &mut W,
 ) -> WatchedRun
-    ensures state { running lab.new result.schedule ≡ after_first first (running lab.old schedule) result.events }
-    ensures made { AreMadeFirst first (running lab.old schedule) result.events }
+    ensures state { running lab.new result.schedule ≡ precedence_run_after first (running lab.old schedule) result.events }
+    ensures made { HasNextPrecedenceEvents first (running lab.old schedule) result.events }
     ensures watch { watch.new ≡ watch_after (watching first W.ends W.seen) watch.old (running lab.old schedule) result.events }
     ensures most { result.events ≤ most }
-    ensures newest { IsNewestSeen lab.new result.end }
-    ensures end { HasEndedWatched (watching first W.ends W.seen) watch.old (running lab.old schedule) most result.events result.end }
+    ensures newest { IsNewestWatchedEvent lab.new result.end }
+    ensures end { HasWatchedRunEnded (watching first W.ends W.seen) watch.old (running lab.old schedule) most result.events result.end }
 {
     let mut ready = ready_nodes(lab.chip());
     let mut known = Known::nothing();
@@ -157,8 +157,8 @@ pub fn run_watched<W: StopCondition>(
 }
 
 /// Whether the newest event of a lab stored in a cell of RAM of a node, which the low six bits of an address name.
-pub fn has_written(lab: &Lab, made: &Made, node: NodeId, address: u8) -> bool
-    requires { IsNewestMade lab.now made.now }
+pub fn has_stored_in_cell(lab: &Lab, made: &Made, node: NodeId, address: u8) -> bool
+    requires { IsNewestReport lab.now made.now }
     ensures { result ≡ holds (Writes node (address % 64) None) made.now lab.now }
 {
     writes(made, lab, node, address % 64, None)

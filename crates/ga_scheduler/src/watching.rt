@@ -2,13 +2,13 @@
 //! by a few comparisons, whatever the conditions are.
 
 ghost use Rattle.std.specs.Prelude.{◌≡◌, ◌≤◌, length, Some};
-ghost use Rattle.ga_scheduler.specs.Conditions.{first_held, active_conditions};
+ghost use Rattle.ga_scheduler.specs.Conditions.{first_holding_condition, active_conditions};
 ghost use Rattle.ga_scheduler.specs.inner.{AreCounted, WereCounted, newest_told, IsNeeded};
 
 use crate::condition::Condition;
 use ga_grid::NodeId;
 use ga_lab::{Lab, Made};
-use ga_node::{Kind, Place};
+use ga_node::{OwnEventKind, Place};
 
 // The opcodes that store are this one and the three after it: `!p`, `!+`, `!b`, `!`.
 const STORE_P: u8 = 0x0c;
@@ -51,7 +51,7 @@ impl Needs {
             },
             Condition::Writes { .. } => self.with_opcodes(STORES),
             Condition::Steps { .. } => self.with_opcodes(ALL),
-            Condition::Holds { .. } => self.with_opcodes(ALL),
+            Condition::HoldsValue { .. } => self.with_opcodes(ALL),
             _ => self,
         }
     }
@@ -96,24 +96,24 @@ impl Needs {
 
     // Whether the node's newest event, of any kind, lacks what is needed.
     #[inline(never)]
-    fn lacks_any(&self, lab: &Lab, node: NodeId, kind: Kind) -> bool
+    fn lacks_any(&self, lab: &Lab, node: NodeId, kind: OwnEventKind) -> bool
         ensures { result ≡ lacks self.now (record_at (chip_of lab.now) node.number) kind }
     {
         match kind {
-            Kind::Run(code) => self.lacks_opcode(lab, node, code),
-            Kind::Fetch => self.opcodes < ALL && !self.may_fetch(lab, node),
-            Kind::Wait => false,
-            Kind::Stop(_) => false,
+            OwnEventKind::Run(code) => self.lacks_opcode(lab, node, code),
+            OwnEventKind::Fetch => self.opcodes < ALL && !self.may_fetch(lab, node),
+            OwnEventKind::Wait => false,
+            OwnEventKind::Stop(_) => false,
         }
     }
 
     /// Whether the newest event, of this kind and the node's own, lacks what it needs.
     #[inline(always)]
-    pub(crate) fn lacks(&self, lab: &Lab, node: NodeId, kind: Kind) -> bool
+    pub(crate) fn lacks(&self, lab: &Lab, node: NodeId, kind: OwnEventKind) -> bool
         ensures { result ≡ lacks self.now (record_at (chip_of lab.now) node.number) kind }
     {
         match kind {
-            Kind::Run(code) => self.lacks_opcode(lab, node, code),
+            OwnEventKind::Run(code) => self.lacks_opcode(lab, node, code),
             _ => self.lacks_any(lab, node, kind),
         }
     }
@@ -188,7 +188,7 @@ fn first_asked(until: &[Condition], words: &LinkCounts, made: &Made, lab: &Lab) 
     requires size { length words.now ≡ 8 }
     requires counted { AreCounted until.now lab.now words.now }
     requires newest { newest_told lab.now ≡ Some made.now }
-    ensures { result ≡ first_held until.now made.now lab.now }
+    ensures { result ≡ first_holding_condition until.now made.now lab.now }
 {
     for (place, condition) in until.iter().enumerate() {
         if condition.holds(made, lab, words[place]) {
@@ -206,7 +206,7 @@ fn first_seen(until: &[Condition], words: &LinkCounts, made: &Made, lab: &Lab) -
     requires size { length words.now ≡ 8 }
     requires counted { AreCounted until.now lab.now words.now }
     requires newest { newest_told lab.now ≡ Some made.now }
-    ensures { result ≡ first_held until.now made.now lab.now }
+    ensures { result ≡ first_holding_condition until.now made.now lab.now }
 {
     let seen = *made;
     first_asked(until, words, &seen, lab)
@@ -216,7 +216,7 @@ fn first_seen(until: &[Condition], words: &LinkCounts, made: &Made, lab: &Lab) -
 // before it, and what an event needs.
 #[inline(always)]
 #[tactic(auto, using(crate::proofs::Needing::none_of_none, crate::proofs::Needing::counted_of_none))]
-pub(crate) fn first_held(
+pub(crate) fn first_holding_condition(
     until: &[Condition],
     needs: &Needs,
     words: &mut LinkCounts,
@@ -228,7 +228,7 @@ pub(crate) fn first_held(
     requires size { length words.old ≡ 8 }
     requires counted { WereCounted until.now lab.now made.now words.old }
     requires newest { newest_told lab.now ≡ Some made.now }
-    ensures first { result ≡ first_held until.now made.now lab.now }
+    ensures first { result ≡ first_holding_condition until.now made.now lab.now }
     ensures size { length words.new ≡ 8 }
     ensures counted { AreCounted until.now lab.now words.new }
 {
@@ -254,7 +254,7 @@ fn first_among(
     requires size { length words.old ≡ 8 }
     requires counted { WereCounted until.now lab.now made.now words.old }
     requires newest { newest_told lab.now ≡ Some made.now }
-    ensures first { result ≡ first_held until.now made.now lab.now }
+    ensures first { result ≡ first_holding_condition until.now made.now lab.now }
     ensures size { length words.new ≡ 8 }
     ensures counted { AreCounted until.now lab.now words.new }
 {

@@ -1,5 +1,5 @@
 -- What a log implies for the machine, the seats and the lists of calls.
-use Rattle.ga_shared.specs.declared.call.Answer.TheVariants as answer
+use Rattle.ga_shared.specs.declared.call.CallAnswer.TheVariants as answer
 use Rattle.std.proofs.Common.{◌≡◌, ◌+◌, ℕ, cond, refl, arith, ◌≢◌, List, [], ◌∷◌, ◌++◌, length, length-append, sym, ap, ◌∙◌, subst, zero-add, ◌<◌, take, get_or, zero, suc, map, sum_by, Some, Bool, true, false}
 use Rattle.std.specs.Prelude.{Result, Ok, Err, All, slice_get, ◌==◌, if◌then◌else◌}
 use Rattle.ga_node.specs.declared.kind.NotReady.{NotReady}
@@ -7,27 +7,27 @@ use Rattle.ga_event.specs.declared.event.Event.{Event}
 use Rattle.ga_event.specs.Next.{next}
 use Rattle.ga_event.specs.declared.made.Made.{Made}
 use Rattle.ga_lab.specs.declared.fault.LabFault.{LabFault}
-use Rattle.ga_lab.specs.Machine.{State, chip_of, step_answer, with_event, unless_refused, answer_to as lab_answer_to, rewind_answer, initial_state}
+use Rattle.ga_lab.specs.Machine.{State, chip_of, step_answer, with_event, unless_refused, answer_to_event as lab_answer_to, rewind_answer, initial_state}
 use Rattle.ga_shared.specs.declared.call.Call.{Call}
 use Rattle.ga_shared.specs.declared.call.Call.TheVariants.{Step, Rewind}
-use Rattle.ga_shared.specs.declared.call.Answer.{Answer}
-use Rattle.ga_shared.specs.Log.{call_answer, answer_of_step, answer_of_rewind, state_after, is_made, IsLegal, Desk, IsHistory, made_by, Worker, fresh_worker, Raced, calls_of, AreSeated, WorkerAgrees, receipts_of}
+use Rattle.ga_shared.specs.declared.call.CallAnswer.{CallAnswer}
+use Rattle.ga_shared.specs.Log.{call_answer, answer_of_step, answer_of_rewind, state_after_call, has_made_event, IsLegalLog, LockedState, HasConsistentLog, count_made_events, Worker, fresh_worker, IsRaceResult, calls_of_worker, AreAllSeats, HasMatchingReceipts, receipts_of}
 use Rattle.std.proofs.lemmas.List.Sums.{sum_by-append, sum_by-cons}
-use Rattle.ga_shared.specs.declared.call.Entry.{Entry}
+use Rattle.ga_shared.specs.declared.call.LogEntry.{LogEntry}
 use Rattle.std.proofs.lemmas.List.{take_more}
 use Rattle.std.proofs.lemmas.List.Elements.{All-append}
 use Rattle.std.proofs.lemmas.Option.{slice_get-get_or, slice_get_within, get_or_from_slice_get}
 use Rattle.ga_shared.specs.declared.call.Receipt.{Receipt}
-use Rattle.ga_shared.specs.declared.closing.Closed.{Closed}
+use Rattle.ga_shared.specs.declared.closing.ClosedLab.{ClosedLab}
 use Rattle.ga_node.specs.Record.{NodeRecord}
-use Rattle.ga_shared.specs.Close.{IsSoundLog, IsOpenedOn}
+use Rattle.ga_shared.specs.Close.{IsSoundLog, IsOpenedWith}
 use Rattle.ga_shared.specs.inner.{IsDone}
 
 -- ---- What a call leaves of the machine: its load, its limit, and how many events were made
 
 -- the number of events that the call of an answer made: 1 or 0
-abbrev pub added_by : Answer → ℕ
-added_by a = cond (is_made a) 1 0
+abbrev pub added_by : CallAnswer → ℕ
+added_by a = cond (has_made_event a) 1 0
 
 -- what a field of the machine is after a call, where the call leaves it
 unless : {X : Type 0} {Y : Type 0} (f : State → Y) (r : Result X LabFault) (old new : State) → f new ≡ f old → f (unless_refused old r new) ≡ f old
@@ -43,13 +43,13 @@ with_event-limit s (Ok e) = refl
 with_event-limit s (Err why) = refl
 
 -- no call changes the load and the limit
-pub state_after-load : (s : State) (call : Call) → (state_after s call).load ≡ s.load
-state_after-load s (Step node) = unless (λ t. t.load) (step_answer s node) s (with_event s (next (chip_of s) node)) (with_event-load s (next (chip_of s) node))
-state_after-load s (Rewind node step) = refl
+pub state_after_call-load : (s : State) (call : Call) → (state_after_call s call).load ≡ s.load
+state_after_call-load s (Step node) = unless (λ t. t.load) (step_answer s node) s (with_event s (next (chip_of s) node)) (with_event-load s (next (chip_of s) node))
+state_after_call-load s (Rewind node step) = refl
 
-pub state_after-limit : (s : State) (call : Call) → (state_after s call).limit ≡ s.limit
-state_after-limit s (Step node) = unless (λ t. t.limit) (step_answer s node) s (with_event s (next (chip_of s) node)) (with_event-limit s (next (chip_of s) node))
-state_after-limit s (Rewind node step) = refl
+pub state_after_call-limit : (s : State) (call : Call) → (state_after_call s call).limit ≡ s.limit
+state_after_call-limit s (Step node) = unless (λ t. t.limit) (step_answer s node) s (with_event s (next (chip_of s) node)) (with_event-limit s (next (chip_of s) node))
+state_after_call-limit s (Rewind node step) = refl
 
 -- a step that made an event counts it, and a refused one doesn't
 made_by_step : (s : State) (r : Result Event NotReady) (a : Result Made LabFault) → a ≡ lab_answer_to s r → (unless_refused s a (with_event s r)).made ≡ s.made + added_by (answer_of_step a)
@@ -62,44 +62,44 @@ added_by-rewind (Ok removed) = refl
 added_by-rewind (Err fault) = refl
 
 -- the lab counts the events that are answered
-pub state_after-made : (s : State) (call : Call) → (state_after s call).made ≡ s.made + added_by (call_answer s call)
-state_after-made s (Step node) = made_by_step s (next (chip_of s) node) (step_answer s node) refl
-state_after-made s (Rewind node step) = omega (arith, added_by-rewind (rewind_answer s node.number step))
+pub state_after_call-made : (s : State) (call : Call) → (state_after_call s call).made ≡ s.made + added_by (call_answer s call)
+state_after_call-made s (Step node) = made_by_step s (next (chip_of s) node) (step_answer s node) refl
+state_after_call-made s (Rewind node step) = omega (arith, added_by-rewind (rewind_answer s node.number step))
 
 -- ---- A history with one call more
 
-pub IsLegal-push : (s t : State) (es : List Entry) (e : Entry) → IsLegal s es t → e.answer ≡ call_answer t e.call → e.answer ≢ answer.Refused 4 → IsLegal s (es ++ e ∷ []) (state_after t e.call)
-IsLegal-push s t [] e is answers given = (answers ∙ ap (λ u. call_answer u e.call) (sym is), given, ap (λ u. state_after u e.call) is)
-IsLegal-push s t (x ∷ es) e legal answers given = (legal.0, legal.1, IsLegal-push (state_after s x.call) t es e legal.2 answers given)
+pub IsLegalLog-push : (s t : State) (es : List LogEntry) (e : LogEntry) → IsLegalLog s es t → e.answer ≡ call_answer t e.call → e.answer ≢ answer.Refused 4 → IsLegalLog s (es ++ e ∷ []) (state_after_call t e.call)
+IsLegalLog-push s t [] e is answers given = (answers ∙ ap (λ u. call_answer u e.call) (sym is), given, ap (λ u. state_after_call u e.call) is)
+IsLegalLog-push s t (x ∷ es) e legal answers given = (legal.0, legal.1, IsLegalLog-push (state_after_call s x.call) t es e legal.2 answers given)
 
-made_by-push : (es : List Entry) (e : Entry) → made_by (es ++ e ∷ []) ≡ made_by es + added_by e.answer
-made_by-push es e = sum_by-append (λ (x : Entry). added_by x.answer) es (e ∷ []) ∙ ap (λ n. made_by es + n) (zero-add (added_by e.answer))
+count_made_events-push : (es : List LogEntry) (e : LogEntry) → count_made_events (es ++ e ∷ []) ≡ count_made_events es + added_by e.answer
+count_made_events-push es e = sum_by-append (λ (x : LogEntry). added_by x.answer) es (e ∷ []) ∙ ap (λ n. count_made_events es + n) (zero-add (added_by e.answer))
 
 -- a call more, answered as the machine does
-pub IsHistory-push : (d : Desk) (lab : State) (log : List Entry) (calls : ℕ) (e : Entry) → IsHistory d → e.answer ≡ call_answer d.lab e.call → e.answer ≢ answer.Refused 4 → lab ≡ state_after d.lab e.call → log ≡ d.log ++ e ∷ [] → calls ≡ d.calls + 1 → IsHistory (record { load = d.load; lab = lab; log = log; calls = calls })
-IsHistory-push d lab log calls e history answers given is grew counted =
-    let same = state_after-load d.lab e.call in
-    let limit : lab.limit ≡ d.lab.limit = ap (λ s. s.limit) is ∙ state_after-limit d.lab e.call in
-    let legal = IsLegal-push (initial_state d.load d.lab.limit) d.lab d.log e history.legal answers given in
-    let P : ℕ → List Entry → State → Type 0 = λ n l t. IsLegal (initial_state d.load n) l t in
+pub HasConsistentLog-push : (d : LockedState) (lab : State) (log : List LogEntry) (calls : ℕ) (e : LogEntry) → HasConsistentLog d → e.answer ≡ call_answer d.lab e.call → e.answer ≢ answer.Refused 4 → lab ≡ state_after_call d.lab e.call → log ≡ d.log ++ e ∷ [] → calls ≡ d.calls + 1 → HasConsistentLog (record { load = d.load; lab = lab; log = log; calls = calls })
+HasConsistentLog-push d lab log calls e history answers given is grew counted =
+    let same = state_after_call-load d.lab e.call in
+    let limit : lab.limit ≡ d.lab.limit = ap (λ s. s.limit) is ∙ state_after_call-limit d.lab e.call in
+    let legal = IsLegalLog-push (initial_state d.load d.lab.limit) d.lab d.log e history.legal answers given in
+    let P : ℕ → List LogEntry → State → Type 0 = λ n l t. IsLegalLog (initial_state d.load n) l t in
     record {
       load = history.load ∙ sym same ∙ ap (λ s. s.load) (sym is);
       legal = subst (λ n. P n log lab) (sym limit) (subst (λ l. P d.lab.limit l lab) (sym grew) (subst (P d.lab.limit (d.log ++ e ∷ [])) (sym is) legal));
       calls = omega (arith, history.calls, ap length grew, length-append d.log (e ∷ []), counted);
-      made = ap (λ s. s.made) is ∙ state_after-made d.lab e.call ∙ ap (λ a. d.lab.made + added_by a) (sym answers) ∙ ap (λ n. n + added_by e.answer) history.made ∙ sym (made_by-push d.log e) ∙ ap made_by (sym grew);
+      made = ap (λ s. s.made) is ∙ state_after_call-made d.lab e.call ∙ ap (λ a. d.lab.made + added_by a) (sym answers) ∙ ap (λ n. n + added_by e.answer) history.made ∙ sym (count_made_events-push d.log e) ∙ ap count_made_events (sym grew);
     }
 
 -- ---- What closing implies for the log, the lab and the seats
 
-pub AreSeated-along : (n m : ℕ) (xs ys : List Worker) → n ≡ m → xs ≡ ys → AreSeated n xs → AreSeated m ys
-AreSeated-along n m xs ys e f h = subst (λ (p : ℕ × List Worker). AreSeated p.0 p.1) (λ i. (e i, f i)) h
+pub AreAllSeats-along : (n m : ℕ) (xs ys : List Worker) → n ≡ m → xs ≡ ys → AreAllSeats n xs → AreAllSeats m ys
+AreAllSeats-along n m xs ys e f h = subst (λ (p : ℕ × List Worker). AreAllSeats p.0 p.1) (λ i. (e i, f i)) h
 
-pub WorkerAgrees-along : (l m : List Entry) (xs ys : List Worker) (w : ℕ) → l ≡ m → xs ≡ ys → WorkerAgrees l xs w → WorkerAgrees m ys w
-WorkerAgrees-along l m xs ys w e f h = subst (λ (p : List Entry × List Worker). WorkerAgrees p.0 p.1 w) (λ i. (e i, f i)) h
+pub HasMatchingReceipts-along : (l m : List LogEntry) (xs ys : List Worker) (w : ℕ) → l ≡ m → xs ≡ ys → HasMatchingReceipts l xs w → HasMatchingReceipts m ys w
+HasMatchingReceipts-along l m xs ys w e f h = subst (λ (p : List LogEntry × List Worker). HasMatchingReceipts p.0 p.1 w) (λ i. (e i, f i)) h
 
 -- a history is legal from the load and the limit of its lab
-pub IsHistory-legal : (d : Desk) → IsHistory d → IsLegal (initial_state d.lab.load d.lab.limit) d.log d.lab
-IsHistory-legal d h = subst (λ load. IsLegal (initial_state load d.lab.limit) d.log d.lab) h.load h.legal
+pub HasConsistentLog-legal : (d : LockedState) → HasConsistentLog d → IsLegalLog (initial_state d.lab.load d.lab.limit) d.log d.lab
+HasConsistentLog-legal d h = subst (λ load. IsLegalLog (initial_state load d.lab.limit) d.log d.lab) h.load h.legal
 
 -- ---- Receipts of one seat more
 
@@ -111,8 +111,8 @@ All-take-more : {X : Type 0} (P : X → Type 0) (xs : List X) (i : ℕ) (x : X) 
 All-take-more P xs i x within is before here =
     subst (All P) (sym (take_more xs i x within ∙ ap (λ y. take i xs ++ y ∷ []) (sym is))) (All-append P (take i xs) (x ∷ []) before (All-one P x here))
 
-pub WorkerAgrees-more : (log : List Entry) (seats : List Worker) (w i : ℕ) (s : Worker) → i < length seats → s ≡ get_or seats i s → WorkerAgrees log (take i seats) w → (s.number ≡ w → s.receipts ≡ receipts_of w 0 log) → WorkerAgrees log (take (i + 1) seats) w
-WorkerAgrees-more log seats w i s within is before here = All-take-more (λ (t : Worker). t.number ≡ w → t.receipts ≡ receipts_of w 0 log) seats i s within is before here
+pub HasMatchingReceipts-more : (log : List LogEntry) (seats : List Worker) (w i : ℕ) (s : Worker) → i < length seats → s ≡ get_or seats i s → HasMatchingReceipts log (take i seats) w → (s.number ≡ w → s.receipts ≡ receipts_of w 0 log) → HasMatchingReceipts log (take (i + 1) seats) w
+HasMatchingReceipts-more log seats w i s within is before here = All-take-more (λ (t : Worker). t.number ≡ w → t.receipts ≡ receipts_of w 0 log) seats i s within is before here
 
 -- ---- What a race leads to
 
@@ -121,9 +121,9 @@ branch true r rs cs same = ap (λ l. r.call ∷ l) same
 branch false r rs cs same = same
 
 -- the calls of a worker's receipts are its calls in the log
-pub map-receipts_of : (w place : ℕ) (log : List Entry) → map (λ (r : Receipt). r.call) (receipts_of w place log) ≡ calls_of w log
+pub map-receipts_of : (w place : ℕ) (log : List LogEntry) → map (λ (r : Receipt). r.call) (receipts_of w place log) ≡ calls_of_worker w log
 map-receipts_of w place [] = refl
-map-receipts_of w place (e ∷ es) = branch (e.worker == w) (record { place = place; call = e.call; answer = e.answer }) (receipts_of w (place + 1) es) (calls_of w es) (map-receipts_of w (place + 1) es)
+map-receipts_of w place (e ∷ es) = branch (e.worker == w) (record { place = place; call = e.call; answer = e.answer }) (receipts_of w (place + 1) es) (calls_of_worker w es) (map-receipts_of w (place + 1) es)
 
 -- sums over two lists that agree place by place
 pub sum_by-pairs : {X Y : Type 0} (f : X → ℕ) (h : Y → ℕ) (xs : List X) (ys : List Y) → length xs ≡ length ys → ((k : ℕ) (x : X) (y : Y) → slice_get xs k ≡ Some x → slice_get ys k ≡ Some y → f x ≡ h y) → sum_by f xs ≡ sum_by h ys
@@ -134,7 +134,7 @@ sum_by-pairs f h (x ∷ xs) (y ∷ ys) size same =
     sum_by-cons f x xs ∙ (λ i. same zero x y refl refl i + sum_by-pairs f h xs ys (omega (arith, size)) (λ k a b p q. same (suc k) a b p q) i) ∙ sym (sum_by-cons h y ys)
 
 -- a worker that is done, whose receipts are the log's
-done_calls : (lists : List (List Call)) (log : List Entry) (w : ℕ) (s : Worker) (list : List Call) → s.number ≡ w → IsDone lists s → slice_get lists w ≡ Some list → s.receipts ≡ receipts_of w 0 log → (calls_of w log ≡ list) × (s.calls ≡ length list)
+done_calls : (lists : List (List Call)) (log : List LogEntry) (w : ℕ) (s : Worker) (list : List Call) → s.number ≡ w → IsDone lists s → slice_get lists w ≡ Some list → s.receipts ≡ receipts_of w 0 log → (calls_of_worker w log ≡ list) × (s.calls ≡ length list)
 done_calls lists log w s list is done at agrees =
     let works = done list (ap (slice_get lists) is ∙ at) in
     let receipts : s.receipts ≡ works.0 = ap (λ x. x.receipts) works.2 in (
@@ -142,12 +142,12 @@ done_calls lists log w s list is done at agrees =
       ap (λ x. x.calls) works.2 ∙ zero-add (length list),
     )
 
-pub raced : (load : List NodeRecord) (limit n : ℕ) (lists : List (List Call)) (seats : List Worker) (closed : Closed) → length lists ≡ n → length seats ≡ n → ((w : ℕ) (s : Worker) → slice_get seats w ≡ Some s → (s.number ≡ w) × IsDone lists s) → IsSoundLog seats closed → IsOpenedOn (record { load = load; limit = limit; workers = n }) closed.lab → ((w : ℕ) → w < n → WorkerAgrees closed.log.items seats w) → Raced load limit lists closed
+pub raced : (load : List NodeRecord) (limit n : ℕ) (lists : List (List Call)) (seats : List Worker) (closed : ClosedLab) → length lists ≡ n → length seats ≡ n → ((w : ℕ) (s : Worker) → slice_get seats w ≡ Some s → (s.number ≡ w) × IsDone lists s) → IsSoundLog seats closed → IsOpenedWith (record { load = load; limit = limit; workers = n }) closed.lab → ((w : ℕ) → w < n → HasMatchingReceipts closed.log.items seats w) → IsRaceResult load limit lists closed
 raced load limit n lists seats closed many size done sound opened agrees =
     let log = closed.log.items in
     record {
       opened = opened;
-      legal = subst (λ (p : List NodeRecord × ℕ). IsLegal (initial_state p.0 p.1) log closed.lab) (λ i. (opened.0 i, opened.1 i)) sound.legal;
+      legal = subst (λ (p : List NodeRecord × ℕ). IsLegalLog (initial_state p.0 p.1) log closed.lab) (λ i. (opened.0 i, opened.1 i)) sound.legal;
       calls = λ w list at. (at_place w list at (fresh_worker w)).0;
       made = sound.made;
       count = sound.calls ∙ sum_by-pairs (λ (s : Worker). s.calls) length seats lists (size ∙ sym many) (λ k s list s_at list_at. known k s list s_at list_at);
@@ -160,7 +160,7 @@ raced load limit n lists seats closed many size done sound opened agrees =
         let same : get_or seats w s ≡ s = get_or_from_slice_get seats w s s s_at in
         (done_calls lists closed.log.items w s list d.0 d.1 at (subst (λ (x : Worker). x.number ≡ w → x.receipts ≡ receipts_of w 0 closed.log.items) same (agrees w (omega (arith, size)) w s in_seats) d.0)).1
 
-    at_place : (w : ℕ) (list : List Call) → slice_get lists w ≡ Some list → (d : Worker) → (calls_of w closed.log.items ≡ list) × Unit {0}
+    at_place : (w : ℕ) (list : List Call) → slice_get lists w ≡ Some list → (d : Worker) → (calls_of_worker w closed.log.items ≡ list) × Unit {0}
     at_place w list at d =
         let in_lists = slice_get_within lists w list at in
         let in_seats : w < length seats = omega (arith, size, many) in

@@ -3,7 +3,7 @@ use Rattle.std.proofs.Common.{◌≡◌, ◌<◌, ℕ, List, length, Bool, true,
 use Rattle.std.specs.Prelude.{◌==◌}
 use Rattle.std.specs.Int.{from_bool}
 use Rattle.std.proofs.lemmas.List.{ext_get_or, length-map}
-use Rattle.ga_stacks.specs.Ring.{Ring, listed}
+use Rattle.ga_stacks.specs.Ring.{Ring, words_of_stack}
 use Rattle.ga_node.specs.Record.{NodeState, record_of}
 use Rattle.ga_grid.specs.Chip.{nowhere, node_at, records_of, record_at}
 use Rattle.ga_grid.proofs.Chips.{record_at-records_of}
@@ -15,7 +15,7 @@ carry_back true = refl
 carry_back false = refl
 
 -- a node that took each part over
-pub record_of-copied : (from to t1 t2 t3 : NodeState) (kept returned : Ring) → t1 ≡ record to { ram = from.ram; rom = from.rom } → t2 ≡ record t1 { data_stack = kept; return_stack = returned } → t3 ≡ with_registers from t2 → listed kept ≡ (record_of from).d → listed returned ≡ (record_of from).r → record_of t3 ≡ record_of from
+pub record_of-copied : (from to t1 t2 t3 : NodeState) (kept returned : Ring) → t1 ≡ record to { ram = from.ram; rom = from.rom } → t2 ≡ record t1 { data_stack = kept; return_stack = returned } → t3 ≡ with_registers from t2 → words_of_stack kept ≡ (record_of from).d → words_of_stack returned ≡ (record_of from).r → record_of t3 ≡ record_of from
 unfolding record_of
 record_of-copied from to t1 t2 t3 kept returned e1 e2 e3 d r =
     ap record_of (e3 ∙ ap (with_registers from) (e2 ∙ ap (λ (t : NodeState). record t { data_stack = kept; return_stack = returned }) e1))

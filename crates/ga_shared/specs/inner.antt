@@ -3,7 +3,7 @@ use Rattle.std.specs.Prelude.{◌≡◌, ◌<◌, ◌≤◌, ◌^◌, ℕ, List,
 use Rattle.std.specs.Global.{Global}
 use Rattle.ga_node.specs.Record.{NodeState, fresh_node}
 use Rattle.ga_shared.specs.declared.call.Call.{Call}
-use Rattle.ga_shared.specs.Log.{Worker, fresh_worker, Works}
+use Rattle.ga_shared.specs.Log.{Worker, fresh_worker, HasMadeCalls}
 
 -- ---- A node's registers, and a node at its load defaults
 
@@ -29,7 +29,7 @@ IsFresh node = (p : ℕ) × (node ≡ fresh_node p)
 
 -- a worker made all calls of its list, and no others
 abbrev pub IsDone : List (List Call) → Worker → Type 0
-IsDone lists now = (calls : List Call) → slice_get lists now.number ≡ Some calls → Works (fresh_worker now.number) now calls
+IsDone lists now = (calls : List Call) → slice_get lists now.number ≡ Some calls → HasMadeCalls (fresh_worker now.number) now calls
 
 -- each worker made all calls of its list, and no others, and they are in the order of their numbers
 abbrev pub AreDone : List (List Call) → List Worker → Type 0

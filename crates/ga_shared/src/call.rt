@@ -15,7 +15,7 @@ pub enum Call {
 
 /// What a call answered.
 #[derive(Clone, Copy, PartialEq, Eq, Debug)]
-pub enum Answer {
+pub enum CallAnswer {
     /// The event that the step made.
     Made(Made),
     /// The number of removed events.
@@ -26,13 +26,13 @@ pub enum Answer {
 
 /// A call in the log.
 #[derive(Clone, Copy, PartialEq, Eq, Debug)]
-pub struct Entry {
+pub struct LogEntry {
     /// The number of the worker that made the call.
     pub worker: u32,
     /// The call.
     pub call: Call,
     /// What the call answered.
-    pub answer: Answer,
+    pub answer: CallAnswer,
 }
 
 /// What a worker keeps of a call that it made.
@@ -43,17 +43,17 @@ pub struct Receipt {
     /// The call.
     pub call: Call,
     /// What the call answered.
-    pub answer: Answer,
+    pub answer: CallAnswer,
 }
 
 impl Receipt {
     ghost use Rattle.std.specs.Prelude.{◌≡◌, ◌↔◌, IsTrue};
 
     /// What the log keeps of the call, made by this worker.
-    pub(crate) fn entry(&self, worker: u32) -> Entry
+    pub(crate) fn entry(&self, worker: u32) -> LogEntry
         ensures { result ≡ record { worker = worker; call = self.now.call; answer = self.now.answer } }
     {
-        Entry {
+        LogEntry {
             worker,
             call: self.call,
             answer: self.answer,
@@ -61,7 +61,7 @@ impl Receipt {
     }
 
     /// Whether two receipts are the same. The contract of the derived comparison covers their parts only.
-    pub(crate) fn is_same(&self, other: &Receipt) -> bool
+    pub(crate) fn is_equal_to(&self, other: &Receipt) -> bool
         ensures { IsTrue result ↔ (self.now ≡ other.now) }
     {
         *self == *other

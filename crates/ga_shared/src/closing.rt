@@ -2,24 +2,24 @@
 
 ghost use Rattle.std.specs.Prelude.{◌≡◌, ◌≢◌, ◌<◌, ◌↔◌, ◌==◌, ℕ, sum_by, count_by, IfSome, IfNone, IsTrue, ◌∷◌, List, vec_len};
 ghost use Rattle.ga_grid.specs.Chip.{records_of};
-ghost use Rattle.ga_shared.specs.Log.{receipts_of, AreSeated, WorkerAgrees, IsLeastWrong};
+ghost use Rattle.ga_shared.specs.Log.{receipts_of, AreAllSeats, HasMatchingReceipts, IsFirstDisagreement};
 ghost use Rattle.ga_shared.specs.declared.call.Receipt.{Receipt};
 
-use crate::call::{Entry, Receipt};
-use crate::copies::is_same;
-use crate::locked::{Locked, Seat};
-use crate::shared::Shared;
+use crate::call::{LogEntry, Receipt};
+use crate::copies::is_equal_to;
+use crate::locked::{LockedLab, WorkerSeat};
+use crate::shared::SharedChip;
 use ga_grid::Chip;
 use ga_lab::Lab;
 use std::sync::ledger::{Book, Ledger, Share};
 
 /// The lab and the log of its calls, once no worker shares it any more.
 #[derive(Drop)]
-pub struct Closed {
+pub struct ClosedLab {
     /// The lab, after all calls of the log.
     pub lab: Lab,
     /// The calls of all workers, in the order in which they had the lock.
-    pub log: Vec<Entry>,
+    pub log: Vec<LogEntry>,
 }
 
 /// Why a shared chip was not closed, or closed with a doubt.
@@ -27,26 +27,26 @@ pub struct Closed {
 pub enum CloseFault<L: Ledger> {
     /// The seats are not those of all workers, each once (21). The shared chip and all seats are returned.
     Missing {
-        shared: Shared<L>,
-        seats: Vec<Seat<L>>,
+        shared: SharedChip<L>,
+        seats: Vec<WorkerSeat<L>>,
     },
     /// Without a worker: the lab was not opened on the chip and the limit given; else the receipts of this worker, and of none
     /// before it, are not the log's (22).
     Disagree {
         worker: Option<u32>,
-        closed: Closed,
+        closed: ClosedLab,
     },
 }
 
-impl<L: Ledger> Shared<L> {
-    ghost use Rattle.ga_shared.specs.Close.{Closes};
+impl<L: Ledger> SharedChip<L> {
+    ghost use Rattle.ga_shared.specs.Close.{IsCloseResult};
 
     /// Closes the shared chip, with the seats of all workers.
     ///
     /// # Errors
     /// `Missing` where the seats are not those of all workers, each once; then `Disagree`.
-    pub fn close(self, seats: Vec<Seat<L>>) -> Result<Closed, CloseFault<L>>
-        ensures { Closes self seats.items result }
+    pub fn close(self, seats: Vec<WorkerSeat<L>>) -> Result<ClosedLab, CloseFault<L>>
+        ensures { IsCloseResult self seats.items result }
     {
         if !are_seated(seats.as_slice(), self.workers) {
             return Err(CloseFault::Missing {
@@ -54,23 +54,23 @@ impl<L: Ledger> Shared<L> {
                 seats,
             });
         }
-        let Shared {
+        let SharedChip {
             locked,
             load,
             limit,
             workers,
         } = self;
-        let Locked {
+        let LockedLab {
             lab,
             load: copy,
             log,
             mut book,
         } = locked.into_inner();
-        let is_same = is_opened_on(&lab, &copy, &load, limit);
+        let is_equal_to = is_opened_on(&lab, &copy, &load, limit);
         let wrong = least_wrong(log.as_slice(), seats.as_slice(), workers);
         count_up(&mut book, seats);
-        let closed = Closed { lab, log };
-        if !is_same {
+        let closed = ClosedLab { lab, log };
+        if !is_equal_to {
             return Err(CloseFault::Disagree {
                 worker: None,
                 closed,
@@ -90,12 +90,12 @@ impl<L: Ledger> Shared<L> {
 fn is_opened_on(lab: &Lab, copy: &Chip, load: &Chip, limit: u32) -> bool
     ensures { IsTrue result ↔ ((records_of copy.now ≡ records_of load.now) × (lab.now.limit ≡ limit)) }
 {
-    is_same(copy, load) && lab.counts().limit == limit
+    is_equal_to(copy, load) && lab.counts().limit == limit
 }
 
 /// Whether these are the seats of all workers, each once.
-fn are_seated<L: Ledger>(seats: &[Seat<L>], workers: u32) -> bool
-    ensures { IsTrue result ↔ AreSeated workers seats.now }
+fn are_seated<L: Ledger>(seats: &[WorkerSeat<L>], workers: u32) -> bool
+    ensures { IsTrue result ↔ AreAllSeats workers seats.now }
 {
     if seats.len() != workers as usize {
         return false;
@@ -108,16 +108,16 @@ fn are_seated<L: Ledger>(seats: &[Seat<L>], workers: u32) -> bool
     true
 }
 
-fn count_of<L: Ledger>(seats: &[Seat<L>], number: u32) -> usize
+fn count_of<L: Ledger>(seats: &[WorkerSeat<L>], number: u32) -> usize
     ensures { result ≡ count_by (λ s. s.number == number) seats.now }
 {
     seats.iter().filter(|s| s.number() == number).count()
 }
 
 /// The least worker whose receipts are not those of the log.
-fn least_wrong<L: Ledger>(log: &[Entry], seats: &[Seat<L>], workers: u32) -> Option<u32>
-    ensures none { IfNone result ((w : ℕ) → w < workers → WorkerAgrees log.now seats.now w) }
-    ensures some { IfSome result (λ w. (w < workers) × IsLeastWrong log.now seats.now w) }
+fn least_wrong<L: Ledger>(log: &[LogEntry], seats: &[WorkerSeat<L>], workers: u32) -> Option<u32>
+    ensures none { IfNone result ((w : ℕ) → w < workers → HasMatchingReceipts log.now seats.now w) }
+    ensures some { IfSome result (λ w. (w < workers) × IsFirstDisagreement log.now seats.now w) }
 {
     for worker in 0..workers {
         if !agrees(log, seats, worker) {
@@ -128,8 +128,8 @@ fn least_wrong<L: Ledger>(log: &[Entry], seats: &[Seat<L>], workers: u32) -> Opt
 }
 
 /// Whether the receipts of each seat of a worker are those of the log.
-fn agrees<L: Ledger>(log: &[Entry], seats: &[Seat<L>], worker: u32) -> bool
-    ensures { IsTrue result ↔ WorkerAgrees log.now seats.now worker }
+fn agrees<L: Ledger>(log: &[LogEntry], seats: &[WorkerSeat<L>], worker: u32) -> bool
+    ensures { IsTrue result ↔ HasMatchingReceipts log.now seats.now worker }
 {
     for i in 0..seats.len() {
         let seat = &seats[i];
@@ -141,7 +141,7 @@ fn agrees<L: Ledger>(log: &[Entry], seats: &[Seat<L>], worker: u32) -> bool
 }
 
 /// Whether a worker's receipts are the log's entries of that worker, in order and with their places.
-pub fn receipts_match(log: &[Entry], worker: u32, receipts: &[Receipt]) -> bool
+pub fn receipts_match(log: &[LogEntry], worker: u32, receipts: &[Receipt]) -> bool
     ensures { IsTrue result ↔ (receipts.now ≡ receipts_of worker 0 log.now) }
 {
     let mut left = receipts;
@@ -168,7 +168,7 @@ fn after_first<'a>(receipts: &'a [Receipt], receipt: &Receipt) -> Option<&'a [Re
     ensures none { IfNone result ((others : List Receipt) → receipts.now ≢ receipt.now ∷ others) }
 {
     let (first, others) = receipts.split_first()?;
-    if first.is_same(receipt) {
+    if first.is_equal_to(receipt) {
         Some(others)
     } else {
         None
@@ -176,7 +176,7 @@ fn after_first<'a>(receipts: &'a [Receipt], receipt: &Receipt) -> Option<&'a [Re
 }
 
 /// The seats of all workers have the whole ledger among them, so their calls add up to the book's.
-fn count_up<L: Ledger>(book: &mut Book<L>, seats: Vec<Seat<L>>)
+fn count_up<L: Ledger>(book: &mut Book<L>, seats: Vec<WorkerSeat<L>>)
     requires some { 0 < vec_len seats }
     requires all { vec_len seats ≡ L.parts }
     ensures { book.old.total ≡ sum_by (λ s. s.calls) seats.items }
@@ -184,7 +184,7 @@ fn count_up<L: Ledger>(book: &mut Book<L>, seats: Vec<Seat<L>>)
     let mut seats = seats;
     let mut total = none(&mut seats);
     while let Some(seat) = seats.pop() {
-        let Seat {
+        let WorkerSeat {
             number: _,
             receipts: _,
             share,
@@ -195,7 +195,7 @@ fn count_up<L: Ledger>(book: &mut Book<L>, seats: Vec<Seat<L>>)
 }
 
 /// A share with no part, made from that of the first seat.
-fn none<L: Ledger>(seats: &mut Vec<Seat<L>>) -> Share<L>
+fn none<L: Ledger>(seats: &mut Vec<WorkerSeat<L>>) -> Share<L>
     requires { 0 < vec_len seats.old }
     ensures share { (result.parts ≡ 0) × (result.amount ≡ 0) }
     ensures same { seats.new.items ≡ seats.old.items }

@@ -9,9 +9,9 @@ mod racing;
 mod shared;
 mod workers;
 
-pub use call::{Answer, Call, Entry, Receipt, SharedFault};
-pub use closing::{CloseFault, Closed, receipts_match};
-pub use locked::{Locked, Seat};
+pub use call::{Call, CallAnswer, LogEntry, Receipt, SharedFault};
+pub use closing::{CloseFault, ClosedLab, receipts_match};
+pub use locked::{LockedLab, WorkerSeat};
 pub use racing::{RaceFault, race};
-pub use shared::Shared;
-pub use workers::{Free, Gate, work};
+pub use shared::SharedChip;
+pub use workers::{CallGate, OpenGate, make_calls};

@@ -3,13 +3,13 @@
 ghost use Rattle.std.specs.Prelude.{◌≡◌, ◌<◌, ◌≤◌, ◌^◌, All, map, IfOk, OnOk, vec_len};
 ghost use Rattle.ga_grid.specs.Chip.{records_of};
 ghost use Rattle.ga_shared.specs.inner.{IsDone, IsReady, AreReady, AreBack};
-ghost use Rattle.ga_shared.specs.Log.{Raced};
+ghost use Rattle.ga_shared.specs.Log.{IsRaceResult};
 
 use crate::call::{Call, SharedFault};
-use crate::closing::Closed;
-use crate::locked::Seat;
-use crate::shared::Shared;
-use crate::workers::{Gate, work};
+use crate::closing::ClosedLab;
+use crate::locked::WorkerSeat;
+use crate::shared::SharedChip;
+use crate::workers::{CallGate, make_calls};
 use ga_grid::Chip;
 use std::alloc::Global;
 use std::marker::Brand;
@@ -35,7 +35,7 @@ pub enum RaceFault {
 }
 
 /// What a thread gives back: its seat, and how its work ended.
-type Worked<L> = (Seat<L>, Result<(), SharedFault>);
+type Worked<L> = (WorkerSeat<L>, Result<(), SharedFault>);
 
 /// The seat is that of this worker, which made all calls of its list if its work ended well.
 #[derive(Drop)]
@@ -52,10 +52,10 @@ impl<L: Ledger> Promise<Worked<L>> for WorksThrough {
 }
 
 /// What a thread of a race does.
-fn run<L: Ledger, G: Gate, R: Wait>(
+fn run<L: Ledger, G: CallGate, R: Wait>(
     rt: &R,
-    shared: &Shared<L>,
-    seat: Seat<L>,
+    shared: &SharedChip<L>,
+    seat: WorkerSeat<L>,
     gate: &G,
     lists: &Vec<Vec<Call>>,
 ) -> Worked<L>
@@ -65,20 +65,20 @@ fn run<L: Ledger, G: Gate, R: Wait>(
 {
     let mut seat = seat;
     let list = &lists[seat.number() as usize];
-    let outcome = work(rt, shared, &mut seat, gate, list.as_slice());
+    let outcome = make_calls(rt, shared, &mut seat, gate, list.as_slice());
     (seat, outcome)
 }
 
 /// Starts a thread for each seat, joins them, and gives their seats back in order.
-fn run_all<'s, E, L: Ledger + Send + Sync + 's, G: Gate + Sync, R: Threads + Wait + Sync>(
+fn run_all<'s, E, L: Ledger + Send + Sync + 's, G: CallGate + Sync, R: Threads + Wait + Sync>(
     rt: &'s R,
     alloc: Global,
     scope: &'s Scope<'s, E>,
-    shared: &'s Shared<L>,
-    seats: Vec<Seat<L>>,
+    shared: &'s SharedChip<L>,
+    seats: Vec<WorkerSeat<L>>,
     gate: &'s G,
     lists: &'s Vec<Vec<Call>>,
-) -> Result<Vec<Seat<L>>, RaceFault>
+) -> Result<Vec<WorkerSeat<L>>, RaceFault>
     requires { AreReady lists.now seats }
     ensures { IfOk result (AreBack lists.now) }
 {
@@ -116,12 +116,12 @@ fn run_all<'s, E, L: Ledger + Send + Sync + 's, G: Gate + Sync, R: Threads + Wai
 }
 
 /// Starts the thread of one seat.
-fn start<'s, E, L: Ledger + Send + Sync + 's, G: Gate + Sync, R: Threads + Wait + Sync>(
+fn start<'s, E, L: Ledger + Send + Sync + 's, G: CallGate + Sync, R: Threads + Wait + Sync>(
     rt: &'s R,
     scope: &'s Scope<'s, E>,
     promise: WorksThrough,
-    shared: &'s Shared<L>,
-    seat: Seat<L>,
+    shared: &'s SharedChip<L>,
+    seat: WorkerSeat<L>,
     gate: &'s G,
     lists: &'s Vec<Vec<Call>>,
 ) -> Result<PromisedHandle<Worked<L>, WorksThrough>, RaceFault>
@@ -141,21 +141,21 @@ fn start<'s, E, L: Ledger + Send + Sync + 's, G: Gate + Sync, R: Threads + Wait 
 }
 
 /// The threads of a race, in a scope of their own.
-fn in_threads<L: Ledger + Send + Sync, G: Gate + Sync, R: Threads + Wait + Sync>(
+fn in_threads<L: Ledger + Send + Sync, G: CallGate + Sync, R: Threads + Wait + Sync>(
     rt: &R,
     alloc: Global,
-    shared: &Shared<L>,
-    seats: Vec<Seat<L>>,
+    shared: &SharedChip<L>,
+    seats: Vec<WorkerSeat<L>>,
     gate: &G,
     lists: &Vec<Vec<Call>>,
-) -> Result<Vec<Seat<L>>, RaceFault>
+) -> Result<Vec<WorkerSeat<L>>, RaceFault>
     requires { AreReady lists.now seats }
     ensures { IfOk result (AreBack lists.now) }
 {
     thread::scope(
         thread::scope_env(),
         rt,
-        move |scope| -> Result<Vec<Seat<L>>, RaceFault>
+        move |scope| -> Result<Vec<WorkerSeat<L>>, RaceFault>
             requires { AreReady lists.now seats }
             ensures { IfOk result (AreBack lists.entry.now) }
         { run_all(rt, alloc, scope, shared, seats, gate, lists) },
@@ -163,7 +163,7 @@ fn in_threads<L: Ledger + Send + Sync, G: Gate + Sync, R: Threads + Wait + Sync>
 }
 
 /// A race over a ledger with a part for each list.
-fn race_on<L: Ledger + Send + Sync, G: Gate + Sync, R: Threads + Wait + Sync>(
+fn race_on<L: Ledger + Send + Sync, G: CallGate + Sync, R: Threads + Wait + Sync>(
     rt: &R,
     alloc: Global,
     blank: Blank,
@@ -171,14 +171,15 @@ fn race_on<L: Ledger + Send + Sync, G: Gate + Sync, R: Threads + Wait + Sync>(
     limit: u32,
     lists: &Vec<Vec<Call>>,
     gate: &G,
-) -> Result<Closed, RaceFault>
+) -> Result<ClosedLab, RaceFault>
     requires ledger { (blank.name ≡ L.name) × (blank.parts ≡ L.parts) }
     requires parts { blank.parts ≡ vec_len lists.now }
     requires few { (1 ≤ vec_len lists.now) × (vec_len lists.now ≤ 16) }
     requires short { All (λ l. vec_len l < 2 ^ 32) lists.now.items }
-    ensures { IfOk result (λ closed. Raced (records_of chip) limit (map (λ l. l.items) lists.now.items) closed) }
+    ensures { IfOk result (λ closed. IsRaceResult (records_of chip) limit (map (λ l. l.items) lists.now.items) closed) }
 {
-    let Ok((shared, seats)) = Shared::<L>::new(alloc, blank, chip, limit, lists.len() as u32) else {
+    let Ok((shared, seats)) = SharedChip::<L>::new(alloc, blank, chip, limit, lists.len() as u32)
+    else {
         return Err(RaceFault::Memory);
     };
     let back = in_threads(rt, alloc, &shared, seats, gate, lists)?;
@@ -193,17 +194,17 @@ fn race_on<L: Ledger + Send + Sync, G: Gate + Sync, R: Threads + Wait + Sync>(
 ///
 /// # Errors
 /// `NotStarted`, then `Memory`, then `Disagree`.
-pub fn race<G: Gate + Sync, R: Threads + Wait + Sync>(
+pub fn race<G: CallGate + Sync, R: Threads + Wait + Sync>(
     rt: &R,
     alloc: Global,
     chip: Chip,
     limit: u32,
     lists: Vec<Vec<Call>>,
     gate: &G,
-) -> Result<Closed, RaceFault>
+) -> Result<ClosedLab, RaceFault>
     requires few { (1 ≤ vec_len lists) × (vec_len lists ≤ 16) }
     requires short { All (λ l. vec_len l < 2 ^ 32) lists.items }
-    ensures { IfOk result (λ closed. Raced (records_of chip) limit (map (λ l. l.items) lists.items) closed) }
+    ensures { IfOk result (λ closed. IsRaceResult (records_of chip) limit (map (λ l. l.items) lists.items) closed) }
 {
     let blank = Blank::new(lists.len() as u64);
     race_on::<Brand, G, R>(rt, alloc, blank, chip, limit, &lists, gate)

@@ -4,7 +4,7 @@ ghost use Rattle.ga_shared.specs.declared.call.Call.TheVariants.{Step, Rewind};
 
 use crate::call::{Call, Receipt, SharedFault};
 use crate::copies::copy_of;
-use crate::locked::{Locked, Seat};
+use crate::locked::{LockedLab, WorkerSeat};
 use ga_grid::{Chip, NodeId};
 use ga_lab::Lab;
 use std::alloc::Global;
@@ -12,30 +12,30 @@ use std::marker::Model;
 use std::sync::ledger::{Blank, Ledger};
 use std::sync::{Mutex, Wait};
 
-/// A lab under a lock, for 1 to 16 workers. Each has a [`Seat`], with which any thread calls `step` and `rewind`; `close`
+/// A lab under a lock, for 1 to 16 workers. Each has a [`WorkerSeat`], with which any thread calls `step` and `rewind`; `close`
 /// consumes the seats and returns the lab and the log. Outside the lock are a copy of the chip, the limit and the number of
 /// workers, which no call changes.
 #[derive(Drop)]
-pub struct Shared<L: Ledger> {
-    pub(crate) locked: Mutex<Locked<L>>,
+pub struct SharedChip<L: Ledger> {
+    pub(crate) locked: Mutex<LockedLab<L>>,
     pub(crate) load: Chip,
     pub(crate) limit: u32,
     pub(crate) workers: u32,
 }
 
-impl<L: Ledger> Model for Shared<L> {
+impl<L: Ledger> Model for SharedChip<L> {
     ghost use Rattle.std.specs.Prelude.{◌≡◌, ◌≤◌};
     ghost use Rattle.ga_grid.specs.Chip.{records_of};
-    ghost use Rattle.ga_shared.specs.Log.{Opening};
+    ghost use Rattle.ga_shared.specs.Log.{OpeningParameters};
 
-    ghost Value = { Opening };
+    ghost Value = { OpeningParameters };
 
     ghost view = { λ s. record { load = records_of s.load; limit = s.limit; workers = s.workers } };
 
     ghost invariant = { λ s. (s.workers ≡ L.parts) × (1 ≤ s.workers) × (s.workers ≤ 16) };
 }
 
-impl<L: Ledger> Shared<L> {
+impl<L: Ledger> SharedChip<L> {
     ghost use Rattle.std.specs.Prelude.{◌≡◌, ◌<◌, ◌≤◌, ℕ, IfOk, OnErr, Some, vec_len, slice_get};
     ghost use Rattle.ga_grid.specs.Chip.{records_of};
     ghost use Rattle.ga_shared.specs.Log.{CountsCall, fresh_worker};
@@ -51,7 +51,7 @@ impl<L: Ledger> Shared<L> {
         chip: Chip,
         limit: u32,
         workers: u32,
-    ) -> Result<(Shared<L>, Vec<Seat<L>>), SharedFault>
+    ) -> Result<(SharedChip<L>, Vec<WorkerSeat<L>>), SharedFault>
         requires ledger { (blank.name ≡ L.name) × (blank.parts ≡ L.parts) }
         requires parts { blank.parts ≡ workers }
         requires workers { (1 ≤ workers) × (workers ≤ 16) }
@@ -70,7 +70,7 @@ impl<L: Ledger> Shared<L> {
         let mut seats = Vec::new(alloc);
         for number in 0..workers {
             let share = rest.split_off(1, 0);
-            let seat = Seat {
+            let seat = WorkerSeat {
                 number,
                 receipts: Vec::new(alloc),
                 share,
@@ -82,13 +82,13 @@ impl<L: Ledger> Shared<L> {
         let Ok(lab) = Lab::new(alloc, chip, limit) else {
             return Err(SharedFault::Memory);
         };
-        let locked = Locked {
+        let locked = LockedLab {
             lab,
             load: copy,
             log: Vec::new(alloc),
             book,
         };
-        let shared = Shared {
+        let shared = SharedChip {
             locked: Mutex::new(locked),
             load,
             limit,
@@ -104,7 +104,7 @@ impl<L: Ledger> Shared<L> {
     pub fn step(
         &self,
         rt: &impl Wait,
-        seat: &mut Seat<L>,
+        seat: &mut WorkerSeat<L>,
         node: NodeId,
     ) -> Result<Receipt, SharedFault>
         ensures counts { IfOk result (λ receipt. CountsCall seat.old seat.new (Step node) receipt) }
@@ -120,7 +120,7 @@ impl<L: Ledger> Shared<L> {
     pub fn rewind(
         &self,
         rt: &impl Wait,
-        seat: &mut Seat<L>,
+        seat: &mut WorkerSeat<L>,
         node: NodeId,
         step: u32,
     ) -> Result<Receipt, SharedFault>

@@ -1,11 +1,11 @@
 //! The calls of one worker, and the gate around them.
 
 ghost use Rattle.std.specs.Prelude.{◌≡◌, ◌<◌, ◌^◌, ℕ, length, take, IfOk, OnOk, OnErr};
-ghost use Rattle.ga_shared.specs.Log.{Works, CountsCall};
+ghost use Rattle.ga_shared.specs.Log.{HasMadeCalls, CountsCall};
 
 use crate::call::{Call, Receipt, SharedFault};
-use crate::locked::Seat;
-use crate::shared::Shared;
+use crate::locked::WorkerSeat;
+use crate::shared::SharedChip;
 use std::sync::Wait;
 use std::sync::ledger::Ledger;
 
@@ -13,17 +13,17 @@ use std::sync::ledger::Ledger;
 ///
 /// # Errors
 /// `Memory` alone; the calls before it were made.
-pub fn work<L: Ledger, G: Gate, R: Wait>(
+pub fn make_calls<L: Ledger, G: CallGate, R: Wait>(
     rt: &R,
-    shared: &Shared<L>,
-    seat: &mut Seat<L>,
+    shared: &SharedChip<L>,
+    seat: &mut WorkerSeat<L>,
     gate: &G,
     calls: &[Call],
 ) -> Result<(), SharedFault>
     requires { length calls.now < 2 ^ 32 }
-    ensures done { OnOk result (Works seat.old seat.new calls.now) }
+    ensures done { OnOk result (HasMadeCalls seat.old seat.new calls.now) }
     ensures fault { OnErr result
-        ((n : ℕ) × (n < length calls.now) × Works seat.old seat.new (take n calls.now)) }
+        ((n : ℕ) × (n < length calls.now) × HasMadeCalls seat.old seat.new (take n calls.now)) }
 {
     let worker = seat.number();
     for i in 0..calls.len() {
@@ -38,8 +38,8 @@ pub fn work<L: Ledger, G: Gate, R: Wait>(
 /// Makes one call.
 fn make<L: Ledger, R: Wait>(
     rt: &R,
-    shared: &Shared<L>,
-    seat: &mut Seat<L>,
+    shared: &SharedChip<L>,
+    seat: &mut WorkerSeat<L>,
     call: Call,
 ) -> Result<Receipt, SharedFault>
     ensures counts { IfOk result (λ receipt. CountsCall seat.old seat.new call receipt) }
@@ -52,7 +52,7 @@ fn make<L: Ledger, R: Wait>(
 }
 
 /// Called before and after each call of a worker, outside the lock. Calls count from 1.
-pub trait Gate {
+pub trait CallGate {
     /// The worker is about to make the call.
     fn before(&self, worker: u32, call: u32);
 
@@ -62,9 +62,9 @@ pub trait Gate {
 
 /// The gate that does nothing.
 #[derive(Clone, Copy, Debug)]
-pub struct Free;
+pub struct OpenGate;
 
-impl Gate for Free {
+impl CallGate for OpenGate {
     fn before(&self, _worker: u32, _call: u32) {}
 
     fn after(&self, _worker: u32, _call: u32) {}

@@ -7,7 +7,7 @@ use Rattle.std.proofs.lemmas.Nat.{xor_lt}
 use Rattle.ga_slots.specs.declared.op.Op.{Op}
 use Rattle.ga_slots.specs.declared.op.Op.TheVariants.{Return, Execute, Jump, Call, Unext, Next, If, MinusIf, FetchP, FetchPlus, FetchB, Fetch, StoreP, StorePlus, StoreB, Store, MultiplyStep, TwoStar, TwoSlash, Invert, Plus, And, Or, Drop, Dup, Pop, Over, A, Nop, Push, BStore, AStore}
 use Rattle.ga_slots.specs.Codes.{code_of, op_of}
-use Rattle.ga_slots.specs.Slots.{opcode, opcode_mask, word_of_codes, encoded}
+use Rattle.ga_slots.specs.Slots.{opcode, opcode_mask, word_of_codes, encoded_word}
 
 -- an opcode is the one of its code
 pub op_of-code_of : (op : Op) → op_of (code_of op) ≡ op
@@ -131,18 +131,18 @@ opcode-word_of ops fits slot below =
     slot below
 
 -- the word of opcodes whose fourth fits its slot
-pub encoded-fits : (ops : List Op) → let code = λ (i : ℕ). code_of (slice_index_or ops i Return) in
-    code 3 % 4 ≡ 0 → encoded ops ≡ Some (word_of_codes (code 0) (code 1) (code 2) (code 3) % 2 ^ 18)
-encoded-fits ops fits =
+pub encoded_word-fits : (ops : List Op) → let code = λ (i : ℕ). code_of (slice_index_or ops i Return) in
+    code 3 % 4 ≡ 0 → encoded_word ops ≡ Some (word_of_codes (code 0) (code 1) (code 2) (code 3) % 2 ^ 18)
+encoded_word-fits ops fits =
     let op : ℕ → Op = λ i. slice_index_or ops i Return in
     ap (λ (b : Bool). cond b (Some (word_of_codes (code_of (op 0)) (code_of (op 1)) (code_of (op 2)) (code_of (op 3)))) None) (eq-eqb (code_of (op 3) % 4) 0 fits)
     ∙ ap (λ (w : ℕ). Some w)
     (sym (word_of-mod (code_of (op 0)) (code_of (op 1)) (code_of (op 2)) (code_of (op 3)) (code_of-lt (op 0)) (code_of-lt (op 1)) (code_of-lt (op 2)) (code_of-lt (op 3))))
 
 -- its opcodes
-pub opcode-encoded : (ops : List Op) → let code = λ (i : ℕ). code_of (slice_index_or ops i Return) in
+pub opcode-encoded_word : (ops : List Op) → let code = λ (i : ℕ). code_of (slice_index_or ops i Return) in
     code 3 % 4 ≡ 0 → (slot : ℕ) → slot < 4 → opcode (word_of_codes (code 0) (code 1) (code 2) (code 3) % 2 ^ 18) slot ≡ slice_index_or ops slot Return
-opcode-encoded ops fits slot below =
+opcode-encoded_word ops fits slot below =
     let op : ℕ → Op = λ i. slice_index_or ops i Return in
     ap (λ (w : ℕ). opcode w slot)
     (word_of-mod (code_of (op 0)) (code_of (op 1)) (code_of (op 2)) (code_of (op 3)) (code_of-lt (op 0)) (code_of-lt (op 1)) (code_of-lt (op 2)) (code_of-lt (op 3)))

@@ -6,10 +6,10 @@ use Rattle.ga_parser.specs.declared.scan.Token.{Token}
 use Rattle.ga_parser.specs.inner.Drafting.{texts_of}
 use Rattle.std.specs.Prelude.{codes}
 use Rattle.std.proofs.lemmas.Bool.{cases_Bool}
-use Rattle.ga_grid.specs.Grid.{node_number}
-use Rattle.ga_parser.specs.Plain.{Plain, is_node, body_in, bodies_in, yxx_in, plain_of, asked_by, texts_in}
-use Rattle.ga_source.specs.Programs.{IsOf, AreOf, said_body, said_bodies, AsksFor, IsAsked, AreAskedBy}
-use Rattle.ga_parser.specs.Saying.{token_contents, TokenContent, next_line}
+use Rattle.ga_grid.specs.Grid.{parse_node_name}
+use Rattle.ga_parser.specs.Plain.{Plain, is_node_keyword, body_words, body_word_lists, named_node_number, plain_requests_of, as_plain_requests, token_texts}
+use Rattle.ga_source.specs.Programs.{IsPlainProgramOf, ArePlainProgramsOf, body_tokens, body_token_lists, HasRequestsOfWords, IsProgramOfBody, AreProgramsOfBodies}
+use Rattle.ga_parser.specs.Saying.{token_contents, TokenContent, next_line_number}
 use Rattle.ga_parser.proofs.Hearing.{same_text}
 use Rattle.ga_parser.proofs.PlainAsked.{map_map}
 use Rattle.ga_source.specs.inner.{AreOfFirst, AreAskedFirst}
@@ -17,29 +17,29 @@ use Rattle.ga_source.specs.Recovery.{with_line, with_numbers}
 
 -- ---- up to the next `node`
 
-pub body_ends : (texts : List (List ℕ)) (i : ℕ) → ((k : ℕ) → k < i → is_node (get_or texts k []) ≡ false) → (i < length texts → is_node (get_or texts i []) ≡ true) → take i texts ≡ body_in texts
-unfolding body_in
+pub body_ends : (texts : List (List ℕ)) (i : ℕ) → ((k : ℕ) → k < i → is_node_keyword (get_or texts k []) ≡ false) → (i < length texts → is_node_keyword (get_or texts i []) ≡ true) → take i texts ≡ body_words texts
+unfolding body_words
 body_ends [] zero none here = refl
 body_ends [] (suc i) none here = refl
-body_ends (word ∷ texts) zero none here = let is : is_node word ≡ true = here (omega arith) in rw is refl
+body_ends (word ∷ texts) zero none here = let is : is_node_keyword word ≡ true = here (omega arith) in rw is refl
 body_ends (word ∷ texts) (suc i) none here =
-    let other : is_node word ≡ false = none 0 (omega arith) in
+    let other : is_node_keyword word ≡ false = none 0 (omega arith) in
     rw other (ap (λ (rest : List (List ℕ)). word ∷ rest) (body_ends texts i (λ k below. none (suc k) (omega arith)) (λ below. here (omega arith))))
 
-pub bodies_behind : (texts : List (List ℕ)) (i : ℕ) → ((k : ℕ) → k < i → is_node (get_or texts k []) ≡ false) → bodies_in (drop i texts) ≡ bodies_in texts
-unfolding bodies_in
+pub bodies_behind : (texts : List (List ℕ)) (i : ℕ) → ((k : ℕ) → k < i → is_node_keyword (get_or texts k []) ≡ false) → body_word_lists (drop i texts) ≡ body_word_lists texts
+unfolding body_word_lists
 bodies_behind [] zero none = refl
 bodies_behind [] (suc i) none = refl
 bodies_behind (word ∷ texts) zero none = refl
 bodies_behind (word ∷ texts) (suc i) none =
-    let other : is_node word ≡ false = none 0 (omega arith) in
+    let other : is_node_keyword word ≡ false = none 0 (omega arith) in
     rw other (bodies_behind texts i (λ k below. none (suc k) (omega arith)))
 
-pub body_next : (texts : List (List ℕ)) (i : ℕ) → (i < length texts → is_node (get_or texts i []) ≡ true) → body_in (drop i texts) ≡ []
-unfolding body_in
+pub body_next : (texts : List (List ℕ)) (i : ℕ) → (i < length texts → is_node_keyword (get_or texts i []) ≡ true) → body_words (drop i texts) ≡ []
+unfolding body_words
 body_next [] zero here = refl
 body_next [] (suc i) here = refl
-body_next (word ∷ texts) zero here = let is : is_node word ≡ true = here (omega arith) in rw is refl
+body_next (word ∷ texts) zero here = let is : is_node_keyword word ≡ true = here (omega arith) in rw is refl
 body_next (word ∷ texts) (suc i) here = body_next texts i (λ below. here (omega arith))
 
 -- ---- one program more
@@ -59,19 +59,19 @@ abbrev tail_of : {X : Type 0} → List (List X) → List (List X)
 tail_of [] = []
 tail_of (words ∷ rest) = rest
 
-pub first_more : (all : List (List (List ℕ))) (programs : List Program) (left rest : List (List (List ℕ))) (words : List (List ℕ)) (program : Program) → left ≡ words ∷ rest → IsOf words program → AreOfFirst all programs left → AreOfFirst all (programs ++ program ∷ []) rest
+pub first_more : (all : List (List (List ℕ))) (programs : List Program) (left rest : List (List (List ℕ))) (words : List (List ℕ)) (program : Program) → left ≡ words ∷ rest → IsPlainProgramOf words program → AreOfFirst all programs left → AreOfFirst all (programs ++ program ∷ []) rest
 unfolding AreOfFirst
 first_more [] [] left rest words program is of first = absurd (no_words (first ∙ is))
 first_more (body ∷ all) [] left rest words program is of first =
     let same = first ∙ is in
-    (subst (λ w. IsOf w program) (sym (ap head_of same)) of, ap tail_of same)
+    (subst (λ w. IsPlainProgramOf w program) (sym (ap head_of same)) of, ap tail_of same)
 first_more [] (p ∷ programs) left rest words program is of first = absurd first
 first_more (body ∷ all) (p ∷ programs) left rest words program is of first =
     (first.0, first_more all programs left rest words program is of first.1)
 
 -- none is left
-pub first_all : (all : List (List (List ℕ))) (programs : List Program) → AreOfFirst all programs [] → AreOf all programs
-unfolding AreOfFirst AreOf
+pub first_all : (all : List (List (List ℕ))) (programs : List Program) → AreOfFirst all programs [] → ArePlainProgramsOf all programs
+unfolding AreOfFirst ArePlainProgramsOf
 first_all [] [] none = tt
 first_all (body ∷ all) [] none = absurd (no_words (sym none))
 first_all [] (p ∷ programs) first = absurd first
@@ -79,18 +79,18 @@ first_all (body ∷ all) (p ∷ programs) first = (first.0, first_all all progra
 
 -- ---- the same of tokens
 
-pub front_of : (tokens : List Token) (i : ℕ) → ((k : ℕ) → k < i → is_node (get_or (texts_of tokens) k []) ≡ false) → (i < length (texts_of tokens) → is_node (get_or (texts_of tokens) i []) ≡ true) → texts_of (take i tokens) ≡ body_in (texts_of tokens)
+pub front_of : (tokens : List Token) (i : ℕ) → ((k : ℕ) → k < i → is_node_keyword (get_or (texts_of tokens) k []) ≡ false) → (i < length (texts_of tokens) → is_node_keyword (get_or (texts_of tokens) i []) ≡ true) → texts_of (take i tokens) ≡ body_words (texts_of tokens)
 front_of tokens i none here = sym (take-map (λ token. token.text.now) i tokens) ∙ body_ends (texts_of tokens) i none here
 
-pub behind_of : (tokens : List Token) (i : ℕ) → ((k : ℕ) → k < i → is_node (get_or (texts_of tokens) k []) ≡ false) → bodies_in (texts_of (drop i tokens)) ≡ bodies_in (texts_of tokens)
-behind_of tokens i none = ap bodies_in (sym (drop-map (λ token. token.text.now) i tokens)) ∙ bodies_behind (texts_of tokens) i none
+pub behind_of : (tokens : List Token) (i : ℕ) → ((k : ℕ) → k < i → is_node_keyword (get_or (texts_of tokens) k []) ≡ false) → body_word_lists (texts_of (drop i tokens)) ≡ body_word_lists (texts_of tokens)
+behind_of tokens i none = ap body_word_lists (sym (drop-map (λ token. token.text.now) i tokens)) ∙ bodies_behind (texts_of tokens) i none
 
-pub next_of : (tokens : List Token) (i : ℕ) → (i < length (texts_of tokens) → is_node (get_or (texts_of tokens) i []) ≡ true) → body_in (texts_of (drop i tokens)) ≡ []
-next_of tokens i here = ap body_in (sym (drop-map (λ token. token.text.now) i tokens)) ∙ body_next (texts_of tokens) i here
+pub next_of : (tokens : List Token) (i : ℕ) → (i < length (texts_of tokens) → is_node_keyword (get_or (texts_of tokens) i []) ≡ true) → body_words (texts_of (drop i tokens)) ≡ []
+next_of tokens i here = ap body_words (sym (drop-map (λ token. token.text.now) i tokens)) ∙ body_next (texts_of tokens) i here
 
 -- the test of a token
-pub tested : (tokens : List Token) (i : ℕ) (d : Token) (b : Bool) → i < length tokens → is_node (get_or tokens i d).text.now ≡ b → is_node (get_or (texts_of tokens) i []) ≡ b
-tested tokens i d b within is = ap is_node (get_or-map (λ token. token.text.now) tokens i d [] within) ∙ is
+pub tested : (tokens : List Token) (i : ℕ) (d : Token) (b : Bool) → i < length tokens → is_node_keyword (get_or tokens i d).text.now ≡ b → is_node_keyword (get_or (texts_of tokens) i []) ≡ b
+tested tokens i d b within is = ap is_node_keyword (get_or-map (λ token. token.text.now) tokens i d [] within) ∙ is
 
 -- ---- the words of the node that comes first
 
@@ -107,15 +107,15 @@ drop_twice (a ∷ []) count = drop_all count [] (omega arith) ∙ sym (drop_all 
 drop_twice (a ∷ b ∷ list) count = let same : suc (suc count) ≡ count + 2 = omega arith in ap (λ (k : ℕ). drop k (a ∷ b ∷ list)) same
 
 -- a node's name is no `node`
-pub name_is_other : (name : List ℕ) (n : ℕ) → yxx_in name ≡ Some n → is_node name ≡ false
-unfolding node_number
-name_is_other name n is = elim (cases_Bool (is_node name)) [
-  | inl node ↦ absurd (no_number (ap yxx_in (sym (same_text name (codes "node") node)) ∙ is))
+pub name_is_other : (name : List ℕ) (n : ℕ) → named_node_number name ≡ Some n → is_node_keyword name ≡ false
+unfolding parse_node_name
+name_is_other name n is = elim (cases_Bool (is_node_keyword name)) [
+  | inl node ↦ absurd (no_number (ap named_node_number (sym (same_text name (codes "node") node)) ∙ is))
   | inr other ↦ other
 ]
 
-first_body : (words : List Token) (d : Token) (n : ℕ) → 2 ≤ length words → is_node (get_or words 0 d).text.now ≡ true → yxx_in (get_or words 1 d).text.now ≡ Some n → bodies_in (texts_of words) ≡ ((get_or words 1 d).text.now ∷ body_in (texts_of (drop 2 words))) ∷ bodies_in (texts_of (drop 2 words))
-unfolding body_in bodies_in
+first_body : (words : List Token) (d : Token) (n : ℕ) → 2 ≤ length words → is_node_keyword (get_or words 0 d).text.now ≡ true → named_node_number (get_or words 1 d).text.now ≡ Some n → body_word_lists (texts_of words) ≡ ((get_or words 1 d).text.now ∷ body_words (texts_of (drop 2 words))) ∷ body_word_lists (texts_of (drop 2 words))
+unfolding body_words body_word_lists
 first_body [] d n two node name = absurd (omega arith)
 first_body (a ∷ []) d n two node name = absurd (omega arith)
 first_body (a ∷ b ∷ words) d n two node name =
@@ -123,88 +123,88 @@ first_body (a ∷ b ∷ words) d n two node name =
     rw (node, other) refl
 
 pub one_more_read : (words behind body : List Token) (d : Token) (first name : List ℕ) (count : ℕ) (program : Program) (programs after : List Program) (all : List (List (List ℕ))) → 2 ≤ length words
-    → first ≡ (get_or words 0 d).text.now → is_node first ≡ true
-    → name ≡ (get_or words 1 d).text.now → yxx_in name ≡ Some program.node.number
+    → first ≡ (get_or words 0 d).text.now → is_node_keyword first ≡ true
+    → name ≡ (get_or words 1 d).text.now → named_node_number name ≡ Some program.node.number
     → after ≡ programs ++ program ∷ [] → behind ≡ drop 2 words → body ≡ take count behind
-    → texts_of (take count behind) ≡ body_in (texts_of behind) → bodies_in (texts_of (drop count behind)) ≡ bodies_in (texts_of behind)
-    → ((plain : Plain) → plain_of (texts_of body) ≡ Some plain → asked_by program.asked.items program.registers ≡ plain)
-    → ((plain : Plain) → plain_of (texts_of body) ≡ Some plain → program.names.items ≡ [])
-    → AreOfFirst all programs (bodies_in (texts_of words)) → AreOfFirst all after (bodies_in (texts_of (drop (count + 2) words)))
+    → texts_of (take count behind) ≡ body_words (texts_of behind) → body_word_lists (texts_of (drop count behind)) ≡ body_word_lists (texts_of behind)
+    → ((plain : Plain) → plain_requests_of (texts_of body) ≡ Some plain → as_plain_requests program.asked.items program.registers ≡ plain)
+    → ((plain : Plain) → plain_requests_of (texts_of body) ≡ Some plain → program.names.items ≡ [])
+    → AreOfFirst all programs (body_word_lists (texts_of words)) → AreOfFirst all after (body_word_lists (texts_of (drop (count + 2) words)))
 one_more_read words behind body d first name count program programs after all two is_first node is_name named pushed is_behind is_body front rest asks names read =
-    let texts : texts_of body ≡ body_in (texts_of behind) = ap texts_of is_body ∙ front in
-    let of : IsOf (name ∷ body_in (texts_of behind)) program = record {
+    let texts : texts_of body ≡ body_words (texts_of behind) = ap texts_of is_body ∙ front in
+    let of : IsPlainProgramOf (name ∷ body_words (texts_of behind)) program = record {
       node = named;
-      asks = λ plain is. asks plain (ap plain_of texts ∙ is);
-      names = λ plain is. names plain (ap plain_of texts ∙ is);
+      asks = λ plain is. asks plain (ap plain_requests_of texts ∙ is);
+      names = λ plain is. names plain (ap plain_requests_of texts ∙ is);
     } in
-    let left : bodies_in (texts_of words) ≡ (name ∷ body_in (texts_of behind)) ∷ bodies_in (texts_of behind) =
-    first_body words d program.node.number two (ap is_node (sym is_first) ∙ node) (ap yxx_in (sym is_name) ∙ named)
-    ∙ (ap (λ (n : List ℕ). (n ∷ body_in (texts_of (drop 2 words))) ∷ bodies_in (texts_of (drop 2 words))) (sym is_name)
-    ∙ ap (λ (b : List Token). (name ∷ body_in (texts_of b)) ∷ bodies_in (texts_of b)) (sym is_behind)) in
-    let more = first_more all programs (bodies_in (texts_of words)) (bodies_in (texts_of behind)) (name ∷ body_in (texts_of behind)) program left of read in
-    let last : bodies_in (texts_of behind) ≡ bodies_in (texts_of (drop (count + 2) words)) =
-    sym rest ∙ ap (λ (b : List Token). bodies_in (texts_of b)) (ap (drop count) is_behind ∙ drop_twice words count) in
+    let left : body_word_lists (texts_of words) ≡ (name ∷ body_words (texts_of behind)) ∷ body_word_lists (texts_of behind) =
+    first_body words d program.node.number two (ap is_node_keyword (sym is_first) ∙ node) (ap named_node_number (sym is_name) ∙ named)
+    ∙ (ap (λ (n : List ℕ). (n ∷ body_words (texts_of (drop 2 words))) ∷ body_word_lists (texts_of (drop 2 words))) (sym is_name)
+    ∙ ap (λ (b : List Token). (name ∷ body_words (texts_of b)) ∷ body_word_lists (texts_of b)) (sym is_behind)) in
+    let more = first_more all programs (body_word_lists (texts_of words)) (body_word_lists (texts_of behind)) (name ∷ body_words (texts_of behind)) program left of read in
+    let last : body_word_lists (texts_of behind) ≡ body_word_lists (texts_of (drop (count + 2) words)) =
+    sym rest ∙ ap (λ (b : List Token). body_word_lists (texts_of b)) (ap (drop count) is_behind ∙ drop_twice words count) in
     subst (λ (l : List (List (List ℕ))). AreOfFirst all after l) last
-    (subst (λ (p : List Program). AreOfFirst all p (bodies_in (texts_of behind))) (sym pushed) more)
+    (subst (λ (p : List Program). AreOfFirst all p (body_word_lists (texts_of behind))) (sym pushed) more)
 
 -- ---- a source
 
 -- none is read
-pub none_read : (words : List Token) (programs : List Program) → programs ≡ [] → AreOfFirst (bodies_in (texts_in (token_contents words))) programs (bodies_in (texts_of words))
+pub none_read : (words : List Token) (programs : List Program) → programs ≡ [] → AreOfFirst (body_word_lists (token_texts (token_contents words))) programs (body_word_lists (texts_of words))
 unfolding AreOfFirst
 none_read words programs none =
-    subst (λ (p : List Program). AreOfFirst (bodies_in (texts_in (token_contents words))) p (bodies_in (texts_of words))) (sym none) (ap bodies_in (map_map words))
+    subst (λ (p : List Program). AreOfFirst (body_word_lists (token_texts (token_contents words))) p (body_word_lists (texts_of words))) (sym none) (ap body_word_lists (map_map words))
 
 -- all are read
-pub all_read : (words left : List Token) (programs : List Program) → left ≡ [] → AreOfFirst (bodies_in (texts_in (token_contents words))) programs (bodies_in (texts_of left)) → AreOf (bodies_in (texts_in (token_contents words))) programs
-unfolding bodies_in
+pub all_read : (words left : List Token) (programs : List Program) → left ≡ [] → AreOfFirst (body_word_lists (token_texts (token_contents words))) programs (body_word_lists (texts_of left)) → ArePlainProgramsOf (body_word_lists (token_texts (token_contents words))) programs
+unfolding body_word_lists
 all_read words left programs none read =
-    first_all (bodies_in (texts_in (token_contents words))) programs
-    (subst (λ (rest : List Token). AreOfFirst (bodies_in (texts_in (token_contents words))) programs (bodies_in (texts_of rest))) none read)
+    first_all (body_word_lists (token_texts (token_contents words))) programs
+    (subst (λ (rest : List Token). AreOfFirst (body_word_lists (token_texts (token_contents words))) programs (body_word_lists (texts_of rest))) none read)
 
 -- ---- up to the next `node`
 
-pub said_front : (tokens : List Token) (i : ℕ) → ((k : ℕ) → k < i → is_node (get_or (texts_of tokens) k []) ≡ false) → (i < length (texts_of tokens) → is_node (get_or (texts_of tokens) i []) ≡ true) → token_contents (take i tokens) ≡ said_body (token_contents tokens)
-unfolding said_body
+pub said_front : (tokens : List Token) (i : ℕ) → ((k : ℕ) → k < i → is_node_keyword (get_or (texts_of tokens) k []) ≡ false) → (i < length (texts_of tokens) → is_node_keyword (get_or (texts_of tokens) i []) ≡ true) → token_contents (take i tokens) ≡ body_tokens (token_contents tokens)
+unfolding body_tokens
 said_front [] zero none here = refl
 said_front [] (suc i) none here = refl
-said_front (token ∷ tokens) zero none here = let is : is_node token.text.now ≡ true = here (omega arith) in rw is refl
+said_front (token ∷ tokens) zero none here = let is : is_node_keyword token.text.now ≡ true = here (omega arith) in rw is refl
 said_front (token ∷ tokens) (suc i) none here =
-    let other : is_node token.text.now ≡ false = none 0 (omega arith) in
+    let other : is_node_keyword token.text.now ≡ false = none 0 (omega arith) in
     rw other (ap (λ (rest : List TokenContent). record { line = token.line; text = token.text.now; kind = token.kind } ∷ rest) (said_front tokens i (λ k below. none (suc k) (omega arith)) (λ below. here (omega arith))))
 
-pub said_behind : (tokens : List Token) (i : ℕ) → ((k : ℕ) → k < i → is_node (get_or (texts_of tokens) k []) ≡ false) → said_bodies (token_contents (drop i tokens)) ≡ said_bodies (token_contents tokens)
-unfolding said_bodies
+pub said_behind : (tokens : List Token) (i : ℕ) → ((k : ℕ) → k < i → is_node_keyword (get_or (texts_of tokens) k []) ≡ false) → body_token_lists (token_contents (drop i tokens)) ≡ body_token_lists (token_contents tokens)
+unfolding body_token_lists
 said_behind [] zero none = refl
 said_behind [] (suc i) none = refl
 said_behind (token ∷ tokens) zero none = refl
 said_behind (token ∷ tokens) (suc i) none =
-    let other : is_node token.text.now ≡ false = none 0 (omega arith) in
+    let other : is_node_keyword token.text.now ≡ false = none 0 (omega arith) in
     rw other (said_behind tokens i (λ k below. none (suc k) (omega arith)))
 
 -- ---- one program more
 
-asked_more : (all : List (List TokenContent)) (programs : List Program) (left rest : List (List TokenContent)) (words : List TokenContent) (program : Program) → left ≡ words ∷ rest → IsAsked words program → AreAskedFirst all programs left → AreAskedFirst all (programs ++ program ∷ []) rest
+asked_more : (all : List (List TokenContent)) (programs : List Program) (left rest : List (List TokenContent)) (words : List TokenContent) (program : Program) → left ≡ words ∷ rest → IsProgramOfBody words program → AreAskedFirst all programs left → AreAskedFirst all (programs ++ program ∷ []) rest
 unfolding AreAskedFirst
 asked_more [] [] left rest words program is of first = absurd (no_words (first ∙ is))
 asked_more (body ∷ all) [] left rest words program is of first =
     let same = first ∙ is in
-    (subst (λ (w : List TokenContent). IsAsked w program) (sym (ap head_of same)) of, ap tail_of same)
+    (subst (λ (w : List TokenContent). IsProgramOfBody w program) (sym (ap head_of same)) of, ap tail_of same)
 asked_more [] (p ∷ programs) left rest words program is of first = absurd first
 asked_more (body ∷ all) (p ∷ programs) left rest words program is of first =
     (first.0, asked_more all programs left rest words program is of first.1)
 
 -- none is left
-asked_all : (all : List (List TokenContent)) (programs : List Program) → AreAskedFirst all programs [] → AreAskedBy all programs
-unfolding AreAskedFirst AreAskedBy
+asked_all : (all : List (List TokenContent)) (programs : List Program) → AreAskedFirst all programs [] → AreProgramsOfBodies all programs
+unfolding AreAskedFirst AreProgramsOfBodies
 asked_all [] [] none = tt
 asked_all (body ∷ all) [] none = absurd (no_words (sym none))
 asked_all [] (p ∷ programs) first = absurd first
 asked_all (body ∷ all) (p ∷ programs) first = (first.0, asked_all all programs first.1)
 
 -- the words of the node that comes first
-said_first : (words : List Token) (d : Token) (n : ℕ) → 2 ≤ length words → is_node (get_or words 0 d).text.now ≡ true → yxx_in (get_or words 1 d).text.now ≡ Some n → said_bodies (token_contents words) ≡ (record { line = (get_or words 1 d).line; text = (get_or words 1 d).text.now; kind = (get_or words 1 d).kind } ∷ said_body (token_contents (drop 2 words))) ∷ said_bodies (token_contents (drop 2 words))
-unfolding said_body said_bodies
+said_first : (words : List Token) (d : Token) (n : ℕ) → 2 ≤ length words → is_node_keyword (get_or words 0 d).text.now ≡ true → named_node_number (get_or words 1 d).text.now ≡ Some n → body_token_lists (token_contents words) ≡ (record { line = (get_or words 1 d).line; text = (get_or words 1 d).text.now; kind = (get_or words 1 d).kind } ∷ body_tokens (token_contents (drop 2 words))) ∷ body_token_lists (token_contents (drop 2 words))
+unfolding body_tokens body_token_lists
 said_first [] d n two node name = absurd (omega arith)
 said_first (a ∷ []) d n two node name = absurd (omega arith)
 said_first (a ∷ b ∷ words) d n two node name =
@@ -212,47 +212,47 @@ said_first (a ∷ b ∷ words) d n two node name =
     rw (node, other) refl
 
 pub one_more_asked : (words behind body : List Token) (d : Token) (first name : List ℕ) (count : ℕ) (program : Program) (programs after : List Program) (all : List (List TokenContent)) → 2 ≤ length words
-    → first ≡ (get_or words 0 d).text.now → is_node first ≡ true
-    → name ≡ (get_or words 1 d).text.now → yxx_in name ≡ Some program.node.number
+    → first ≡ (get_or words 0 d).text.now → is_node_keyword first ≡ true
+    → name ≡ (get_or words 1 d).text.now → named_node_number name ≡ Some program.node.number
     → after ≡ programs ++ program ∷ [] → behind ≡ drop 2 words → body ≡ take count behind
-    → token_contents (take count behind) ≡ said_body (token_contents behind) → said_bodies (token_contents (drop count behind)) ≡ said_bodies (token_contents behind)
-    → AsksFor (get_or words 1 d).line (token_contents body) program
-    → AreAskedFirst all programs (said_bodies (token_contents words)) → AreAskedFirst all after (said_bodies (token_contents (drop (count + 2) words)))
+    → token_contents (take count behind) ≡ body_tokens (token_contents behind) → body_token_lists (token_contents (drop count behind)) ≡ body_token_lists (token_contents behind)
+    → HasRequestsOfWords (get_or words 1 d).line (token_contents body) program
+    → AreAskedFirst all programs (body_token_lists (token_contents words)) → AreAskedFirst all after (body_token_lists (token_contents (drop (count + 2) words)))
 one_more_asked words behind body d first name count program programs after all two is_first node is_name named pushed is_behind is_body front rest asks read =
     let token = get_or words 1 d in
     let said : TokenContent = record { line = token.line; text = token.text.now; kind = token.kind } in
-    let texts : token_contents body ≡ said_body (token_contents (drop 2 words)) = ap token_contents is_body ∙ (front ∙ ap (λ (b : List Token). said_body (token_contents b)) is_behind) in
-    let of : IsAsked (said ∷ said_body (token_contents (drop 2 words))) program =
-    (ap yxx_in (sym is_name) ∙ named, subst (λ (w : List TokenContent). AsksFor token.line w program) texts asks) in
-    let left = said_first words d program.node.number two (ap is_node (sym is_first) ∙ node) (ap yxx_in (sym is_name) ∙ named) in
-    let more = asked_more all programs (said_bodies (token_contents words)) (said_bodies (token_contents (drop 2 words))) (said ∷ said_body (token_contents (drop 2 words))) program left of read in
-    let last : said_bodies (token_contents (drop 2 words)) ≡ said_bodies (token_contents (drop (count + 2) words)) =
-    ap (λ (b : List Token). said_bodies (token_contents b)) (sym is_behind) ∙ (sym rest ∙ ap (λ (b : List Token). said_bodies (token_contents b)) (ap (drop count) is_behind ∙ drop_twice words count)) in
+    let texts : token_contents body ≡ body_tokens (token_contents (drop 2 words)) = ap token_contents is_body ∙ (front ∙ ap (λ (b : List Token). body_tokens (token_contents b)) is_behind) in
+    let of : IsProgramOfBody (said ∷ body_tokens (token_contents (drop 2 words))) program =
+    (ap named_node_number (sym is_name) ∙ named, subst (λ (w : List TokenContent). HasRequestsOfWords token.line w program) texts asks) in
+    let left = said_first words d program.node.number two (ap is_node_keyword (sym is_first) ∙ node) (ap named_node_number (sym is_name) ∙ named) in
+    let more = asked_more all programs (body_token_lists (token_contents words)) (body_token_lists (token_contents (drop 2 words))) (said ∷ body_tokens (token_contents (drop 2 words))) program left of read in
+    let last : body_token_lists (token_contents (drop 2 words)) ≡ body_token_lists (token_contents (drop (count + 2) words)) =
+    ap (λ (b : List Token). body_token_lists (token_contents b)) (sym is_behind) ∙ (sym rest ∙ ap (λ (b : List Token). body_token_lists (token_contents b)) (ap (drop count) is_behind ∙ drop_twice words count)) in
     subst (λ (l : List (List TokenContent)). AreAskedFirst all after l) last
-    (subst (λ (p : List Program). AreAskedFirst all p (said_bodies (token_contents (drop 2 words)))) (sym pushed) more)
+    (subst (λ (p : List Program). AreAskedFirst all p (body_token_lists (token_contents (drop 2 words)))) (sym pushed) more)
 
 -- ---- a source
 
-pub none_asked : (words : List Token) (programs : List Program) → programs ≡ [] → AreAskedFirst (said_bodies (token_contents words)) programs (said_bodies (token_contents words))
+pub none_asked : (words : List Token) (programs : List Program) → programs ≡ [] → AreAskedFirst (body_token_lists (token_contents words)) programs (body_token_lists (token_contents words))
 unfolding AreAskedFirst
 none_asked words programs none =
-    subst (λ (p : List Program). AreAskedFirst (said_bodies (token_contents words)) p (said_bodies (token_contents words))) (sym none) refl
+    subst (λ (p : List Program). AreAskedFirst (body_token_lists (token_contents words)) p (body_token_lists (token_contents words))) (sym none) refl
 
-pub all_asked : (words left : List Token) (programs : List Program) → left ≡ [] → AreAskedFirst (said_bodies (token_contents words)) programs (said_bodies (token_contents left)) → AreAskedBy (said_bodies (token_contents words)) programs
-unfolding said_bodies
+pub all_asked : (words left : List Token) (programs : List Program) → left ≡ [] → AreAskedFirst (body_token_lists (token_contents words)) programs (body_token_lists (token_contents left)) → AreProgramsOfBodies (body_token_lists (token_contents words)) programs
+unfolding body_token_lists
 all_asked words left programs none read =
-    asked_all (said_bodies (token_contents words)) programs
-    (subst (λ (rest : List Token). AreAskedFirst (said_bodies (token_contents words)) programs (said_bodies (token_contents rest))) none read)
+    asked_all (body_token_lists (token_contents words)) programs
+    (subst (λ (rest : List Token). AreAskedFirst (body_token_lists (token_contents words)) programs (body_token_lists (token_contents rest))) none read)
 
 -- ---- numbers
 
-pub one_numbered : (words : List Token) (k number : ℕ) (d one : Token) (before new all : List Token) → k < length words → one ≡ with_line (get_or words k d) number → new ≡ before ++ one ∷ [] → before ++ with_numbers number (drop k words) ≡ all → new ++ with_numbers (next_line number) (drop (k + 1) words) ≡ all
+pub one_numbered : (words : List Token) (k number : ℕ) (d one : Token) (before new all : List Token) → k < length words → one ≡ with_line (get_or words k d) number → new ≡ before ++ one ∷ [] → before ++ with_numbers number (drop k words) ≡ all → new ++ with_numbers (next_line_number number) (drop (k + 1) words) ≡ all
 unfolding with_numbers
 one_numbered words k number d one before new all within is pushed e =
     let next : suc k ≡ k + 1 = omega arith in
     let left : drop k words ≡ get_or words k d ∷ drop (k + 1) words = drop-cons words k d within ∙ ap (λ (j : ℕ). get_or words k d ∷ drop j words) next in
-    ap (λ (l : List Token). l ++ with_numbers (next_line number) (drop (k + 1) words)) (pushed ∙ ap (λ (o : Token). before ++ o ∷ []) is)
-    ∙ (append_assoc before (with_line (get_or words k d) number ∷ []) (with_numbers (next_line number) (drop (k + 1) words))
+    ap (λ (l : List Token). l ++ with_numbers (next_line_number number) (drop (k + 1) words)) (pushed ∙ ap (λ (o : Token). before ++ o ∷ []) is)
+    ∙ (append_assoc before (with_line (get_or words k d) number ∷ []) (with_numbers (next_line_number number) (drop (k + 1) words))
     ∙ (ap (λ (l : List Token). before ++ with_numbers number l) (sym left) ∙ e))
 
 pub all_numbered : (number : ℕ) (left before all : List Token) → left ≡ [] → before ++ with_numbers number left ≡ all → before ≡ all

@@ -5,14 +5,14 @@ use Rattle.std.proofs.lemmas.List.{get_or-replicate, get_or_past, length-replica
 use Rattle.ga_parser.specs.declared.item.Operand.TheVariants.{Number}
 use Rattle.ga_parser.specs.declared.item.Item.{Item}
 use Rattle.ga_parser.specs.declared.item.Item.TheVariants.{Cell}
-use Rattle.ga_source.specs.declared.group.Group.{Group}
-use Rattle.ga_parser.specs.declared.item.Request.{Request}
-use Rattle.ga_parser.specs.declared.item.Request.TheVariants.{Put, Go}
+use Rattle.ga_source.specs.declared.group.CellGroup.{CellGroup}
+use Rattle.ga_parser.specs.declared.item.AssemblyRequest.{AssemblyRequest}
+use Rattle.ga_parser.specs.declared.item.AssemblyRequest.TheVariants.{Put, Go}
 use Rattle.ga_parser.specs.declared.item.LocatedRequest.{LocatedRequest}
 use Rattle.ga_source.specs.declared.packing.Packer.{Packer}
 use Rattle.ga_source.specs.declared.group.PackingSpot.{PackingSpot}
-use Rattle.ga_source.specs.Reading.{begin_at, spot_after, fits}
-use Rattle.ga_source.specs.Made.{address_behind, cell_at, cells_from, cell_of, AreDistinctCells, IsMemoryAddress}
+use Rattle.ga_source.specs.Reading.{first_spot_of_cell, spot_after_item, item_fits}
+use Rattle.ga_source.specs.Made.{address_after_request, requested_cell, requested_cells, cell_of, AreDistinctCells, IsMemoryAddress}
 use Rattle.ga_source.specs.inner.{IsClosed, requests_of, IsPlainRequest, ArePlain, address_after, IsCellGroup, AreCellGroups, IsPackedPlain, AreWords}
 
 -- from the k-th on, no cell is given
@@ -21,63 +21,63 @@ AreOpen given cells from = (k : ℕ) → from ≤ k → k < length cells → sli
 
 -- ---- one more
 
-pub one_group : (cells : List (ℕ × ℕ)) (groups : List Group) (cell : ℕ × ℕ) (group : Group) → AreCellGroups cells groups → IsCellGroup cell group → AreCellGroups (cells ++ cell ∷ []) (groups ++ group ∷ [])
+pub one_group : (cells : List (ℕ × ℕ)) (groups : List CellGroup) (cell : ℕ × ℕ) (group : CellGroup) → AreCellGroups cells groups → IsCellGroup cell group → AreCellGroups (cells ++ cell ∷ []) (groups ++ group ∷ [])
 unfolding AreCellGroups
 one_group [] [] cell group all one = (one, tt)
 one_group (first ∷ cells) (g ∷ groups) cell group all one = (all.0, one_group cells groups cell group all.1 one)
 one_group [] (g ∷ groups) cell group all one = absurd all
 one_group (first ∷ cells) [] cell group all one = absurd all
 
-cells_more : (at : ℕ) (requests : List Request) (request : Request) → cells_from at (requests ++ request ∷ []) ≡ cells_from at requests ++ cell_at (address_after at requests) request
-unfolding cells_from address_after
-cells_more at [] request = append-nil (cell_at at request)
+cells_more : (at : ℕ) (requests : List AssemblyRequest) (request : AssemblyRequest) → requested_cells at (requests ++ request ∷ []) ≡ requested_cells at requests ++ requested_cell (address_after at requests) request
+unfolding requested_cells address_after
+cells_more at [] request = append-nil (requested_cell at request)
 cells_more at (first ∷ requests) request =
-    ap (λ (cells : List (ℕ × ℕ)). cell_at at first ++ cells) (cells_more (address_behind at first) requests request)
-    ∙ sym (append_assoc (cell_at at first) (cells_from (address_behind at first) requests) (cell_at (address_after (address_behind at first) requests) request))
+    ap (λ (cells : List (ℕ × ℕ)). requested_cell at first ++ cells) (cells_more (address_after_request at first) requests request)
+    ∙ sym (append_assoc (requested_cell at first) (requested_cells (address_after_request at first) requests) (requested_cell (address_after (address_after_request at first) requests) request))
 
-after_more : (at : ℕ) (requests : List Request) (request : Request) → address_after at (requests ++ request ∷ []) ≡ address_behind (address_after at requests) request
+after_more : (at : ℕ) (requests : List AssemblyRequest) (request : AssemblyRequest) → address_after at (requests ++ request ∷ []) ≡ address_after_request (address_after at requests) request
 unfolding address_after
 after_more at [] request = refl
-after_more at (first ∷ requests) request = after_more (address_behind at first) requests request
+after_more at (first ∷ requests) request = after_more (address_after_request at first) requests request
 
 -- ---- the packer
 
 -- a cell is added
-pub added_cell : (before full closed : Packer) (next : PackingSpot) (item : Item) (n : ℕ) (requests : List Request) → item ≡ Cell (Number n) → IsPackedPlain before requests
+pub added_cell : (before full closed : Packer) (next : PackingSpot) (item : Item) (n : ℕ) (requests : List AssemblyRequest) → item ≡ Cell (Number n) → IsPackedPlain before requests
     → full.filling.items ≡ before.filling.items ++ item ∷ [] → full.broken ≡ before.broken → full.spot ≡ before.spot → full.groups.items ≡ before.groups.items → IsClosed full closed
     → ((n : ℕ) (cells : List (ℕ × ℕ)) → full.filling.items ≡ Cell (Number n) ∷ [] → full.broken ≡ None → AreCellGroups cells full.groups.items → AreCellGroups (cells ++ (full.spot.at, n) ∷ []) closed.groups.items)
-    → next ≡ spot_after before.spot item → IsPackedPlain (record closed { spot = next }) (requests ++ Put item ∷ [])
+    → next ≡ spot_after_item before.spot item → IsPackedPlain (record closed { spot = next }) (requests ++ Put item ∷ [])
 added_cell before full closed next item n requests is packed filled broken spot groups done cell goes =
     let at = address_after 0 requests in
     let here : full.spot.at ≡ at = ap (λ (s : PackingSpot). s.at) (spot ∙ packed.spot) in
-    let cells : AreCellGroups (cells_from 0 requests ++ (full.spot.at, n) ∷ []) closed.groups.items =
-    cell n (cells_from 0 requests)
+    let cells : AreCellGroups (requested_cells 0 requests ++ (full.spot.at, n) ∷ []) closed.groups.items =
+    cell n (requested_cells 0 requests)
     (filled ∙ (ap (λ (items : List Item). items ++ item ∷ []) packed.filling ∙ ap (λ (i : Item). i ∷ []) is))
     (broken ∙ packed.whole)
-    (subst (AreCellGroups (cells_from 0 requests)) (sym groups) packed.groups) in
+    (subst (AreCellGroups (requested_cells 0 requests)) (sym groups) packed.groups) in
     record {
       filling = done.empty;
       whole = done.whole;
-      spot = goes ∙ (ap (λ (s : PackingSpot). spot_after s item) packed.spot ∙ (ap (spot_after (begin_at at)) is ∙ ap begin_at (sym (after_more 0 requests (Put item)))));
+      spot = goes ∙ (ap (λ (s : PackingSpot). spot_after_item s item) packed.spot ∙ (ap (spot_after_item (first_spot_of_cell at)) is ∙ ap first_spot_of_cell (sym (after_more 0 requests (Put item)))));
       groups = subst (λ (list : List (ℕ × ℕ)). AreCellGroups list closed.groups.items)
-          (ap (λ (a : ℕ). cells_from 0 requests ++ (a, n) ∷ []) here
-          ∙ (ap (λ (i : Item). cells_from 0 requests ++ cell_at at (Put i)) (sym is) ∙ sym (cells_more 0 requests (Put item)))) cells;
+          (ap (λ (a : ℕ). requested_cells 0 requests ++ (a, n) ∷ []) here
+          ∙ (ap (λ (i : Item). requested_cells 0 requests ++ requested_cell at (Put i)) (sym is) ∙ sym (cells_more 0 requests (Put item)))) cells;
     }
 
 -- another address
-pub gone_packed : (before closed : Packer) (spot : PackingSpot) (address : ℕ) (requests : List Request) → spot ≡ begin_at address → IsPackedPlain before requests → closed ≡ before → IsPackedPlain (record closed { spot = spot }) (requests ++ Go address ∷ [])
+pub gone_packed : (before closed : Packer) (spot : PackingSpot) (address : ℕ) (requests : List AssemblyRequest) → spot ≡ first_spot_of_cell address → IsPackedPlain before requests → closed ≡ before → IsPackedPlain (record closed { spot = spot }) (requests ++ Go address ∷ [])
 gone_packed before closed spot address requests is packed stays = record {
   filling = ap (λ (p : Packer). p.filling.items) stays ∙ packed.filling;
   whole = ap (λ (p : Packer). p.broken) stays ∙ packed.whole;
-  spot = is ∙ ap begin_at (sym (after_more 0 requests (Go address)));
-  groups = subst (λ (p : Packer). AreCellGroups (cells_from 0 (requests ++ Go address ∷ [])) p.groups.items) (sym stays)
-      (subst (λ (list : List (ℕ × ℕ)). AreCellGroups list before.groups.items) (sym (cells_more 0 requests (Go address) ∙ append-nil (cells_from 0 requests))) packed.groups);
+  spot = is ∙ ap first_spot_of_cell (sym (after_more 0 requests (Go address)));
+  groups = subst (λ (p : Packer). AreCellGroups (requested_cells 0 (requests ++ Go address ∷ [])) p.groups.items) (sym stays)
+      (subst (λ (list : List (ℕ × ℕ)). AreCellGroups list before.groups.items) (sym (cells_more 0 requests (Go address) ∙ append-nil (requested_cells 0 requests))) packed.groups);
 }
 
 -- a cell has room
-pub cell_fits : (packer : Packer) (requests : List Request) (item : Item) (n : ℕ) → item ≡ Cell (Number n) → IsPackedPlain packer requests → fits packer.labels.items packer.spot item ≡ true
+pub cell_fits : (packer : Packer) (requests : List AssemblyRequest) (item : Item) (n : ℕ) → item ≡ Cell (Number n) → IsPackedPlain packer requests → item_fits packer.labels.items packer.spot item ≡ true
 cell_fits packer requests item n is packed =
-    ap (λ (s : PackingSpot). fits packer.labels.items s item) packed.spot ∙ ap (fits packer.labels.items (begin_at (address_after 0 requests))) is
+    ap (λ (s : PackingSpot). item_fits packer.labels.items s item) packed.spot ∙ ap (item_fits packer.labels.items (first_spot_of_cell (address_after 0 requests))) is
 
 -- an item that plain requests ask for
 pub record IsCellItem (item : Item) : Type 0 where
@@ -89,8 +89,8 @@ plain_item (Cell (Number n)) plain = record { n = n; is = refl }
 plain_item _ plain = absurd plain
 
 -- none is packed
-pub none_packed : (packer : Packer) → packer.filling.items ≡ [] → packer.broken ≡ None → packer.spot ≡ begin_at 0 → packer.groups.items ≡ [] → IsPackedPlain packer []
-unfolding AreCellGroups cells_from address_after
+pub none_packed : (packer : Packer) → packer.filling.items ≡ [] → packer.broken ≡ None → packer.spot ≡ first_spot_of_cell 0 → packer.groups.items ≡ [] → IsPackedPlain packer []
+unfolding AreCellGroups requested_cells address_after
 none_packed packer filling whole spot groups = record { filling = filling; whole = whole; spot = spot; groups = subst (AreCellGroups []) (sym groups) tt }
 
 -- one of plain requests
@@ -113,7 +113,7 @@ pub cell_item : (items : List Item) (n i : ℕ) (d : Item) → items ≡ Cell (N
 cell_item items n zero d is within = ap (λ (list : List Item). slice_index_or list 0 d) is
 cell_item items n (suc i) d is within = let one : length items ≡ 1 = ap length is in absurd (omega arith)
 
-pub group_at : (cells : List (ℕ × ℕ)) (groups : List Group) (i : ℕ) (d : Group) → AreCellGroups cells groups → i < length groups → IsCellGroup (cell_of cells i) (slice_index_or groups i d)
+pub group_at : (cells : List (ℕ × ℕ)) (groups : List CellGroup) (i : ℕ) (d : CellGroup) → AreCellGroups cells groups → i < length groups → IsCellGroup (cell_of cells i) (slice_index_or groups i d)
 unfolding AreCellGroups
 group_at [] [] i d are within = absurd (omega arith)
 group_at (cell ∷ cells) (group ∷ groups) zero d are within = are.0
@@ -121,7 +121,7 @@ group_at (cell ∷ cells) (group ∷ groups) (suc i) d are within = group_at cel
 group_at [] (group ∷ groups) i d are within = absurd are
 group_at (cell ∷ cells) [] i d are within = absurd are
 
-pub same_length : (cells : List (ℕ × ℕ)) (groups : List Group) → AreCellGroups cells groups → length cells ≡ length groups
+pub same_length : (cells : List (ℕ × ℕ)) (groups : List CellGroup) → AreCellGroups cells groups → length cells ≡ length groups
 unfolding AreCellGroups
 same_length [] [] are = refl
 same_length (cell ∷ cells) (group ∷ groups) are = ap suc (same_length cells groups are.1)
@@ -129,7 +129,7 @@ same_length [] (group ∷ groups) are = absurd are
 same_length (cell ∷ cells) [] are = absurd are
 
 -- one group more is loaded
-pub open_more : (given now : List (Option ℕ)) (cells : List (ℕ × ℕ)) (groups : List Group) (i : ℕ) (group : Group) → AreCellGroups cells groups → AreDistinctCells cells → i < length groups → group ≡ slice_index_or groups i group
+pub open_more : (given now : List (Option ℕ)) (cells : List (ℕ × ℕ)) (groups : List CellGroup) (i : ℕ) (group : CellGroup) → AreCellGroups cells groups → AreDistinctCells cells → i < length groups → group ≡ slice_index_or groups i group
     → ((cell : ℕ × ℕ) (k : ℕ) → IsCellGroup cell group → k ≢ cell.0 % 512 → slice_index_or now k None ≡ slice_index_or given k None) → AreOpen given cells i → AreOpen now cells (i + 1)
 open_more given now cells groups i group are free within is stays before = λ k from small.
     let here : IsCellGroup (cell_of cells i) group = subst (IsCellGroup (cell_of cells i)) (sym is) (group_at cells groups i group are within) in
@@ -147,7 +147,7 @@ all_open given cells is = λ k from small.
     ap (λ (list : List (Option ℕ)). slice_index_or list ((cell_of cells k).0 % 512) None) is ∙ none_there ((cell_of cells k).0 % 512) None
 
 -- no cell is given twice
-pub never_twice : (given : List (Option ℕ)) (cells : List (ℕ × ℕ)) (groups : List Group) (i : ℕ) (group : Group) → AreCellGroups cells groups → AreWords cells → AreDistinctCells cells → i < length groups → group ≡ slice_index_or groups i group → length given ≡ 192
+pub never_twice : (given : List (Option ℕ)) (cells : List (ℕ × ℕ)) (groups : List CellGroup) (i : ℕ) (group : CellGroup) → AreCellGroups cells groups → AreWords cells → AreDistinctCells cells → i < length groups → group ≡ slice_index_or groups i group → length given ≡ 192
     → ((cell : ℕ × ℕ) → IsCellGroup cell group → cell.1 < 2 ^ 18 → IsMemoryAddress cell.0 → length given ≡ 192 → slice_index_or given (cell.0 % 512) None ≢ None) → AreOpen given cells i → ⊥
 never_twice given cells groups i group are words free within is size refused before =
     let here : IsCellGroup (cell_of cells i) group = subst (IsCellGroup (cell_of cells i)) (sym is) (group_at cells groups i group are within) in
@@ -159,13 +159,13 @@ words_more : (cell : ℕ × ℕ) (cells : List (ℕ × ℕ)) → cell.1 < 2 ^ 18
 words_more cell cells small words zero within = small
 words_more cell cells small words (suc k) within = words k (omega arith)
 
-words_behind : (at : ℕ) (request : Request) (cells : List (ℕ × ℕ)) → IsPlainRequest request → AreWords cells → AreWords (cell_at at request ++ cells)
+words_behind : (at : ℕ) (request : AssemblyRequest) (cells : List (ℕ × ℕ)) → IsPlainRequest request → AreWords cells → AreWords (requested_cell at request ++ cells)
 words_behind at (Put (Cell (Number n))) cells plain words = words_more (at, n) cells plain words
 words_behind at (Go address) cells plain words = words
 words_behind at _ cells plain words = absurd plain
 
 -- the numbers of plain requests are words
-pub plain_words : (at : ℕ) (requests : List Request) → ArePlain requests → AreWords (cells_from at requests)
-unfolding ArePlain cells_from
+pub plain_words : (at : ℕ) (requests : List AssemblyRequest) → ArePlain requests → AreWords (requested_cells at requests)
+unfolding ArePlain requested_cells
 plain_words at [] plain = λ k within. absurd (omega arith)
-plain_words at (request ∷ requests) plain = words_behind at request (cells_from (address_behind at request) requests) plain.0 (plain_words (address_behind at request) requests plain.1)
+plain_words at (request ∷ requests) plain = words_behind at request (requested_cells (address_after_request at request) requests) plain.0 (plain_words (address_after_request at request) requests plain.1)

@@ -13,58 +13,58 @@ use Rattle.ga_slots.specs.declared.op.Op.TheVariants.{FetchP, Nop}
 use Rattle.ga_node.specs.Record.{NodeState}
 use Rattle.ga_parser.specs.declared.item.Item.{Item}
 use Rattle.ga_parser.specs.declared.item.Item.TheVariants.{Opcode, Literal, Back, Ahead, Cell}
-use Rattle.ga_source.specs.declared.group.Group.{Group}
+use Rattle.ga_source.specs.declared.group.CellGroup.{CellGroup}
 use Rattle.ga_parser.specs.declared.item.Operand.TheVariants.{Label}
 use Rattle.ga_source.specs.declared.group.PackingSpot.{PackingSpot}
-use Rattle.ga_source.specs.Reading.{begin_at, spot_after, resolved, are_both, word_in, has_op, leads, item_stands, is_filled, ends_cell}
-use Rattle.ga_source.specs.Cells.{is_at, takes, KeepsElsewhere}
+use Rattle.ga_source.specs.Reading.{first_spot_of_cell, spot_after_item, operand_value, are_equal_numbers, word_at_address, has_opcode_in_slot, jump_leads_to, is_item_at_spot, is_filled_with_nops, ends_cell}
+use Rattle.ga_source.specs.Cells.{is_address_of_cell, item_uses_cell, KeepsOtherCells}
 use Rattle.ga_source.specs.inner.{nothing, behind_all, Stand, taken, spot_in, IsFit, IsRead, takes_group, are_taken, KeepsRest, HasItem, HasRest, HoldsRest, Holds, Keeps, MayEnd, IsWordOf, IsWriting, IsLoadedGroup}
 use Rattle.ga_source.proofs.Laying.{behind-same, behind-slot, Stand-push, taken-pop, empty_reads, step_spot, last_ends}
 
 -- what is left of a cell is `.`
 abbrev dots : Option ℕ → ℕ → Bool
-dots word slot = (nat_lt 1 slot || has_op word 1 Nop) && (nat_lt 2 slot || has_op word 2 Nop) && has_op word 3 Nop
+dots word slot = (nat_lt 1 slot || has_opcode_in_slot word 1 Nop) && (nat_lt 2 slot || has_opcode_in_slot word 2 Nop) && has_opcode_in_slot word 3 Nop
 
 -- ---- an item in place
 
-has_op_by : (word slot : ℕ) (op : Op) → slot < 4 → opcode word slot ≡ op → has_op (Some word) slot op ≡ true
+has_op_by : (word slot : ℕ) (op : Op) → slot < 4 → opcode word slot ≡ op → has_opcode_in_slot (Some word) slot op ≡ true
 has_op_by word slot op l e = and_from (nat_lt slot 4) (code_of (opcode word slot) == code_of op) (lt-ltb slot 4 l) (eq-eqb (code_of (opcode word slot)) (code_of op) (ap code_of e))
 
-stands_in : (node : NodeState) (labels : List (Option ℕ)) (word : ℕ) (spot : PackingSpot) (item : Item) → spot.slot < 4 → MayEnd spot.slot item → HasItem labels word spot.slot item → HasRest node labels spot item → (found : Option ℕ) → found ≡ Some word → word_in node spot.at ≡ found → item_stands node labels spot item ≡ true
-stands_in node labels word spot (Opcode op) l may has rest found e at = subst (λ (w : Option ℕ). has_op w spot.slot op ≡ true) (sym (at ∙ e)) (has_op_by word spot.slot op l has)
-stands_in node labels word spot (Literal value) l may has rest found e at = and_from (has_op (word_in node spot.at) spot.slot FetchP) (are_both (resolved labels value) (word_in node spot.p))
-    (subst (λ (w : Option ℕ). has_op w spot.slot FetchP ≡ true) (sym (at ∙ e)) (has_op_by word spot.slot FetchP l has)) rest
-stands_in node labels word spot (Back op label) l may has rest found e at = and_from (has_op (word_in node spot.at) spot.slot op) (leads (word_in node spot.at) spot.slot spot.p (resolved labels (Label label)))
-    (subst (λ (w : Option ℕ). has_op w spot.slot op ≡ true) (sym (at ∙ e)) (has_op_by word spot.slot op l has.0))
-    (subst (λ (w : Option ℕ). leads w spot.slot spot.p (resolved labels (Label label)) ≡ true) (sym (at ∙ e))
-    (and_from (nat_lt spot.slot 3) (are_both (resolved labels (Label label)) (Some (target spot.p word spot.slot))) (lt-ltb spot.slot 3 rest.0) (has.1 spot.p rest.1)))
-stands_in node labels word spot (Ahead op label) l may has rest found e at = and_from (has_op (word_in node spot.at) spot.slot op) (leads (word_in node spot.at) spot.slot spot.p (resolved labels (Label label)))
-    (subst (λ (w : Option ℕ). has_op w spot.slot op ≡ true) (sym (at ∙ e)) (has_op_by word spot.slot op l has.0))
-    (subst (λ (w : Option ℕ). leads w spot.slot spot.p (resolved labels (Label label)) ≡ true) (sym (at ∙ e))
-    (and_from (nat_lt spot.slot 3) (are_both (resolved labels (Label label)) (Some (target spot.p word spot.slot))) (lt-ltb spot.slot 3 rest.0) (has.1 spot.p rest.1)))
-stands_in node labels word spot (Cell value) l may has rest found e at = and_from (spot.slot == 0) (are_both (resolved labels value) (word_in node spot.at)) (eq-eqb spot.slot 0 may)
-    (subst (λ (w : Option ℕ). are_both (resolved labels value) w ≡ true) (sym (at ∙ e)) has)
+stands_in : (node : NodeState) (labels : List (Option ℕ)) (word : ℕ) (spot : PackingSpot) (item : Item) → spot.slot < 4 → MayEnd spot.slot item → HasItem labels word spot.slot item → HasRest node labels spot item → (found : Option ℕ) → found ≡ Some word → word_at_address node spot.at ≡ found → is_item_at_spot node labels spot item ≡ true
+stands_in node labels word spot (Opcode op) l may has rest found e at = subst (λ (w : Option ℕ). has_opcode_in_slot w spot.slot op ≡ true) (sym (at ∙ e)) (has_op_by word spot.slot op l has)
+stands_in node labels word spot (Literal value) l may has rest found e at = and_from (has_opcode_in_slot (word_at_address node spot.at) spot.slot FetchP) (are_equal_numbers (operand_value labels value) (word_at_address node spot.p))
+    (subst (λ (w : Option ℕ). has_opcode_in_slot w spot.slot FetchP ≡ true) (sym (at ∙ e)) (has_op_by word spot.slot FetchP l has)) rest
+stands_in node labels word spot (Back op label) l may has rest found e at = and_from (has_opcode_in_slot (word_at_address node spot.at) spot.slot op) (jump_leads_to (word_at_address node spot.at) spot.slot spot.p (operand_value labels (Label label)))
+    (subst (λ (w : Option ℕ). has_opcode_in_slot w spot.slot op ≡ true) (sym (at ∙ e)) (has_op_by word spot.slot op l has.0))
+    (subst (λ (w : Option ℕ). jump_leads_to w spot.slot spot.p (operand_value labels (Label label)) ≡ true) (sym (at ∙ e))
+    (and_from (nat_lt spot.slot 3) (are_equal_numbers (operand_value labels (Label label)) (Some (target spot.p word spot.slot))) (lt-ltb spot.slot 3 rest.0) (has.1 spot.p rest.1)))
+stands_in node labels word spot (Ahead op label) l may has rest found e at = and_from (has_opcode_in_slot (word_at_address node spot.at) spot.slot op) (jump_leads_to (word_at_address node spot.at) spot.slot spot.p (operand_value labels (Label label)))
+    (subst (λ (w : Option ℕ). has_opcode_in_slot w spot.slot op ≡ true) (sym (at ∙ e)) (has_op_by word spot.slot op l has.0))
+    (subst (λ (w : Option ℕ). jump_leads_to w spot.slot spot.p (operand_value labels (Label label)) ≡ true) (sym (at ∙ e))
+    (and_from (nat_lt spot.slot 3) (are_equal_numbers (operand_value labels (Label label)) (Some (target spot.p word spot.slot))) (lt-ltb spot.slot 3 rest.0) (has.1 spot.p rest.1)))
+stands_in node labels word spot (Cell value) l may has rest found e at = and_from (spot.slot == 0) (are_equal_numbers (operand_value labels value) (word_at_address node spot.at)) (eq-eqb spot.slot 0 may)
+    (subst (λ (w : Option ℕ). are_equal_numbers (operand_value labels value) w ≡ true) (sym (at ∙ e)) has)
 
 -- ---- what stays
 
-takes_cell : (spot : PackingSpot) (item : Item) → takes spot item (spot.at % 512) ≡ true
+takes_cell : (spot : PackingSpot) (item : Item) → item_uses_cell spot item (spot.at % 512) ≡ true
 takes_cell spot (Opcode op) = eq-eqb (spot.at % 512) (spot.at % 512) refl
-takes_cell spot (Literal value) = or_left (is_at spot.at (spot.at % 512)) (is_at spot.p (spot.at % 512)) (eq-eqb (spot.at % 512) (spot.at % 512) refl)
+takes_cell spot (Literal value) = or_left (is_address_of_cell spot.at (spot.at % 512)) (is_address_of_cell spot.p (spot.at % 512)) (eq-eqb (spot.at % 512) (spot.at % 512) refl)
 takes_cell spot (Back op label) = eq-eqb (spot.at % 512) (spot.at % 512) refl
 takes_cell spot (Ahead op label) = eq-eqb (spot.at % 512) (spot.at % 512) refl
 takes_cell spot (Cell value) = eq-eqb (spot.at % 512) (spot.at % 512) refl
 
-takes_rest : (given : List (Option ℕ)) (spot : PackingSpot) (item : Item) → ((cell : ℕ) → takes spot item cell ≡ true → Holds given cell) → HoldsRest given spot item
+takes_rest : (given : List (Option ℕ)) (spot : PackingSpot) (item : Item) → ((cell : ℕ) → item_uses_cell spot item cell ≡ true → Holds given cell) → HoldsRest given spot item
 takes_rest given spot (Opcode op) held = tt
-takes_rest given spot (Literal value) held = held (spot.p % 512) (or_right (is_at spot.at (spot.p % 512)) (is_at spot.p (spot.p % 512)) (eq-eqb (spot.p % 512) (spot.p % 512) refl))
+takes_rest given spot (Literal value) held = held (spot.p % 512) (or_right (is_address_of_cell spot.at (spot.p % 512)) (is_address_of_cell spot.p (spot.p % 512)) (eq-eqb (spot.p % 512) (spot.p % 512) refl))
 takes_rest given spot (Back op label) held = tt
 takes_rest given spot (Ahead op label) held = tt
 takes_rest given spot (Cell value) held = tt
 
 -- what an item takes is its cell and that of its literal
-holds_taken : (given : List (Option ℕ)) (spot : PackingSpot) (item : Item) → Holds given (spot.at % 512) → HoldsRest given spot item → (cell : ℕ) → takes spot item cell ≡ true → Holds given cell
+holds_taken : (given : List (Option ℕ)) (spot : PackingSpot) (item : Item) → Holds given (spot.at % 512) → HoldsRest given spot item → (cell : ℕ) → item_uses_cell spot item cell ≡ true → Holds given cell
 holds_taken given spot (Opcode op) at rest cell h = subst (Holds given) (eqb-true (spot.at % 512) cell h) at
-holds_taken given spot (Literal value) at rest cell h = elim (or_cases (is_at spot.at cell) (is_at spot.p cell) h) [
+holds_taken given spot (Literal value) at rest cell h = elim (or_cases (is_address_of_cell spot.at cell) (is_address_of_cell spot.p cell) h) [
   | inl e ↦ subst (Holds given) (eqb-true (spot.at % 512) cell e) at
   | inr e ↦ subst (Holds given) (eqb-true (spot.p % 512) cell e) rest
 ]
@@ -76,30 +76,30 @@ holds_taken given spot (Cell value) at rest cell h = subst (Holds given) (eqb-tr
 end_held : (given : List (Option ℕ)) (spot : PackingSpot) (items : List Item) → (spot.slot ≡ 0) ⊎ Holds given (spot.at % 512) → ((cell : ℕ) → taken spot items cell ≡ true → Holds given cell) → ((behind_all spot items).slot ≡ 0) ⊎ Holds given ((behind_all spot items).at % 512)
 unfolding taken behind_all
 end_held given spot [] at held = at
-end_held given spot (item ∷ rest) at held = end_held given (spot_after spot item) rest
-    (elim (cases_eq (spot_after spot item).slot 0) [
+end_held given spot (item ∷ rest) at held = end_held given (spot_after_item spot item) rest
+    (elim (cases_eq (spot_after_item spot item).slot 0) [
       | inl e ↦ inl e
-      | inr other ↦ inr (subst (λ (a : ℕ). Holds given (a % 512)) (sym (behind-same spot item other)) (held (spot.at % 512) (or_left (takes spot item (spot.at % 512)) (taken (spot_after spot item) rest (spot.at % 512)) (takes_cell spot item))))
+      | inr other ↦ inr (subst (λ (a : ℕ). Holds given (a % 512)) (sym (behind-same spot item other)) (held (spot.at % 512) (or_left (item_uses_cell spot item (spot.at % 512)) (taken (spot_after_item spot item) rest (spot.at % 512)) (takes_cell spot item))))
     ])
-    (λ cell e. held cell (or_right (takes spot item cell) (taken (spot_after spot item) rest cell) e))
+    (λ cell e. held cell (or_right (item_uses_cell spot item cell) (taken (spot_after_item spot item) rest cell) e))
 
 module _ (before after : NodeState) (given later : List (Option ℕ)) (keeps : Keeps before given after later) where
-  stands_stays : (labels : List (Option ℕ)) (spot : PackingSpot) (item : Item) → Holds given (spot.at % 512) → HoldsRest given spot item → item_stands after labels spot item ≡ item_stands before labels spot item
-  stands_stays labels spot (Opcode op) at rest = ap (λ (w : Option ℕ). has_op w spot.slot op) ((keeps spot.at at).0)
+  stands_stays : (labels : List (Option ℕ)) (spot : PackingSpot) (item : Item) → Holds given (spot.at % 512) → HoldsRest given spot item → is_item_at_spot after labels spot item ≡ is_item_at_spot before labels spot item
+  stands_stays labels spot (Opcode op) at rest = ap (λ (w : Option ℕ). has_opcode_in_slot w spot.slot op) ((keeps spot.at at).0)
   stands_stays labels spot (Literal value) at rest =
-      ap (λ (w : Option ℕ). has_op w spot.slot FetchP && are_both (resolved labels value) (word_in after spot.p)) ((keeps spot.at at).0)
-      ∙ ap (λ (w : Option ℕ). has_op (word_in before spot.at) spot.slot FetchP && are_both (resolved labels value) w) ((keeps spot.p rest).0)
-  stands_stays labels spot (Back op label) at rest = ap (λ (w : Option ℕ). has_op w spot.slot op && leads w spot.slot spot.p (resolved labels (Label label))) ((keeps spot.at at).0)
-  stands_stays labels spot (Ahead op label) at rest = ap (λ (w : Option ℕ). has_op w spot.slot op && leads w spot.slot spot.p (resolved labels (Label label))) ((keeps spot.at at).0)
-  stands_stays labels spot (Cell value) at rest = ap (λ (w : Option ℕ). spot.slot == 0 && are_both (resolved labels value) w) ((keeps spot.at at).0)
+      ap (λ (w : Option ℕ). has_opcode_in_slot w spot.slot FetchP && are_equal_numbers (operand_value labels value) (word_at_address after spot.p)) ((keeps spot.at at).0)
+      ∙ ap (λ (w : Option ℕ). has_opcode_in_slot (word_at_address before spot.at) spot.slot FetchP && are_equal_numbers (operand_value labels value) w) ((keeps spot.p rest).0)
+  stands_stays labels spot (Back op label) at rest = ap (λ (w : Option ℕ). has_opcode_in_slot w spot.slot op && jump_leads_to w spot.slot spot.p (operand_value labels (Label label))) ((keeps spot.at at).0)
+  stands_stays labels spot (Ahead op label) at rest = ap (λ (w : Option ℕ). has_opcode_in_slot w spot.slot op && jump_leads_to w spot.slot spot.p (operand_value labels (Label label))) ((keeps spot.at at).0)
+  stands_stays labels spot (Cell value) at rest = ap (λ (w : Option ℕ). spot.slot == 0 && are_equal_numbers (operand_value labels value) w) ((keeps spot.at at).0)
 
   pub Stand_stays : (labels : List (Option ℕ)) (spot : PackingSpot) (items : List Item) → ((cell : ℕ) → taken spot items cell ≡ true → Holds given cell) → Stand before labels spot items → Stand after labels spot items
   unfolding Stand taken
   Stand_stays labels spot [] held h = tt
   Stand_stays labels spot (item ∷ rest) held h =
-      let here = λ (cell : ℕ) (e : takes spot item cell ≡ true). held cell (or_left (takes spot item cell) (taken (spot_after spot item) rest cell) e) in (
+      let here = λ (cell : ℕ) (e : item_uses_cell spot item cell ≡ true). held cell (or_left (item_uses_cell spot item cell) (taken (spot_after_item spot item) rest cell) e) in (
         stands_stays labels spot item (here (spot.at % 512) (takes_cell spot item)) (takes_rest given spot item here) ∙ h.0,
-        Stand_stays labels (spot_after spot item) rest (λ cell e. held cell (or_right (takes spot item cell) (taken (spot_after spot item) rest cell) e)) h.1,
+        Stand_stays labels (spot_after_item spot item) rest (λ cell e. held cell (or_right (item_uses_cell spot item cell) (taken (spot_after_item spot item) rest cell) e)) h.1,
       )
 
   -- what was given, by its number
@@ -108,19 +108,19 @@ module _ (before after : NodeState) (given later : List (Option ℕ)) (keeps : K
       let small : cell % 512 ≡ cell = elim held.in_memory [ inl l ↦ omega arith | inr h ↦ (let low : 128 ≤ cell = h.0 in let high : cell < 192 = h.1 in omega arith) ] in
       subst (Holds later) small ((keeps cell (subst (Holds given) (sym small) held)).1)
 
-  filled_stays : (spot : PackingSpot) → (spot.slot ≡ 0) ⊎ Holds given (spot.at % 512) → is_filled before spot ≡ true → is_filled after spot ≡ true
+  filled_stays : (spot : PackingSpot) → (spot.slot ≡ 0) ⊎ Holds given (spot.at % 512) → is_filled_with_nops before spot ≡ true → is_filled_with_nops after spot ≡ true
   filled_stays spot where_is h = elim where_is [
-    | inl e ↦ or_left (spot.slot == 0) (dots (word_in after spot.at) spot.slot) (eq-eqb spot.slot 0 e)
+    | inl e ↦ or_left (spot.slot == 0) (dots (word_at_address after spot.at) spot.slot) (eq-eqb spot.slot 0 e)
     | inr held ↦ ap (λ (w : Option ℕ). spot.slot == 0 || dots w spot.slot) ((keeps spot.at held).0) ∙ h
   ]
 
-  pub loaded_stays : (labels : List (Option ℕ)) (group : Group) → IsLoadedGroup before labels given group → IsLoadedGroup after labels later group
+  pub loaded_stays : (labels : List (Option ℕ)) (group : CellGroup) → IsLoadedGroup before labels given group → IsLoadedGroup after labels later group
   loaded_stays labels group loaded = record {
     read = record {
       whole = loaded.read.whole;
       cell = record {
-        items_stand = Stand_stays labels (begin_at group.address) group.items.items loaded.held loaded.read.cell.items_stand;
-        filled = filled_stays (behind_all (begin_at group.address) group.items.items) (end_held given (begin_at group.address) group.items.items (inl refl) loaded.held) loaded.read.cell.filled;
+        items_stand = Stand_stays labels (first_spot_of_cell group.address) group.items.items loaded.held loaded.read.cell.items_stand;
+        filled = filled_stays (behind_all (first_spot_of_cell group.address) group.items.items) (end_held given (first_spot_of_cell group.address) group.items.items (inl refl) loaded.held) loaded.read.cell.filled;
       };
     };
     held = λ cell h. holds_stays cell (loaded.held cell h);
@@ -137,19 +137,19 @@ keeps_both first second third a b c one two address held =
 
 -- ---- what is left elsewhere
 
-pub elsewhere_none : (named : ℕ → Bool) (node : NodeState) → KeepsElsewhere named node node
+pub elsewhere_none : (named : ℕ → Bool) (node : NodeState) → KeepsOtherCells named node node
 elsewhere_none named node = record { ram = λ k e. refl; rom = λ k e. refl }
 
 not_named : (less more : ℕ → Bool) (k : ℕ) → (less k ≡ true → more k ≡ true) → more k ≡ false → less k ≡ false
 not_named less more k sub e = elim (cases_Bool (less k)) [ inl t ↦ absurd (true≢false (sym (sub t) ∙ e)) | inr f ↦ f ]
 
-pub elsewhere_both : (named less : ℕ → Bool) (first second third : NodeState) → ((k : ℕ) → less k ≡ true → named k ≡ true) → KeepsElsewhere named first second → KeepsElsewhere less second third → KeepsElsewhere named first third
+pub elsewhere_both : (named less : ℕ → Bool) (first second third : NodeState) → ((k : ℕ) → less k ≡ true → named k ≡ true) → KeepsOtherCells named first second → KeepsOtherCells less second third → KeepsOtherCells named first third
 elsewhere_both named less first second third sub one two = record {
   ram = λ k e. two.ram k (not_named less named k (sub k) e) ∙ one.ram k e;
   rom = λ k e. two.rom k (not_named less named (0x80 + k) (sub (0x80 + k)) e) ∙ one.rom k e;
 }
 
-pub elsewhere_less : (named less : ℕ → Bool) (first second : NodeState) → ((k : ℕ) → less k ≡ true → named k ≡ true) → KeepsElsewhere less first second → KeepsElsewhere named first second
+pub elsewhere_less : (named less : ℕ → Bool) (first second : NodeState) → ((k : ℕ) → less k ≡ true → named k ≡ true) → KeepsOtherCells less first second → KeepsOtherCells named first second
 elsewhere_less named less first second sub one = record {
   ram = λ k e. one.ram k (not_named less named k (sub k) e);
   rom = λ k e. one.rom k (not_named less named (0x80 + k) (sub (0x80 + k)) e);
@@ -157,69 +157,69 @@ elsewhere_less named less first second sub one = record {
 
 -- ---- a whole group
 
-pub taken_at : (spot : PackingSpot) (items : List Item) (i cell : ℕ) → i < length items → takes (behind_all spot (take i items)) (slice_index_or items i nothing) cell ≡ true → taken spot items cell ≡ true
+pub taken_at : (spot : PackingSpot) (items : List Item) (i cell : ℕ) → i < length items → item_uses_cell (behind_all spot (take i items)) (slice_index_or items i nothing) cell ≡ true → taken spot items cell ≡ true
 unfolding taken behind_all
 taken_at spot [] i cell l h = absurd (omega arith)
-taken_at spot (first ∷ rest) zero cell l h = or_left (takes spot first cell) (taken (spot_after spot first) rest cell) h
-taken_at spot (first ∷ rest) (suc i) cell l h = or_right (takes spot first cell) (taken (spot_after spot first) rest cell) (taken_at (spot_after spot first) rest i cell (omega arith) h)
+taken_at spot (first ∷ rest) zero cell l h = or_left (item_uses_cell spot first cell) (taken (spot_after_item spot first) rest cell) h
+taken_at spot (first ∷ rest) (suc i) cell l h = or_right (item_uses_cell spot first cell) (taken (spot_after_item spot first) rest cell) (taken_at (spot_after_item spot first) rest i cell (omega arith) h)
 
-pub group_at : (groups : List Group) (i cell : ℕ) (none : Group) → i < length groups → takes_group cell (slice_index_or groups i none) ≡ true → are_taken groups cell ≡ true
+pub group_at : (groups : List CellGroup) (i cell : ℕ) (none : CellGroup) → i < length groups → takes_group cell (slice_index_or groups i none) ≡ true → are_taken groups cell ≡ true
 group_at groups i cell none l h = list_any_at (takes_group cell) groups i none l h
 
 -- one more item of the group is in place
-pub stand_more : (node : NodeState) (labels : List (Option ℕ)) (address word : ℕ) (items : List Item) (i : ℕ) → i < length items → length items ≤ 4 → IsFit labels address items → IsWordOf labels items word → word_in node address ≡ Some word → HasRest node labels (spot_in address items i) (slice_index_or items i nothing) → Stand node labels (begin_at address) (take i items) → Stand node labels (begin_at address) (take (i + 1) items)
+pub stand_more : (node : NodeState) (labels : List (Option ℕ)) (address word : ℕ) (items : List Item) (i : ℕ) → i < length items → length items ≤ 4 → IsFit labels address items → IsWordOf labels items word → word_at_address node address ≡ Some word → HasRest node labels (spot_in address items i) (slice_index_or items i nothing) → Stand node labels (first_spot_of_cell address) (take i items) → Stand node labels (first_spot_of_cell address) (take (i + 1) items)
 stand_more node labels address word items i l few fit is_word at rest h =
     let spot = spot_in address items i in
     let slot : spot.slot ≡ i = fit.slots i l in
-    subst (Stand node labels (begin_at address)) (sym (take_more items i nothing l)) (Stand-push node labels (begin_at address) (take i items) (slice_index_or items i nothing) h
+    subst (Stand node labels (first_spot_of_cell address)) (sym (take_more items i nothing l)) (Stand-push node labels (first_spot_of_cell address) (take i items) (slice_index_or items i nothing) h
     (stands_in node labels word spot (slice_index_or items i nothing) (omega arith)
     (subst (λ (n : ℕ). MayEnd n (slice_index_or items i nothing)) (sym slot) (last_ends labels address items fit i l))
-    (subst (λ (n : ℕ). HasItem labels word n (slice_index_or items i nothing)) (sym slot) (is_word.has i l)) rest (Some word) refl (ap (word_in node) (fit.cells i l) ∙ at)))
+    (subst (λ (n : ℕ). HasItem labels word n (slice_index_or items i nothing)) (sym slot) (is_word.has i l)) rest (Some word) refl (ap (word_at_address node) (fit.cells i l) ∙ at)))
 
 -- its cells are given
-pub held_more : (labels given : List (Option ℕ)) (address : ℕ) (items : List Item) (i : ℕ) → i < length items → IsFit labels address items → Holds given (address % 512) → HoldsRest given (spot_in address items i) (slice_index_or items i nothing) → ((cell : ℕ) → taken (begin_at address) (take i items) cell ≡ true → Holds given cell) → (cell : ℕ) → taken (begin_at address) (take (i + 1) items) cell ≡ true → Holds given cell
+pub held_more : (labels given : List (Option ℕ)) (address : ℕ) (items : List Item) (i : ℕ) → i < length items → IsFit labels address items → Holds given (address % 512) → HoldsRest given (spot_in address items i) (slice_index_or items i nothing) → ((cell : ℕ) → taken (first_spot_of_cell address) (take i items) cell ≡ true → Holds given cell) → (cell : ℕ) → taken (first_spot_of_cell address) (take (i + 1) items) cell ≡ true → Holds given cell
 held_more labels given address items i l fit at rest held cell h =
     let item = slice_index_or items i nothing in
-    elim (taken-pop (begin_at address) (take i items) item cell (subst (λ (list : List Item). taken (begin_at address) list cell ≡ true) (take_more items i nothing l) h)) [
+    elim (taken-pop (first_spot_of_cell address) (take i items) item cell (subst (λ (list : List Item). taken (first_spot_of_cell address) list cell ≡ true) (take_more items i nothing l) h)) [
       | inl a ↦ held cell a
       | inr b ↦ holds_taken given (spot_in address items i) item (subst (λ (a : ℕ). Holds given (a % 512)) (sym (fit.cells i l)) at) rest cell b
     ]
 
-dot_by : (node : NodeState) (address word k : ℕ) → word_in node address ≡ Some word → k < 4 → opcode word k ≡ Nop → has_op (word_in node address) k Nop ≡ true
-dot_by node address word k at l e = subst (λ (w : Option ℕ). has_op w k Nop ≡ true) (sym at) (has_op_by word k Nop l e)
+dot_by : (node : NodeState) (address word k : ℕ) → word_at_address node address ≡ Some word → k < 4 → opcode word k ≡ Nop → has_opcode_in_slot (word_at_address node address) k Nop ≡ true
+dot_by node address word k at l e = subst (λ (w : Option ℕ). has_opcode_in_slot w k Nop ≡ true) (sym at) (has_op_by word k Nop l e)
 
 -- after the last item there is `.`
-dots_by : (node : NodeState) (address word size : ℕ) → word_in node address ≡ Some word → 0 < size → size < 4 → ((k : ℕ) → size ≤ k → k < 4 → opcode word k ≡ Nop) → dots (word_in node address) size ≡ true
+dots_by : (node : NodeState) (address word size : ℕ) → word_at_address node address ≡ Some word → 0 < size → size < 4 → ((k : ℕ) → size ≤ k → k < 4 → opcode word k ≡ Nop) → dots (word_at_address node address) size ≡ true
 dots_by node address word size at some few nops =
-    let w = word_in node address in
-    and_from ((nat_lt 1 size || has_op w 1 Nop) && (nat_lt 2 size || has_op w 2 Nop)) (has_op w 3 Nop)
-    (and_from (nat_lt 1 size || has_op w 1 Nop) (nat_lt 2 size || has_op w 2 Nop)
-    (elim (cases_lt 1 size) [ inl l ↦ or_left (nat_lt 1 size) (has_op w 1 Nop) (lt-ltb 1 size l) | inr l ↦ or_right (nat_lt 1 size) (has_op w 1 Nop) (dot_by node address word 1 at (omega arith) (nops 1 l (omega arith))) ])
-    (elim (cases_lt 2 size) [ inl l ↦ or_left (nat_lt 2 size) (has_op w 2 Nop) (lt-ltb 2 size l) | inr l ↦ or_right (nat_lt 2 size) (has_op w 2 Nop) (dot_by node address word 2 at (omega arith) (nops 2 l (omega arith))) ]))
+    let w = word_at_address node address in
+    and_from ((nat_lt 1 size || has_opcode_in_slot w 1 Nop) && (nat_lt 2 size || has_opcode_in_slot w 2 Nop)) (has_opcode_in_slot w 3 Nop)
+    (and_from (nat_lt 1 size || has_opcode_in_slot w 1 Nop) (nat_lt 2 size || has_opcode_in_slot w 2 Nop)
+    (elim (cases_lt 1 size) [ inl l ↦ or_left (nat_lt 1 size) (has_opcode_in_slot w 1 Nop) (lt-ltb 1 size l) | inr l ↦ or_right (nat_lt 1 size) (has_opcode_in_slot w 1 Nop) (dot_by node address word 1 at (omega arith) (nops 1 l (omega arith))) ])
+    (elim (cases_lt 2 size) [ inl l ↦ or_left (nat_lt 2 size) (has_opcode_in_slot w 2 Nop) (lt-ltb 2 size l) | inr l ↦ or_right (nat_lt 2 size) (has_opcode_in_slot w 2 Nop) (dot_by node address word 2 at (omega arith) (nops 2 l (omega arith))) ]))
     (dot_by node address word 3 at (omega arith) (nops 3 (omega arith) (omega arith)))
 
-filled_at : (node : NodeState) (labels : List (Option ℕ)) (address word n : ℕ) (items : List Item) (spot : PackingSpot) → length items ≡ n + 1 → length items ≤ 4 → IsFit labels address items → IsWordOf labels items word → word_in node address ≡ Some word → spot ≡ spot_after (spot_in address items n) (slice_index_or items n nothing) → is_filled node spot ≡ true
+filled_at : (node : NodeState) (labels : List (Option ℕ)) (address word n : ℕ) (items : List Item) (spot : PackingSpot) → length items ≡ n + 1 → length items ≤ 4 → IsFit labels address items → IsWordOf labels items word → word_at_address node address ≡ Some word → spot ≡ spot_after_item (spot_in address items n) (slice_index_or items n nothing) → is_filled_with_nops node spot ≡ true
 filled_at node labels address word n items spot size few fit is_word at is_spot = elim (cases_eq spot.slot 0) [
-  | inl e ↦ or_left (spot.slot == 0) (dots (word_in node spot.at) spot.slot) (eq-eqb spot.slot 0 e)
+  | inl e ↦ or_left (spot.slot == 0) (dots (word_at_address node spot.at) spot.slot) (eq-eqb spot.slot 0 e)
   | inr other ↦
       let last = spot_in address items n in
       let item = slice_index_or items n nothing in
       let l : n < length items = omega arith in
-      let open_cell : (spot_after last item).slot ≢ 0 = (λ e. other (ap (λ (s : PackingSpot). s.slot) is_spot ∙ e)) in
+      let open_cell : (spot_after_item last item).slot ≢ 0 = (λ e. other (ap (λ (s : PackingSpot). s.slot) is_spot ∙ e)) in
       let parts = behind-slot last item open_cell in
       let slot : spot.slot ≡ n + 1 = ap (λ (s : PackingSpot). s.slot) is_spot ∙ (parts.0 ∙ ap (λ (k : ℕ). k + 1) (fit.slots n l)) in
       let n_is : n ≢ 3 = (λ e. parts.1 (fit.slots n l ∙ e)) in
       let small : n + 1 < 4 = elim (cases_lt (n + 1) 4) [ inl h ↦ h | inr h ↦ absurd (n_is (omega arith)) ] in
       let cell : spot.at ≡ address = ap (λ (s : PackingSpot). s.at) is_spot ∙ (behind-same last item open_cell ∙ fit.cells n l) in
       let end : length items - 1 ≡ n = omega arith in
-      or_right (spot.slot == 0) (dots (word_in node spot.at) spot.slot)
-      (subst (λ (k : ℕ). dots (word_in node spot.at) k ≡ true) (sym slot)
-      (subst (λ (a : ℕ). dots (word_in node a) (n + 1) ≡ true) (sym cell)
+      or_right (spot.slot == 0) (dots (word_at_address node spot.at) spot.slot)
+      (subst (λ (k : ℕ). dots (word_at_address node spot.at) k ≡ true) (sym slot)
+      (subst (λ (a : ℕ). dots (word_at_address node a) (n + 1) ≡ true) (sym cell)
       (dots_by node address word (n + 1) at (omega arith) small (λ k h m. is_word.dots k (omega arith) m (ap (λ (j : ℕ). ends_cell (slice_index_or items j nothing)) end ∙ parts.2)))))
 ]
 
 -- the group is read if each of its items is in place
-pub group_loaded : (node : NodeState) (labels given : List (Option ℕ)) (group : Group) (word : ℕ) → group.broken ≡ None → 0 < length group.items.items → length group.items.items ≤ 4 → IsFit labels group.address group.items.items → IsWordOf labels group.items.items word → word_in node group.address ≡ Some word → Stand node labels (begin_at group.address) group.items.items → ((cell : ℕ) → taken (begin_at group.address) group.items.items cell ≡ true → Holds given cell) → IsLoadedGroup node labels given group
+pub group_loaded : (node : NodeState) (labels given : List (Option ℕ)) (group : CellGroup) (word : ℕ) → group.broken ≡ None → 0 < length group.items.items → length group.items.items ≤ 4 → IsFit labels group.address group.items.items → IsWordOf labels group.items.items word → word_at_address node group.address ≡ Some word → Stand node labels (first_spot_of_cell group.address) group.items.items → ((cell : ℕ) → taken (first_spot_of_cell group.address) group.items.items cell ≡ true → Holds given cell) → IsLoadedGroup node labels given group
 group_loaded node labels given group word whole some few fit is_word at h held =
     let items = group.items.items in
     let n = length items - 1 in
@@ -230,19 +230,19 @@ group_loaded node labels given group word whole some few fit is_word at h held =
         whole = whole;
         cell = record {
           items_stand = h;
-          filled = filled_at node labels group.address word n items (behind_all (begin_at group.address) items) size few fit is_word at
-              (ap (behind_all (begin_at group.address)) (sym (take_all (n + 1) items (omega arith))) ∙ step_spot group.address items n l);
+          filled = filled_at node labels group.address word n items (behind_all (first_spot_of_cell group.address) items) size few fit is_word at
+              (ap (behind_all (first_spot_of_cell group.address)) (sym (take_all (n + 1) items (omega arith))) ∙ step_spot group.address items n l);
         };
       };
       held = held;
     }
 
 -- a group with no items
-pub empty_loaded : (node : NodeState) (labels given : List (Option ℕ)) (group : Group) → group.broken ≡ None → group.items.items ≡ [] → IsLoadedGroup node labels given group
+pub empty_loaded : (node : NodeState) (labels given : List (Option ℕ)) (group : CellGroup) → group.broken ≡ None → group.items.items ≡ [] → IsLoadedGroup node labels given group
 unfolding taken
 empty_loaded node labels given group whole empty = record {
   read = record { whole = whole; cell = empty_reads node labels group.address group.items.items empty };
-  held = λ cell h. absurd (true≢false (sym (subst (λ (list : List Item). taken (begin_at group.address) list cell ≡ true) empty h)));
+  held = λ cell h. absurd (true≢false (sym (subst (λ (list : List Item). taken (first_spot_of_cell group.address) list cell ≡ true) empty h)));
 }
 
 -- ---- a group that is being written
@@ -250,24 +250,24 @@ empty_loaded node labels given group whole empty = record {
 pub rest_both : (first second third : NodeState) → KeepsRest first second → KeepsRest second third → KeepsRest first third
 rest_both first second third one two = two ∙ ap (λ (node : NodeState). record node { ram = third.ram; rom = third.rom }) one
 
-takes_own : (spot : PackingSpot) (item : Item) (cell : ℕ) → is_at spot.at cell ≡ true → takes spot item cell ≡ true
+takes_own : (spot : PackingSpot) (item : Item) (cell : ℕ) → is_address_of_cell spot.at cell ≡ true → item_uses_cell spot item cell ≡ true
 takes_own spot (Opcode op) cell h = h
-takes_own spot (Literal value) cell h = or_left (is_at spot.at cell) (is_at spot.p cell) h
+takes_own spot (Literal value) cell h = or_left (is_address_of_cell spot.at cell) (is_address_of_cell spot.p cell) h
 takes_own spot (Back op label) cell h = h
 takes_own spot (Ahead op label) cell h = h
 takes_own spot (Cell value) cell h = h
 
-own_cell : (address : ℕ) (items : List Item) (cell : ℕ) → 0 < length items → is_at address cell ≡ true → taken (begin_at address) items cell ≡ true
+own_cell : (address : ℕ) (items : List Item) (cell : ℕ) → 0 < length items → is_address_of_cell address cell ≡ true → taken (first_spot_of_cell address) items cell ≡ true
 unfolding taken
 own_cell address [] cell some h = absurd (omega arith)
-own_cell address (first ∷ rest) cell some h = or_left (takes (begin_at address) first cell) (taken (spot_after (begin_at address) first) rest cell) (takes_own (begin_at address) first cell h)
+own_cell address (first ∷ rest) cell some h = or_left (item_uses_cell (first_spot_of_cell address) first cell) (taken (spot_after_item (first_spot_of_cell address) first) rest cell) (takes_own (first_spot_of_cell address) first cell h)
 
-pub written_first : (before node : NodeState) (given later labels : List (Option ℕ)) (group : Group) (word : ℕ) (spot : PackingSpot) → 0 < length group.items.items → IsWordOf labels group.items.items word → KeepsRest before node → KeepsElsewhere (is_at group.address) before node → word_in node group.address ≡ Some word → Holds later (group.address % 512) → Keeps before given node later → spot ≡ begin_at group.address → IsWriting before given node later labels group spot 0
+pub written_first : (before node : NodeState) (given later labels : List (Option ℕ)) (group : CellGroup) (word : ℕ) (spot : PackingSpot) → 0 < length group.items.items → IsWordOf labels group.items.items word → KeepsRest before node → KeepsOtherCells (is_address_of_cell group.address) before node → word_at_address node group.address ≡ Some word → Holds later (group.address % 512) → Keeps before given node later → spot ≡ first_spot_of_cell group.address → IsWriting before given node later labels group spot 0
 unfolding behind_all Stand taken
 written_first before node given later labels group word spot some is_word rest elsewhere stands_there held kept spot_is = record {
   where_is = spot_is;
   rest = rest;
-  elsewhere = elsewhere_less (λ (cell : ℕ). takes_group cell group) (is_at group.address) before node (λ cell h. own_cell group.address group.items.items cell some h) elsewhere;
+  elsewhere = elsewhere_less (λ (cell : ℕ). takes_group cell group) (is_address_of_cell group.address) before node (λ cell h. own_cell group.address group.items.items cell some h) elsewhere;
   kept = kept;
   has_word = record { word = word; is_word = is_word; in_cell = stands_there };
   held = held;
@@ -275,55 +275,55 @@ written_first before node given later labels group word spot some is_word rest e
   cells = λ cell h. absurd (true≢false (sym h));
 }
 
-pub written_more : (before node next : NodeState) (given later given_next labels : List (Option ℕ)) (group : Group) (spot spot_next : PackingSpot) (i : ℕ) → IsWriting before given node later labels group spot i → i < length group.items.items → length group.items.items ≤ 4 → IsFit labels group.address group.items.items → KeepsRest node next → KeepsElsewhere (takes spot (slice_index_or group.items.items i nothing)) node next → HasRest next labels spot (slice_index_or group.items.items i nothing) → HoldsRest given_next spot (slice_index_or group.items.items i nothing) → Keeps node later next given_next → spot_next ≡ spot_after spot (slice_index_or group.items.items i nothing) → IsWriting before given next given_next labels group spot_next (i + 1)
+pub written_more : (before node next : NodeState) (given later given_next labels : List (Option ℕ)) (group : CellGroup) (spot spot_next : PackingSpot) (i : ℕ) → IsWriting before given node later labels group spot i → i < length group.items.items → length group.items.items ≤ 4 → IsFit labels group.address group.items.items → KeepsRest node next → KeepsOtherCells (item_uses_cell spot (slice_index_or group.items.items i nothing)) node next → HasRest next labels spot (slice_index_or group.items.items i nothing) → HoldsRest given_next spot (slice_index_or group.items.items i nothing) → Keeps node later next given_next → spot_next ≡ spot_after_item spot (slice_index_or group.items.items i nothing) → IsWriting before given next given_next labels group spot_next (i + 1)
 written_more before node next given later given_next labels group spot spot_next i w l few fit rest elsewhere has held kept is_next =
     let items = group.items.items in
     let item = slice_index_or items i nothing in
     let here = w.where_is in
-    let cell_word : word_in next group.address ≡ Some w.has_word.word = (kept group.address w.held).0 ∙ w.has_word.in_cell in
+    let cell_word : word_at_address next group.address ≡ Some w.has_word.word = (kept group.address w.held).0 ∙ w.has_word.in_cell in
     let cell_held : Holds given_next (group.address % 512) = (kept group.address w.held).1 in
     record {
-      where_is = is_next ∙ (ap (λ (s : PackingSpot). spot_after s item) here ∙ sym (step_spot group.address items i l));
+      where_is = is_next ∙ (ap (λ (s : PackingSpot). spot_after_item s item) here ∙ sym (step_spot group.address items i l));
       rest = rest_both before node next w.rest rest;
-      elsewhere = elsewhere_both (λ (cell : ℕ). takes_group cell group) (takes spot item) before node next (λ cell h. taken_at (begin_at group.address) items i cell l (subst (λ (s : PackingSpot). takes s item cell ≡ true) here h)) w.elsewhere elsewhere;
+      elsewhere = elsewhere_both (λ (cell : ℕ). takes_group cell group) (item_uses_cell spot item) before node next (λ cell h. taken_at (first_spot_of_cell group.address) items i cell l (subst (λ (s : PackingSpot). item_uses_cell s item cell ≡ true) here h)) w.elsewhere elsewhere;
       kept = keeps_both before node next given later given_next w.kept kept;
       has_word = record { word = w.has_word.word; is_word = w.has_word.is_word; in_cell = cell_word };
       held = cell_held;
       so_far = stand_more next labels group.address w.has_word.word items i l few fit w.has_word.is_word cell_word (subst (λ (s : PackingSpot). HasRest next labels s item) here has)
-          (Stand_stays node next later given_next kept labels (begin_at group.address) (take i items) w.cells w.so_far);
+          (Stand_stays node next later given_next kept labels (first_spot_of_cell group.address) (take i items) w.cells w.so_far);
       cells = held_more labels given_next group.address items i l fit cell_held (subst (λ (s : PackingSpot). HoldsRest given_next s item) here held)
           (λ cell h. holds_stays node next later given_next kept cell (w.cells cell h));
     }
 
 -- the same with the item under another name
-pub written_step : (before node next : NodeState) (given later given_next labels : List (Option ℕ)) (group : Group) (spot spot_next : PackingSpot) (i : ℕ) (item : Item) → item ≡ slice_index_or group.items.items i nothing → IsWriting before given node later labels group spot i → i < length group.items.items → length group.items.items ≤ 4 → IsFit labels group.address group.items.items → KeepsRest node next → KeepsElsewhere (takes spot item) node next → HasRest next labels spot item → HoldsRest given_next spot item → Keeps node later next given_next → spot_next ≡ spot_after spot item → IsWriting before given next given_next labels group spot_next (i + 1)
-written_step before node next given later given_next labels group spot spot_next i item is_item w l few fit rest elsewhere has held kept is_next =
+pub written_step : (before node next : NodeState) (given later given_next labels : List (Option ℕ)) (group : CellGroup) (spot spot_next : PackingSpot) (i : ℕ) (item : Item) → item ≡ slice_index_or group.items.items i nothing → IsWriting before given node later labels group spot i → i < length group.items.items → length group.items.items ≤ 4 → IsFit labels group.address group.items.items → KeepsRest node next → KeepsOtherCells (item_uses_cell spot item) node next → HasRest next labels spot item → HoldsRest given_next spot item → Keeps node later next given_next → spot_next ≡ spot_after_item spot item → IsWriting before given next given_next labels group spot_next (i + 1)
+written_step before node next given later given_next labels group spot spot_next i item is_item_request w l few fit rest elsewhere has held kept is_next =
     written_more before node next given later given_next labels group spot spot_next i w l few fit rest
-    (subst (λ (one : Item). KeepsElsewhere (takes spot one) node next) is_item elsewhere)
-    (subst (λ (one : Item). HasRest next labels spot one) is_item has)
-    (subst (λ (one : Item). HoldsRest given_next spot one) is_item held)
-    kept (is_next ∙ ap (λ (one : Item). spot_after spot one) is_item)
+    (subst (λ (one : Item). KeepsOtherCells (item_uses_cell spot one) node next) is_item_request elsewhere)
+    (subst (λ (one : Item). HasRest next labels spot one) is_item_request has)
+    (subst (λ (one : Item). HoldsRest given_next spot one) is_item_request held)
+    kept (is_next ∙ ap (λ (one : Item). spot_after_item spot one) is_item_request)
 
-pub written_last : (before node : NodeState) (given later labels : List (Option ℕ)) (group : Group) (spot : PackingSpot) (i : ℕ) → IsWriting before given node later labels group spot i → length group.items.items ≤ i → 0 < length group.items.items → length group.items.items ≤ 4 → IsFit labels group.address group.items.items → group.broken ≡ None → IsLoadedGroup node labels later group
+pub written_last : (before node : NodeState) (given later labels : List (Option ℕ)) (group : CellGroup) (spot : PackingSpot) (i : ℕ) → IsWriting before given node later labels group spot i → length group.items.items ≤ i → 0 < length group.items.items → length group.items.items ≤ 4 → IsFit labels group.address group.items.items → group.broken ≡ None → IsLoadedGroup node labels later group
 written_last before node given later labels group spot i w all some few fit whole =
     let items = group.items.items in
     let same = take_all i items all in
     group_loaded node labels later group w.has_word.word whole some few fit w.has_word.is_word w.has_word.in_cell
-    (subst (Stand node labels (begin_at group.address)) same w.so_far)
-    (λ cell h. w.cells cell (subst (λ (list : List Item). taken (begin_at group.address) list cell ≡ true) (sym same) h))
+    (subst (Stand node labels (first_spot_of_cell group.address)) same w.so_far)
+    (λ cell h. w.cells cell (subst (λ (list : List Item). taken (first_spot_of_cell group.address) list cell ≡ true) (sym same) h))
 
-pub slot_there : (before node : NodeState) (given later labels : List (Option ℕ)) (group : Group) (spot : PackingSpot) (i : ℕ) → IsWriting before given node later labels group spot i → i < length group.items.items → length group.items.items ≤ 4 → IsFit labels group.address group.items.items → spot.slot < 4
+pub slot_there : (before node : NodeState) (given later labels : List (Option ℕ)) (group : CellGroup) (spot : PackingSpot) (i : ℕ) → IsWriting before given node later labels group spot i → i < length group.items.items → length group.items.items ≤ 4 → IsFit labels group.address group.items.items → spot.slot < 4
 slot_there before node given later labels group spot i w l few fit =
     let slot : spot.slot ≡ i = ap (λ (s : PackingSpot). s.slot) w.where_is ∙ fit.slots i l in omega arith
 
 -- the groups so far and one more
-pub loaded_more : (before after : NodeState) (given later labels : List (Option ℕ)) (groups : List Group) (i : ℕ) (none : Group) → i < length groups → Keeps before given after later → All (IsLoadedGroup before labels given) (take i groups) → IsLoadedGroup after labels later (slice_index_or groups i none) → All (IsLoadedGroup after labels later) (take (i + 1) groups)
+pub loaded_more : (before after : NodeState) (given later labels : List (Option ℕ)) (groups : List CellGroup) (i : ℕ) (none : CellGroup) → i < length groups → Keeps before given after later → All (IsLoadedGroup before labels given) (take i groups) → IsLoadedGroup after labels later (slice_index_or groups i none) → All (IsLoadedGroup after labels later) (take (i + 1) groups)
 loaded_more before after given later labels groups i none l kept all one =
     All-more (IsLoadedGroup after labels later) groups i none l
     (All-weaker (IsLoadedGroup before labels given) (IsLoadedGroup after labels later) (λ g h. loaded_stays before after given later kept labels g h) (take i groups) all) one
 
-pub elsewhere_more : (first second third : NodeState) (groups : List Group) (i : ℕ) (none : Group) → i < length groups → KeepsElsewhere (are_taken groups) first second → KeepsElsewhere (λ (cell : ℕ). takes_group cell (slice_index_or groups i none)) second third → KeepsElsewhere (are_taken groups) first third
+pub elsewhere_more : (first second third : NodeState) (groups : List CellGroup) (i : ℕ) (none : CellGroup) → i < length groups → KeepsOtherCells (are_taken groups) first second → KeepsOtherCells (λ (cell : ℕ). takes_group cell (slice_index_or groups i none)) second third → KeepsOtherCells (are_taken groups) first third
 elsewhere_more first second third groups i none l one two = elsewhere_both (are_taken groups) (λ (cell : ℕ). takes_group cell (slice_index_or groups i none)) first second third (λ cell h. group_at groups i cell none l h) one two
 
-pub all_read : (node : NodeState) (labels given : List (Option ℕ)) (groups : List Group) (i : ℕ) → length groups ≤ i → All (IsLoadedGroup node labels given) (take i groups) → All (IsRead node labels) groups
+pub all_read : (node : NodeState) (labels given : List (Option ℕ)) (groups : List CellGroup) (i : ℕ) → length groups ≤ i → All (IsLoadedGroup node labels given) (take i groups) → All (IsRead node labels) groups
 all_read node labels given groups i all h = All-weaker (IsLoadedGroup node labels given) (IsRead node labels) (λ g loaded. loaded.read) groups (subst (All (IsLoadedGroup node labels given)) (take_all i groups all) h)

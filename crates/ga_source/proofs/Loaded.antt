@@ -9,8 +9,8 @@ use Rattle.ga_grid.specs.Chip.{nowhere, node_at, with_node}
 use Rattle.ga_grid.specs.Grid.{default_chip, load_p_of}
 use Rattle.ga_grid.proofs.Chips.{node_at-default_chip, length-default_chip, node_at-with_node_other as stays}
 use Rattle.ga_source.specs.declared.program.Program.{Program}
-use Rattle.ga_source.specs.Cells.{IsUnasked, IsEmptyElsewhere}
-use Rattle.ga_source.specs.Programs.{IsLoaded, IsUnnamed, IsAssembled, given_of, value_or, has_cells, at_load, KeepsState, HasProgram}
+use Rattle.ga_source.specs.Cells.{IsUnusedCell, AreUnusedCellsZero}
+use Rattle.ga_source.specs.Programs.{IsProgramLoaded, IsUnprogrammedNode, IsAssembledChip, given_register_value, value_or, has_cells, at_load, KeepsOtherState, HasProgram}
 use Rattle.ga_source.specs.inner.{HasBegun, AreLoaded}
 
 -- each word of a memory at load is 0
@@ -33,29 +33,29 @@ of_each_at_load P fresh n = ⊎_elim
     (cases_lt n 144)
 
 -- the node is as at load but for what one of the programs named, or as at load
-by_program : (chip : List NodeState) (n : ℕ) (Goal : NodeState → Type 0) (programs : List Program) → All (λ program. IsLoaded chip program → program.node.number ≡ n → Goal (node_at chip program.node.number)) programs → All (IsLoaded chip) programs → (IsUnnamed programs n → Goal (node_at chip n)) → Goal (node_at chip n)
+by_program : (chip : List NodeState) (n : ℕ) (Goal : NodeState → Type 0) (programs : List Program) → All (λ program. IsProgramLoaded chip program → program.node.number ≡ n → Goal (node_at chip program.node.number)) programs → All (IsProgramLoaded chip) programs → (IsUnprogrammedNode programs n → Goal (node_at chip n)) → Goal (node_at chip n)
 by_program chip n Goal [] by each none = none (All-nil (λ program. program.node.number ≡ n → ⊥))
 by_program chip n Goal (program ∷ rest) by each none = elim (cases_eq program.node.number n) [
-  | inl e ↦ subst (λ k. Goal (node_at chip k)) e (All-head (λ p. IsLoaded chip p → p.node.number ≡ n → Goal (node_at chip p.node.number)) program rest by (All-head (IsLoaded chip) program rest each) e)
+  | inl e ↦ subst (λ k. Goal (node_at chip k)) e (All-head (λ p. IsProgramLoaded chip p → p.node.number ≡ n → Goal (node_at chip p.node.number)) program rest by (All-head (IsProgramLoaded chip) program rest each) e)
   | inr other ↦ by_program chip n Goal rest
-      (All-tail (λ p. IsLoaded chip p → p.node.number ≡ n → Goal (node_at chip p.node.number)) program rest by)
-      (All-tail (IsLoaded chip) program rest each)
+      (All-tail (λ p. IsProgramLoaded chip p → p.node.number ≡ n → Goal (node_at chip p.node.number)) program rest by)
+      (All-tail (IsProgramLoaded chip) program rest each)
       (λ unnamed. none (All-cons (λ p. p.node.number ≡ n → ⊥) program rest other unnamed))
 ]
 
-empty_ram : (chip : List NodeState) (programs : List Program) → IsAssembled chip programs → (n k : ℕ) → IsUnasked programs n k → slice_index (node_at chip n).ram k ≡ 0
+empty_ram : (chip : List NodeState) (programs : List Program) → IsAssembledChip chip programs → (n k : ℕ) → IsUnusedCell programs n k → slice_index (node_at chip n).ram k ≡ 0
 empty_ram chip programs all n k unasked = by_program chip n (λ node. slice_index node.ram k ≡ 0) programs
     (λ i d in_list loaded e. loaded.elsewhere.ram k (unasked i d in_list e) ∙ of_each_at_load (λ node. slice_index node.ram k ≡ 0) (λ p. fresh_ram p k) _)
     all.each
     (λ unnamed. ap (λ (node : NodeState). slice_index node.ram k) (all.rest n unnamed) ∙ of_each_at_load (λ node. slice_index node.ram k ≡ 0) (λ p. fresh_ram p k) n)
 
-empty_rom : (chip : List NodeState) (programs : List Program) → IsAssembled chip programs → (n k : ℕ) → IsUnasked programs n (0x80 + k) → slice_index (node_at chip n).rom k ≡ 0
+empty_rom : (chip : List NodeState) (programs : List Program) → IsAssembledChip chip programs → (n k : ℕ) → IsUnusedCell programs n (0x80 + k) → slice_index (node_at chip n).rom k ≡ 0
 empty_rom chip programs all n k unasked = by_program chip n (λ node. slice_index node.rom k ≡ 0) programs
     (λ i d in_list loaded e. loaded.elsewhere.rom k (unasked i d in_list e) ∙ of_each_at_load (λ node. slice_index node.rom k ≡ 0) (λ p. fresh_rom p k) _)
     all.each
     (λ unnamed. ap (λ (node : NodeState). slice_index node.rom k) (all.rest n unnamed) ∙ of_each_at_load (λ node. slice_index node.rom k ≡ 0) (λ p. fresh_rom p k) n)
 
-pub assembled_empty : (chip : List NodeState) (programs : List Program) → IsAssembled chip programs → IsEmptyElsewhere chip programs
+pub assembled_empty : (chip : List NodeState) (programs : List Program) → IsAssembledChip chip programs → AreUnusedCellsZero chip programs
 assembled_empty chip programs all = record { ram = empty_ram chip programs all; rom = empty_rom chip programs all }
 
 -- ---- one more node with its program
@@ -69,55 +69,55 @@ stays_marked : (begun : List Bool) (n : ℕ) (program : Program) → slice_index
 stays_marked begun n program fresh h = get_or-set_other begun n program.node.number true false (apart begun n program fresh h) ∙ h
 
 -- a program stays loaded where another node changes
-stays_loaded : (chip : List NodeState) (n : ℕ) (node : NodeState) (program : Program) → program.node.number ≢ n → IsLoaded chip program → IsLoaded (with_node chip n node) program
+stays_loaded : (chip : List NodeState) (n : ℕ) (node : NodeState) (program : Program) → program.node.number ≢ n → IsProgramLoaded chip program → IsProgramLoaded (with_node chip n node) program
 stays_loaded chip n node program other h = subst (λ found. HasProgram (node_at default_chip program.node.number) found program) (sym (stays chip n program.node.number node other)) h
 
-both : (chip : List NodeState) (begun : List Bool) (n : ℕ) (node : NodeState) (programs : List Program) → slice_index_or begun n false ≡ false → All (HasBegun begun) programs → All (IsLoaded chip) programs → All (IsLoaded (with_node chip n node)) programs
+both : (chip : List NodeState) (begun : List Bool) (n : ℕ) (node : NodeState) (programs : List Program) → slice_index_or begun n false ≡ false → All (HasBegun begun) programs → All (IsProgramLoaded chip) programs → All (IsProgramLoaded (with_node chip n node)) programs
 both chip begun n node programs fresh marked each = λ k d in_list. stays_loaded chip n node (slice_index_or programs k d) (apart begun n (slice_index_or programs k d) fresh (marked k d in_list)) (each k d in_list)
 
 -- the program is loaded into its node
-loaded_here : (chip : List NodeState) (n : ℕ) (node : NodeState) (program : Program) → n < length chip → program.node.number ≡ n → node_at chip n ≡ node_at default_chip n → HasProgram (node_at chip n) node program → IsLoaded (with_node chip n node) program
+loaded_here : (chip : List NodeState) (n : ℕ) (node : NodeState) (program : Program) → n < length chip → program.node.number ≡ n → node_at chip n ≡ node_at default_chip n → HasProgram (node_at chip n) node program → IsProgramLoaded (with_node chip n node) program
 loaded_here chip n node program in_chip is_n at_load has =
     subst (λ k. HasProgram (node_at default_chip k) (node_at (with_node chip n node) k) program) (sym is_n)
     (subst (λ found. HasProgram (node_at default_chip n) found program) (sym (get_or-set_same chip n node nowhere in_chip))
     (subst (λ before. HasProgram before node program) at_load has))
 
 -- a node whose memories and registers were written keeps all else
-kept_of : (before after : NodeState) (ram rom : List ℕ) (p a b : ℕ) → after ≡ record before { ram = ram; rom = rom; p = p; a = a; b = b } → KeepsState before after
-kept_of before after ram rom p a b e = subst (λ node. KeepsState before node) (sym e) refl
+kept_of : (before after : NodeState) (ram rom : List ℕ) (p a b : ℕ) → after ≡ record before { ram = ram; rom = rom; p = p; a = a; b = b } → KeepsOtherState before after
+kept_of before after ram rom p a b e = subst (λ node. KeepsOtherState before node) (sym e) refl
 
-kept_by : (before after : NodeState) (program : Program) → HasProgram before after program → KeepsState before after
+kept_by : (before after : NodeState) (program : Program) → HasProgram before after program → KeepsOtherState before after
 kept_by before after program has =
     let labels = program.labels.items in
     let registers = at_load program.registers program.names.items (has_cells program.asked.items) in
-    kept_of before after after.ram after.rom (value_or (given_of labels registers.p) before.p) (value_or (given_of labels registers.a) before.a)
-    (value_or (given_of labels registers.b) before.b) has.rest
+    kept_of before after after.ram after.rom (value_or (given_register_value labels registers.p) before.p) (value_or (given_register_value labels registers.a) before.a)
+    (value_or (given_register_value labels registers.b) before.b) has.rest
 
-kept_here : (chip : List NodeState) (n : ℕ) (node : NodeState) (program : Program) → n < length chip → node_at chip n ≡ node_at default_chip n → HasProgram (node_at chip n) node program → KeepsState (node_at default_chip n) (node_at (with_node chip n node) n)
+kept_here : (chip : List NodeState) (n : ℕ) (node : NodeState) (program : Program) → n < length chip → node_at chip n ≡ node_at default_chip n → HasProgram (node_at chip n) node program → KeepsOtherState (node_at default_chip n) (node_at (with_node chip n node) n)
 kept_here chip n node program in_chip at_load has =
-    subst (λ found. KeepsState (node_at default_chip n) found) (sym (get_or-set_same chip n node nowhere in_chip))
+    subst (λ found. KeepsOtherState (node_at default_chip n) found) (sym (get_or-set_same chip n node nowhere in_chip))
     (kept_by (node_at default_chip n) node program (subst (λ before. HasProgram before node program) at_load has))
 
 -- each program, and the one that is loaded into a node where none was
 pub one_more : (chip : List NodeState) (begun : List Bool) (programs : List Program) (n : ℕ) (node : NodeState) (program : Program) → n < length chip → n < length begun → slice_index_or begun n false ≡ false → AreLoaded chip begun programs → program.node.number ≡ n → HasProgram (node_at chip n) node program → AreLoaded (with_node chip n node) (set begun n true) (programs ++ program ∷ [])
 one_more chip begun programs n node program in_chip in_begun fresh all is_n has =
-    let others : IsUnnamed programs n = All-weaker (HasBegun begun) (λ p. p.node.number ≢ n) (λ p h. apart begun n p fresh h) programs all.marked in
+    let others : IsUnprogrammedNode programs n = All-weaker (HasBegun begun) (λ p. p.node.number ≢ n) (λ p h. apart begun n p fresh h) programs all.marked in
     let at_load : node_at chip n ≡ node_at default_chip n = all.assembled.rest n others in
     record {
       marked = All-push (HasBegun (set begun n true)) programs program
           (All-weaker (HasBegun begun) (HasBegun (set begun n true)) (λ p h. stays_marked begun n p fresh h) programs all.marked)
           (ap (λ k. slice_index_or (set begun n true) k false) is_n ∙ get_or-set_same begun n true false in_begun);
       assembled = record {
-        each = All-push (IsLoaded (with_node chip n node)) programs program
+        each = All-push (IsProgramLoaded (with_node chip n node)) programs program
             (both chip begun n node programs fresh all.marked all.assembled.each)
             (loaded_here chip n node program in_chip is_n at_load has);
         rest = λ k unnamed.
             let parts = All-pop (λ p. p.node.number ≢ k) (programs ++ program ∷ []) programs (Some program) refl unnamed in
             stays chip n k node (λ e. parts.1 (is_n ∙ sym e)) ∙ all.assembled.rest k parts.0;
         state = λ k. elim (cases_eq k n) [
-          | inl e ↦ subst (λ j. KeepsState (node_at default_chip j) (node_at (with_node chip n node) j)) (sym e)
+          | inl e ↦ subst (λ j. KeepsOtherState (node_at default_chip j) (node_at (with_node chip n node) j)) (sym e)
               (kept_here chip n node program in_chip at_load has)
-          | inr other ↦ subst (λ found. KeepsState (node_at default_chip k) found) (sym (stays chip n k node other)) (all.assembled.state k)
+          | inr other ↦ subst (λ found. KeepsOtherState (node_at default_chip k) found) (sym (stays chip n k node other)) (all.assembled.state k)
         ];
       };
     }

@@ -4,28 +4,28 @@ use Rattle.std.proofs.Common.{◌≡◌, ◌∙◌, ℕ, zero, suc, ◌<◌, ◌
 use Rattle.std.proofs.lemmas.Nat.{xor_shr}
 use Rattle.std.proofs.lemmas.Bool.{eqb-true, cases_eq, cond-true, cond-false, eq-eqb, ne_eqb, eqb-false, and_parts, both_ways}
 use Rattle.ga_slots.specs.Codes.{op_of}
-use Rattle.ga_slots.specs.Slots.{opcode, opcode_mask, field_size, target}
+use Rattle.ga_slots.specs.Slots.{opcode, opcode_mask, address_field_size, target}
 use Rattle.ga_slots.specs.declared.op.Op.{Op}
 use Rattle.ga_slots.specs.declared.op.Op.TheVariants.{Return}
 use Rattle.ga_parser.specs.declared.item.Item.{Item}
 use Rattle.ga_source.specs.inner.{op_in, nothing, IsCell, KeepsRest, Holds, Keeps, requests_of, IsPlainRequest, ArePlain}
-use Rattle.ga_source.specs.Reading.{reaches, word_of_target, word_in, begin_at, are_both, is_met, after_request, follows}
+use Rattle.ga_source.specs.Reading.{slot_reaches, word_of_target, word_at_address, first_spot_of_cell, are_equal_numbers, is_request_met, spot_after_request, cells_match_requests}
 use Rattle.std.proofs.lemmas.List.{get_or-set_same, get_or-set_other, length-set}
 use Rattle.ga_ports.specs.declared.address.Target.TheVariants.{Ram as RamOf, Rom as RomOf, Ram as TargetRam, Rom as TargetRom, Io, Ports, Bad}
-use Rattle.ga_ports.specs.Address.{classified, advanced}
+use Rattle.ga_ports.specs.Address.{address_target, advanced_address}
 use Rattle.ga_node.specs.Record.{NodeState}
 use Rattle.ga_node.specs.State.{with_value, HasMemory}
 use Rattle.ga_node.specs.declared.place.Place.{Place}
 use Rattle.ga_node.specs.declared.place.Place.TheVariants.{Ram, Rom}
-use Rattle.ga_source.specs.Cells.{KeepsElsewhere, is_at, asks_for, is_asked}
+use Rattle.ga_source.specs.Cells.{KeepsOtherCells, is_address_of_cell, request_uses_cell, requests_use_cell}
 use Rattle.ga_source.proofs.Laying.{None≢Some}
 use Rattle.ga_ports.specs.declared.address.Target.{Target}
 use Rattle.ga_parser.specs.declared.item.Operand.TheVariants.{Number}
 use Rattle.ga_parser.specs.declared.item.Item.TheVariants.{Cell}
-use Rattle.ga_parser.specs.declared.item.Request.{Request}
-use Rattle.ga_parser.specs.declared.item.Request.TheVariants.{Put, Go}
+use Rattle.ga_parser.specs.declared.item.AssemblyRequest.{AssemblyRequest}
+use Rattle.ga_parser.specs.declared.item.AssemblyRequest.TheVariants.{Put, Go}
 use Rattle.ga_parser.specs.declared.item.LocatedRequest.{LocatedRequest}
-use Rattle.ga_source.specs.Made.{with_cell, with_asked, address_behind, with_requests}
+use Rattle.ga_source.specs.Made.{with_cell, with_requested_cell, address_after_request, with_requests}
 
 -- the bits above some bits determine those of the word without its mask above them
 above : (k v w : ℕ) → v / 2 ^ k ≡ w / 2 ^ k → bit_xor v opcode_mask / 2 ^ k ≡ bit_xor w opcode_mask / 2 ^ k
@@ -41,8 +41,8 @@ pub same_third : (v w : ℕ) → v / 2 ^ 3 ≡ w / 2 ^ 3 → opcode v 2 ≡ opco
 same_third v w e = ap (λ x. op_of (x % 32)) (above 3 v w e)
 
 -- a word with the field of an address leads where that is reached
-pub reached : (p word slot address : ℕ) → word % field_size slot ≡ address % field_size slot → reaches p slot (Some address) ≡ true → target p word slot ≡ address
-reached p word slot address e h = ap (λ x. p / field_size slot * field_size slot + x) e ∙ eqb-true (target p address slot) address h
+pub reached : (p word slot address : ℕ) → word % address_field_size slot ≡ address % address_field_size slot → slot_reaches p slot (Some address) ≡ true → target p word slot ≡ address
+reached p word slot address e h = ap (λ x. p / address_field_size slot * address_field_size slot + x) e ∙ eqb-true (target p address slot) address h
 
 -- the opcodes up to a slot, one by one
 pub each_kept : (v w slot : ℕ) → slot < 3 → opcode v 0 ≡ opcode w 0 → (1 ≤ slot → opcode v 1 ≡ opcode w 1) → (2 ≤ slot → opcode v 2 ≡ opcode w 2) → (k : ℕ) → k ≤ slot → opcode v k ≡ opcode w k
@@ -61,20 +61,20 @@ one_more ops items i op l is before k h = elim (cases_eq k i) [
 -- ---- a cell that is written, and those that stay
 
 -- the cells of both memories by their addresses
-pub in_ram : (address : ℕ) → address % 512 < 64 → classified address ≡ RamOf (address % 512)
+pub in_ram : (address : ℕ) → address % 512 < 64 → address_target address ≡ RamOf (address % 512)
 in_ram address l =
     let low = address % 512 in
     cond-false (low / 2 ^ 8 == 1) _ _ (ne_eqb (low / 2 ^ 8) 1 (λ e. absurd (omega arith)))
     ∙ (cond-true (low / 2 ^ 7 == 0) _ _ (eq-eqb (low / 2 ^ 7) 0 (omega arith)) ∙ ap RamOf (omega arith))
 
-pub in_rom : (address : ℕ) → 128 ≤ address % 512 → address % 512 < 192 → classified address ≡ RomOf (address % 512 % 64)
+pub in_rom : (address : ℕ) → 128 ≤ address % 512 → address % 512 < 192 → address_target address ≡ RomOf (address % 512 % 64)
 in_rom address l h =
     let low = address % 512 in
     cond-false (low / 2 ^ 8 == 1) _ _ (ne_eqb (low / 2 ^ 8) 1 (λ e. absurd (omega arith)))
     ∙ cond-false (low / 2 ^ 7 == 0) _ _ (ne_eqb (low / 2 ^ 7) 0 (λ e. absurd (omega arith)))
 
 -- the cell that is written
-pub written_by : (node : NodeState) (place : Place) (address word : ℕ) → IsCell address place → HasMemory node place → word_in (with_value node place word) address ≡ Some word
+pub written_by : (node : NodeState) (place : Place) (address word : ℕ) → IsCell address place → HasMemory node place → word_at_address (with_value node place word) address ≡ Some word
 written_by node (Ram cell) address word c size =
     let l : address % 512 < 64 = omega arith in
     ap (word_of_target (with_value node (Ram cell) word)) (in_ram address l)
@@ -88,7 +88,7 @@ written_by node (Rom cell) address word c size =
 written_by node place address word c size = absurd c
 
 -- another cell
-pub others_stay : (node : NodeState) (place : Place) (address word other : ℕ) → IsCell address place → (other % 512 < 64) ⊎ ((128 ≤ other % 512) × (other % 512 < 192)) → other % 512 ≢ address % 512 → word_in (with_value node place word) other ≡ word_in node other
+pub others_stay : (node : NodeState) (place : Place) (address word other : ℕ) → IsCell address place → (other % 512 < 64) ⊎ ((128 ≤ other % 512) × (other % 512 < 192)) → other % 512 ≢ address % 512 → word_at_address (with_value node place word) other ≡ word_at_address node other
 others_stay node (Ram cell) address word other c within apart = elim within [
   | inl l ↦
       let ne : other % 512 ≢ cell = (λ e. apart (e ∙ sym c.1)) in
@@ -114,7 +114,7 @@ rest_stays node (Ram cell) address word c = refl
 rest_stays node (Rom cell) address word c = refl
 rest_stays node place address word c = absurd c
 
-pub elsewhere_stays : (node : NodeState) (place : Place) (address word : ℕ) → IsCell address place → KeepsElsewhere (is_at address) node (with_value node place word)
+pub elsewhere_stays : (node : NodeState) (place : Place) (address word : ℕ) → IsCell address place → KeepsOtherCells (is_address_of_cell address) node (with_value node place word)
 elsewhere_stays node (Ram cell) address word c = record {
   ram = λ k e. get_or-set_other node.ram cell k word 0 (λ same. eqb-false (address % 512) k e (c.1 ∙ sym same));
   rom = λ k e. refl;
@@ -145,7 +145,7 @@ keeps_by node given place address line word c free other held =
 
 -- ---- plain requests
 
-pub one_plain_more : (requests : List Request) (request : Request) → ArePlain requests → IsPlainRequest request → ArePlain (requests ++ request ∷ [])
+pub one_plain_more : (requests : List AssemblyRequest) (request : AssemblyRequest) → ArePlain requests → IsPlainRequest request → ArePlain (requests ++ request ∷ [])
 unfolding ArePlain
 one_plain_more [] request plain one = (one, tt)
 one_plain_more (first ∷ requests) request plain one = (plain.0, one_plain_more requests request plain.1 one)
@@ -162,11 +162,11 @@ is_ram (TargetRam k) = true
 is_ram _ = false
 
 -- the number that is there
-same_number : (n m : ℕ) → are_both (Some n) (Some m) ≡ true → m ≡ n
+same_number : (n m : ℕ) → are_equal_numbers (Some n) (Some m) ≡ true → m ≡ n
 same_number n m is = sym (eqb-true n m is)
 
 module _ (before after : NodeState) (at n k : ℕ) (small : k < 64) where
-  pub ram_written : (t : Target) → classified at ≡ t → are_both (Some n) (word_of_target after t) ≡ true → length before.ram ≡ 64 → (is_at at k ≡ false → slice_index after.ram k ≡ slice_index before.ram k) → slice_index after.ram k ≡ slice_index (with_cell before t n).ram k
+  pub ram_written : (t : Target) → address_target at ≡ t → are_equal_numbers (Some n) (word_of_target after t) ≡ true → length before.ram ≡ 64 → (is_address_of_cell at k ≡ false → slice_index after.ram k ≡ slice_index before.ram k) → slice_index after.ram k ≡ slice_index (with_cell before t n).ram k
   ram_written (TargetRam j) is here size stays = elim (cases_eq k j) [
     | inl e ↦
         let there : slice_index after.ram j ≡ n = same_number n (slice_index after.ram j) here in
@@ -185,7 +185,7 @@ module _ (before after : NodeState) (at n k : ℕ) (small : k < 64) where
   ram_written (Ports s) is here size stays = absurd (both_ways false refl here)
   ram_written Bad is here size stays = absurd (both_ways false refl here)
 
-  pub rom_written : (t : Target) → classified at ≡ t → are_both (Some n) (word_of_target after t) ≡ true → length before.rom ≡ 64 → (is_at at (128 + k) ≡ false → slice_index after.rom k ≡ slice_index before.rom k) → slice_index after.rom k ≡ slice_index (with_cell before t n).rom k
+  pub rom_written : (t : Target) → address_target at ≡ t → are_equal_numbers (Some n) (word_of_target after t) ≡ true → length before.rom ≡ 64 → (is_address_of_cell at (128 + k) ≡ false → slice_index after.rom k ≡ slice_index before.rom k) → slice_index after.rom k ≡ slice_index (with_cell before t n).rom k
   rom_written (TargetRom j) is here size stays = elim (cases_eq k j) [
     | inl e ↦
         let there : slice_index after.rom j ≡ n = same_number n (slice_index after.rom j) here in
@@ -243,24 +243,24 @@ pub record Stays (is_named : ℕ → Bool) (before after : NodeState) : Type 0 w
 module _ (labels : List (Option ℕ)) (after : NodeState) where
   -- requests that were read make the node from any before it
   abbrev pub Makes : List LocatedRequest → Type 0
-  Makes asked = (before : NodeState) (at : ℕ) → follows after labels (begin_at at) asked ≡ true → Stays (is_asked labels (begin_at at) asked) before after → AreCells (with_requests before at (requests_of asked)) after
+  Makes asked = (before : NodeState) (at : ℕ) → cells_match_requests after labels (first_spot_of_cell at) asked ≡ true → Stays (requests_use_cell labels (first_spot_of_cell at) asked) before after → AreCells (with_requests before at (requests_of asked)) after
 
-  cell_made : (n at : ℕ) (rest : List LocatedRequest) → (are_both (Some n) (word_of_target after (classified at)) && follows after labels (begin_at (advanced at)) rest) ≡ true → (before : NodeState) → Stays (λ k. is_at at k || is_asked labels (begin_at (advanced at)) rest k) before after → Makes rest → AreCells (with_requests (with_cell before (classified at) n) (advanced at) (requests_of rest)) after
+  cell_made : (n at : ℕ) (rest : List LocatedRequest) → (are_equal_numbers (Some n) (word_of_target after (address_target at)) && cells_match_requests after labels (first_spot_of_cell (advanced_address at)) rest) ≡ true → (before : NodeState) → Stays (λ k. is_address_of_cell at k || requests_use_cell labels (first_spot_of_cell (advanced_address at)) rest k) before after → Makes rest → AreCells (with_requests (with_cell before (address_target at) n) (advanced_address at) (requests_of rest)) after
   cell_made n at rest read before stays makes =
-      let parts = and_parts (are_both (Some n) (word_of_target after (classified at))) (follows after labels (begin_at (advanced at)) rest) read in
-      makes (with_cell before (classified at) n) (advanced at) parts.1 (record {
-        ram_size = with_cell_ram before (classified at) n ∙ stays.ram_size;
-        rom_size = with_cell_rom before (classified at) n ∙ stays.rom_size;
-        ram = λ k small none. ram_written before after at n k small (classified at) refl parts.0 stays.ram_size (λ other. stays.ram k small (or_none (is_at at k) (is_asked labels (begin_at (advanced at)) rest k) other none));
-        rom = λ k small none. rom_written before after at n k small (classified at) refl parts.0 stays.rom_size (λ other. stays.rom k small (or_none (is_at at (128 + k)) (is_asked labels (begin_at (advanced at)) rest (128 + k)) other none));
+      let parts = and_parts (are_equal_numbers (Some n) (word_of_target after (address_target at))) (cells_match_requests after labels (first_spot_of_cell (advanced_address at)) rest) read in
+      makes (with_cell before (address_target at) n) (advanced_address at) parts.1 (record {
+        ram_size = with_cell_ram before (address_target at) n ∙ stays.ram_size;
+        rom_size = with_cell_rom before (address_target at) n ∙ stays.rom_size;
+        ram = λ k small none. ram_written before after at n k small (address_target at) refl parts.0 stays.ram_size (λ other. stays.ram k small (or_none (is_address_of_cell at k) (requests_use_cell labels (first_spot_of_cell (advanced_address at)) rest k) other none));
+        rom = λ k small none. rom_written before after at n k small (address_target at) refl parts.0 stays.rom_size (λ other. stays.rom k small (or_none (is_address_of_cell at (128 + k)) (requests_use_cell labels (first_spot_of_cell (advanced_address at)) rest (128 + k)) other none));
       })
 
-  request_made : (request : Request) (rest : List LocatedRequest) (at : ℕ) → IsPlainRequest request → (is_met after labels (begin_at at) request && follows after labels (after_request labels (begin_at at) request) rest) ≡ true → (before : NodeState) → Stays (λ k. asks_for labels (begin_at at) request k || is_asked labels (after_request labels (begin_at at) request) rest k) before after → Makes rest → AreCells (with_requests (with_asked before at request) (address_behind at request) (requests_of rest)) after
+  request_made : (request : AssemblyRequest) (rest : List LocatedRequest) (at : ℕ) → IsPlainRequest request → (is_request_met after labels (first_spot_of_cell at) request && cells_match_requests after labels (spot_after_request labels (first_spot_of_cell at) request) rest) ≡ true → (before : NodeState) → Stays (λ k. request_uses_cell labels (first_spot_of_cell at) request k || requests_use_cell labels (spot_after_request labels (first_spot_of_cell at) request) rest k) before after → Makes rest → AreCells (with_requests (with_requested_cell before at request) (address_after_request at request) (requests_of rest)) after
   request_made (Put (Cell (Number n))) rest at plain read before stays makes = cell_made n at rest read before stays makes
   request_made (Go address) rest at plain read before stays makes = makes before address read stays
   request_made _ rest at plain read before stays makes = absurd plain
 
   pub requests_made : (asked : List LocatedRequest) → ArePlain (requests_of asked) → Makes asked
-  unfolding ArePlain follows is_asked with_requests
+  unfolding ArePlain cells_match_requests requests_use_cell with_requests
   requests_made [] plain before at read stays = record { ram = λ k small. stays.ram k small refl; rom = λ k small. stays.rom k small refl }
   requests_made (one ∷ rest) plain before at read stays = request_made one.request rest at plain.0 read before stays (requests_made rest plain.1)

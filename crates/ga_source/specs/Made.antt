@@ -4,18 +4,18 @@ use Rattle.std.specs.Prelude.{ℕ, ◌≡◌, ◌≢◌, ◌<◌, if◌then◌el
 use Rattle.std.specs.List.{All, list_any, list_all}
 use Rattle.ga_ports.specs.declared.address.Target.{Target}
 use Rattle.ga_ports.specs.declared.address.Target.TheVariants.{Ram, Rom}
-use Rattle.ga_ports.specs.Address.{classified, advanced}
+use Rattle.ga_ports.specs.Address.{address_target, advanced_address}
 use Rattle.ga_node.specs.Record.{NodeState}
 use Rattle.ga_grid.specs.Chip.{node_at}
 use Rattle.ga_grid.specs.Grid.{default_chip}
 use Rattle.ga_parser.specs.declared.item.Operand.{Operand}
 use Rattle.ga_parser.specs.declared.item.Operand.TheVariants.{Number}
 use Rattle.ga_parser.specs.declared.item.Item.TheVariants.{Cell}
-use Rattle.ga_parser.specs.declared.item.Request.{Request}
-use Rattle.ga_parser.specs.declared.item.Request.TheVariants.{Put, Go}
-use Rattle.ga_source.specs.Programs.{is_item}
-use Rattle.ga_parser.specs.Plain.{Plain, texts_in, bodies_in, yxx_in, plain_of, body_in}
-use Rattle.ga_parser.specs.Words.{words_in, said_in}
+use Rattle.ga_parser.specs.declared.item.AssemblyRequest.{AssemblyRequest}
+use Rattle.ga_parser.specs.declared.item.AssemblyRequest.TheVariants.{Put, Go}
+use Rattle.ga_source.specs.Programs.{is_item_request}
+use Rattle.ga_parser.specs.Plain.{Plain, token_texts, body_word_lists, named_node_number, plain_requests_of, body_words}
+use Rattle.ga_parser.specs.Words.{source_word_texts, source_tokens_until_fault}
 use Rattle.ga_parser.specs.Saying.{TokenContent, is_word}
 
 -- ---- cells
@@ -27,20 +27,20 @@ with_cell node (Rom k) n = record node { rom = slice_set node.rom k n }
 with_cell node _ n = node
 
 -- the node with the cell that a request asks for at this address
-abbrev pub with_asked : NodeState → ℕ → Request → NodeState
-with_asked node at (Put (Cell (Number n))) = with_cell node (classified at) n
-with_asked node at _ = node
+abbrev pub with_requested_cell : NodeState → ℕ → AssemblyRequest → NodeState
+with_requested_cell node at (Put (Cell (Number n))) = with_cell node (address_target at) n
+with_requested_cell node at _ = node
 
 -- the address after a request
-abbrev pub address_behind : ℕ → Request → ℕ
-address_behind at (Put _) = advanced at
-address_behind at (Go address) = address
-address_behind at _ = at
+abbrev pub address_after_request : ℕ → AssemblyRequest → ℕ
+address_after_request at (Put _) = advanced_address at
+address_after_request at (Go address) = address
+address_after_request at _ = at
 
 -- the node with the cells that requests ask for, from an address on
-unfoldable pub with_requests : NodeState → ℕ → List Request → NodeState
+unfoldable pub with_requests : NodeState → ℕ → List AssemblyRequest → NodeState
 with_requests node at [] = node
-with_requests node at (request ∷ requests) = with_requests (with_asked node at request) (address_behind at request) requests
+with_requests node at (request ∷ requests) = with_requests (with_requested_cell node at request) (address_after_request at request) requests
 
 -- ---- nodes
 
@@ -51,39 +51,39 @@ number_or _ before = before
 
 -- The node with what plain words ask for: their cells from address 0 on, and the registers. P is 0 where there are cells and no
 -- `/p`.
-abbrev pub plain_node : NodeState → Plain → NodeState
-plain_node node plain = record (with_requests node 0 plain.requests) {
-  p = number_or plain.p (if list_any is_item plain.requests then 0 else node.p);
+abbrev pub node_with_plain_requests : NodeState → Plain → NodeState
+node_with_plain_requests node plain = record (with_requests node 0 plain.requests) {
+  p = number_or plain.p (if list_any is_item_request plain.requests then 0 else node.p);
   a = number_or plain.a node.a;
   b = number_or plain.b node.b;
 }
 
 -- the node is this one, cell by cell
-pub record IsNode (made node : NodeState) : Type 0 where
+pub record IsSameNode (made node : NodeState) : Type 0 where
   pub ram : (k : ℕ) → k < 64 → slice_index node.ram k ≡ slice_index made.ram k
   pub rom : (k : ℕ) → k < 64 → slice_index node.rom k ≡ slice_index made.rom k
   pub rest : node ≡ record made { ram = node.ram; rom = node.rom }
 
 -- if the words after a `node` are plain, its node is the one at load with their requests
-abbrev pub HasPlain : List NodeState → List (List ℕ) → Type 0
-HasPlain chip words = (n : ℕ) (plain : Plain) → yxx_in (slice_index_or words 0 []) ≡ Some n → plain_of (drop 1 words) ≡ Some plain → IsNode (plain_node (node_at default_chip n) plain) (node_at chip n)
+abbrev pub HasPlainNode : List NodeState → List (List ℕ) → Type 0
+HasPlainNode chip words = (n : ℕ) (plain : Plain) → named_node_number (slice_index_or words 0 []) ≡ Some n → plain_requests_of (drop 1 words) ≡ Some plain → IsSameNode (node_with_plain_requests (node_at default_chip n) plain) (node_at chip n)
 
 -- the chip that a source makes, as far as its words are plain: a node that it doesn't name is as at load
 pub record IsChipOfSource (source : List ℕ) (chip : List NodeState) : Type 0 where
-  pub named : All (HasPlain chip) (bodies_in (words_in source))
-  pub others : (n : ℕ) → All (λ words. yxx_in (slice_index_or words 0 []) ≢ Some n) (bodies_in (words_in source)) → node_at chip n ≡ node_at default_chip n
+  pub named : All (HasPlainNode chip) (body_word_lists (source_word_texts source))
+  pub others : (n : ℕ) → All (λ words. named_node_number (slice_index_or words 0 []) ≢ Some n) (body_word_lists (source_word_texts source)) → node_at chip n ≡ node_at default_chip n
 
 -- ---- sources that only want of memory keeps from being assembled
 
 -- the cell that a request asks for at this address, and its number
-abbrev pub cell_at : ℕ → Request → List (ℕ × ℕ)
-cell_at at (Put (Cell (Number n))) = (at, n) ∷ []
-cell_at at _ = []
+abbrev pub requested_cell : ℕ → AssemblyRequest → List (ℕ × ℕ)
+requested_cell at (Put (Cell (Number n))) = (at, n) ∷ []
+requested_cell at _ = []
 
 -- the cells that requests ask for, from an address on
-unfoldable pub cells_from : ℕ → List Request → List (ℕ × ℕ)
-cells_from at [] = []
-cells_from at (request ∷ requests) = cell_at at request ++ cells_from (address_behind at request) requests
+unfoldable pub requested_cells : ℕ → List AssemblyRequest → List (ℕ × ℕ)
+requested_cells at [] = []
+requested_cells at (request ∷ requests) = requested_cell at request ++ requested_cells (address_after_request at request) requests
 
 -- an address of RAM or of ROM, bit 9 aside
 abbrev pub IsMemoryAddress : ℕ → Type 0
@@ -102,21 +102,21 @@ pub record AreDistinctCells (cells : List (ℕ × ℕ)) : Type 0 where
 pub record IsSoundBody (words : List (List ℕ)) : Type 0 where
   pub number : ℕ
   pub plain : Plain
-  pub node : yxx_in (slice_index_or words 0 []) ≡ Some number
-  pub words_plain : plain_of (drop 1 words) ≡ Some plain
-  pub free : AreDistinctCells (cells_from 0 plain.requests)
+  pub node : named_node_number (slice_index_or words 0 []) ≡ Some number
+  pub words_plain : plain_requests_of (drop 1 words) ≡ Some plain
+  pub free : AreDistinctCells (requested_cells 0 plain.requests)
 
 -- the number of the node that the k-th of these words name
 abbrev pub node_number_of_words : List (List (List ℕ)) → ℕ → Option ℕ
-node_number_of_words bodies k = yxx_in (slice_index_or (slice_index_or bodies k []) 0 [])
+node_number_of_words bodies k = named_node_number (slice_index_or (slice_index_or bodies k []) 0 [])
 
 -- No line has a fault, the words begin with `node`, each node is named once, and its requests are plain and have room.
 pub record IsSoundSource (source : List ℕ) : Type 0 where
-  pub whole : list_all is_word (said_in source) ≡ true
-  pub begins : body_in (words_in source) ≡ []
-  pub bodies : All IsSoundBody (bodies_in (words_in source))
-  pub apart : (j k : ℕ) → j < k → k < length (bodies_in (words_in source)) → node_number_of_words (bodies_in (words_in source)) j ≢ node_number_of_words (bodies_in (words_in source)) k
+  pub whole : list_all is_word (source_tokens_until_fault source) ≡ true
+  pub begins : body_words (source_word_texts source) ≡ []
+  pub bodies : All IsSoundBody (body_word_lists (source_word_texts source))
+  pub apart : (j k : ℕ) → j < k → k < length (body_word_lists (source_word_texts source)) → node_number_of_words (body_word_lists (source_word_texts source)) j ≢ node_number_of_words (body_word_lists (source_word_texts source)) k
 
 -- These are the words of the source, on any lines.
-abbrev pub HasWords : List ℕ → List TokenContent → Type 0
-HasWords source said = (texts_in said ≡ words_in source) × (list_all is_word said ≡ list_all is_word (said_in source))
+abbrev pub AreWordsOfSource : List ℕ → List TokenContent → Type 0
+AreWordsOfSource source said = (token_texts said ≡ source_word_texts source) × (list_all is_word said ≡ list_all is_word (source_tokens_until_fault source))

@@ -4,33 +4,33 @@ use Rattle.std.specs.Prelude.{ℕ, ◌≡◌, ◌-◌, nat_lt, Bool, true, false
 use Rattle.std.specs.List.{All, dedup}
 use Rattle.std.specs.List.Sorted.{IsPermutation, IsNonDecreasingBy}
 use Rattle.std.specs.Option.{option_map_or}
-use Rattle.ga_parser.specs.declared.fault.Fault.{Fault}
-use Rattle.ga_parser.specs.contracts.fault.FaultPartialEq.TheImpl.{ghosts as faults_compare}
+use Rattle.ga_parser.specs.declared.fault.SourceFault.{SourceFault}
+use Rattle.ga_parser.specs.contracts.fault.SourceFaultPartialEq.TheImpl.{ghosts as faults_compare}
 use Rattle.ga_parser.specs.declared.fault.SourceCause.{SourceCause}
 use Rattle.ga_parser.specs.declared.fault.SourceCause.TheVariants.{LongLine as TooLong, OpenComment as LeftOpen, NoNumber as NumberLeftOut, Missing as NameLeftOut, Taken as IsTaken, NoNode, NoSuchNode, NodeTwice, CellTwice}
 use Rattle.ga_parser.specs.declared.item.NodeRequests.{NodeRequests}
 use Rattle.ga_parser.specs.declared.item.Operand.{Operand}
 use Rattle.ga_parser.specs.declared.item.Operand.TheVariants.{Number, Label as LabelOf}
 use Rattle.ga_parser.specs.declared.item.RegisterValue.{RegisterValue}
-use Rattle.ga_parser.specs.declared.item.Registers.{Registers}
+use Rattle.ga_parser.specs.declared.item.InitialRegisters.{InitialRegisters}
 use Rattle.ga_parser.specs.declared.labels.Label.{Label}
 use Rattle.ga_parser.specs.declared.scan.TokenKind.{TokenKind}
 use Rattle.ga_parser.specs.declared.scan.TokenKind.TheVariants.{Word, LongLine, OpenComment, NoNumber, Missing, Taken}
 use Rattle.ga_parser.specs.declared.vocabulary.Register.{Register}
 use Rattle.ga_parser.specs.declared.vocabulary.Register.TheVariants.{P, A, B}
 use Rattle.ga_parser.specs.Asking.{Refusal}
-use Rattle.ga_parser.specs.Asking.Wrong.{NoNumberHere}
-use Rattle.ga_parser.specs.Plain.{is_node, yxx_in}
-use Rattle.ga_parser.specs.Recovery.{AreRequestsLeft}
+use Rattle.ga_parser.specs.Asking.RefusalCause.{NoNumberHere}
+use Rattle.ga_parser.specs.Plain.{is_node_keyword, named_node_number}
+use Rattle.ga_parser.specs.Recovery.{AreRecoveredRequests}
 use Rattle.ga_parser.specs.Requests.{word_refusal}
-use Rattle.ga_parser.specs.Vocabulary.{bound_of, range_of}
-use Rattle.ga_source.specs.declared.program.Assembled.{Assembled}
+use Rattle.ga_parser.specs.Vocabulary.{register_bound, register_range}
+use Rattle.ga_source.specs.declared.program.AssembledChip.{AssembledChip}
 use Rattle.ga_parser.specs.declared.scan.Token.{Token}
-use Rattle.ga_parser.specs.Saying.{TokenContent, is_word, next_line, token_contents}
-use Rattle.ga_parser.specs.Words.{once_in}
-use Rattle.ga_source.specs.Programs.{said_body, said_bodies, AreAskedBy, IsAssembled}
-use Rattle.ga_source.specs.Cells.{HasGroups}
-use Rattle.ga_source.specs.Reading.{resolved}
+use Rattle.ga_parser.specs.Saying.{TokenContent, is_word, next_line_number, token_contents}
+use Rattle.ga_parser.specs.Words.{source_tokens_without_copies}
+use Rattle.ga_source.specs.Programs.{body_tokens, body_token_lists, AreProgramsOfBodies, IsAssembledChip}
+use Rattle.ga_source.specs.Cells.{HasRequestedGroups}
+use Rattle.ga_source.specs.Reading.{operand_value}
 
 -- ---- numbers of words
 
@@ -40,13 +40,13 @@ with_line word number = record word { line = number }
 -- the words with numbers, from this one on, in place of their lines
 unfoldable pub with_numbers : ℕ → List Token → List Token
 with_numbers number [] = []
-with_numbers number (word ∷ words) = with_line word number ∷ with_numbers (next_line number) words
+with_numbers number (word ∷ words) = with_line word number ∷ with_numbers (next_line_number number) words
 
 -- The chip has the programs of these words: each asks for what its words do, and each other node is as at load.
-pub record IsAssembledOf (words : List Token) (all : Assembled) : Type 0 where
-  pub programs : IsAssembled all.chip all.programs.items
-  pub asked : AreAskedBy (said_bodies (token_contents words)) all.programs.items
-  pub groups : All HasGroups all.programs.items
+pub record IsAssemblyOfWords (words : List Token) (all : AssembledChip) : Type 0 where
+  pub programs : IsAssembledChip all.chip all.programs.items
+  pub asked : AreProgramsOfBodies (body_token_lists (token_contents words)) all.programs.items
+  pub groups : All HasRequestedGroups all.programs.items
 
 -- ---- from numbers back to lines
 
@@ -55,16 +55,16 @@ abbrev pub line_of_number : List Token → ℕ → ℕ
 line_of_number words number = option_map_or (λ (word : Token). word.line) (slice_get words (number - 1)) 0
 
 -- a cell that is given twice names two words
-abbrev pub cause_at : List Token → SourceCause → SourceCause
-cause_at words (CellTwice cell number) = CellTwice cell (line_of_number words number)
-cause_at words cause = cause
+abbrev pub cause_with_line : List Token → SourceCause → SourceCause
+cause_with_line words (CellTwice cell number) = CellTwice cell (line_of_number words number)
+cause_with_line words cause = cause
 
 -- the fault at the number of a word, at that word's line
-abbrev pub fault_at_line : List Token → Fault → Fault
-fault_at_line words fault = record { line = line_of_number words fault.line; cause = cause_at words fault.cause }
+abbrev pub fault_at_line : List Token → SourceFault → SourceFault
+fault_at_line words fault = record { line = line_of_number words fault.line; cause = cause_with_line words fault.cause }
 
 -- the faults at their lines, without those that are equal to the one before
-abbrev pub faults_by_line : List Token → List Fault → List Fault
+abbrev pub faults_by_line : List Token → List SourceFault → List SourceFault
 faults_by_line words faults = dedup faults_compare.eq (map (fault_at_line words) faults)
 
 -- ---- the faults of a node's registers
@@ -78,99 +78,99 @@ abbrev pub operand_name : List Label → Operand → List ℕ
 operand_name names (Number n) = []
 operand_name names (LabelOf label) = name_of_label (slice_get names label)
 
-abbrev pub is_below : ℕ → Option ℕ → Bool
-is_below bound (Some n) = nat_lt n bound
-is_below bound None = false
+abbrev pub is_value_below : ℕ → Option ℕ → Bool
+is_value_below bound (Some n) = nat_lt n bound
+is_value_below bound None = false
 
 -- a register that is given a number out of its range
-abbrev pub given_refusals : List (Option ℕ) → List Label → Register → Option RegisterValue → List Refusal
-given_refusals labels names register (Some given) =
-    if is_below (bound_of register) (resolved labels given.value) then [] else record { line = given.line; wrong = NoNumberHere (operand_name names given.value) (range_of register) } ∷ []
-given_refusals labels names register None = []
+abbrev pub register_value_refusals : List (Option ℕ) → List Label → Register → Option RegisterValue → List Refusal
+register_value_refusals labels names register (Some given) =
+    if is_value_below (register_bound register) (operand_value labels given.value) then [] else record { line = given.line; wrong = NoNumberHere (operand_name names given.value) (register_range register) } ∷ []
+register_value_refusals labels names register None = []
 
-abbrev pub register_refusals : List (Option ℕ) → List Label → Registers → List Refusal
+abbrev pub register_refusals : List (Option ℕ) → List Label → InitialRegisters → List Refusal
 register_refusals labels names registers =
-    given_refusals labels names P registers.p ++ given_refusals labels names A registers.a ++ given_refusals labels names B registers.b
+    register_value_refusals labels names P registers.p ++ register_value_refusals labels names A registers.a ++ register_value_refusals labels names B registers.b
 
 -- ---- the faults of nodes
 
 -- The faults of what words ask for: those of registers, and then those of cells. Requests that can't be packed have one fault.
-pub data AreFaultsOfRequests (requests : NodeRequests) : List Fault → Type 0 where
-  packed : (labels : List (Option ℕ)) (of_registers of_cells : List Fault) → map word_refusal of_registers ≡ register_refusals labels requests.names.items requests.registers
+pub data AreFaultsOfRequests (requests : NodeRequests) : List SourceFault → Type 0 where
+  packed : (labels : List (Option ℕ)) (of_registers of_cells : List SourceFault) → map word_refusal of_registers ≡ register_refusals labels requests.names.items requests.registers
       → AreFaultsOfRequests requests (of_registers ++ of_cells)
-  unpacked : (fault : Fault) → AreFaultsOfRequests requests (fault ∷ [])
+  unpacked : (fault : SourceFault) → AreFaultsOfRequests requests (fault ∷ [])
 
 -- The faults of the words after a node's name on this line: those of the words, and then those of what these ask for.
-pub record AreFaultsOfNode (line : ℕ) (words : List TokenContent) (faults : List Fault) : Type 0 where
+pub record AreFaultsOfNode (line : ℕ) (words : List TokenContent) (faults : List SourceFault) : Type 0 where
   pub requests : NodeRequests
-  pub of_words : List Fault
-  pub of_requests : List Fault
-  pub left : AreRequestsLeft line words requests of_words
+  pub of_words : List SourceFault
+  pub of_requests : List SourceFault
+  pub left : AreRecoveredRequests line words requests of_words
   pub asked : AreFaultsOfRequests requests of_requests
   pub all : faults ≡ of_words ++ of_requests
 
 -- a program begins with this word
-abbrev pub is_begin : TokenContent → Bool
-is_begin said = is_word said && is_node said.text
+abbrev pub is_node_token : TokenContent → Bool
+is_node_token said = is_word said && is_node_keyword said.text
 
 -- the node that a word names
-abbrev pub node_by : TokenContent → Option ℕ
-node_by said = if is_word said then yxx_in said.text else None
+abbrev pub node_of_token : TokenContent → Option ℕ
+node_of_token said = if is_word said then named_node_number said.text else None
 
 -- what is wrong where a word can't be, or else with its line
-abbrev pub word_cause : TokenKind → SourceCause → SourceCause
-word_cause Word cause = cause
-word_cause LongLine cause = TooLong
-word_cause OpenComment cause = LeftOpen
-word_cause NoNumber cause = NumberLeftOut
-word_cause Missing cause = NameLeftOut
-word_cause Taken cause = IsTaken
+abbrev pub cause_of_token : TokenKind → SourceCause → SourceCause
+cause_of_token Word cause = cause
+cause_of_token LongLine cause = TooLong
+cause_of_token OpenComment cause = LeftOpen
+cause_of_token NoNumber cause = NumberLeftOut
+cause_of_token Missing cause = NameLeftOut
+cause_of_token Taken cause = IsTaken
 
-abbrev pub misplaced : TokenContent → SourceCause → Fault
-misplaced said cause = record { line = said.line; cause = word_cause said.kind cause }
+abbrev pub misplaced_word_fault : TokenContent → SourceCause → SourceFault
+misplaced_word_fault said cause = record { line = said.line; cause = cause_of_token said.kind cause }
 
 -- the words from the next `node` on
-abbrev pub from_next : List TokenContent → List TokenContent
-from_next words = drop (length (said_body words)) words
+abbrev pub words_from_next_node : List TokenContent → List TokenContent
+words_from_next_node words = drop (length (body_tokens words)) words
 
 -- no node has begun
-abbrev pub no_node : List Bool
-no_node = replicate 144 false
+abbrev pub no_nodes_begun : List Bool
+no_nodes_begun = replicate 144 false
 
 -- The faults of words in the order of nodes, where some nodes have begun. If no node begins, the words up to the next `node` are skipped,
 -- with the name after a `node`; after a fault of a line or of a constant nothing is.
-pub data AreFaultsOfNodes : List Bool → List TokenContent → List Fault → Type 0 where
+pub data AreFaultsOfNodes : List Bool → List TokenContent → List SourceFault → Type 0 where
   no_words : {begun : List Bool} → AreFaultsOfNodes begun [] []
-  faulty : {begun : List Bool} {words : List TokenContent} {rest : List Fault} (first : TokenContent) → is_word first ≡ false
-      → AreFaultsOfNodes begun words rest → AreFaultsOfNodes begun (first ∷ words) (misplaced first NoNode ∷ rest)
-  not_begun : {begun : List Bool} {words : List TokenContent} {rest : List Fault} (first : TokenContent) → is_word first ≡ true → is_begin first ≡ false
-      → AreFaultsOfNodes begun (from_next words) rest → AreFaultsOfNodes begun (first ∷ words) (misplaced first NoNode ∷ rest)
-  unnamed : {begun : List Bool} {rest : List Fault} (first : TokenContent) → is_begin first ≡ true
-      → AreFaultsOfNodes begun [] rest → AreFaultsOfNodes begun (first ∷ []) (misplaced first NameLeftOut ∷ rest)
-  misnamed : {begun : List Bool} {words : List TokenContent} {rest : List Fault} (first name : TokenContent) → is_begin first ≡ true → node_by name ≡ None
-      → AreFaultsOfNodes begun (from_next words) rest → AreFaultsOfNodes begun (first ∷ name ∷ words) (misplaced name NoSuchNode ∷ rest)
-  again : {begun : List Bool} {words : List TokenContent} {rest : List Fault} (first name : TokenContent) (n : ℕ) → is_begin first ≡ true → node_by name ≡ Some n
-      → slice_index_or begun n false ≡ true → AreFaultsOfNodes begun (from_next words) rest → AreFaultsOfNodes begun (first ∷ name ∷ words) (misplaced name NodeTwice ∷ rest)
-  begins : {begun : List Bool} {words : List TokenContent} {own rest : List Fault} (first name : TokenContent) (n : ℕ) → is_begin first ≡ true → node_by name ≡ Some n
-      → slice_index_or begun n false ≡ false → AreFaultsOfNode name.line (said_body words) own → AreFaultsOfNodes (slice_set begun n true) (from_next words) rest
+  faulty : {begun : List Bool} {words : List TokenContent} {rest : List SourceFault} (first : TokenContent) → is_word first ≡ false
+      → AreFaultsOfNodes begun words rest → AreFaultsOfNodes begun (first ∷ words) (misplaced_word_fault first NoNode ∷ rest)
+  not_begun : {begun : List Bool} {words : List TokenContent} {rest : List SourceFault} (first : TokenContent) → is_word first ≡ true → is_node_token first ≡ false
+      → AreFaultsOfNodes begun (words_from_next_node words) rest → AreFaultsOfNodes begun (first ∷ words) (misplaced_word_fault first NoNode ∷ rest)
+  unnamed : {begun : List Bool} {rest : List SourceFault} (first : TokenContent) → is_node_token first ≡ true
+      → AreFaultsOfNodes begun [] rest → AreFaultsOfNodes begun (first ∷ []) (misplaced_word_fault first NameLeftOut ∷ rest)
+  misnamed : {begun : List Bool} {words : List TokenContent} {rest : List SourceFault} (first name : TokenContent) → is_node_token first ≡ true → node_of_token name ≡ None
+      → AreFaultsOfNodes begun (words_from_next_node words) rest → AreFaultsOfNodes begun (first ∷ name ∷ words) (misplaced_word_fault name NoSuchNode ∷ rest)
+  again : {begun : List Bool} {words : List TokenContent} {rest : List SourceFault} (first name : TokenContent) (n : ℕ) → is_node_token first ≡ true → node_of_token name ≡ Some n
+      → slice_index_or begun n false ≡ true → AreFaultsOfNodes begun (words_from_next_node words) rest → AreFaultsOfNodes begun (first ∷ name ∷ words) (misplaced_word_fault name NodeTwice ∷ rest)
+  begins : {begun : List Bool} {words : List TokenContent} {own rest : List SourceFault} (first name : TokenContent) (n : ℕ) → is_node_token first ≡ true → node_of_token name ≡ Some n
+      → slice_index_or begun n false ≡ false → AreFaultsOfNode name.line (body_tokens words) own → AreFaultsOfNodes (slice_set begun n true) (words_from_next_node words) rest
       → AreFaultsOfNodes begun (first ∷ name ∷ words) (own ++ rest)
 
 -- all faults of words, in the order of their lines
-pub record AreFaultsOfWords (words : List TokenContent) (faults : List Fault) : Type 0 where
-  pub found : List Fault
-  pub nodes : AreFaultsOfNodes no_node words found
+pub record AreFaultsOfWords (words : List TokenContent) (faults : List SourceFault) : Type 0 where
+  pub found : List SourceFault
+  pub nodes : AreFaultsOfNodes no_nodes_begun words found
   pub same : IsPermutation found faults
-  pub order : IsNonDecreasingBy (λ (fault : Fault). fault.line) faults
+  pub order : IsNonDecreasingBy (λ (fault : SourceFault). fault.line) faults
 
 -- some faults, or else this one
-abbrev pub or_first : List Fault → Fault → List Fault
-or_first [] first = first ∷ []
-or_first (fault ∷ faults) first = fault ∷ faults
+abbrev pub faults_or_first : List SourceFault → SourceFault → List SourceFault
+faults_or_first [] first = first ∷ []
+faults_or_first (fault ∷ faults) first = fault ∷ faults
 
 -- The faults of a source that isn't assembled for this first one.
-pub record AreFaultsOfSource (source : List ℕ) (first : Fault) (faults : List Fault) : Type 0 where
+pub record AreFaultsOfSource (source : List ℕ) (first : SourceFault) (faults : List SourceFault) : Type 0 where
   pub words : List Token
-  pub numbered : List Fault
-  pub said : token_contents words ≡ once_in source
+  pub numbered : List SourceFault
+  pub said : token_contents words ≡ source_tokens_without_copies source
   pub found : AreFaultsOfWords (token_contents (with_numbers 1 words)) numbered
-  pub lines : faults ≡ or_first (faults_by_line words numbered) first
+  pub lines : faults ≡ faults_or_first (faults_by_line words numbered) first

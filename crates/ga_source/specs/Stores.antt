@@ -3,16 +3,16 @@ use Rattle.std.specs.Prelude.{ℕ, ◌+◌, ◌%◌, ◌==◌, nat_lt, Bool, fal
 use Rattle.std.specs.Option.{option_map_or}
 use Rattle.ga_slots.specs.declared.op.Op.{Op}
 use Rattle.ga_slots.specs.declared.op.Op.TheVariants.{StoreB, Store as StoreA, StorePlus, FetchPlus, AStore, BStore, MultiplyStep, Return, Execute, Jump, Call, Unext as UnextOp}
-use Rattle.ga_ports.specs.Address.{advanced}
+use Rattle.ga_ports.specs.Address.{advanced_address}
 use Rattle.ga_parser.specs.declared.item.Item.{Item}
 use Rattle.ga_parser.specs.declared.item.Item.TheVariants.{Opcode, Literal, Back, Ahead}
-use Rattle.ga_parser.specs.declared.item.Request.{Request}
-use Rattle.ga_parser.specs.declared.item.Request.TheVariants.{Put, Unext, Mark}
+use Rattle.ga_parser.specs.declared.item.AssemblyRequest.{AssemblyRequest}
+use Rattle.ga_parser.specs.declared.item.AssemblyRequest.TheVariants.{Put, Unext, Mark}
 use Rattle.ga_parser.specs.declared.item.LocatedRequest.{LocatedRequest}
 use Rattle.ga_parser.specs.declared.labels.Label.{Label}
 use Rattle.ga_parser.specs.Saying.{has_bytes}
-use Rattle.ga_source.specs.Reading.{resolved, p_behind, is_data_cell}
-use Rattle.ga_source.specs.declared.group.Group.{Group}
+use Rattle.ga_source.specs.Reading.{operand_value, p_after_item, is_data_cell}
+use Rattle.ga_source.specs.declared.group.CellGroup.{CellGroup}
 use Rattle.ga_source.specs.declared.program.Program.{Program}
 use Rattle.ga_source.specs.declared.stores.Store.{Store}
 use Rattle.ga_source.specs.declared.stores.Known.{Known}
@@ -35,15 +35,15 @@ with_literal code p line _ = code
 -- the cells of the literals among items from the i-th on, whose lines these are
 unfoldable pub with_literals : List ℕ → List ℕ → ℕ → ℕ → List Item → List ℕ
 with_literals code lines p i [] = code
-with_literals code lines p i (item ∷ items) = with_literals (with_literal code p (slice_index lines i) item) lines (p_behind p item) (i + 1) items
+with_literals code lines p i (item ∷ items) = with_literals (with_literal code p (slice_index lines i) item) lines (p_after_item p item) (i + 1) items
 
 -- an instruction word, followed by its literals
-abbrev pub with_code_word : List ℕ → Group → List ℕ
+abbrev pub with_code_word : List ℕ → CellGroup → List ℕ
 with_code_word code group =
-    with_literals (with_code_line code group.address (slice_index group.lines.items 0)) group.lines.items (advanced group.address) 0 group.items.items
+    with_literals (with_code_line code group.address (slice_index group.lines.items 0)) group.lines.items (advanced_address group.address) 0 group.items.items
 
 -- of each cell the line of its code, 0 where none is: all groups but cells of data
-unfoldable pub with_groups : List ℕ → List Group → List ℕ
+unfoldable pub with_groups : List ℕ → List CellGroup → List ℕ
 with_groups code [] = code
 with_groups code (group ∷ groups) = with_groups (if is_data_cell group.items.items then code else with_code_word code group) groups
 
@@ -52,8 +52,8 @@ code_lines program = with_groups (replicate 192 0) program.groups.items
 
 -- ---- what is known of A and B along the source
 
-abbrev pub nothing_known : Known
-nothing_known = record { a = None; b = None; literal = None }
+abbrev pub unknown_registers : Known
+unknown_registers = record { a = None; b = None; literal = None }
 
 -- the address at which an opcode stores, where it is known
 abbrev pub store_address : Known → Op → Option ℕ
@@ -64,58 +64,58 @@ store_address known _ = None
 
 -- `a!` and `b!` take the literal just before them, `!+` and `@+` increment A, `+*` changes it, and after a way out nothing is
 -- known
-abbrev pub known_after : Known → Op → Known
-known_after known AStore = record { a = known.literal; b = known.b; literal = None }
-known_after known BStore = record { a = known.a; b = known.literal; literal = None }
-known_after known StorePlus = record { a = option_map advanced known.a; b = known.b; literal = None }
-known_after known FetchPlus = record { a = option_map advanced known.a; b = known.b; literal = None }
-known_after known MultiplyStep = record { a = None; b = known.b; literal = None }
-known_after known Return = nothing_known
-known_after known Execute = nothing_known
-known_after known Jump = nothing_known
-known_after known Call = nothing_known
-known_after known _ = record { a = known.a; b = known.b; literal = None }
+abbrev pub known_after_opcode : Known → Op → Known
+known_after_opcode known AStore = record { a = known.literal; b = known.b; literal = None }
+known_after_opcode known BStore = record { a = known.a; b = known.literal; literal = None }
+known_after_opcode known StorePlus = record { a = option_map advanced_address known.a; b = known.b; literal = None }
+known_after_opcode known FetchPlus = record { a = option_map advanced_address known.a; b = known.b; literal = None }
+known_after_opcode known MultiplyStep = record { a = None; b = known.b; literal = None }
+known_after_opcode known Return = unknown_registers
+known_after_opcode known Execute = unknown_registers
+known_after_opcode known Jump = unknown_registers
+known_after_opcode known Call = unknown_registers
+known_after_opcode known _ = record { a = known.a; b = known.b; literal = None }
 
 -- after the end of a loop, which may move A more than once
-abbrev pub known_past_loop : Known → Op → Known
-known_past_loop known op = record { a = None; b = (known_after known op).b; literal = None }
+abbrev pub known_after_loop : Known → Op → Known
+known_after_loop known op = record { a = None; b = (known_after_opcode known op).b; literal = None }
 
 -- a control word made the label, so that it isn't reached from elsewhere
-abbrev pub is_nameless : List Label → ℕ → Bool
-is_nameless names label = option_map_or (λ (found : Label). not (has_bytes found.name.now)) (slice_get names label) false
+abbrev pub is_unnamed_label : List Label → ℕ → Bool
+is_unnamed_label names label = option_map_or (λ (found : Label). not (has_bytes found.name.now)) (slice_get names label) false
 
-abbrev pub known_behind : Program → Known → Request → Known
-known_behind program known (Put (Literal value)) = record { a = known.a; b = known.b; literal = resolved program.labels.items value }
-known_behind program known (Put (Opcode op)) = known_after known op
-known_behind program known (Put (Ahead op _)) = known_after known op
-known_behind program known (Put (Back op _)) = known_past_loop known op
-known_behind program known (Unext _) = known_past_loop known UnextOp
-known_behind program known (Mark label) = if is_nameless program.names.items label then known else nothing_known
-known_behind program known _ = known
+abbrev pub known_after_request : Program → Known → AssemblyRequest → Known
+known_after_request program known (Put (Literal value)) = record { a = known.a; b = known.b; literal = operand_value program.labels.items value }
+known_after_request program known (Put (Opcode op)) = known_after_opcode known op
+known_after_request program known (Put (Ahead op _)) = known_after_opcode known op
+known_after_request program known (Put (Back op _)) = known_after_loop known op
+known_after_request program known (Unext _) = known_after_loop known UnextOp
+known_after_request program known (Mark label) = if is_unnamed_label program.names.items label then known else unknown_registers
+known_after_request program known _ = known
 
 -- ---- stores
 
 -- a store at this address, where its cell is one of RAM that holds code
-abbrev pub store_over : List ℕ → ℕ → ℕ → Option Store
-store_over code line address =
+abbrev pub code_store_at : List ℕ → ℕ → ℕ → Option Store
+code_store_at code line address =
     if not (slice_index code (cell_index address) == 0) && nat_lt (address % 512) 128
     then Some (record { line = line; address = address % 64; code_line = slice_index code (cell_index address) })
     else None
 
-abbrev pub store_of : List ℕ → Known → ℕ → Request → Option Store
-store_of code known line (Put (Opcode op)) = option_map_or (store_over code line) (store_address known op) None
-store_of code known line _ = None
+abbrev pub code_store_of_request : List ℕ → Known → ℕ → AssemblyRequest → Option Store
+code_store_of_request code known line (Put (Opcode op)) = option_map_or (code_store_at code line) (store_address known op) None
+code_store_of_request code known line _ = None
 
-abbrev pub with_store : Option Store → List Store → List Store
-with_store None stores = stores
-with_store (Some store) stores = store ∷ stores
+abbrev pub with_optional_store : Option Store → List Store → List Store
+with_optional_store None stores = stores
+with_optional_store (Some store) stores = store ∷ stores
 
 -- those of the requests, in their order, where this is known before the first
 unfoldable pub stores_from : Program → List ℕ → Known → List LocatedRequest → List Store
 stores_from program code known [] = []
 stores_from program code known (asked ∷ rest) =
-    with_store (store_of code known asked.line asked.request) (stores_from program code (known_behind program known asked.request) rest)
+    with_optional_store (code_store_of_request code known asked.line asked.request) (stores_from program code (known_after_request program known asked.request) rest)
 
 -- all of a program
 abbrev pub stores_of_program : Program → List Store
-stores_of_program program = stores_from program (code_lines program) nothing_known program.asked.items
+stores_of_program program = stores_from program (code_lines program) unknown_registers program.asked.items

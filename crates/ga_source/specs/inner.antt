@@ -7,30 +7,30 @@ use Rattle.ga_parser.specs.declared.item.Item.TheVariants.{Opcode, Literal, Back
 use Rattle.std.specs.List.{All, list_any, flat_map}
 use Rattle.ga_node.specs.Record.{NodeState}
 use Rattle.ga_parser.specs.declared.item.LocatedRequest.{LocatedRequest}
-use Rattle.ga_source.specs.declared.group.Group.{Group}
-use Rattle.ga_parser.specs.declared.item.Request.{Request}
-use Rattle.ga_parser.specs.declared.item.Request.TheVariants.{Fill, Go, Carry, Put}
+use Rattle.ga_source.specs.declared.group.CellGroup.{CellGroup}
+use Rattle.ga_parser.specs.declared.item.AssemblyRequest.{AssemblyRequest}
+use Rattle.ga_parser.specs.declared.item.AssemblyRequest.TheVariants.{Fill, Go, Carry, Put}
 use Rattle.ga_source.specs.declared.packing.PackedNode.{PackedNode}
 use Rattle.ga_source.specs.declared.packing.Packer.{Packer}
 use Rattle.ga_source.specs.declared.group.PackingSpot.{PackingSpot}
-use Rattle.ga_source.specs.Reading.{begin_at, spot_after, item_stands, is_filled, fits, is_met, after_request, follows, resolved, are_both, word_in, reaches, ends_cell}
-use Rattle.ga_source.specs.Cells.{takes, is_asked, KeepsElsewhere, Placed, placed_at, placed_from}
+use Rattle.ga_source.specs.Reading.{first_spot_of_cell, spot_after_item, is_item_at_spot, is_filled_with_nops, item_fits, is_request_met, spot_after_request, cells_match_requests, operand_value, are_equal_numbers, word_at_address, slot_reaches, ends_cell}
+use Rattle.ga_source.specs.Cells.{item_uses_cell, requests_use_cell, KeepsOtherCells, PlacedItem, placed_item, placed_items_from}
 use Rattle.ga_node.specs.declared.place.Place.{Place}
 use Rattle.ga_node.specs.declared.place.Place.TheVariants.{Ram, Rom}
 use Rattle.ga_slots.specs.Slots.{opcode, target}
 use Rattle.ga_parser.specs.declared.item.Operand.TheVariants.{Label, Number}
 use Rattle.ga_parser.specs.declared.item.Operand.{Operand}
-use Rattle.ga_source.specs.Made.{address_behind, cells_from, cell_of, node_number_of_words, IsSoundBody}
+use Rattle.ga_source.specs.Made.{address_after_request, requested_cells, cell_of, node_number_of_words, IsSoundBody}
 use Rattle.ga_source.specs.declared.program.Program.{Program}
-use Rattle.ga_source.specs.Programs.{IsAssembled, IsOf, IsAsked}
+use Rattle.ga_source.specs.Programs.{IsAssembledChip, IsPlainProgramOf, IsProgramOfBody}
 use Rattle.ga_parser.specs.Saying.{TokenContent, is_word}
-use Rattle.ga_parser.specs.declared.fault.Fault.{Fault}
+use Rattle.ga_parser.specs.declared.fault.SourceFault.{SourceFault}
 use Rattle.ga_parser.specs.Asking.{Refusal}
 use Rattle.ga_parser.specs.Requests.{word_refusal}
-use Rattle.ga_source.specs.Recovery.{is_begin, node_by, from_next, AreFaultsOfNodes}
+use Rattle.ga_source.specs.Recovery.{is_node_token, node_of_token, words_from_next_node, AreFaultsOfNodes}
 use Rattle.ga_parser.specs.declared.scan.TokenKind.TheVariants.{Word}
 use Rattle.ga_parser.specs.declared.scan.Token.{Token}
-use Rattle.ga_parser.specs.Plain.{body_in, bodies_in}
+use Rattle.ga_parser.specs.Plain.{body_words, body_word_lists}
 use Rattle.ga_parser.specs.inner.Drafting.{texts_of}
 
 -- ---- the opcodes of items, and cells of data
@@ -52,47 +52,47 @@ nothing = Opcode Return
 -- the spot after items
 unfoldable pub behind_all : PackingSpot → List Item → PackingSpot
 behind_all spot [] = spot
-behind_all spot (item ∷ rest) = behind_all (spot_after spot item) rest
+behind_all spot (item ∷ rest) = behind_all (spot_after_item spot item) rest
 
 -- the items are in place, in sequence
 unfoldable pub Stand : NodeState → List (Option ℕ) → PackingSpot → List Item → Type 0
 Stand node labels spot [] = Unit {0}
-Stand node labels spot (item ∷ rest) = (item_stands node labels spot item ≡ true) × Stand node labels (spot_after spot item) rest
+Stand node labels spot (item ∷ rest) = (is_item_at_spot node labels spot item ≡ true) × Stand node labels (spot_after_item spot item) rest
 
 -- one of the items or its literal is in the cell
 unfoldable pub taken : PackingSpot → List Item → ℕ → Bool
 taken spot [] cell = false
-taken spot (item ∷ rest) cell = takes spot item cell || taken (spot_after spot item) rest cell
+taken spot (item ∷ rest) cell = item_uses_cell spot item cell || taken (spot_after_item spot item) rest cell
 
 -- the cell reads as these items, followed by `.`
 pub record IsReadAt (node : NodeState) (labels : List (Option ℕ)) (address : ℕ) (items : List Item) : Type 0 where
-  pub items_stand : Stand node labels (begin_at address) items
-  pub filled : is_filled node (behind_all (begin_at address) items) ≡ true
+  pub items_stand : Stand node labels (first_spot_of_cell address) items
+  pub filled : is_filled_with_nops node (behind_all (first_spot_of_cell address) items) ≡ true
 
 -- the spot of an item of the cell
 abbrev pub spot_in : ℕ → List Item → ℕ → PackingSpot
-spot_in address items k = behind_all (begin_at address) (take k items)
+spot_in address items k = behind_all (first_spot_of_cell address) (take k items)
 
 -- each item has room in its slot of the cell
 pub record IsFit (labels : List (Option ℕ)) (address : ℕ) (items : List Item) : Type 0 where
   pub slots : (k : ℕ) → k < length items → (spot_in address items k).slot ≡ k
   pub cells : (k : ℕ) → k < length items → (spot_in address items k).at ≡ address
-  pub room : (k : ℕ) → k < length items → fits labels (spot_in address items k) (slice_index_or items k nothing) ≡ true
+  pub room : (k : ℕ) → k < length items → item_fits labels (spot_in address items k) (slice_index_or items k nothing) ≡ true
 
 -- ---- groups
 
-pub record IsRead (node : NodeState) (labels : List (Option ℕ)) (group : Group) : Type 0 where
+pub record IsRead (node : NodeState) (labels : List (Option ℕ)) (group : CellGroup) : Type 0 where
   pub whole : group.broken ≡ None
   pub cell : IsReadAt node labels group.address group.items.items
 
-abbrev pub IsFitGroup : List (Option ℕ) → Group → Type 0
+abbrev pub IsFitGroup : List (Option ℕ) → CellGroup → Type 0
 IsFitGroup labels group = IsFit labels group.address group.items.items
 
-abbrev pub takes_group : ℕ → Group → Bool
-takes_group cell group = taken (begin_at group.address) group.items.items cell
+abbrev pub takes_group : ℕ → CellGroup → Bool
+takes_group cell group = taken (first_spot_of_cell group.address) group.items.items cell
 
 -- one of the groups has the cell
-abbrev pub are_taken : List Group → ℕ → Bool
+abbrev pub are_taken : List CellGroup → ℕ → Bool
 are_taken groups cell = list_any (takes_group cell) groups
 
 -- ---- requests
@@ -100,12 +100,12 @@ are_taken groups cell = list_any (takes_group cell) groups
 -- the spot after requests
 unfoldable pub after_all : List (Option ℕ) → PackingSpot → List LocatedRequest → PackingSpot
 after_all labels spot [] = spot
-after_all labels spot (asked ∷ rest) = after_all labels (after_request labels spot asked.request) rest
+after_all labels spot (asked ∷ rest) = after_all labels (spot_after_request labels spot asked.request) rest
 
 -- each request is met where the walk comes to it
 unfoldable pub AreMet : NodeState → List (Option ℕ) → PackingSpot → List LocatedRequest → Type 0
 AreMet node labels spot [] = Unit {0}
-AreMet node labels spot (asked ∷ rest) = (is_met node labels spot asked.request ≡ true) × AreMet node labels (after_request labels spot asked.request) rest
+AreMet node labels spot (asked ∷ rest) = (is_request_met node labels spot asked.request ≡ true) × AreMet node labels (spot_after_request labels spot asked.request) rest
 
 -- ---- the packer
 
@@ -126,20 +126,20 @@ pub record IsInCell (packer : Packer) : Type 0 where
 -- The requests so far are laid out: the walk through them ends at the packer's spot, and where the groups and the open cell
 -- read as their items, each request is met. Whatever the labels that aren't known yet will be.
 pub record IsWalked (packer : Packer) (asked : List LocatedRequest) : Type 0 where
-  pub here : behind_all (begin_at packer.spot.at) packer.filling.items ≡ packer.spot
-  pub walk : (labels : List (Option ℕ)) → Extends packer.labels.items labels → after_all labels (begin_at 0) asked ≡ packer.spot
-  pub met : (node : NodeState) (labels : List (Option ℕ)) → Extends packer.labels.items labels → All (IsRead node labels) packer.groups.items → packer.broken ≡ None → Stand node labels (begin_at packer.spot.at) packer.filling.items → AreMet node labels (begin_at 0) asked
-  pub named : (labels : List (Option ℕ)) (cell : ℕ) → Extends packer.labels.items labels → (are_taken packer.groups.items cell ≡ true) ⊎ (taken (begin_at packer.spot.at) packer.filling.items cell ≡ true) → is_asked labels (begin_at 0) asked cell ≡ true
+  pub here : behind_all (first_spot_of_cell packer.spot.at) packer.filling.items ≡ packer.spot
+  pub walk : (labels : List (Option ℕ)) → Extends packer.labels.items labels → after_all labels (first_spot_of_cell 0) asked ≡ packer.spot
+  pub met : (node : NodeState) (labels : List (Option ℕ)) → Extends packer.labels.items labels → All (IsRead node labels) packer.groups.items → packer.broken ≡ None → Stand node labels (first_spot_of_cell packer.spot.at) packer.filling.items → AreMet node labels (first_spot_of_cell 0) asked
+  pub named : (labels : List (Option ℕ)) (cell : ℕ) → Extends packer.labels.items labels → (are_taken packer.groups.items cell ≡ true) ⊎ (taken (first_spot_of_cell packer.spot.at) packer.filling.items cell ≡ true) → requests_use_cell labels (first_spot_of_cell 0) asked cell ≡ true
   pub groups_fit : (labels : List (Option ℕ)) → Extends packer.labels.items labels → All (IsFitGroup labels) packer.groups.items
   pub open_fits : (labels : List (Option ℕ)) → Extends packer.labels.items labels → IsFit labels packer.spot.at packer.filling.items
 
 -- The requests so far are laid out, where the last asks for an item that is still to be put, at the packer's spot.
 pub record IsPending (packer : Packer) (asked : List LocatedRequest) (item : Item) : Type 0 where
-  pub here : behind_all (begin_at packer.spot.at) packer.filling.items ≡ packer.spot
-  pub fit : (labels : List (Option ℕ)) → Extends packer.labels.items labels → fits labels packer.spot item ≡ true
-  pub walk : (labels : List (Option ℕ)) → Extends packer.labels.items labels → after_all labels (begin_at 0) asked ≡ spot_after packer.spot item
-  pub met : (node : NodeState) (labels : List (Option ℕ)) → Extends packer.labels.items labels → All (IsRead node labels) packer.groups.items → packer.broken ≡ None → Stand node labels (begin_at packer.spot.at) packer.filling.items → item_stands node labels packer.spot item ≡ true → AreMet node labels (begin_at 0) asked
-  pub named : (labels : List (Option ℕ)) (cell : ℕ) → Extends packer.labels.items labels → (are_taken packer.groups.items cell ≡ true) ⊎ ((taken (begin_at packer.spot.at) packer.filling.items cell ≡ true) ⊎ (takes packer.spot item cell ≡ true)) → is_asked labels (begin_at 0) asked cell ≡ true
+  pub here : behind_all (first_spot_of_cell packer.spot.at) packer.filling.items ≡ packer.spot
+  pub fit : (labels : List (Option ℕ)) → Extends packer.labels.items labels → item_fits labels packer.spot item ≡ true
+  pub walk : (labels : List (Option ℕ)) → Extends packer.labels.items labels → after_all labels (first_spot_of_cell 0) asked ≡ spot_after_item packer.spot item
+  pub met : (node : NodeState) (labels : List (Option ℕ)) → Extends packer.labels.items labels → All (IsRead node labels) packer.groups.items → packer.broken ≡ None → Stand node labels (first_spot_of_cell packer.spot.at) packer.filling.items → is_item_at_spot node labels packer.spot item ≡ true → AreMet node labels (first_spot_of_cell 0) asked
+  pub named : (labels : List (Option ℕ)) (cell : ℕ) → Extends packer.labels.items labels → (are_taken packer.groups.items cell ≡ true) ⊎ ((taken (first_spot_of_cell packer.spot.at) packer.filling.items cell ≡ true) ⊎ (item_uses_cell packer.spot item cell ≡ true)) → requests_use_cell labels (first_spot_of_cell 0) asked cell ≡ true
   pub groups_fit : (labels : List (Option ℕ)) → Extends packer.labels.items labels → All (IsFitGroup labels) packer.groups.items
   pub open_fits : (labels : List (Option ℕ)) → Extends packer.labels.items labels → IsFit labels packer.spot.at packer.filling.items
 
@@ -151,10 +151,10 @@ pub record IsClosed (before after : Packer) : Type 0 where
   pub whole : after.broken ≡ None
   pub read : (node : NodeState) (labels : List (Option ℕ)) → All (IsRead node labels) after.groups.items → All (IsRead node labels) before.groups.items × IsReadAt node labels before.spot.at before.filling.items × (before.broken ≡ None)
   pub fit : (labels : List (Option ℕ)) → All (IsFitGroup labels) before.groups.items → IsFit labels before.spot.at before.filling.items → All (IsFitGroup labels) after.groups.items
-  pub cells : (cell : ℕ) → are_taken after.groups.items cell ≡ true → (are_taken before.groups.items cell ≡ true) ⊎ (taken (begin_at before.spot.at) before.filling.items cell ≡ true)
+  pub cells : (cell : ℕ) → are_taken after.groups.items cell ≡ true → (are_taken before.groups.items cell ≡ true) ⊎ (taken (first_spot_of_cell before.spot.at) before.filling.items cell ≡ true)
 
 -- a request that asks for a new cell alone
-abbrev pub IsFilling : Request → Type 0
+abbrev pub IsFilling : AssemblyRequest → Type 0
 IsFilling Fill = Unit {0}
 IsFilling (Go _) = Unit {0}
 IsFilling (Carry _) = Unit {0}
@@ -163,34 +163,34 @@ IsFilling _ = ⊥
 -- The groups are the requests laid out: where each is read, the cells read as the requests; their cells are those asked for, and
 -- each item has room in its slot.
 pub record IsLaidOut (packed : PackedNode) (asked : List LocatedRequest) : Type 0 where
-  pub read : (node : NodeState) → All (IsRead node packed.labels.items) packed.groups.items → follows node packed.labels.items (begin_at 0) asked ≡ true
-  pub named : (cell : ℕ) → are_taken packed.groups.items cell ≡ true → is_asked packed.labels.items (begin_at 0) asked cell ≡ true
+  pub read : (node : NodeState) → All (IsRead node packed.labels.items) packed.groups.items → cells_match_requests node packed.labels.items (first_spot_of_cell 0) asked ≡ true
+  pub named : (cell : ℕ) → are_taken packed.groups.items cell ≡ true → requests_use_cell packed.labels.items (first_spot_of_cell 0) asked cell ≡ true
   pub fit : All (IsFitGroup packed.labels.items) packed.groups.items
 
 -- ---- groups as the places of their items, while requests are packed
 
 -- items of a cell, each with its line, one in each slot from this one on
-unfoldable pub places_in : ℕ → ℕ → List Item → List ℕ → List Placed
+unfoldable pub places_in : ℕ → ℕ → List Item → List ℕ → List PlacedItem
 places_in address slot [] lines = []
 places_in address slot (item ∷ items) [] = []
 places_in address slot (item ∷ items) (line ∷ lines) = record { address = address; slot = slot; item = item; line = line } ∷ places_in address (suc slot) items lines
 
-abbrev pub group_places : Group → List Placed
+abbrev pub group_places : CellGroup → List PlacedItem
 group_places group = places_in group.address 0 group.items.items group.lines.items
 
 -- a group has an item, and each item has a line
-pub record HasLines (group : Group) : Type 0 where
+pub record HasLines (group : CellGroup) : Type 0 where
   pub begun : 0 < length group.items.items
   pub each : length group.lines.items ≡ length group.items.items
 
 -- the items of the groups so far and of the open cell
-abbrev pub packer_places : Packer → List Placed
+abbrev pub packer_places : Packer → List PlacedItem
 packer_places packer = flat_map group_places packer.groups.items ++ places_in packer.spot.at 0 packer.filling.items packer.lines.items
 
 -- The groups and the open cell have just the items that the requests so far ask for, where the walk puts them.
 -- Whatever the labels that aren't known yet will be.
 pub record IsGrouped (packer : Packer) (asked : List LocatedRequest) : Type 0 where
-  pub places : (labels : List (Option ℕ)) → Extends packer.labels.items labels → placed_from labels (begin_at 0) asked ≡ packer_places packer
+  pub places : (labels : List (Option ℕ)) → Extends packer.labels.items labels → placed_items_from labels (first_spot_of_cell 0) asked ≡ packer_places packer
   pub groups : All HasLines packer.groups.items
   pub lines : length packer.lines.items ≡ length packer.filling.items
   pub whole : packer.filling.items ≡ [] → packer.broken ≡ None
@@ -203,7 +203,7 @@ pub record TakesOn (old new : Packer) (asked : LocatedRequest) : Type 0 where
 
 -- The groups, the open cell and an item that is still to be put at the packer's spot are what the requests so far ask for.
 pub record IsPutting (packer : Packer) (asked : List LocatedRequest) (item : Item) (line : ℕ) : Type 0 where
-  pub places : (labels : List (Option ℕ)) → Extends packer.labels.items labels → placed_from labels (begin_at 0) asked ≡ packer_places packer ++ placed_at packer.spot item line ∷ []
+  pub places : (labels : List (Option ℕ)) → Extends packer.labels.items labels → placed_items_from labels (first_spot_of_cell 0) asked ≡ packer_places packer ++ placed_item packer.spot item line ∷ []
   pub groups : All HasLines packer.groups.items
   pub lines : length packer.lines.items ≡ length packer.filling.items
 
@@ -229,7 +229,7 @@ KeepsRest before after = after ≡ record before { ram = after.ram; rom = after.
 
 -- a jump that leads from wherever its label is reached
 abbrev pub Leads : List (Option ℕ) → ℕ → ℕ → ℕ → Type 0
-Leads labels word slot label = (p : ℕ) → reaches p slot (resolved labels (Label label)) ≡ true → are_both (resolved labels (Label label)) (Some (target p word slot)) ≡ true
+Leads labels word slot label = (p : ℕ) → slot_reaches p slot (operand_value labels (Label label)) ≡ true → are_equal_numbers (operand_value labels (Label label)) (Some (target p word slot)) ≡ true
 
 -- the word has the item in a slot
 abbrev pub HasItem : List (Option ℕ) → ℕ → ℕ → Item → Type 0
@@ -237,7 +237,7 @@ HasItem labels word slot (Opcode op) = opcode word slot ≡ op
 HasItem labels word slot (Literal _) = opcode word slot ≡ FetchP
 HasItem labels word slot (Back op label) = (opcode word slot ≡ op) × Leads labels word slot label
 HasItem labels word slot (Ahead op label) = (opcode word slot ≡ op) × Leads labels word slot label
-HasItem labels word slot (Cell value) = are_both (resolved labels value) (Some word) ≡ true
+HasItem labels word slot (Cell value) = are_equal_numbers (operand_value labels value) (Some word) ≡ true
 
 -- the last item of a cell may stand in this slot
 abbrev pub MayEnd : ℕ → Item → Type 0
@@ -260,13 +260,13 @@ pub record Holds (given : List (Option ℕ)) (cell : ℕ) : Type 0 where
 
 -- what was given stays
 abbrev pub Keeps : NodeState → List (Option ℕ) → NodeState → List (Option ℕ) → Type 0
-Keeps before given after given_then = (address : ℕ) → Holds given (address % 512) → (word_in after address ≡ word_in before address) × Holds given_then (address % 512)
+Keeps before given after given_then = (address : ℕ) → Holds given (address % 512) → (word_at_address after address ≡ word_at_address before address) × Holds given_then (address % 512)
 
 -- besides its opcode, what an item needs: its literal, or that its jump reaches
 abbrev pub HasRest : NodeState → List (Option ℕ) → PackingSpot → Item → Type 0
-HasRest node labels spot (Literal value) = are_both (resolved labels value) (word_in node spot.p) ≡ true
-HasRest node labels spot (Back _ label) = (spot.slot < 3) × (reaches spot.p spot.slot (resolved labels (Label label)) ≡ true)
-HasRest node labels spot (Ahead _ label) = (spot.slot < 3) × (reaches spot.p spot.slot (resolved labels (Label label)) ≡ true)
+HasRest node labels spot (Literal value) = are_equal_numbers (operand_value labels value) (word_at_address node spot.p) ≡ true
+HasRest node labels spot (Back _ label) = (spot.slot < 3) × (slot_reaches spot.p spot.slot (operand_value labels (Label label)) ≡ true)
+HasRest node labels spot (Ahead _ label) = (spot.slot < 3) × (slot_reaches spot.p spot.slot (operand_value labels (Label label)) ≡ true)
 HasRest node labels spot _ = Unit {0}
 
 -- the cell of an item's literal is given
@@ -278,21 +278,21 @@ HoldsRest given spot _ = Unit {0}
 pub record HasWord (node : NodeState) (labels : List (Option ℕ)) (address : ℕ) (items : List Item) : Type 0 where
   pub word : ℕ
   pub is_word : IsWordOf labels items word
-  pub in_cell : word_in node address ≡ Some word
+  pub in_cell : word_at_address node address ≡ Some word
 
 -- the group's word and its first items are written
-pub record IsWriting (before : NodeState) (given : List (Option ℕ)) (node : NodeState) (later labels : List (Option ℕ)) (group : Group) (spot : PackingSpot) (i : ℕ) : Type 0 where
+pub record IsWriting (before : NodeState) (given : List (Option ℕ)) (node : NodeState) (later labels : List (Option ℕ)) (group : CellGroup) (spot : PackingSpot) (i : ℕ) : Type 0 where
   pub where_is : spot ≡ spot_in group.address group.items.items i
   pub rest : KeepsRest before node
-  pub elsewhere : KeepsElsewhere (λ (cell : ℕ). takes_group cell group) before node
+  pub elsewhere : KeepsOtherCells (λ (cell : ℕ). takes_group cell group) before node
   pub kept : Keeps before given node later
   pub has_word : HasWord node labels group.address group.items.items
   pub held : Holds later (group.address % 512)
-  pub so_far : Stand node labels (begin_at group.address) (take i group.items.items)
-  pub cells : (cell : ℕ) → taken (begin_at group.address) (take i group.items.items) cell ≡ true → Holds later cell
+  pub so_far : Stand node labels (first_spot_of_cell group.address) (take i group.items.items)
+  pub cells : (cell : ℕ) → taken (first_spot_of_cell group.address) (take i group.items.items) cell ≡ true → Holds later cell
 
 -- the group is read, and its cells are given
-pub record IsLoadedGroup (node : NodeState) (labels given : List (Option ℕ)) (group : Group) : Type 0 where
+pub record IsLoadedGroup (node : NodeState) (labels given : List (Option ℕ)) (group : CellGroup) : Type 0 where
   pub read : IsRead node labels group
   pub held : (cell : ℕ) → takes_group cell group ≡ true → Holds given cell
 
@@ -305,17 +305,17 @@ IsMemory _ = ⊥
 -- ---- plain requests as groups: each cell a group of its own
 
 -- requests without their lines
-abbrev pub requests_of : List LocatedRequest → List Request
+abbrev pub requests_of : List LocatedRequest → List AssemblyRequest
 requests_of asked = map (λ one. one.request) asked
 
 -- a cell of data with a number, or an address to go on at
-abbrev pub IsPlainRequest : Request → Type 0
+abbrev pub IsPlainRequest : AssemblyRequest → Type 0
 IsPlainRequest (Put (Cell (Number n))) = n < 2 ^ 18
 IsPlainRequest (Go address) = Unit {0}
 IsPlainRequest _ = ⊥
 
 -- each request is a cell of data with a number, or an address to go on at
-unfoldable pub ArePlain : List Request → Type 0
+unfoldable pub ArePlain : List AssemblyRequest → Type 0
 ArePlain [] = Unit {0}
 ArePlain (request ∷ requests) = IsPlainRequest request × ArePlain requests
 
@@ -332,28 +332,28 @@ pub record AreNumbers (p a b : Option Operand) : Type 0 where
   pub b_below : IsNumber 0x200 b
 
 -- the address after requests
-unfoldable pub address_after : ℕ → List Request → ℕ
+unfoldable pub address_after : ℕ → List AssemblyRequest → ℕ
 address_after at [] = at
-address_after at (request ∷ requests) = address_after (address_behind at request) requests
+address_after at (request ∷ requests) = address_after (address_after_request at request) requests
 
 -- the group is this cell
-pub record IsCellGroup (cell : ℕ × ℕ) (group : Group) : Type 0 where
+pub record IsCellGroup (cell : ℕ × ℕ) (group : CellGroup) : Type 0 where
   pub address : group.address ≡ cell.0
   pub items : group.items.items ≡ Cell (Number cell.1) ∷ []
   pub whole : group.broken ≡ None
 
 -- the groups are these cells
-unfoldable pub AreCellGroups : List (ℕ × ℕ) → List Group → Type 0
+unfoldable pub AreCellGroups : List (ℕ × ℕ) → List CellGroup → Type 0
 AreCellGroups [] [] = Unit {0}
 AreCellGroups (cell ∷ cells) (group ∷ groups) = IsCellGroup cell group × AreCellGroups cells groups
 AreCellGroups _ _ = ⊥
 
 -- plain requests are packed so far, and no cell is being filled
-pub record IsPackedPlain (packer : Packer) (requests : List Request) : Type 0 where
+pub record IsPackedPlain (packer : Packer) (requests : List AssemblyRequest) : Type 0 where
   pub filling : packer.filling.items ≡ []
   pub whole : packer.broken ≡ None
-  pub spot : packer.spot ≡ begin_at (address_after 0 requests)
-  pub groups : AreCellGroups (cells_from 0 requests) packer.groups.items
+  pub spot : packer.spot ≡ first_spot_of_cell (address_after 0 requests)
+  pub groups : AreCellGroups (requested_cells 0 requests) packer.groups.items
 
 -- the numbers of cells are words
 abbrev pub AreWords : List (ℕ × ℕ) → Type 0
@@ -368,19 +368,19 @@ HasBegun begun program = slice_index_or begun program.node.number false ≡ true
 -- the programs so far, whose nodes are marked
 pub record AreLoaded (chip : List NodeState) (begun : List Bool) (programs : List Program) : Type 0 where
   pub marked : All (HasBegun begun) programs
-  pub assembled : IsAssembled chip programs
+  pub assembled : IsAssembledChip chip programs
 
 -- the programs are those of the first of these words, and the other words are left
 unfoldable pub AreOfFirst : List (List (List ℕ)) → List Program → List (List (List ℕ)) → Type 0
 AreOfFirst bodies [] left = bodies ≡ left
 AreOfFirst [] (program ∷ programs) left = ⊥
-AreOfFirst (words ∷ bodies) (program ∷ programs) left = IsOf words program × AreOfFirst bodies programs left
+AreOfFirst (words ∷ bodies) (program ∷ programs) left = IsPlainProgramOf words program × AreOfFirst bodies programs left
 
 -- the programs are those of the first of these words with their lines, and the other words are left
 unfoldable pub AreAskedFirst : List (List TokenContent) → List Program → List (List TokenContent) → Type 0
 AreAskedFirst bodies [] left = bodies ≡ left
 AreAskedFirst [] (program ∷ programs) left = ⊥
-AreAskedFirst (words ∷ bodies) (program ∷ programs) left = IsAsked words program × AreAskedFirst bodies programs left
+AreAskedFirst (words ∷ bodies) (program ∷ programs) left = IsProgramOfBody words program × AreAskedFirst bodies programs left
 
 -- ---- what is left of a source that only want of memory keeps from being assembled
 
@@ -393,45 +393,45 @@ pub record AreSound (begun : List Bool) (bodies : List (List (List ℕ))) : Type
 -- the words that are left are those of nodes that haven't begun, each once
 pub record IsSoundFrom (begun : List Bool) (words : List Token) : Type 0 where
   pub kinds : All (λ token. token.kind ≡ Word) words
-  pub begins : body_in (texts_of words) ≡ []
-  pub bodies : AreSound begun (bodies_in (texts_of words))
+  pub begins : body_words (texts_of words) ≡ []
+  pub bodies : AreSound begun (body_word_lists (texts_of words))
 
 -- ---- the faults of nodes, as they are added
 
 -- new faults come after the old ones, and are these
-pub record Adds (AreNew : List Fault → Type 0) (old new : List Fault) : Type 0 where
-  pub own : List Fault
+pub record Adds (AreNew : List SourceFault → Type 0) (old new : List SourceFault) : Type 0 where
+  pub own : List SourceFault
   pub all : new ≡ old ++ own
   pub are : AreNew own
 
 -- or some
-abbrev pub AreAny : List Fault → Type 0
+abbrev pub AreAny : List SourceFault → Type 0
 AreAny faults = Unit {0}
 
 -- or they are refused so
-abbrev pub AreRefused : List Refusal → List Fault → Type 0
+abbrev pub AreRefused : List Refusal → List SourceFault → Type 0
 AreRefused refusals faults = map word_refusal faults ≡ refusals
 
 -- the number of words with which a node begins, or a word in the place of `node`
 abbrev pub head_of : List TokenContent → ℕ
-head_of (first ∷ name ∷ words) = if is_begin first then 2 else 1
+head_of (first ∷ name ∷ words) = if is_node_token first then 2 else 1
 head_of (first ∷ []) = 1
 head_of [] = 1
 
 -- the words that are left if no node begins: those from the next `node` on, or those after a fault
 abbrev pub left_of : List TokenContent → List TokenContent
 left_of [] = []
-left_of (first ∷ words) = if is_word first then from_next (drop (head_of (first ∷ words)) (first ∷ words)) else words
+left_of (first ∷ words) = if is_word first then words_from_next_node (drop (head_of (first ∷ words)) (first ∷ words)) else words
 
 -- no node begins: the fault is added to those of the words that are left
-abbrev pub Skips : List Bool → List TokenContent → Fault → Type 0
-Skips begun words fault = (rest : List Fault) → AreFaultsOfNodes begun (left_of words) rest → AreFaultsOfNodes begun words (fault ∷ rest)
+abbrev pub Skips : List Bool → List TokenContent → SourceFault → Type 0
+Skips begun words fault = (rest : List SourceFault) → AreFaultsOfNodes begun (left_of words) rest → AreFaultsOfNodes begun words (fault ∷ rest)
 
 -- a node begins that hadn't begun
 abbrev pub IsBegun : List Bool → List TokenContent → ℕ → Type 0
-IsBegun begun (first ∷ name ∷ words) n = (is_begin first ≡ true) × (node_by name ≡ Some n) × (slice_index_or begun n false ≡ false)
+IsBegun begun (first ∷ name ∷ words) n = (is_node_token first ≡ true) × (node_of_token name ≡ Some n) × (slice_index_or begun n false ≡ false)
 IsBegun begun _ n = ⊥
 
 -- faults were added that come before those of the words that are left
-abbrev pub Recovers : List Bool → List TokenContent → List Bool → List TokenContent → List Fault → List Fault → Type 0
-Recovers begun words after left old new = Adds (λ own. (rest : List Fault) → AreFaultsOfNodes after left rest → AreFaultsOfNodes begun words (own ++ rest)) old new
+abbrev pub Recovers : List Bool → List TokenContent → List Bool → List TokenContent → List SourceFault → List SourceFault → Type 0
+Recovers begun words after left old new = Adds (λ own. (rest : List SourceFault) → AreFaultsOfNodes after left rest → AreFaultsOfNodes begun words (own ++ rest)) old new

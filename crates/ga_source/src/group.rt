@@ -13,12 +13,12 @@ pub(crate) struct PackingSpot {
     pub slot: u8,
     pub p: u32,
     /// Whether an opcode before it in the cell moves P itself.
-    pub is_moved: bool,
+    pub is_p_moved: bool,
 }
 
 /// The items of one instruction word with its address, or one cell of data.
 #[derive(Drop)]
-pub struct Group {
+pub struct CellGroup {
     pub address: u32,
     pub items: ArrayVec<Item, 4>,
     /// The line of each item.
@@ -27,7 +27,7 @@ pub struct Group {
     pub broken: Option<u32>,
 }
 
-impl Group {
+impl CellGroup {
     /// The line of the first item; a group that is packed has one.
     pub fn line(&self) -> u32
         ensures { result ≡ slice_index self.now.lines.items 0 }

@@ -14,13 +14,14 @@ mod recovery;
 mod stores;
 
 pub use ga_parser::{
-    Fault, Hint, Item, Label, LocatedRequest, NumberRange, Operand, RegisterValue, Registers,
-    Request, SourceCause, Token, TokenKind, hint_for, source_words, strip_bom, words_once,
+    AssemblyRequest, Hint, InitialRegisters, Item, Label, LocatedRequest, NumberRange, Operand,
+    RegisterValue, SourceCause, SourceFault, Token, TokenKind, hint_for, source_words,
+    source_words_without_copies, strip_bom,
 };
-pub use group::Group;
-pub use program::{Assembled, Program, assemble, assemble_words};
+pub use group::CellGroup;
+pub use program::{AssembledChip, Program, assemble, assemble_words};
 pub use recovery::{
-    RecoveredSource, all_faults, assemble_by_word_number, fault_on_line, faults_on_lines,
-    line_of_number, or_first, recover_words,
+    RecoveredPrograms, all_faults, assemble_by_word_number, fault_on_line, faults_on_lines,
+    faults_or_first, line_of_number, recover_words,
 };
 pub use stores::{Store, stores_over_code};

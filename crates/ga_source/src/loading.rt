@@ -5,17 +5,17 @@ ghost use Rattle.std.specs.List.{All};
 ghost use Rattle.ga_node.specs.State.{with_value, HasMemory};
 ghost use Rattle.ga_slots.specs.Codes.{code_of};
 ghost use Rattle.ga_slots.specs.Slots.{opcode as opcode_of, target as target_of};
-ghost use Rattle.ga_source.specs.Reading.{begin_at as begin_of, ends_cell, follows as follows_of, reaches as reaches_to, resolved, word_in};
+ghost use Rattle.ga_source.specs.Reading.{first_spot_of_cell as begin_of, ends_cell, cells_match_requests as follows_of, slot_reaches as reaches_to, operand_value, word_at_address};
 ghost use Rattle.ga_source.specs.inner.{IsFitGroup, IsLaidOut, takes_group, HasItem, HasRest, Holds, HoldsRest, IsLoadedGroup, IsMemory, IsWordOf, Keeps, Leads, MayEnd, IsCell, KeepsRest, op_in, nothing, IsCellGroup, AreCellGroups, AreWords, Adds, AreAny};
 ghost use Rattle.ga_parser.specs.declared.item.Operand.{Operand as ValueOf};
 ghost use Rattle.ga_source.specs.Made.{IsMemoryAddress, AreDistinctCells};
-ghost use Rattle.ga_source.specs.Cells.{KeepsElsewhere, is_asked, is_at, takes};
+ghost use Rattle.ga_source.specs.Cells.{KeepsOtherCells, requests_use_cell, is_address_of_cell, item_uses_cell};
 
-use super::group::{Group, PackingSpot};
+use super::group::{CellGroup, PackingSpot};
 use super::packing::PackedNode;
-use super::reading::{begin_at, reaches, resolve, spot_after};
+use super::reading::{first_spot_of_cell, resolve, slot_reaches, spot_after_item};
 use ga_node::{Node, Place};
-use ga_parser::{Fault, Item, LocatedRequest, Operand, SourceCause, fault_at};
+use ga_parser::{Item, LocatedRequest, Operand, SourceCause, SourceFault, fault_at};
 use ga_ports::advance_p;
 use ga_slots::{Op, encode};
 use ga_word::Word18;
@@ -46,10 +46,10 @@ fn with_target(word: Word18, slot: usize, address: u32) -> Word18
     ensures first { opcode_of result 0 ≡ opcode_of word 0 }
     ensures second { 1 ≤ slot → opcode_of result 1 ≡ opcode_of word 1 }
     ensures third { 2 ≤ slot → opcode_of result 2 ≡ opcode_of word 2 }
-    ensures leads { (p : ℕ) → reaches_to p slot (Some address) ≡ true → target_of p result slot ≡ address }
+    ensures jump_leads_to { (p : ℕ) → reaches_to p slot (Some address) ≡ true → target_of p result slot ≡ address }
 {
     let kept = word.get();
-    Word18::truncated(match slot {
+    Word18::from_low_bits(match slot {
         0 => kept / 0x2000 * 0x2000 + address % 0x400,
         1 => kept / 0x100 * 0x100 + address % 0x100,
         _ => kept / 8 * 8 + address % 8,
@@ -103,7 +103,7 @@ fn opcode_word(items: &[Item]) -> Word18
 
 /// A value as a word, where it is one.
 fn value_in(labels: &[Option<u32>], value: Operand) -> Option<Word18>
-    ensures value { IfSome result (λ word. resolved labels.now value ≡ Some word) }
+    ensures value { IfSome result (λ word. operand_value labels.now value ≡ Some word) }
     ensures some { (n : ℕ) → value ≡ Operand.Number n → n < 2 ^ 18 → IsSome result }
 {
     Word18::new(resolve(labels, value)?)
@@ -112,7 +112,7 @@ fn value_in(labels: &[Option<u32>], value: Operand) -> Option<Word18>
 /// The word with a jump to a label in its slot, the last one, where the label has an address.
 fn with_jump(labels: &[Option<u32>], word: Word18, slot: usize, label: usize) -> Option<Word18>
     requires { slot < 3 }
-    ensures leads { IfSome result (λ found. Leads labels.now found slot label) }
+    ensures jump_leads_to { IfSome result (λ found. Leads labels.now found slot label) }
     ensures before { IfSome result (λ found. (k : ℕ) → k ≤ slot → opcode_of found k ≡ opcode_of word k) }
 {
     let address = resolve(labels, Operand::Label(label))?;
@@ -136,7 +136,7 @@ fn with_last(labels: &[Option<u32>], word: Word18, slot: usize, last: Item) -> O
 }
 
 /// The word of a group, where the values that it names are words.
-fn word_of(labels: &[Option<u32>], group: &Group) -> Option<Word18>
+fn word_of(labels: &[Option<u32>], group: &CellGroup) -> Option<Word18>
     requires begun { 0 < length group.now.items.items }
     requires fit { IsFitGroup labels.now group.now }
     ensures word { IfSome result (λ word. IsWordOf labels.now group.now.items.items word) }
@@ -165,10 +165,10 @@ fn write(
     line: u32,
     address: u32,
     word: Word18,
-) -> Result<(), Fault<'static>>
+) -> Result<(), SourceFault<'static>>
     ensures rest { OnOk result (KeepsRest node.old node.new) }
-    ensures elsewhere { OnOk result (KeepsElsewhere (is_at address) node.old node.new) }
-    ensures written { OnOk result (word_in node.new address ≡ Some word) }
+    ensures elsewhere { OnOk result (KeepsOtherCells (is_address_of_cell address) node.old node.new) }
+    ensures written { OnOk result (word_at_address node.new address ≡ Some word) }
     ensures held { OnOk result (Holds given.new (address % 512)) }
     ensures kept { OnOk result (Keeps node.old given.old node.new given.new) }
     ensures given { OnOk result (given.new ≡ slice_set given.old (address % 512) (Some line)) }
@@ -200,11 +200,11 @@ fn see_jump(
     line: u32,
     spot: PackingSpot,
     label: usize,
-) -> Result<(), Fault<'static>>
-    ensures { OnOk result ((spot.slot < 3) × (reaches_to spot.p spot.slot (resolved labels.now (Operand.Label label)) ≡ true)) }
+) -> Result<(), SourceFault<'static>>
+    ensures { OnOk result ((spot.slot < 3) × (reaches_to spot.p spot.slot (operand_value labels.now (Operand.Label label)) ≡ true)) }
 {
     let to = resolve(labels, Operand::Label(label));
-    if spot.slot < 3 && reaches(spot.p, spot.slot, to) {
+    if spot.slot < 3 && slot_reaches(spot.p, spot.slot, to) {
         Ok(())
     } else {
         let cause = SourceCause::Reach {
@@ -223,9 +223,9 @@ fn write_item(
     line: u32,
     spot: PackingSpot,
     item: Item,
-) -> Result<(), Fault<'static>>
+) -> Result<(), SourceFault<'static>>
     ensures rest { OnOk result (KeepsRest node.old node.new) }
-    ensures elsewhere { OnOk result (KeepsElsewhere (takes spot item) node.old node.new) }
+    ensures elsewhere { OnOk result (KeepsOtherCells (item_uses_cell spot item) node.old node.new) }
     ensures has { OnOk result (HasRest node.new labels.now spot item) }
     ensures held { OnOk result (HoldsRest given.new spot item) }
     ensures kept { OnOk result (Keeps node.old given.old node.new given.new) }
@@ -248,11 +248,11 @@ fn write_group(
     node: &mut Node,
     given: &mut [Option<u32>],
     labels: &[Option<u32>],
-    group: &Group,
-) -> Result<(), Fault<'static>>
+    group: &CellGroup,
+) -> Result<(), SourceFault<'static>>
     requires { IsFitGroup labels.now group.now }
     ensures rest { OnOk result (KeepsRest node.old node.new) }
-    ensures elsewhere { OnOk result (KeepsElsewhere (λ cell. takes_group cell group.now) node.old node.new) }
+    ensures elsewhere { OnOk result (KeepsOtherCells (λ cell. takes_group cell group.now) node.old node.new) }
     ensures kept { OnOk result (Keeps node.old given.old node.new given.new) }
     ensures loaded { OnOk result (IsLoadedGroup node.new labels.now given.new group.now) }
     ensures given { OnOk result ((cell : ℕ × ℕ) (k : ℕ) → IsCellGroup cell group.now → k ≢ cell.0 % 512 →
@@ -271,10 +271,10 @@ fn write_group(
         return Err(fault_at(group.line(), SourceCause::Missing));
     };
     write(node, given, group.line(), group.address, word)?;
-    let mut spot = begin_at(group.address);
+    let mut spot = first_spot_of_cell(group.address);
     for (i, item) in items.iter().enumerate() {
         write_item(node, given, labels, group.line_of(i), spot, *item)?;
-        spot = spot_after(spot, *item);
+        spot = spot_after_item(spot, *item);
     }
     Ok(())
 }
@@ -292,11 +292,11 @@ pub(crate) fn load(
     node: &mut Node,
     packed: &PackedNode,
     asked: &[LocatedRequest],
-) -> Result<(), Fault<'static>>
+) -> Result<(), SourceFault<'static>>
     requires { IsLaidOut packed.now asked.now }
-    ensures follows { OnOk result (follows_of node.new packed.now.labels.items (begin_of 0) asked.now ≡ true) }
+    ensures cells_match_requests { OnOk result (follows_of node.new packed.now.labels.items (begin_of 0) asked.now ≡ true) }
     ensures rest { OnOk result (KeepsRest node.old node.new) }
-    ensures elsewhere { OnOk result (KeepsElsewhere (is_asked packed.now.labels.items (begin_of 0) asked.now) node.old node.new) }
+    ensures elsewhere { OnOk result (KeepsOtherCells (requests_use_cell packed.now.labels.items (begin_of 0) asked.now) node.old node.new) }
     ensures refused { OnErr result ((cells : List (ℕ × ℕ)) → AreCellGroups cells packed.now.groups.items → AreWords cells → AreDistinctCells cells → ⊥) }
 {
     let labels = packed.labels.as_slice();
@@ -308,10 +308,10 @@ pub(crate) fn load(
 }
 
 /// Whether a cell is past the end of memory.
-fn is_past(fault: Option<Fault<'_>>) -> bool {
+fn is_past(fault: Option<SourceFault<'_>>) -> bool {
     match fault {
         Some(
-            Fault {
+            SourceFault {
                 line: _,
                 cause: SourceCause::Past(_),
             },
@@ -321,7 +321,7 @@ fn is_past(fault: Option<Fault<'_>>) -> bool {
 }
 
 /// The address of the next cell after a group, without bit 9.
-fn next_cell_of(group: &Group) -> u32 {
+fn next_cell_of(group: &CellGroup) -> u32 {
     let mut p = advance_p(group.address);
     for item in &group.items {
         if let Item::Literal(_) = item {
@@ -337,9 +337,9 @@ fn load_group<'s>(
     node: &mut Node,
     given: &mut [Option<u32>],
     labels: &[Option<u32>],
-    group: &Group,
-    faults: &mut Vec<Fault<'s>>,
-) -> Result<Option<Fault<'s>>, AllocError>
+    group: &CellGroup,
+    faults: &mut Vec<SourceFault<'s>>,
+) -> Result<Option<SourceFault<'s>>, AllocError>
     requires { IsFitGroup labels.now group.now }
     ensures { OnOk result (Adds AreAny faults.old.items faults.new.items) }
 {
@@ -359,7 +359,7 @@ pub(crate) fn load_left<'s>(
     alloc: Global,
     node: &mut Node,
     packed: &PackedNode,
-    faults: &mut Vec<Fault<'s>>,
+    faults: &mut Vec<SourceFault<'s>>,
 ) -> Result<Vec<bool>, AllocError>
     requires { All (IsFitGroup packed.now.labels.items) packed.now.groups.items }
     ensures { OnOk result (Adds AreAny faults.old.items faults.new.items) }

@@ -2,18 +2,20 @@
 
 ghost use Rattle.std.specs.Prelude.{◌≡◌, ℕ, [], ◌∷◌, ◌++◌, List, IsTrue, true, IfOk, IfErr, OnOk, map, slice_index_or};
 ghost use Rattle.ga_parser.specs.declared.item.LocatedRequest.{LocatedRequest};
-ghost use Rattle.ga_source.specs.Reading.{after_request, fits as fits_of, begin_at as begin_of};
+ghost use Rattle.ga_source.specs.Reading.{spot_after_request, item_fits as fits_of, first_spot_of_cell as begin_of};
 ghost use Rattle.ga_parser.specs.declared.fault.SourceCause.TheVariants.{Memory};
 ghost use Rattle.ga_parser.specs.declared.item.Operand.TheVariants.{Number};
-ghost use Rattle.ga_parser.specs.declared.item.Request.{Request as RequestOf};
-ghost use Rattle.ga_source.specs.Made.{cells_from};
-ghost use Rattle.ga_source.specs.Cells.{laid_by, groups_of};
+ghost use Rattle.ga_parser.specs.declared.item.AssemblyRequest.{AssemblyRequest as RequestOf};
+ghost use Rattle.ga_source.specs.Made.{requested_cells};
+ghost use Rattle.ga_source.specs.Cells.{cell_group_content, groups_of};
 ghost use Rattle.ga_source.specs.inner.{IsGathered, IsGrouped, IsPutting, IsClosed, IsFilling, IsInCell, IsKnown, IsLaidOut, IsPending, IsWalked, TakesOn, requests_of, IsPlainRequest, ArePlain, AreCellGroups, IsPackedPlain};
 
-use super::group::{Group, PackingSpot};
-use super::reading::{begin_at, fits, next_cell, spot_after};
+use super::group::{CellGroup, PackingSpot};
+use super::reading::{first_spot_of_cell, item_fits, next_cell_spot, spot_after_item};
 use arrayvec::ArrayVec;
-use ga_parser::{Fault, Item, LocatedRequest, Request, SourceCause, fault_at, with_carry_bit};
+use ga_parser::{
+    AssemblyRequest, Item, LocatedRequest, SourceCause, SourceFault, fault_at, with_carry_bit,
+};
 use ga_slots::Op;
 use std::alloc::{AllocError, Global};
 use std::mem;
@@ -21,14 +23,14 @@ use std::mem;
 /// Groups in their order, and the addresses of labels by their numbers.
 #[derive(Drop)]
 pub(crate) struct PackedNode {
-    pub groups: Vec<Group>,
+    pub groups: Vec<CellGroup>,
     pub labels: Vec<Option<u32>>,
 }
 
 /// The groups so far, and the items of the cell that is being filled.
 #[derive(Drop)]
 struct Packer {
-    groups: Vec<Group>,
+    groups: Vec<CellGroup>,
     labels: Vec<Option<u32>>,
     filling: ArrayVec<Item, 4>,
     /// The line of each item of that cell.
@@ -82,7 +84,7 @@ impl Packer {
         if self.filling.is_empty() && self.broken.is_none() {
             return Ok(());
         }
-        self.groups.push(Group {
+        self.groups.push(CellGroup {
             address: self.spot.at,
             items: mem::replace(&mut self.filling, ArrayVec::new()),
             lines: mem::replace(&mut self.lines, ArrayVec::new()),
@@ -97,15 +99,15 @@ impl Packer {
         ensures cell { OnOk result (IsInCell self.new) }
         ensures stays { fits_of self.old.labels.items self.old.spot item ≡ true → self.new ≡ self.old }
         ensures pending { OnOk result ((before : List LocatedRequest) (line : ℕ) → IsKnown self.old.labels.items item → IsWalked self.old before →
-            IsPending self.new (before ++ record { line = line; request = Request.Put item } ∷ []) item) }
+            IsPending self.new (before ++ record { line = line; request = AssemblyRequest.Put item } ∷ []) item) }
         ensures putting { OnOk result ((before : List LocatedRequest) (line : ℕ) → IsKnown self.old.labels.items item → IsWalked self.old before → IsGrouped self.old before →
-            IsPutting self.new (before ++ record { line = line; request = Request.Put item } ∷ []) item line) }
+            IsPutting self.new (before ++ record { line = line; request = AssemblyRequest.Put item } ∷ []) item line) }
     {
-        if fits(self.labels.as_slice(), self.spot, item) {
+        if item_fits(self.labels.as_slice(), self.spot, item) {
             return Ok(());
         }
         self.close()?;
-        let next = next_cell(self.spot);
+        let next = next_cell_spot(self.spot);
         self.spot = next;
         Ok(())
     }
@@ -117,11 +119,11 @@ impl Packer {
         ensures walked { OnOk result ((asked : List LocatedRequest) → IsPending self.old asked item → IsWalked self.new asked) }
         ensures grouped { OnOk result ((asked : List LocatedRequest) → IsPutting self.old asked item line → IsGrouped self.new asked) }
         ensures packed { OnOk result ((n : ℕ) (requests : List RequestOf) → item ≡ Item.Cell (Number n) → IsPackedPlain self.old requests →
-            IsPackedPlain self.new (requests ++ Request.Put item ∷ [])) }
+            IsPackedPlain self.new (requests ++ AssemblyRequest.Put item ∷ [])) }
     {
         self.filling.push(item);
         let _fits = self.lines.try_push(line);
-        let next = spot_after(self.spot, item);
+        let next = spot_after_item(self.spot, item);
         if next.slot == 0 {
             self.close()?;
             self.spot = next;
@@ -144,12 +146,12 @@ impl Packer {
     }
 
     /// Takes an item.
-    fn put(&mut self, asked: LocatedRequest, item: Item) -> Result<(), Fault<'static>>
+    fn put(&mut self, asked: LocatedRequest, item: Item) -> Result<(), SourceFault<'static>>
         requires cell { IsInCell self.old }
-        requires put { asked.request ≡ Request.Put item }
+        requires put { asked.request ≡ AssemblyRequest.Put item }
         ensures taken { OnOk result (TakesOn self.old self.new asked) }
         ensures packed { OnOk result ((n : ℕ) (requests : List RequestOf) → item ≡ Item.Cell (Number n) → IsPackedPlain self.old requests →
-            IsPackedPlain self.new (requests ++ Request.Put item ∷ [])) }
+            IsPackedPlain self.new (requests ++ AssemblyRequest.Put item ∷ [])) }
         ensures refused { IfErr result (λ fault. (n : ℕ) → item ≡ Item.Cell (Number n) → fault.cause ≡ Memory) }
     {
         if !self.is_known(item) {
@@ -161,9 +163,9 @@ impl Packer {
     }
 
     /// Takes an `unext` to a label.
-    fn unext(&mut self, asked: LocatedRequest, label: usize) -> Result<(), Fault<'static>>
+    fn unext(&mut self, asked: LocatedRequest, label: usize) -> Result<(), SourceFault<'static>>
         requires cell { IsInCell self.old }
-        requires unext { asked.request ≡ Request.Unext label }
+        requires unext { asked.request ≡ AssemblyRequest.Unext label }
         ensures { OnOk result (TakesOn self.old self.new asked) }
     {
         let is_loop = self.is_loop(label);
@@ -174,13 +176,13 @@ impl Packer {
     }
 
     /// Takes the place of a label.
-    fn mark(&mut self, asked: LocatedRequest, label: usize) -> Result<(), Fault<'static>>
+    fn mark(&mut self, asked: LocatedRequest, label: usize) -> Result<(), SourceFault<'static>>
         requires cell { IsInCell self.old }
-        requires mark { asked.request ≡ Request.Mark label }
+        requires mark { asked.request ≡ AssemblyRequest.Mark label }
         ensures { OnOk result (TakesOn self.old self.new asked) }
     {
         self.close()?;
-        let next = next_cell(self.spot);
+        let next = next_cell_spot(self.spot);
         self.spot = next;
         if label >= self.labels.len() {
             return Err(fault_at(asked.line, SourceCause::Unmatched));
@@ -193,14 +195,14 @@ impl Packer {
     }
 
     /// Ends the cell, and continues in the one at a spot.
-    fn go(&mut self, asked: LocatedRequest, spot: PackingSpot) -> Result<(), Fault<'static>>
+    fn go(&mut self, asked: LocatedRequest, spot: PackingSpot) -> Result<(), SourceFault<'static>>
         requires cell { IsInCell self.old }
         requires begin { spot.slot ≡ 0 }
         requires fills { IsFilling asked.request }
-        requires after { after_request self.old.labels.items self.old.spot asked.request ≡ spot }
+        requires after { spot_after_request self.old.labels.items self.old.spot asked.request ≡ spot }
         ensures taken { OnOk result (TakesOn self.old self.new asked) }
         ensures packed { OnOk result ((address : ℕ) (requests : List RequestOf) → spot ≡ begin_of address → IsPackedPlain self.old requests →
-            IsPackedPlain self.new (requests ++ Request.Go address ∷ [])) }
+            IsPackedPlain self.new (requests ++ AssemblyRequest.Go address ∷ [])) }
         ensures refused { IfErr result (λ fault. fault.cause ≡ Memory) }
     {
         self.close()?;
@@ -208,21 +210,24 @@ impl Packer {
         Ok(())
     }
 
-    fn take(&mut self, asked: LocatedRequest) -> Result<(), Fault<'static>>
+    fn take(&mut self, asked: LocatedRequest) -> Result<(), SourceFault<'static>>
         requires { IsInCell self.old }
         ensures taken { OnOk result (TakesOn self.old self.new asked) }
         ensures packed { OnOk result ((requests : List RequestOf) → IsPlainRequest asked.request → IsPackedPlain self.old requests →
             IsPackedPlain self.new (requests ++ asked.request ∷ [])) }
         ensures refused { IfErr result (λ fault. IsPlainRequest asked.request → fault.cause ≡ Memory) }
     {
-        let next = next_cell(self.spot);
+        let next = next_cell_spot(self.spot);
         match asked.request {
-            Request::Put(item) => self.put(asked, item),
-            Request::Unext(label) => self.unext(asked, label),
-            Request::Mark(label) => self.mark(asked, label),
-            Request::Fill => self.go(asked, next),
-            Request::Go(address) => self.go(asked, begin_at(address)),
-            Request::Carry(is_set) => self.go(asked, begin_at(with_carry_bit(is_set, next.at))),
+            AssemblyRequest::Put(item) => self.put(asked, item),
+            AssemblyRequest::Unext(label) => self.unext(asked, label),
+            AssemblyRequest::Mark(label) => self.mark(asked, label),
+            AssemblyRequest::Fill => self.go(asked, next),
+            AssemblyRequest::Go(address) => self.go(asked, first_spot_of_cell(address)),
+            AssemblyRequest::Carry(is_set) => self.go(
+                asked,
+                first_spot_of_cell(with_carry_bit(is_set, next.at)),
+            ),
         }
     }
 }
@@ -232,10 +237,10 @@ pub(crate) fn pack(
     alloc: Global,
     asked: &[LocatedRequest],
     labels: usize,
-) -> Result<PackedNode, Fault<'static>>
+) -> Result<PackedNode, SourceFault<'static>>
     ensures laid_out { IfOk result (λ packed. IsLaidOut packed asked.now) }
-    ensures groups { IfOk result (λ packed. map laid_by packed.groups.items ≡ groups_of packed.labels.items asked.now) }
-    ensures cells { IfOk result (λ packed. ArePlain (requests_of asked.now) → AreCellGroups (cells_from 0 (requests_of asked.now)) packed.groups.items) }
+    ensures groups { IfOk result (λ packed. map cell_group_content packed.groups.items ≡ groups_of packed.labels.items asked.now) }
+    ensures cells { IfOk result (λ packed. ArePlain (requests_of asked.now) → AreCellGroups (requested_cells 0 (requests_of asked.now)) packed.groups.items) }
     ensures refused { IfErr result (λ fault. ArePlain (requests_of asked.now) → fault.cause ≡ Memory) }
 {
     let mut packer = Packer {
@@ -244,7 +249,7 @@ pub(crate) fn pack(
         filling: ArrayVec::new(),
         lines: ArrayVec::new(),
         broken: None,
-        spot: begin_at(0),
+        spot: first_spot_of_cell(0),
     };
     for one in asked {
         packer.take(*one)?;

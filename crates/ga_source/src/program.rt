@@ -2,42 +2,43 @@
 
 ghost use Rattle.std.specs.Prelude.{ℕ, ◌≡◌, ◌≤◌, ◌<◌, true, false, List, [], ◌∷◌, length, replicate, take, drop, codes, position, Some, IfOk, IfErr, OnOk, OnErr, IfSome};
 ghost use Rattle.std.specs.List.{All};
-ghost use Rattle.ga_grid.specs.Chip.{records_of, AreSteady};
-ghost use Rattle.ga_source.specs.Programs.{given_of, with_registers, has_cells as has_cells_of, is_item as is_item_of, start_of as start, is_named, at_load, HasProgram, IsAssembled, AreOf, AreRead, said_body, said_bodies, AsksFor, AreAskedBy, AreAsked};
-ghost use Rattle.ga_source.specs.Cells.{IsEmptyElsewhere, HasGroups};
-ghost use Rattle.ga_grid.specs.Grid.{number_where_any};
-ghost use Rattle.ga_parser.specs.Plain.{Plain, is_node as is_node_word, body_in, bodies_in, yxx_in, texts_in, plain_of, value_in, asked_by};
+ghost use Rattle.ga_grid.specs.Chip.{records_of, HaveConsistentWaits};
+ghost use Rattle.ga_source.specs.Programs.{given_register_value, with_registers, has_cells as has_cells_of, is_item_request as is_item_of, default_start as start, is_named, at_load, HasProgram, IsAssembledChip, ArePlainProgramsOf, ArePlainProgramsOfSource, body_tokens, body_token_lists, HasRequestsOfWords, AreProgramsOfBodies, AreProgramsOfSource};
+ghost use Rattle.ga_source.specs.Cells.{AreUnusedCellsZero, HasRequestedGroups};
+ghost use Rattle.ga_grid.specs.Grid.{optional_number};
+ghost use Rattle.ga_parser.specs.Plain.{Plain, is_node_keyword as is_node_word, body_words, body_word_lists, named_node_number, token_texts, plain_requests_of, value_in, as_plain_requests};
 ghost use Rattle.ga_parser.specs.Requests.{word_refusal};
 ghost use Rattle.ga_parser.specs.Saying.{token_contents, TokenContent};
-ghost use Rattle.ga_source.specs.Recovery.{operand_name, given_refusals};
-ghost use Rattle.ga_parser.specs.Vocabulary.{bound_of};
-ghost use Rattle.ga_source.specs.Made.{IsChipOfSource, AreDistinctCells, cells_from, IsSoundSource, HasWords};
+ghost use Rattle.ga_source.specs.Recovery.{operand_name, register_value_refusals};
+ghost use Rattle.ga_parser.specs.Vocabulary.{register_bound};
+ghost use Rattle.ga_source.specs.Made.{IsChipOfSource, AreDistinctCells, requested_cells, IsSoundSource, AreWordsOfSource};
 ghost use Rattle.ga_parser.specs.declared.fault.SourceCause.TheVariants.{Memory};
 ghost use Rattle.ga_parser.specs.declared.scan.TokenKind.TheVariants.{Word};
 ghost use Rattle.ga_source.specs.inner.{IsSoundFrom, IsNumber, AreNumbers, AreLoaded, AreOfFirst, AreAskedFirst};
 ghost use Rattle.ga_parser.specs.inner.Drafting.{texts_of};
 
-use super::group::Group;
+use super::group::CellGroup;
 use super::loading::load;
 use super::packing::pack;
 use super::reading::resolve;
-use ga_grid::{Chip, NODES, NodeId, node_number};
+use ga_grid::{CHIP_NODES, Chip, NodeId, parse_node_name};
 use ga_node::{Node, Place};
 use ga_parser::{
-    Fault, Label, LocatedRequest, NodeRequests, Operand, Register, RegisterValue, Registers,
-    Request, SourceCause, Token, fault_at, read_requests, source_words, up_to_fault,
+    AssemblyRequest, InitialRegisters, Label, LocatedRequest, NodeRequests, Operand, Register,
+    RegisterValue, SourceCause, SourceFault, Token, fault_at, read_requests, source_words,
+    tokens_until_fault,
 };
 use std::alloc::Global;
 
 /// The node of a name of three digits.
 pub(crate) fn node_named(text: &[u8]) -> Option<NodeId>
-    ensures { number_where_any result ≡ yxx_in text.now }
+    ensures { optional_number result ≡ named_node_number text.now }
 {
-    NodeId::from_yxx(node_number(text)?)
+    NodeId::from_yxx(parse_node_name(text)?)
 }
 
 /// Whether the program of a node begins here.
-pub(crate) fn is_node(text: &[u8]) -> bool
+pub(crate) fn is_node_keyword(text: &[u8]) -> bool
     ensures { result ≡ is_node_word text.now }
 {
     text == b"node".as_slice()
@@ -46,14 +47,14 @@ pub(crate) fn is_node(text: &[u8]) -> bool
 /// How many words stand before the next word `node`.
 pub(crate) fn body_length(tokens: &[Token]) -> usize
     ensures in_range { result ≤ length tokens.now }
-    ensures front { texts_of (take result tokens.now) ≡ body_in (texts_of tokens.now) }
-    ensures behind { bodies_in (texts_of (drop result tokens.now)) ≡ bodies_in (texts_of tokens.now) }
-    ensures next { body_in (texts_of (drop result tokens.now)) ≡ [] }
-    ensures said { token_contents (take result tokens.now) ≡ said_body (token_contents tokens.now) }
-    ensures said_behind { said_bodies (token_contents (drop result tokens.now)) ≡ said_bodies (token_contents tokens.now) }
+    ensures front { texts_of (take result tokens.now) ≡ body_words (texts_of tokens.now) }
+    ensures behind { body_word_lists (texts_of (drop result tokens.now)) ≡ body_word_lists (texts_of tokens.now) }
+    ensures next { body_words (texts_of (drop result tokens.now)) ≡ [] }
+    ensures said { token_contents (take result tokens.now) ≡ body_tokens (token_contents tokens.now) }
+    ensures said_behind { body_token_lists (token_contents (drop result tokens.now)) ≡ body_token_lists (token_contents tokens.now) }
 {
     for (i, token) in tokens.iter().enumerate() {
-        if is_node(token.text) {
+        if is_node_keyword(token.text) {
             return i;
         }
     }
@@ -64,15 +65,15 @@ pub(crate) fn body_length(tokens: &[Token]) -> usize
 fn has_cells(asked: &[LocatedRequest]) -> bool
     ensures { result ≡ has_cells_of asked.now }
 {
-    asked.iter().any(|one| is_item(one.request))
+    asked.iter().any(|one| is_item_request(one.request))
 }
 
 /// Whether a request asks for an item.
-fn is_item(request: Request) -> bool
+fn is_item_request(request: AssemblyRequest) -> bool
     ensures { result ≡ is_item_of request }
 {
     match request {
-        Request::Put(_) | Request::Unext(_) => true,
+        AssemblyRequest::Put(_) | AssemblyRequest::Unext(_) => true,
         _ => false,
     }
 }
@@ -92,7 +93,7 @@ fn main_among(labels: &[Label<'_>]) -> Option<usize>
 }
 
 /// P where no line gives it: the label `main` where there is one, or else 0.
-fn start_of(labels: &[Label<'_>]) -> Operand
+fn default_start(labels: &[Label<'_>]) -> Operand
     ensures { result ≡ start labels.now }
 {
     match main_among(labels) {
@@ -102,14 +103,14 @@ fn start_of(labels: &[Label<'_>]) -> Operand
 }
 
 /// The registers of a program at load, where it gives these.
-fn registers_of(given: Registers, labels: &[Label<'_>], has_cells: bool) -> Registers
+fn registers_of(given: InitialRegisters, labels: &[Label<'_>], has_cells: bool) -> InitialRegisters
     ensures { result ≡ at_load given labels.now has_cells }
 {
     let mut registers = given;
     if registers.p.is_none() && has_cells {
         registers.p = Some(RegisterValue {
             line: 0,
-            value: start_of(labels),
+            value: default_start(labels),
         });
     }
     registers
@@ -134,12 +135,12 @@ pub(crate) fn value_given<'s>(
     names: &[Label<'s>],
     given: Option<RegisterValue>,
     register: Register,
-) -> Result<Option<u32>, Fault<'s>>
-    ensures in_range { IfOk result (λ found. IfSome found (λ value. value < bound_of register)) }
-    ensures value { IfOk result (λ found. found ≡ given_of labels.now given) }
-    ensures right { IfOk result (λ _. given_refusals labels.now names.now register given ≡ []) }
-    ensures wrong { IfErr result (λ fault. given_refusals labels.now names.now register given ≡ word_refusal fault ∷ []) }
-    ensures refused { OnErr result (IsNumber (bound_of register) (value_in given) → ⊥) }
+) -> Result<Option<u32>, SourceFault<'s>>
+    ensures in_range { IfOk result (λ found. IfSome found (λ value. value < register_bound register)) }
+    ensures value { IfOk result (λ found. found ≡ given_register_value labels.now given) }
+    ensures right { IfOk result (λ _. register_value_refusals labels.now names.now register given ≡ []) }
+    ensures wrong { IfErr result (λ fault. register_value_refusals labels.now names.now register given ≡ word_refusal fault ∷ []) }
+    ensures refused { OnErr result (IsNumber (register_bound register) (value_in given) → ⊥) }
 {
     let Some(given) = given else {
         return Ok(None);
@@ -158,8 +159,8 @@ fn set_registers<'s>(
     node: &mut Node,
     labels: &[Option<u32>],
     names: &[Label<'s>],
-    registers: Registers,
-) -> Result<(), Fault<'s>>
+    registers: InitialRegisters,
+) -> Result<(), SourceFault<'s>>
     ensures set { OnOk result (node.new ≡ with_registers node.old labels.now registers) }
     ensures refused { OnErr result (AreNumbers (value_in registers.p) (value_in registers.a) (value_in registers.b) → ⊥) }
 {
@@ -186,13 +187,13 @@ pub struct Program<'s> {
     pub labels: Vec<Option<u32>>,
     /// The labels' names, empty for one that a control word made.
     pub names: Vec<Label<'s>>,
-    pub registers: Registers,
-    pub groups: Vec<Group>,
+    pub registers: InitialRegisters,
+    pub groups: Vec<CellGroup>,
 }
 
 /// A chip with programs, and what the source asks of each node that it names.
 #[derive(Drop)]
-pub struct Assembled<'s> {
+pub struct AssembledChip<'s> {
     pub chip: Chip,
     pub programs: Vec<Program<'s>>,
 }
@@ -204,15 +205,15 @@ fn assemble_node<'s>(
     node: &mut Node,
     line: u32,
     tokens: &[Token<'s>],
-) -> Result<Program<'s>, Fault<'s>>
+) -> Result<Program<'s>, SourceFault<'s>>
     ensures node { IfOk result (λ program. program.node ≡ id) }
     ensures loaded { IfOk result (λ program. HasProgram node.old node.new program) }
-    ensures asked { IfOk result (AsksFor line (token_contents tokens.now)) }
-    ensures groups { IfOk result HasGroups }
-    ensures asks { IfOk result (λ program. (plain : Plain) → plain_of (texts_of tokens.now) ≡ Some plain → asked_by program.asked.items program.registers ≡ plain) }
-    ensures names { IfOk result (λ program. (plain : Plain) → plain_of (texts_of tokens.now) ≡ Some plain → program.names.items ≡ []) }
-    ensures refused { IfErr result (λ fault. (plain : Plain) → All (λ token. token.kind ≡ Word) tokens.now → plain_of (texts_of tokens.now) ≡ Some plain →
-        AreDistinctCells (cells_from 0 plain.requests) → fault.cause ≡ Memory) }
+    ensures asked { IfOk result (HasRequestsOfWords line (token_contents tokens.now)) }
+    ensures groups { IfOk result HasRequestedGroups }
+    ensures asks { IfOk result (λ program. (plain : Plain) → plain_requests_of (texts_of tokens.now) ≡ Some plain → as_plain_requests program.asked.items program.registers ≡ plain) }
+    ensures names { IfOk result (λ program. (plain : Plain) → plain_requests_of (texts_of tokens.now) ≡ Some plain → program.names.items ≡ []) }
+    ensures refused { IfErr result (λ fault. (plain : Plain) → All (λ token. token.kind ≡ Word) tokens.now → plain_requests_of (texts_of tokens.now) ≡ Some plain →
+        AreDistinctCells (requested_cells 0 plain.requests) → fault.cause ≡ Memory) }
 {
     let NodeRequests {
         asked,
@@ -235,11 +236,11 @@ fn assemble_node<'s>(
 }
 
 /// No node has begun.
-pub(crate) fn none_begun() -> [bool; NODES]
+pub(crate) fn none_begun() -> [bool; CHIP_NODES]
     ensures size { length result ≡ 144 }
     ensures empty { result ≡ replicate 144 false }
 {
-    [false; NODES]
+    [false; CHIP_NODES]
 }
 
 /// Assembles the program of the node whose words come first, and returns how many words it has.
@@ -249,22 +250,22 @@ fn assemble_first<'s>(
     begun: &mut [bool],
     programs: &mut Vec<Program<'s>>,
     words: &[Token<'s>],
-) -> Result<usize, Fault<'s>>
+) -> Result<usize, SourceFault<'s>>
     requires many { 0 < length words.now }
     requires size { length begun.old ≡ 144 }
     requires loaded { AreLoaded chip.old begun.old programs.old.items }
     ensures count { IfOk result (λ count. (0 < count) × (count ≤ length words.now)) }
     ensures loaded { OnOk result (AreLoaded chip.new begun.new programs.new.items) }
-    ensures groups { OnOk result (All HasGroups programs.old.items → All HasGroups programs.new.items) }
-    ensures read { (all : List (List (List ℕ))) → AreOfFirst all programs.old.items (bodies_in (texts_of words.now)) →
-        IfOk result (λ count. AreOfFirst all programs.new.items (bodies_in (texts_of (drop count words.now)))) }
-    ensures asked { (all : List (List TokenContent)) → AreAskedFirst all programs.old.items (said_bodies (token_contents words.now)) →
-        IfOk result (λ count. AreAskedFirst all programs.new.items (said_bodies (token_contents (drop count words.now)))) }
+    ensures groups { OnOk result (All HasRequestedGroups programs.old.items → All HasRequestedGroups programs.new.items) }
+    ensures read { (all : List (List (List ℕ))) → AreOfFirst all programs.old.items (body_word_lists (texts_of words.now)) →
+        IfOk result (λ count. AreOfFirst all programs.new.items (body_word_lists (texts_of (drop count words.now)))) }
+    ensures asked { (all : List (List TokenContent)) → AreAskedFirst all programs.old.items (body_token_lists (token_contents words.now)) →
+        IfOk result (λ count. AreAskedFirst all programs.new.items (body_token_lists (token_contents (drop count words.now)))) }
     ensures sound { IfOk result (λ count. IsSoundFrom begun.old words.now → IsSoundFrom begun.new (drop count words.now)) }
     ensures refused { IfErr result (λ fault. IsSoundFrom begun.old words.now → fault.cause ≡ Memory) }
 {
     let first = words[0];
-    if !is_node(first.word()?) {
+    if !is_node_keyword(first.word()?) {
         return Err(fault_at(first.line, SourceCause::NoNode));
     }
     if words.len() < 2 {
@@ -290,21 +291,24 @@ fn assemble_first<'s>(
 ///
 /// # Errors
 /// A fault of the first node that has one: the first of its words, otherwise of its names, otherwise of its cells.
-pub fn assemble_words<'s>(alloc: Global, words: &[Token<'s>]) -> Result<Assembled<'s>, Fault<'s>>
+pub fn assemble_words<'s>(
+    alloc: Global,
+    words: &[Token<'s>],
+) -> Result<AssembledChip<'s>, SourceFault<'s>>
     // Each node that is named has its program and its registers, and all else of the chip is as at load.
-    ensures programs { IfOk result (λ all. IsAssembled all.chip all.programs.items) }
+    ensures programs { IfOk result (λ all. IsAssembledChip all.chip all.programs.items) }
 
     // Each program is that of the words after a `node`, in order, and has exactly their requests.
-    ensures asked { IfOk result (λ all. AreAskedBy (said_bodies (token_contents words.now)) all.programs.items) }
+    ensures asked { IfOk result (λ all. AreProgramsOfBodies (body_token_lists (token_contents words.now)) all.programs.items) }
 
     // The groups of each program are the cells that its requests make, in order.
-    ensures groups { IfOk result (λ all. All HasGroups all.programs.items) }
+    ensures groups { IfOk result (λ all. All HasRequestedGroups all.programs.items) }
 
     // Each program asks for what its words ask for as plain words, where they are.
-    ensures read { IfOk result (λ all. AreOf (bodies_in (texts_in (token_contents words.now))) all.programs.items) }
+    ensures read { IfOk result (λ all. ArePlainProgramsOf (body_word_lists (token_texts (token_contents words.now))) all.programs.items) }
 
     // The words of a source of plain words that give each cell once are refused for want of memory alone.
-    ensures refused { IfErr result (λ fault. (source : List ℕ) → HasWords source (token_contents words.now) → IsSoundSource source → fault.cause ≡ Memory) }
+    ensures refused { IfErr result (λ fault. (source : List ℕ) → AreWordsOfSource source (token_contents words.now) → IsSoundSource source → fault.cause ≡ Memory) }
 {
     let mut chip = match Chip::new(alloc) {
         Ok(chip) => chip,
@@ -316,26 +320,26 @@ pub fn assemble_words<'s>(alloc: Global, words: &[Token<'s>]) -> Result<Assemble
     while start < words.len() {
         start += assemble_first(alloc, &mut chip, &mut begun, &mut programs, &words[start..])?;
     }
-    Ok(Assembled { chip, programs })
+    Ok(AssembledChip { chip, programs })
 }
 
 /// The chip of a source, up to its end or to a line `end`.
 ///
 /// # Errors
 /// A fault of the first node that has one: the first of its words, or else of its names, or else of its cells.
-pub fn assemble(alloc: Global, source: &[u8]) -> Result<Assembled<'_>, Fault<'_>>
+pub fn assemble(alloc: Global, source: &[u8]) -> Result<AssembledChip<'_>, SourceFault<'_>>
     // Each node that is named has its program and its registers, and all else of the chip is as at load.
-    ensures programs { IfOk result (λ all. IsAssembled all.chip all.programs.items) }
+    ensures programs { IfOk result (λ all. IsAssembledChip all.chip all.programs.items) }
 
     // Each program is that of the words after a `node`, in order, and has exactly their requests with their lines, the labels
     // and the registers.
-    ensures asked { IfOk result (λ all. AreAsked source.now all.programs.items) }
+    ensures asked { IfOk result (λ all. AreProgramsOfSource source.now all.programs.items) }
 
     // The groups of each program are the cells that its requests make, in order: each has just their items, each with its request's line.
-    ensures groups { IfOk result (λ all. All HasGroups all.programs.items) }
+    ensures groups { IfOk result (λ all. All HasRequestedGroups all.programs.items) }
 
     // Each program asks for what its words ask for as plain words, where they are.
-    ensures read { IfOk result (λ all. AreRead source.now all.programs.items) }
+    ensures read { IfOk result (λ all. ArePlainProgramsOfSource source.now all.programs.items) }
 
     // The words after a `node` make its node, if they are plain, and a node that isn't named is as at load.
     ensures made { IfOk result (λ all. IsChipOfSource source.now all.chip) }
@@ -344,11 +348,11 @@ pub fn assemble(alloc: Global, source: &[u8]) -> Result<Assembled<'_>, Fault<'_>
     ensures refused { IfErr result (λ fault. IsSoundSource source.now → fault.cause ≡ Memory) }
 
     // Each cell that nobody names is 0.
-    ensures empty { IfOk result (λ all. IsEmptyElsewhere all.chip all.programs.items) }
+    ensures empty { IfOk result (λ all. AreUnusedCellsZero all.chip all.programs.items) }
 
     // No node waits, so that the chip has an image.
-    ensures steady { IfOk result (λ all. AreSteady (records_of all.chip)) }
+    ensures steady { IfOk result (λ all. HaveConsistentWaits (records_of all.chip)) }
 {
     let tokens = source_words(alloc, source)?;
-    assemble_words(alloc, up_to_fault(tokens.as_slice()))
+    assemble_words(alloc, tokens_until_fault(tokens.as_slice()))
 }

@@ -1,36 +1,37 @@
 //! Words of which some are at fault: all faults, and what the other words give.
 
 ghost use Rattle.std.specs.Prelude.{◌≡◌, ◌≤◌, ◌<◌, ◌++◌, ◌∷◌, [], ℕ, List, true, false, length, map, drop, take, slice_index_or, slice_set, IfOk, IfErr, OnOk, Some, Err};
-ghost use Rattle.ga_grid.specs.Grid.{number_where_any};
+ghost use Rattle.ga_grid.specs.Grid.{optional_number};
 ghost use Rattle.ga_parser.specs.declared.fault.SourceCause.TheVariants.{Memory};
 ghost use Rattle.ga_parser.specs.Requests.{word_refusal};
 ghost use Rattle.ga_parser.specs.Saying.{token_content, token_contents, is_word};
-ghost use Rattle.ga_parser.specs.Words.{all_in};
+ghost use Rattle.ga_parser.specs.Words.{source_tokens};
 ghost use Rattle.ga_source.specs.Made.{IsSoundSource};
-ghost use Rattle.ga_source.specs.Recovery.{with_line, with_numbers, IsAssembledOf, line_of_number, fault_at_line, faults_by_line, given_refusals, register_refusals, AreFaultsOfRequests, AreFaultsOfNode, is_begin, node_by, misplaced as misplaced_at, AreFaultsOfWords, AreFaultsOfSource, or_first as or_this};
+ghost use Rattle.ga_source.specs.Recovery.{with_line, with_numbers, IsAssemblyOfWords, line_of_number, fault_at_line, faults_by_line, register_value_refusals, register_refusals, AreFaultsOfRequests, AreFaultsOfNode, is_node_token, node_of_token, misplaced_word_fault as misplaced_at, AreFaultsOfWords, AreFaultsOfSource, faults_or_first as or_this};
 ghost use Rattle.ga_source.specs.inner.{Adds, AreRefused, head_of, left_of, Skips, IsBegun, Recovers};
 
-use super::group::Group;
+use super::group::CellGroup;
 use super::loading::load_left;
 use super::packing::{PackedNode, pack};
 use super::program::{
-    Assembled, Program, assemble_words, body_length, is_node, node_named, none_begun, value_given,
+    AssembledChip, Program, assemble_words, body_length, is_node_keyword, node_named, none_begun,
+    value_given,
 };
 use ga_grid::{Chip, NodeId};
 use ga_node::Node;
 use ga_parser::{
-    Fault, Label, NodeRequests, Recovered, Register, RegisterValue, Registers, SourceCause, Token,
-    TokenKind, fault_at, recover_requests, words_once,
+    InitialRegisters, Label, NodeRequests, RecoveredRequests, Register, RegisterValue, SourceCause,
+    SourceFault, Token, TokenKind, fault_at, recover_requests, source_words_without_copies,
 };
 use std::alloc::{AllocError, Global};
 
 /// The programs of words without those at fault, and all faults.
 #[derive(Drop)]
-pub struct RecoveredSource<'s> {
+pub struct RecoveredPrograms<'s> {
     /// The programs, with the cells that aren't at fault.
-    pub assembled: Assembled<'s>,
+    pub assembled: AssembledChip<'s>,
     /// The faults in the order of their words, each with the number of its word in place of the line.
-    pub faults: Vec<Fault<'s>>,
+    pub faults: Vec<SourceFault<'s>>,
 }
 
 /// The words with their numbers, from 1 on, in place of their lines.
@@ -66,18 +67,18 @@ fn with_number<'s>(word: &Token<'s>, number: u32) -> Token<'s>
 pub fn assemble_by_word_number<'s>(
     alloc: Global,
     words: &[Token<'s>],
-) -> Result<Assembled<'s>, Fault<'s>>
-    ensures assembled { IfOk result (IsAssembledOf (with_numbers 1 words.now)) }
+) -> Result<AssembledChip<'s>, SourceFault<'s>>
+    ensures assembled { IfOk result (IsAssemblyOfWords (with_numbers 1 words.now)) }
 
     // All words of a source of plain words that give each cell once are refused only if memory runs out.
-    ensures refused { IfErr result (λ fault. (source : List ℕ) → token_contents words.now ≡ all_in source → IsSoundSource source → fault.cause ≡ Memory) }
+    ensures refused { IfErr result (λ fault. (source : List ℕ) → token_contents words.now ≡ source_tokens source → IsSoundSource source → fault.cause ≡ Memory) }
 {
     let numbered = number(alloc, words)?;
     assemble_words(alloc, numbered.as_slice())
 }
 
 /// Whether memory ran out.
-fn is_memory(fault: Fault<'_>) -> bool
+fn is_memory(fault: SourceFault<'_>) -> bool
     ensures { result ≡ true → fault.entry.cause ≡ Memory }
 {
     match fault.cause {
@@ -87,7 +88,10 @@ fn is_memory(fault: Fault<'_>) -> bool
 }
 
 /// Adds a fault, unless memory ran out.
-fn add_fault<'s>(faults: &mut Vec<Fault<'s>>, fault: Fault<'s>) -> Result<(), Fault<'s>>
+fn add_fault<'s>(
+    faults: &mut Vec<SourceFault<'s>>,
+    fault: SourceFault<'s>,
+) -> Result<(), SourceFault<'s>>
     ensures added { OnOk result (faults.new.items ≡ faults.old.items ++ fault.entry ∷ []) }
     ensures refused { IfErr result (λ refused. refused.cause ≡ Memory) }
 {
@@ -100,14 +104,14 @@ fn add_fault<'s>(faults: &mut Vec<Fault<'s>>, fault: Fault<'s>) -> Result<(), Fa
 
 /// Whether a program begins with the word.
 fn begins(word: &Token<'_>) -> bool
-    ensures { result ≡ is_begin (token_content word.now) }
+    ensures { result ≡ is_node_token (token_content word.now) }
 {
-    word.kind == TokenKind::Word && is_node(word.text)
+    word.kind == TokenKind::Word && is_node_keyword(word.text)
 }
 
 /// The node that a word names.
 fn node_of(name: Token<'_>) -> Option<NodeId>
-    ensures { number_where_any result ≡ node_by (token_content name.entry) }
+    ensures { optional_number result ≡ node_of_token (token_content name.entry) }
 {
     match name.kind {
         TokenKind::Word => node_named(name.text),
@@ -120,7 +124,7 @@ fn node_of(name: Token<'_>) -> Option<NodeId>
 }
 
 /// The fault of a word that can't be in its place, or else of its line.
-fn misplaced<'s>(word: Token<'s>, cause: SourceCause<'s>) -> Fault<'s>
+fn misplaced_word_fault<'s>(word: Token<'s>, cause: SourceCause<'s>) -> SourceFault<'s>
     ensures { result ≡ misplaced_at (token_content word.entry) cause.entry }
 {
     let cause = match word.kind {
@@ -131,7 +135,7 @@ fn misplaced<'s>(word: Token<'s>, cause: SourceCause<'s>) -> Fault<'s>
         TokenKind::Missing => SourceCause::Missing,
         TokenKind::Taken => SourceCause::Taken,
     };
-    Fault {
+    SourceFault {
         line: word.line,
         cause,
     }
@@ -142,7 +146,7 @@ fn misplaced<'s>(word: Token<'s>, cause: SourceCause<'s>) -> Fault<'s>
 /// # Errors
 /// The fault, if none begins.
 #[tactic(auto, using(crate::proofs::Recovering::no_begin, crate::proofs::Recovering::no_name, crate::proofs::Recovering::bad_name, crate::proofs::Recovering::begun_again, crate::proofs::Recovering::is_begun))]
-fn node_begun<'s>(begun: &[bool], words: &[Token<'s>]) -> Result<NodeId, Fault<'s>>
+fn node_begun<'s>(begun: &[bool], words: &[Token<'s>]) -> Result<NodeId, SourceFault<'s>>
     requires some { 0 < length words.now }
     requires size { length begun.now ≡ 144 }
     ensures begun { IfOk result (λ id. IsBegun begun.now (token_contents words.now) id.number) }
@@ -150,17 +154,17 @@ fn node_begun<'s>(begun: &[bool], words: &[Token<'s>]) -> Result<NodeId, Fault<'
 {
     let first = words[0];
     if !begins(&first) {
-        return Err(misplaced(first, SourceCause::NoNode));
+        return Err(misplaced_word_fault(first, SourceCause::NoNode));
     }
     if words.len() < 2 {
-        return Err(misplaced(first, SourceCause::Missing));
+        return Err(misplaced_word_fault(first, SourceCause::Missing));
     }
     let name = words[1];
     let Some(node) = node_of(name) else {
-        return Err(misplaced(name, SourceCause::NoSuchNode));
+        return Err(misplaced_word_fault(name, SourceCause::NoSuchNode));
     };
     if begun[node.index()] {
-        return Err(misplaced(name, SourceCause::NodeTwice));
+        return Err(misplaced_word_fault(name, SourceCause::NodeTwice));
     }
     Ok(node)
 }
@@ -205,13 +209,13 @@ fn skipped_length(words: &[Token<'_>]) -> usize
 /// Adds the fault of a register that is given a number out of its range.
 #[tactic(auto, using(crate::proofs::Recovering::refused_none, crate::proofs::Recovering::refused_one))]
 fn add_given<'s>(
-    faults: &mut Vec<Fault<'s>>,
+    faults: &mut Vec<SourceFault<'s>>,
     labels: &[Option<u32>],
     names: &[Label<'s>],
     given: Option<RegisterValue>,
     register: Register,
 ) -> Result<(), AllocError>
-    ensures { OnOk result (Adds (AreRefused (given_refusals labels.now names.now register given)) faults.old.items faults.new.items) }
+    ensures { OnOk result (Adds (AreRefused (register_value_refusals labels.now names.now register given)) faults.old.items faults.new.items) }
 {
     match value_given(labels, names, given, register) {
         Ok(_) => Ok(()),
@@ -225,9 +229,9 @@ fn add_given<'s>(
 /// The groups that were loaded.
 fn groups_loaded(
     alloc: Global,
-    groups: Vec<Group>,
+    groups: Vec<CellGroup>,
     loaded: &[bool],
-) -> Result<Vec<Group>, AllocError> {
+) -> Result<Vec<CellGroup>, AllocError> {
     let mut left = Vec::new(alloc);
     for (group, is_loaded) in groups.into_iter().zip(loaded) {
         if *is_loaded {
@@ -240,10 +244,10 @@ fn groups_loaded(
 /// Adds the faults of the values of registers at load.
 #[tactic(auto, using(crate::proofs::Recovering::refused_three))]
 fn add_registers<'s>(
-    faults: &mut Vec<Fault<'s>>,
+    faults: &mut Vec<SourceFault<'s>>,
     labels: &[Option<u32>],
     names: &[Label<'s>],
-    registers: Registers,
+    registers: InitialRegisters,
 ) -> Result<(), AllocError>
     ensures { OnOk result (Adds (AreRefused (register_refusals labels.now names.now registers)) faults.old.items faults.new.items) }
 {
@@ -262,8 +266,8 @@ fn load_requests<'s>(
     line: u32,
     requests: NodeRequests<'s>,
     programs: &mut Vec<Program<'s>>,
-    faults: &mut Vec<Fault<'s>>,
-) -> Result<(), Fault<'s>>
+    faults: &mut Vec<SourceFault<'s>>,
+) -> Result<(), SourceFault<'s>>
     ensures added { OnOk result (Adds (AreFaultsOfRequests requests.entry) faults.old.items faults.new.items) }
     ensures refused { IfErr result (λ fault. fault.cause ≡ Memory) }
 {
@@ -308,12 +312,12 @@ fn recover_node<'s>(
     line: u32,
     tokens: &[Token<'s>],
     programs: &mut Vec<Program<'s>>,
-    faults: &mut Vec<Fault<'s>>,
-) -> Result<(), Fault<'s>>
+    faults: &mut Vec<SourceFault<'s>>,
+) -> Result<(), SourceFault<'s>>
     ensures added { OnOk result (Adds (AreFaultsOfNode line (token_contents tokens.now)) faults.old.items faults.new.items) }
     ensures refused { IfErr result (λ fault. fault.cause ≡ Memory) }
 {
-    let Recovered {
+    let RecoveredRequests {
         requests,
         faults: of_words,
     } = recover_requests(alloc, line, tokens)?;
@@ -329,9 +333,9 @@ fn recover_begun<'s>(
     chip: &mut Chip,
     begun: &mut [bool],
     programs: &mut Vec<Program<'s>>,
-    faults: &mut Vec<Fault<'s>>,
+    faults: &mut Vec<SourceFault<'s>>,
     words: &[Token<'s>],
-) -> Result<usize, Fault<'s>>
+) -> Result<usize, SourceFault<'s>>
     requires size { length begun.old ≡ 144 }
     requires node { IsBegun begun.old (token_contents words.now) id.number }
     ensures count { IfOk result (λ count. (0 < count) × (count ≤ length words.now)) }
@@ -362,9 +366,9 @@ fn recover_first<'s>(
     chip: &mut Chip,
     begun: &mut [bool],
     programs: &mut Vec<Program<'s>>,
-    faults: &mut Vec<Fault<'s>>,
+    faults: &mut Vec<SourceFault<'s>>,
     words: &[Token<'s>],
-) -> Result<usize, Fault<'s>>
+) -> Result<usize, SourceFault<'s>>
     requires some { 0 < length words.now }
     requires size { length begun.old ≡ 144 }
     ensures count { IfOk result (λ count. (0 < count) × (count ≤ length words.now)) }
@@ -394,7 +398,7 @@ fn recover_first<'s>(
 pub fn recover_words<'s>(
     alloc: Global,
     words: &[Token<'s>],
-) -> Result<RecoveredSource<'s>, Fault<'s>>
+) -> Result<RecoveredPrograms<'s>, SourceFault<'s>>
     ensures faults { IfOk result (λ all. AreFaultsOfWords (token_contents (with_numbers 1 words.now)) all.faults.items) }
     ensures refused { IfErr result (λ fault. fault.cause ≡ Memory) }
 {
@@ -419,8 +423,8 @@ pub fn recover_words<'s>(
         )?;
     }
     faults.sort_by_key(|fault| fault.line)?;
-    Ok(RecoveredSource {
-        assembled: Assembled { chip, programs },
+    Ok(RecoveredPrograms {
+        assembled: AssembledChip { chip, programs },
         faults,
     })
 }
@@ -436,7 +440,7 @@ pub fn line_of_number(words: &[Token<'_>], number: u32) -> u32
 }
 
 /// A fault at the number of a word, at that word's line.
-pub fn fault_on_line<'s>(words: &[Token<'_>], fault: Fault<'s>) -> Fault<'s>
+pub fn fault_on_line<'s>(words: &[Token<'_>], fault: SourceFault<'s>) -> SourceFault<'s>
     ensures { result ≡ fault_at_line words.now fault.entry }
 {
     let line = line_of_number(words, fault.line);
@@ -447,7 +451,7 @@ pub fn fault_on_line<'s>(words: &[Token<'_>], fault: Fault<'s>) -> Fault<'s>
         },
         cause => cause,
     };
-    Fault { line, cause }
+    SourceFault { line, cause }
 }
 
 /// The faults at the lines of their words, without those that are equal to the one before.
@@ -457,8 +461,8 @@ pub fn fault_on_line<'s>(words: &[Token<'_>], fault: Fault<'s>) -> Fault<'s>
 pub fn faults_on_lines<'s>(
     alloc: Global,
     words: &[Token<'_>],
-    faults: &[Fault<'s>],
-) -> Result<Vec<Fault<'s>>, AllocError>
+    faults: &[SourceFault<'s>],
+) -> Result<Vec<SourceFault<'s>>, AllocError>
     ensures { IfOk result (λ all. all.items ≡ faults_by_line words.now faults.now) }
 {
     let mut all = Vec::new(alloc);
@@ -473,10 +477,10 @@ pub fn faults_on_lines<'s>(
 ///
 /// # Errors
 /// Out of memory.
-pub fn or_first<'s>(
-    mut faults: Vec<Fault<'s>>,
-    first: Fault<'s>,
-) -> Result<Vec<Fault<'s>>, AllocError>
+pub fn faults_or_first<'s>(
+    mut faults: Vec<SourceFault<'s>>,
+    first: SourceFault<'s>,
+) -> Result<Vec<SourceFault<'s>>, AllocError>
     ensures { IfOk result (λ all. all.items ≡ or_this faults.entry.items first.entry) }
 {
     if faults.is_empty() {
@@ -493,16 +497,16 @@ pub fn or_first<'s>(
 pub fn all_faults<'s>(
     alloc: Global,
     source: &'s [u8],
-    first: Fault<'s>,
-) -> Result<Vec<Fault<'s>>, Fault<'s>>
+    first: SourceFault<'s>,
+) -> Result<Vec<SourceFault<'s>>, SourceFault<'s>>
     ensures faults { IfOk result (λ faults. AreFaultsOfSource source.now first.entry faults.items) }
     ensures refused { IfErr result (λ fault. fault.cause ≡ Memory) }
 {
     if is_memory(first) {
         return Err(first);
     }
-    let words = words_once(alloc, source)?;
+    let words = source_words_without_copies(alloc, source)?;
     let recovered = recover_words(alloc, words.as_slice())?;
     let faults = faults_on_lines(alloc, words.as_slice(), recovered.faults.as_slice())?;
-    Ok(or_first(faults, first)?)
+    Ok(faults_or_first(faults, first)?)
 }

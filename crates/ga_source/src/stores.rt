@@ -2,13 +2,13 @@
 
 ghost use Rattle.std.specs.Prelude.{◌≡◌, ◌<◌, [], ◌++◌, length, if◌then◌else◌, IfOk, OnOk};
 ghost use Rattle.ga_source.specs.Reading.{is_data_cell};
-ghost use Rattle.ga_source.specs.Reading.{p_behind as p_behind_of};
-ghost use Rattle.ga_source.specs.Stores.{cell_index, with_code_line, with_literal, with_code_word, code_lines as code_lines_of, store_address, known_after, known_past_loop, is_nameless as is_nameless_by, known_behind, store_over, store_of, with_store, stores_of_program};
+ghost use Rattle.ga_source.specs.Reading.{p_after_item as p_behind_of};
+ghost use Rattle.ga_source.specs.Stores.{cell_index, with_code_line, with_literal, with_code_word, code_lines as code_lines_of, store_address, known_after_opcode, known_after_loop, is_unnamed_label as is_nameless_by, known_after_request, code_store_at, code_store_of_request, with_optional_store, stores_of_program};
 
-use super::group::Group;
+use super::group::CellGroup;
 use super::program::Program;
 use super::reading::resolve;
-use ga_parser::{Item, Label, LocatedRequest, Request};
+use ga_parser::{AssemblyRequest, Item, Label, LocatedRequest};
 use ga_ports::advance_p;
 use ga_slots::Op;
 use std::alloc::{AllocError, Global};
@@ -53,7 +53,7 @@ impl Known {
 
     /// What is known after an opcode.
     fn after(self, op: Op) -> Self
-        ensures { result ≡ known_after self op }
+        ensures { result ≡ known_after_opcode self op }
     {
         let Known { a, b, literal } = self;
         let (a, b) = match op {
@@ -73,7 +73,7 @@ impl Known {
 
     /// What is known after the end of a loop, which may move A more than once.
     fn past_loop(self, op: Op) -> Self
-        ensures { result ≡ known_past_loop self op }
+        ensures { result ≡ known_after_loop self op }
     {
         Known {
             a: None,
@@ -83,20 +83,21 @@ impl Known {
     }
 
     /// What is known after a request. A named label may be reached from elsewhere.
-    fn behind(self, program: &Program<'_>, request: Request) -> Self
-        ensures { result ≡ known_behind program.now self request }
+    fn behind(self, program: &Program<'_>, request: AssemblyRequest) -> Self
+        ensures { result ≡ known_after_request program.now self request }
     {
         match request {
-            Request::Put(Item::Literal(value)) => Known {
+            AssemblyRequest::Put(Item::Literal(value)) => Known {
                 a: self.a,
                 b: self.b,
                 literal: resolve(program.labels.as_slice(), value),
             },
-            Request::Put(Item::Opcode(op)) | Request::Put(Item::Ahead(op, _)) => self.after(op),
-            Request::Put(Item::Back(op, _)) => self.past_loop(op),
-            Request::Unext(_) => self.past_loop(Op::Unext),
-            Request::Mark(label) => {
-                if is_nameless(program.names.as_slice(), label) {
+            AssemblyRequest::Put(Item::Opcode(op)) | AssemblyRequest::Put(Item::Ahead(op, _)) =>
+                self.after(op),
+            AssemblyRequest::Put(Item::Back(op, _)) => self.past_loop(op),
+            AssemblyRequest::Unext(_) => self.past_loop(Op::Unext),
+            AssemblyRequest::Mark(label) => {
+                if is_unnamed_label(program.names.as_slice(), label) {
                     self
                 } else {
                     NOTHING_KNOWN
@@ -108,7 +109,7 @@ impl Known {
 }
 
 /// Whether a control word made the label.
-fn is_nameless(names: &[Label<'_>], label: usize) -> bool
+fn is_unnamed_label(names: &[Label<'_>], label: usize) -> bool
     ensures { result ≡ is_nameless_by names.now label }
 {
     match names.get(label) {
@@ -147,7 +148,7 @@ fn note_literal(code: &mut [u32], p: u32, line: u32, item: Item)
 }
 
 /// P after the literal of an item.
-fn p_behind(p: u32, item: Item) -> u32
+fn p_after_item(p: u32, item: Item) -> u32
     ensures { result ≡ p_behind_of p item }
 {
     match item {
@@ -158,7 +159,7 @@ fn p_behind(p: u32, item: Item) -> u32
 
 /// Notes the lines of the cells of a group, which holds code.
 #[tactic(auto, using(crate::proofs::Storing::literals_more))]
-fn note_code(code: &mut [u32], group: &Group)
+fn note_code(code: &mut [u32], group: &CellGroup)
     requires { length code.old ≡ 192 }
     ensures noted { code.new ≡ with_code_word code.old group.now }
     ensures size { length code.new ≡ 192 }
@@ -167,12 +168,12 @@ fn note_code(code: &mut [u32], group: &Group)
     let mut p = advance_p(group.address);
     for (i, item) in group.items.as_slice().iter().enumerate() {
         note_literal(code, p, group.line_of(i), *item);
-        p = p_behind(p, *item);
+        p = p_after_item(p, *item);
     }
 }
 
 /// Notes the lines of the cells of a group, where it holds code.
-fn note_group(code: &mut [u32], group: &Group)
+fn note_group(code: &mut [u32], group: &CellGroup)
     requires { length code.old ≡ 192 }
     ensures noted { code.new ≡ (if is_data_cell group.now.items.items then code.old else with_code_word code.old group.now) }
     ensures size { length code.new ≡ 192 }
@@ -196,9 +197,9 @@ fn code_lines(program: &Program<'_>) -> [u32; 192]
 }
 
 /// The store at an address, where its cell is one of RAM that holds code. (A store to ROM changes nothing.)
-fn store_over(code: &[u32], line: u32, address: u32) -> Option<Store>
+fn code_store_at(code: &[u32], line: u32, address: u32) -> Option<Store>
     requires { length code.now ≡ 192 }
-    ensures { result ≡ store_over code.now line address }
+    ensures { result ≡ code_store_at code.now line address }
 {
     let code_line = code[index_of(address)];
     if code_line != 0 && address % 512 < 128 {
@@ -213,13 +214,13 @@ fn store_over(code: &[u32], line: u32, address: u32) -> Option<Store>
 }
 
 /// The store that a request asks for, where its address is known and its cell holds code.
-fn store_of(code: &[u32], known: Known, asked: LocatedRequest) -> Option<Store>
+fn code_store_of_request(code: &[u32], known: Known, asked: LocatedRequest) -> Option<Store>
     requires { length code.now ≡ 192 }
-    ensures { result ≡ store_of code.now known asked.line asked.request }
+    ensures { result ≡ code_store_of_request code.now known asked.line asked.request }
 {
     match asked.request {
-        Request::Put(Item::Opcode(op)) => match known.store_address(op) {
-            Some(address) => store_over(code, asked.line, address),
+        AssemblyRequest::Put(Item::Opcode(op)) => match known.store_address(op) {
+            Some(address) => code_store_at(code, asked.line, address),
             None => None,
         },
         _ => None,
@@ -228,7 +229,7 @@ fn store_of(code: &[u32], known: Known, asked: LocatedRequest) -> Option<Store>
 
 /// Adds a store, where there is one.
 fn add_store(stores: &mut Vec<Store>, store: Option<Store>) -> Result<(), AllocError>
-    ensures { OnOk result (stores.new.items ≡ stores.old.items ++ with_store store []) }
+    ensures { OnOk result (stores.new.items ≡ stores.old.items ++ with_optional_store store []) }
 {
     match store {
         Some(store) => {
@@ -252,7 +253,7 @@ pub fn stores_over_code(alloc: Global, program: &Program<'_>) -> Result<Vec<Stor
     let mut stores = Vec::new(alloc);
     let mut known = NOTHING_KNOWN;
     for asked in &program.asked {
-        add_store(&mut stores, store_of(&code, known, *asked))?;
+        add_store(&mut stores, code_store_of_request(&code, known, *asked))?;
         known = known.behind(program, asked.request);
     }
     Ok(stores)

@@ -9,28 +9,28 @@ pub record Ring : Type 0 where
   pub pointer : ℕ
 
 -- a stack's words, the top first
-abbrev pub listed : Ring → List ℕ
-listed ring = ring.registers ++ drop ring.pointer ring.cells ++ take ring.pointer ring.cells
+abbrev pub words_of_stack : Ring → List ℕ
+words_of_stack ring = ring.registers ++ drop ring.pointer ring.cells ++ take ring.pointer ring.cells
 
 -- the list after a push: the word in front, and the last word dropped
-abbrev pub pushed : ℕ → List ℕ → List ℕ
-pushed word words = take (length words) (word ∷ words)
+abbrev pub words_after_push : ℕ → List ℕ → List ℕ
+words_after_push word words = take (length words) (word ∷ words)
 
 -- the list after a pop that copies the word at a place: the first removed, and that word appended
-abbrev pub popped : ℕ → List ℕ → List ℕ
-popped copied words = drop 1 words ++ slice_index words copied ∷ []
+abbrev pub words_after_pop : ℕ → List ℕ → List ℕ
+words_after_pop copied words = drop 1 words ++ slice_index words copied ∷ []
 
 -- the data stack after a pop: the word that was third comes last
-abbrev pub popped_data : List ℕ → List ℕ
-popped_data = popped 2
+abbrev pub data_after_pop : List ℕ → List ℕ
+data_after_pop = words_after_pop 2
 
 -- the return stack after a pop: the word that was second comes last
-abbrev pub popped_return : List ℕ → List ℕ
-popped_return = popped 1
+abbrev pub return_after_pop : List ℕ → List ℕ
+return_after_pop = words_after_pop 1
 
 -- the list with another first word
-abbrev pub topped : ℕ → List ℕ → List ℕ
-topped word words = word ∷ drop 1 words
+abbrev pub with_top : ℕ → List ℕ → List ℕ
+with_top word words = word ∷ drop 1 words
 
 -- what each word of a stack is before anything is pushed
 abbrev pub fresh_word : ℕ

@@ -19,33 +19,33 @@ with_stack_word ring Second value = record ring { registers = slice_set ring.reg
 with_stack_word ring (Cell k) value = record ring { cells = slice_set ring.cells k value }
 
 -- the stack with its old values written back, the last of them first
-abbrev pub ring_restored : Ring → List (StackPlace × ℕ) → Ring
-ring_restored ring [] = ring
-ring_restored ring (saved ∷ rest) = with_stack_word (ring_restored ring rest) saved.0 saved.1
+abbrev pub with_restored_words : Ring → List (StackPlace × ℕ) → Ring
+with_restored_words ring [] = ring
+with_restored_words ring (saved ∷ rest) = with_stack_word (with_restored_words ring rest) saved.0 saved.1
 
 -- whether a stack with this number of registers has the place
-abbrev pub HasPlace : ℕ → StackPlace → Type 0
-HasPlace registers Pointer = Unit {0}
-HasPlace registers Top = Unit {0}
-HasPlace registers Second = 2 ≤ registers
-HasPlace registers (Cell k) = k < 8
+abbrev pub HasStackPlace : ℕ → StackPlace → Type 0
+HasStackPlace registers Pointer = Unit {0}
+HasStackPlace registers Top = Unit {0}
+HasStackPlace registers Second = 2 ≤ registers
+HasStackPlace registers (Cell k) = k < 8
 
 -- a value in its place's range
-abbrev pub FitsPlace : StackPlace → ℕ → Type 0
-FitsPlace Pointer value = value < 8
-FitsPlace Top value = value < 2 ^ 18
-FitsPlace Second value = value < 2 ^ 18
-FitsPlace (Cell k) value = value < 2 ^ 18
+abbrev pub FitsStackPlace : StackPlace → ℕ → Type 0
+FitsStackPlace Pointer value = value < 8
+FitsStackPlace Top value = value < 2 ^ 18
+FitsStackPlace Second value = value < 2 ^ 18
+FitsStackPlace (Cell k) value = value < 2 ^ 18
 
 -- whether these can be old values of a stack with this number of registers: places of that stack, with values in their ranges
 abbrev pub AreStackChanges : ℕ → List (StackPlace × ℕ) → Type 0
 AreStackChanges registers [] = Unit {0}
-AreStackChanges registers (saved ∷ rest) = HasPlace registers saved.0 × FitsPlace saved.0 saved.1 × AreStackChanges registers rest
+AreStackChanges registers (saved ∷ rest) = HasStackPlace registers saved.0 × FitsStackPlace saved.0 saved.1 × AreStackChanges registers rest
 
 -- some places, each with its value in the stack
 abbrev pub old_words : Ring → List StackPlace → List (StackPlace × ℕ)
 old_words ring places = map (λ place. (place, word_at_place ring place)) places
 
 -- whether no place of a stack is twice in the list
-abbrev pub NoStackPlaceTwice : List (StackPlace × ℕ) → Type 0
-NoStackPlaceTwice saved = AllPairs (λ a b. a.0 ≢ b.0) saved
+abbrev pub HasDistinctPlaces : List (StackPlace × ℕ) → Type 0
+HasDistinctPlaces saved = AllPairs (λ a b. a.0 ≢ b.0) saved

@@ -2,10 +2,10 @@
 
 ghost use Rattle.std.specs.Prelude.{◌≡◌, ◌<◌, ◌≤◌, ◌+◌, ◌%◌, [], ◌∷◌, slice_index, length};
 ghost use Rattle.ga_stacks.specs.declared.place.StackPlace.TheVariants.{Pointer, Top, Second, Cell};
-ghost use Rattle.ga_stacks.specs.Ring.{fresh_ring, listed, pushed, popped_data, topped};
-ghost use Rattle.ga_stacks.specs.Stack.{word_at_place, old_words, with_stack_word, ring_restored, HasPlace, FitsPlace, AreStackChanges, NoStackPlaceTwice};
+ghost use Rattle.ga_stacks.specs.Ring.{fresh_ring, words_of_stack, words_after_push, data_after_pop, with_top};
+ghost use Rattle.ga_stacks.specs.Stack.{word_at_place, old_words, with_stack_word, with_restored_words, HasStackPlace, FitsStackPlace, AreStackChanges, HasDistinctPlaces};
 
-use crate::place::{CELLS, FRESH_WORD, Overwritten, StackPlace};
+use crate::place::{CELLS, FRESH_WORD, OverwrittenPlaces, StackPlace};
 use arrayvec::ArrayVec;
 use ga_word::Word18;
 use std::marker::Model;
@@ -35,7 +35,7 @@ impl DataStack {
     pub fn new() -> Self
         ensures { result ≡ fresh_ring 2 }
     {
-        let word = Word18::truncated(FRESH_WORD);
+        let word = Word18::from_low_bits(FRESH_WORD);
         DataStack {
             top: word,
             second: word,
@@ -58,7 +58,7 @@ impl DataStack {
 
     /// The stack that is this list of words, the top first.
     pub fn of(words: [Word18; 10]) -> Self
-        ensures { listed result ≡ words }
+        ensures { words_of_stack result ≡ words }
     {
         let [top, second, a, b, c, d, e, f, g, h] = words;
         DataStack {
@@ -71,14 +71,14 @@ impl DataStack {
 
     /// T, the top word.
     pub fn top(&self) -> Word18
-        ensures { result ≡ slice_index (listed self.now) 0 }
+        ensures { result ≡ slice_index (words_of_stack self.now) 0 }
     {
         self.top
     }
 
     /// S, the word below the top.
     pub fn second(&self) -> Word18
-        ensures { result ≡ slice_index (listed self.now) 1 }
+        ensures { result ≡ slice_index (words_of_stack self.now) 1 }
     {
         self.second
     }
@@ -86,8 +86,8 @@ impl DataStack {
     /// The word at a place of the list, 0 for the top.
     pub fn at(&self, place: u8) -> Word18
         requires { place < 10 }
-        ensures word { result ≡ slice_index (listed self.now) place }
-        ensures size { 2 ≤ place → length (listed self.now) ≡ 10 }
+        ensures word { result ≡ slice_index (words_of_stack self.now) place }
+        ensures size { 2 ≤ place → length (words_of_stack self.now) ≡ 10 }
     {
         match place {
             0 => self.top,
@@ -97,12 +97,12 @@ impl DataStack {
     }
 
     /// Puts a word on top; the oldest word is lost.
-    pub fn push(&mut self, word: Word18) -> Overwritten
-        ensures pushed { listed self.new ≡ pushed word (listed self.old) }
-        ensures undone { ring_restored self.new result.items ≡ self.old }
+    pub fn push(&mut self, word: Word18) -> OverwrittenPlaces
+        ensures words_after_push { words_of_stack self.new ≡ words_after_push word (words_of_stack self.old) }
+        ensures state_after_undo { with_restored_words self.new result.items ≡ self.old }
         ensures overwritten { result.items ≡ old_words self.old (Pointer ∷ Cell ((self.old.pointer + 7) % 8) ∷ Second ∷ Top ∷ []) }
         ensures fit { AreStackChanges 2 result.items }
-        ensures once { NoStackPlaceTwice result.items }
+        ensures once { HasDistinctPlaces result.items }
         ensures count { length result.items ≤ 4 }
     {
         let pointer = (self.pointer + 7) % CELLS;
@@ -122,12 +122,12 @@ impl DataStack {
     }
 
     /// Takes the top word away; the word that was third is also the new last one.
-    pub fn pop(&mut self) -> Overwritten
-        ensures popped { listed self.new ≡ popped_data (listed self.old) }
-        ensures undone { ring_restored self.new result.items ≡ self.old }
+    pub fn pop(&mut self) -> OverwrittenPlaces
+        ensures words_after_pop { words_of_stack self.new ≡ data_after_pop (words_of_stack self.old) }
+        ensures state_after_undo { with_restored_words self.new result.items ≡ self.old }
         ensures overwritten { result.items ≡ old_words self.old (Pointer ∷ Second ∷ Top ∷ []) }
         ensures fit { AreStackChanges 2 result.items }
-        ensures once { NoStackPlaceTwice result.items }
+        ensures once { HasDistinctPlaces result.items }
         ensures count { length result.items ≤ 3 }
     {
         let mut saved = ArrayVec::new();
@@ -141,12 +141,12 @@ impl DataStack {
     }
 
     /// Replaces the top by another word.
-    pub fn replace_top(&mut self, word: Word18) -> Overwritten
-        ensures topped { listed self.new ≡ topped word (listed self.old) }
-        ensures undone { ring_restored self.new result.items ≡ self.old }
+    pub fn replace_top(&mut self, word: Word18) -> OverwrittenPlaces
+        ensures with_top { words_of_stack self.new ≡ with_top word (words_of_stack self.old) }
+        ensures state_after_undo { with_restored_words self.new result.items ≡ self.old }
         ensures overwritten { result.items ≡ old_words self.old (Top ∷ []) }
         ensures fit { AreStackChanges 2 result.items }
-        ensures once { NoStackPlaceTwice result.items }
+        ensures once { HasDistinctPlaces result.items }
         ensures count { length result.items ≤ 1 }
     {
         let old = std::mem::replace(&mut self.top, word);
@@ -157,9 +157,9 @@ impl DataStack {
 
     /// Returns the value of a register, a cell or the pointer.
     pub fn get(&self, place: StackPlace) -> u32
-        requires { HasPlace 2 place }
+        requires { HasStackPlace 2 place }
         ensures value { result ≡ word_at_place self.now place }
-        ensures in_range { FitsPlace place result }
+        ensures in_range { FitsStackPlace place result }
     {
         match place {
             StackPlace::Top => self.top.get(),
@@ -171,14 +171,14 @@ impl DataStack {
 
     /// Writes a register, a cell or the pointer.
     pub fn set(&mut self, place: StackPlace, value: u32)
-        requires place { HasPlace 2 place }
-        requires in_range { FitsPlace place value }
+        requires place { HasStackPlace 2 place }
+        requires in_range { FitsStackPlace place value }
         ensures { self.new ≡ with_stack_word self.old place value }
     {
         match place {
-            StackPlace::Top => self.top = Word18::truncated(value),
-            StackPlace::Second => self.second = Word18::truncated(value),
-            StackPlace::Cell(k) => self.cells[k as usize] = Word18::truncated(value),
+            StackPlace::Top => self.top = Word18::from_low_bits(value),
+            StackPlace::Second => self.second = Word18::from_low_bits(value),
+            StackPlace::Cell(k) => self.cells[k as usize] = Word18::from_low_bits(value),
             StackPlace::Pointer => self.pointer = value as u8,
         }
     }

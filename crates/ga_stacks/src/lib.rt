@@ -6,5 +6,5 @@ mod place;
 mod returns;
 
 pub use data::DataStack;
-pub use place::{FRESH_WORD, Overwritten, StackPlace};
+pub use place::{FRESH_WORD, OverwrittenPlaces, StackPlace};
 pub use returns::ReturnStack;

@@ -23,4 +23,4 @@ pub enum StackPlace {
 }
 
 /// The places that a change overwrote, each once, with their old values.
-pub type Overwritten = ArrayVec<(StackPlace, u32), 4>;
+pub type OverwrittenPlaces = ArrayVec<(StackPlace, u32), 4>;

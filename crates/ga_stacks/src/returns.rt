@@ -2,10 +2,10 @@
 
 ghost use Rattle.std.specs.Prelude.{◌≡◌, ◌<◌, ◌≤◌, ◌+◌, ◌%◌, [], ◌∷◌, slice_index, length};
 ghost use Rattle.ga_stacks.specs.declared.place.StackPlace.TheVariants.{Pointer, Top, Cell};
-ghost use Rattle.ga_stacks.specs.Ring.{fresh_ring, listed, pushed, popped_return, topped};
-ghost use Rattle.ga_stacks.specs.Stack.{word_at_place, old_words, with_stack_word, ring_restored, HasPlace, FitsPlace, AreStackChanges, NoStackPlaceTwice};
+ghost use Rattle.ga_stacks.specs.Ring.{fresh_ring, words_of_stack, words_after_push, return_after_pop, with_top};
+ghost use Rattle.ga_stacks.specs.Stack.{word_at_place, old_words, with_stack_word, with_restored_words, HasStackPlace, FitsStackPlace, AreStackChanges, HasDistinctPlaces};
 
-use crate::place::{CELLS, FRESH_WORD, Overwritten, StackPlace};
+use crate::place::{CELLS, FRESH_WORD, OverwrittenPlaces, StackPlace};
 use arrayvec::ArrayVec;
 use ga_word::Word18;
 use std::marker::Model;
@@ -34,7 +34,7 @@ impl ReturnStack {
     pub fn new() -> Self
         ensures { result ≡ fresh_ring 1 }
     {
-        let word = Word18::truncated(FRESH_WORD);
+        let word = Word18::from_low_bits(FRESH_WORD);
         ReturnStack {
             top: word,
             cells: [word; 8],
@@ -55,7 +55,7 @@ impl ReturnStack {
 
     /// The stack that is this list of words, the top first.
     pub fn of(words: [Word18; 9]) -> Self
-        ensures { listed result ≡ words }
+        ensures { words_of_stack result ≡ words }
     {
         let [top, a, b, c, d, e, f, g, h] = words;
         ReturnStack {
@@ -67,7 +67,7 @@ impl ReturnStack {
 
     /// R, the top word.
     pub fn top(&self) -> Word18
-        ensures { result ≡ slice_index (listed self.now) 0 }
+        ensures { result ≡ slice_index (words_of_stack self.now) 0 }
     {
         self.top
     }
@@ -75,8 +75,8 @@ impl ReturnStack {
     /// The word at a place of the list, 0 for the top.
     pub fn at(&self, place: u8) -> Word18
         requires { place < 9 }
-        ensures word { result ≡ slice_index (listed self.now) place }
-        ensures size { 1 ≤ place → length (listed self.now) ≡ 9 }
+        ensures word { result ≡ slice_index (words_of_stack self.now) place }
+        ensures size { 1 ≤ place → length (words_of_stack self.now) ≡ 9 }
     {
         match place {
             0 => self.top,
@@ -85,12 +85,12 @@ impl ReturnStack {
     }
 
     /// Puts a word on top; the oldest word is lost.
-    pub fn push(&mut self, word: Word18) -> Overwritten
-        ensures pushed { listed self.new ≡ pushed word (listed self.old) }
-        ensures undone { ring_restored self.new result.items ≡ self.old }
+    pub fn push(&mut self, word: Word18) -> OverwrittenPlaces
+        ensures words_after_push { words_of_stack self.new ≡ words_after_push word (words_of_stack self.old) }
+        ensures state_after_undo { with_restored_words self.new result.items ≡ self.old }
         ensures overwritten { result.items ≡ old_words self.old (Pointer ∷ Cell ((self.old.pointer + 7) % 8) ∷ Top ∷ []) }
         ensures fit { AreStackChanges 1 result.items }
-        ensures once { NoStackPlaceTwice result.items }
+        ensures once { HasDistinctPlaces result.items }
         ensures count { length result.items ≤ 3 }
     {
         let pointer = (self.pointer + 7) % CELLS;
@@ -108,12 +108,12 @@ impl ReturnStack {
     }
 
     /// Takes the top word away; the word that was second is also the new last one.
-    pub fn pop(&mut self) -> Overwritten
-        ensures popped { listed self.new ≡ popped_return (listed self.old) }
-        ensures undone { ring_restored self.new result.items ≡ self.old }
+    pub fn pop(&mut self) -> OverwrittenPlaces
+        ensures words_after_pop { words_of_stack self.new ≡ return_after_pop (words_of_stack self.old) }
+        ensures state_after_undo { with_restored_words self.new result.items ≡ self.old }
         ensures overwritten { result.items ≡ old_words self.old (Pointer ∷ Top ∷ []) }
         ensures fit { AreStackChanges 1 result.items }
-        ensures once { NoStackPlaceTwice result.items }
+        ensures once { HasDistinctPlaces result.items }
         ensures count { length result.items ≤ 2 }
     {
         let mut saved = ArrayVec::new();
@@ -125,12 +125,12 @@ impl ReturnStack {
     }
 
     /// Replaces the top by another word.
-    pub fn replace_top(&mut self, word: Word18) -> Overwritten
-        ensures topped { listed self.new ≡ topped word (listed self.old) }
-        ensures undone { ring_restored self.new result.items ≡ self.old }
+    pub fn replace_top(&mut self, word: Word18) -> OverwrittenPlaces
+        ensures with_top { words_of_stack self.new ≡ with_top word (words_of_stack self.old) }
+        ensures state_after_undo { with_restored_words self.new result.items ≡ self.old }
         ensures overwritten { result.items ≡ old_words self.old (Top ∷ []) }
         ensures fit { AreStackChanges 1 result.items }
-        ensures once { NoStackPlaceTwice result.items }
+        ensures once { HasDistinctPlaces result.items }
         ensures count { length result.items ≤ 1 }
     {
         let old = std::mem::replace(&mut self.top, word);
@@ -141,9 +141,9 @@ impl ReturnStack {
 
     /// Returns the value of a register, a cell or the pointer.
     pub fn get(&self, place: StackPlace) -> u32
-        requires { HasPlace 1 place }
+        requires { HasStackPlace 1 place }
         ensures value { result ≡ word_at_place self.now place }
-        ensures in_range { FitsPlace place result }
+        ensures in_range { FitsStackPlace place result }
     {
         match place {
             StackPlace::Top => self.top.get(),
@@ -155,14 +155,14 @@ impl ReturnStack {
 
     /// Writes a register, a cell or the pointer.
     pub fn set(&mut self, place: StackPlace, value: u32)
-        requires place { HasPlace 1 place }
-        requires in_range { FitsPlace place value }
+        requires place { HasStackPlace 1 place }
+        requires in_range { FitsStackPlace place value }
         ensures { self.new ≡ with_stack_word self.old place value }
     {
         match place {
-            StackPlace::Top => self.top = Word18::truncated(value),
+            StackPlace::Top => self.top = Word18::from_low_bits(value),
             StackPlace::Second => unreachable!(),
-            StackPlace::Cell(k) => self.cells[k as usize] = Word18::truncated(value),
+            StackPlace::Cell(k) => self.cells[k as usize] = Word18::from_low_bits(value),
             StackPlace::Pointer => self.pointer = value as u8,
         }
     }

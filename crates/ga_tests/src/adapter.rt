@@ -1,11 +1,11 @@
 //! What a client of the Debug Adapter Protocol is shown, byte for byte, with the names that its schema has.
 
-use crate::common::{CALLS, begun, lab_of, same};
-use ga_dap_queries::{asked_variable, evaluate, exception_info};
+use crate::common::{CALLS_PROGRAM, lab_after_steps, lab_of_image, same};
+use ga_dap_queries::{evaluate, exception_info, parse_variable};
 use ga_dap_views::{
-    Scope, SlotAddress, SourceFile, cell_at_chip_address, chip_address, disassembled, frame_of,
-    node_of_frame, node_of_thread, open_calls, reference_of, resolve_reference, scopes,
-    slot_address_after, stack_trace, thread_of, threads, variables,
+    Scope, SlotAddress, SourceFile, cell_at_chip_address, chip_address, disassemble_body, frame_id,
+    node_of_frame, node_of_thread, open_calls, resolve_reference, scopes, slot_address_after,
+    stack_trace, thread_id, threads, variables, variables_reference,
 };
 use ga_grid::NodeId;
 use serde_json::Value;
@@ -31,12 +31,12 @@ const WRITER: &[u8] =
 #[test]
 fn numbers_mean_something(rt: HostRuntime) {
     let node = NodeId::new(127);
-    same(&rt, &thread_of(node), &1701);
+    same(&rt, &thread_id(node), &1701);
     same(&rt, &node_of_thread(1701), &Some(node));
     same(&rt, &node_of_thread(1018), &None);
-    same(&rt, &frame_of(node, 2), &2035);
+    same(&rt, &frame_id(node, 2), &2035);
     same(&rt, &node_of_frame(2035), &Some((node, 2)));
-    same(&rt, &reference_of(node, Scope::Rom), &1022);
+    same(&rt, &variables_reference(node, Scope::Rom), &1022);
     same(&rt, &resolve_reference(1022), &Some((node, Scope::Rom)));
     same(&rt, &chip_address(node, 5), &0x701005);
     same(&rt, &cell_at_chip_address(0x701005), &Some((node, 5)));
@@ -46,7 +46,7 @@ fn numbers_mean_something(rt: HostRuntime) {
 #[test]
 fn threads_are_shown(rt: HostRuntime) -> Result<(), Fail> {
     let alloc = rt.alloc();
-    let lab = lab_of(alloc, WRITER, 100)?;
+    let lab = lab_of_image(alloc, WRITER, 100)?;
     let body = threads(alloc, &lab, &[NodeId::new(0)]);
     let wanted =
         "{\"threads\":[{\"id\":1000,\"name\":\"000 runs\"},{\"id\":1701,\"name\":\"701 runs\"}]}";
@@ -85,7 +85,7 @@ const VARIABLES: [(Scope, u64, u64, &str); 2] = [
 #[test]
 fn variables_are_shown(rt: HostRuntime) -> Result<(), Fail> {
     let alloc = rt.alloc();
-    let lab = lab_of(alloc, WRITER, 100)?;
+    let lab = lab_of_image(alloc, WRITER, 100)?;
     for (scope, start, count, wanted) in VARIABLES {
         let body = variables(alloc, &lab, false, (NodeId::new(127), scope), start, count);
         assert_body(&rt, alloc, &body, wanted);
@@ -96,9 +96,9 @@ fn variables_are_shown(rt: HostRuntime) -> Result<(), Fail> {
 #[test]
 fn a_register_is_asked_for(rt: HostRuntime) -> Result<(), Fail> {
     let alloc = rt.alloc();
-    let lab = lab_of(alloc, WRITER, 100)?;
+    let lab = lab_of_image(alloc, WRITER, 100)?;
     let wanted = "{\"result\":\"00015d = 349\",\"variablesReference\":0}";
-    match asked_variable(alloc, "b")? {
+    match parse_variable(alloc, "b")? {
         Some(one) => assert_body(
             &rt,
             alloc,
@@ -107,7 +107,7 @@ fn a_register_is_asked_for(rt: HostRuntime) -> Result<(), Fail> {
         ),
         None => assert!(&rt; false),
     }
-    same(&rt, &asked_variable(alloc, "[0g]")?.is_some(), &false);
+    same(&rt, &parse_variable(alloc, "[0g]")?.is_some(), &false);
     Ok(())
 }
 
@@ -126,7 +126,7 @@ const OUTSIDE: &str =
 
 #[test]
 fn frames_are_shown(rt: HostRuntime) -> Result<(), Fail> {
-    let (lab, notes) = begun(&rt, rt.alloc(), CALLS, 7)?;
+    let (lab, notes) = lab_after_steps(&rt, rt.alloc(), CALLS_PROGRAM, 7)?;
     for (node, wanted) in [(NodeId::new(0), FRAMES), (NodeId::new(1), OUTSIDE)] {
         let body = stack_trace(rt.alloc(), FILE, &lab, &notes, node, 0, 0);
         assert_body(&rt, rt.alloc(), &body, wanted);
@@ -137,7 +137,7 @@ fn frames_are_shown(rt: HostRuntime) -> Result<(), Fail> {
 #[test]
 fn returned_calls_are_closed(rt: HostRuntime) -> Result<(), Fail> {
     let node = NodeId::new(0);
-    let (lab, _) = begun(&rt, rt.alloc(), CALLS, 14)?;
+    let (lab, _) = lab_after_steps(&rt, rt.alloc(), CALLS_PROGRAM, 14)?;
     same(
         &rt,
         &slot_address_after(&lab, node, 0),
@@ -153,15 +153,15 @@ fn returned_calls_are_closed(rt: HostRuntime) -> Result<(), Fail> {
         }
         None => assert!(&rt; false),
     }
-    let (lab, _) = begun(&rt, rt.alloc(), CALLS, 15)?;
+    let (lab, _) = lab_after_steps(&rt, rt.alloc(), CALLS_PROGRAM, 15)?;
     same(&rt, &open_calls(&lab, node).len(), &0);
     Ok(())
 }
 
 #[test]
 fn instructions_are_shown(rt: HostRuntime) -> Result<(), Fail> {
-    let (lab, notes) = begun(&rt, rt.alloc(), CALLS, 0)?;
-    let body = disassembled(rt.alloc(), FILE, &lab, &notes, NodeId::new(0), 4095, 4);
+    let (lab, notes) = lab_after_steps(&rt, rt.alloc(), CALLS_PROGRAM, 0)?;
+    let body = disassemble_body(rt.alloc(), FILE, &lab, &notes, NodeId::new(0), 4095, 4);
     let wanted =
         "{\"instructions\":[{\"address\":\"0x000fff\",\"instruction\":\"no memory\",\"presentationHint\":\"invalid\"},{\"address\":\"0x000000\",\"instruction\":\"@p call double\",\"instructionBytes\":\"005603\",\"line\":3,\"location\":{\"name\":\"calls.f18\",\"path\":\"/calls.f18\"},\"symbol\":\"main\"},{\"address\":\"0x000001\",\"instruction\":\"word 5\",\"instructionBytes\":\"000005\",\"line\":3,\"location\":{\"name\":\"calls.f18\",\"path\":\"/calls.f18\"}},{\"address\":\"0x000002\",\"instruction\":\"drop jump main\",\"instructionBytes\":\"03b700\",\"line\":3,\"location\":{\"name\":\"calls.f18\",\"path\":\"/calls.f18\"}}]}";
     assert_body(&rt, rt.alloc(), &body, wanted);

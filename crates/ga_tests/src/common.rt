@@ -18,12 +18,12 @@ pub fn same<T: PartialEq + Debug>(rt: &impl Abort, got: &T, wanted: &T) {
 }
 
 /// Several values are those wanted.
-pub fn each_same<T: PartialEq + Debug>(rt: &impl Abort, got: &[T], wanted: &[T]) {
+pub fn assert_each_equal<T: PartialEq + Debug>(rt: &impl Abort, got: &[T], wanted: &[T]) {
     assert_eq!(rt; got, wanted);
 }
 
 /// Each value has this text for a person.
-pub fn each_said<T: Display>(
+pub fn assert_each_text<T: Display>(
     rt: &impl Abort,
     alloc: Global,
     rows: &[(T, &str)],
@@ -36,21 +36,21 @@ pub fn each_said<T: Display>(
 }
 
 /// A lab with the chip of an image, whose history has at most `limit` events.
-pub fn lab_of(alloc: Global, image: &[u8], limit: u32) -> Result<Lab, Fail> {
+pub fn lab_of_image(alloc: Global, image: &[u8], limit: u32) -> Result<Lab, Fail> {
     let lab = Lab::new(alloc, parse(alloc, image)?, limit)?;
     Ok(lab)
 }
 
 /// Node 000 sends a word to node 001, which takes it, and node 700 jumps without end.
-pub const PAIR: &[u8] =
+pub const PAIR_PROGRAM: &[u8] =
     b"ga144 1\nnode 000\np 000000\nram 00 004b12 0001d5 00002a 0089b2 010000\nnode 001\np 000000\nram 00 004b02 0001d5 000000 000000 010000\nnode 700\np 000000\nram 00 010000\nend\n";
 
 /// In cell 00 of node 000 `@p call double`, in 02 `drop jump main`, in 03 `call quad`, in 04 `2* ;`, in 05 `dup + dup +`, in 06 `;`.
-pub const CALLS: &[u8] =
+pub const CALLS_PROGRAM: &[u8] =
     b"node 000\n: main\n  5 double drop\n  main ;\n: double\n  quad\n  2* ;\n: quad\n  dup +\n  dup + ;\n";
 
 /// The lab of a source, in which node 000 made `steps` steps, and its debug info.
-pub fn begun(
+pub fn lab_after_steps(
     rt: &impl Abort,
     alloc: Global,
     source: &[u8],

@@ -2,8 +2,8 @@
 
 ghost use Rattle.std.specs.Prelude.{◌<◌};
 
-use crate::common::{PAIR, each_said, each_same, lab_of, same};
-use ga_causal::{Cause, Chain, Link, check_chain, find_chain};
+use crate::common::{PAIR_PROGRAM, assert_each_equal, assert_each_text, lab_of_image, same};
+use ga_causal::{Cause, Chain, Link, find_chain, is_chain};
 use ga_event::Event;
 use ga_grid::NodeId;
 use ga_lab::{Lab, LabFault, Ticks};
@@ -50,11 +50,11 @@ fn links_are(
     let events = events();
     match find_chain(alloc, &events, from, to)? {
         Some(chain) => {
-            each_same(rt, chain.links(), wanted);
+            assert_each_equal(rt, chain.links(), wanted);
             same(rt, &chain.get(0), &Some(link(from, 0)));
-            same(rt, &check_chain(&events, &chain), &true);
+            same(rt, &is_chain(&events, &chain), &true);
         }
-        None => each_same(rt, &[], wanted),
+        None => assert_each_equal(rt, &[], wanted),
     }
     Ok(())
 }
@@ -70,7 +70,7 @@ fn chains_are_found(rt: HostRuntime) -> Result<(), Fail> {
 // Whether these links are a chain of the events.
 fn checked(rt: &impl Abort, alloc: Global, links: &[Link], wanted: bool) -> Result<(), Fail> {
     let chain = Chain::new(links.to_vec(alloc)?);
-    same(rt, &check_chain(&events(), &chain), &wanted);
+    same(rt, &is_chain(&events(), &chain), &wanted);
     Ok(())
 }
 
@@ -94,7 +94,7 @@ fn steps(lab: &mut Lab, node: NodeId, count: u32) -> Result<(), LabFault> {
 // receiver.
 fn passed_beside(alloc: Global, others: u32) -> Result<Lab, Fail> {
     let (n000, n001, n700) = (NodeId::new(0), NodeId::new(1), NodeId::new(126));
-    let mut lab = lab_of(alloc, PAIR, 1_000_000)?;
+    let mut lab = lab_of_image(alloc, PAIR_PROGRAM, 1_000_000)?;
     for (node, count) in [(n700, others), (n000, 7), (n001, 5)] {
         steps(&mut lab, node, count)?;
     }
@@ -111,9 +111,9 @@ fn is_ticked(
 ) -> Result<(), Fail> {
     let mut lab = passed_beside(alloc, others)?;
     let mut ticks = Ticks::new();
-    let removed = lab.rewind_ticked(at.0, at.1, &mut ticks);
+    let removed = lab.rewind_counting_ticks(at.0, at.1, &mut ticks);
     same(rt, &removed, &Ok(wanted.0));
-    let counts = (lab.counts().kept, ticks.count(), ticks.fruitless());
+    let counts = (lab.counts().kept, ticks.count(), ticks.failed_searches());
     same(rt, &counts, &(wanted.1, wanted.2, 0));
     Ok(())
 }
@@ -143,5 +143,5 @@ fn refusals_in_words(rt: HostRuntime) -> Result<(), Fail> {
         (LabFault::NoStep, "there is no such step"),
         (LabFault::Spent, "no more events can be counted"),
     ];
-    each_said(&rt, rt.alloc(), &rows)
+    assert_each_text(&rt, rt.alloc(), &rows)
 }

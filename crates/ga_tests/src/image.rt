@@ -1,6 +1,6 @@
 //! Images that are read and refused, and those in which one byte is changed. Others stand in `.ci/images` at the top.
 
-use crate::common::each_said;
+use crate::common::assert_each_text;
 use ga_image::{ImageCause, ImageFault, parse};
 use std::alloc::Global;
 use std::process::Abort;
@@ -43,7 +43,7 @@ fn shown(rt: HostRuntime) -> Result<(), Fail> {
         cause: ImageCause::Word,
     };
     let rows = [(fault, "line 3: a number is too great for its place")];
-    each_said(&rt, rt.alloc(), &rows)
+    assert_each_text(&rt, rt.alloc(), &rows)
 }
 
 /// Places of an image at which some bytes are good; and a cause, its line, and the bytes that are refused so there.

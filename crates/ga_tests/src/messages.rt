@@ -1,8 +1,8 @@
 //! Requests, read from content parts, and messages that are written, byte for byte.
 
-use crate::common::{each_said, same};
+use crate::common::{assert_each_text, same};
 use ga_dap_protocol::{
-    ClientRequest, Inbox, Next, Outbox, RequestError, number_at, read_request, text_at,
+    ClientRequest, Inbox, Next, Outbox, RequestError, member_number, member_text, read_request,
 };
 use serde_json::{Value, json};
 use std::alloc::{AllocError, Global};
@@ -67,14 +67,18 @@ fn requests_are_read(rt: HostRuntime) -> Result<(), Fail> {
     let request = read_request(rt.alloc(), content)?;
     same(&rt, &request.seq, &0);
     assert_eq!(rt; request.command.as_str(), "next");
-    same(&rt, &number_at(&request.arguments, "threadId"), &Some(1701));
     same(
         &rt,
-        &text_at(&request.arguments, "granularity"),
+        &member_number(&request.arguments, "threadId"),
+        &Some(1701),
+    );
+    same(
+        &rt,
+        &member_text(&request.arguments, "granularity"),
         &Some("instruction"),
     );
-    same(&rt, &text_at(&request.arguments, "threadId"), &None);
-    same(&rt, &number_at(&request.arguments, "frameId"), &None);
+    same(&rt, &member_text(&request.arguments, "threadId"), &None);
+    same(&rt, &member_number(&request.arguments, "frameId"), &None);
     let bare = read_request(
         rt.alloc(),
         b"{\"seq\":18446744073709551615,\"type\":\"request\",\"command\":\"\"}",
@@ -94,7 +98,7 @@ fn causes_are_said(rt: HostRuntime) -> Result<(), Fail> {
         (RequestError::Seq, "a request has no `seq`"),
         (RequestError::Command, "a request has no `command`"),
     ];
-    each_said(&rt, rt.alloc(), &causes)
+    assert_each_text(&rt, rt.alloc(), &causes)
 }
 
 fn threads(alloc: Global) -> Result<ClientRequest, AllocError> {
@@ -172,11 +176,11 @@ fn what_is_written_is_read_back(rt: HostRuntime) -> Result<(), Fail> {
             return Ok(());
         };
         let value = Value::from_slice(rt.alloc(), &content)?;
-        let seq = number_at(&value, "seq").unwrap_or(0);
+        let seq = member_number(&value, "seq").unwrap_or(0);
         seqs = seqs.saturating_add(seq);
         assert!(rt; read_request(rt.alloc(), &content).is_err());
         if let Some(body) = value.get("body") {
-            assert_eq!(rt; text_at(body, "text"), Some("a\n\u{1F600} \\ \""));
+            assert_eq!(rt; member_text(body, "text"), Some("a\n\u{1F600} \\ \""));
         }
     }
     assert_eq!(rt; seqs, 3);

@@ -1,10 +1,10 @@
 //! The moves of an editor, over a program with calls and one that stores, and where the words of a line are.
 
-use crate::common::{CALLS, begun, each_same, same};
+use crate::common::{CALLS_PROGRAM, assert_each_equal, lab_after_steps, same};
 use ga_dap_breakpoints::{
-    Breakpoint, Granularity, Halt, Halts, HitCount, MoveResult, StepMove, Watched,
-    breakpoint_of_address, breakpoint_of_line, continue_run, continue_step, kept_hits, reverse_to,
-    step_back, step_back_line,
+    Breakpoint, Granularity, HaltConditions, HaltReason, HitCondition, MoveResult, StepMove,
+    Watched, breakpoint_of_address, breakpoint_of_line, continue_run, continue_step, kept_hits,
+    reverse_to, step_back, step_back_line,
 };
 use ga_dap_views::SlotAddress;
 use ga_debug_info::{DebugInfo, SlotWord};
@@ -18,8 +18,8 @@ use std::test::Fail;
 const STORES: &[u8] = b"node 000\n: main\n  9 a! 7 ! main ;\n";
 
 /// What ends a run: each hit of these, or a stop.
-fn each_hit<'b>(lab: &Lab, breakpoints: &'b [Breakpoint]) -> Halts<'b> {
-    Halts {
+fn each_hit<'b>(lab: &Lab, breakpoints: &'b [Breakpoint]) -> HaltConditions<'b> {
+    HaltConditions {
         breakpoints,
         stops: true,
         tally: kept_hits(lab, &[]),
@@ -37,7 +37,7 @@ fn watching(watched: Watched) -> Breakpoint {
 }
 
 /// The second `dup` of `quad` is come to.
-const SECOND_DUP: Watched = Watched::Comes(SlotAddress { cell: 5, slot: 2 });
+const SECOND_DUP: Watched = Watched::ArrivesAtSlot(SlotAddress { cell: 5, slot: 2 });
 
 /// A move of node 000 by lines, with no breakpoint, ends after this number of events.
 fn moves(rt: &impl Abort, lab: &mut Lab, notes: &DebugInfo, mut by: StepMove, wanted: u64) {
@@ -49,7 +49,7 @@ fn moves(rt: &impl Abort, lab: &mut Lab, notes: &DebugInfo, mut by: StepMove, wa
 
 fn is_moved(went: MoveResult) -> bool {
     match went.halt {
-        Halt::Moved(_) => true,
+        HaltReason::Moved(_) => true,
         _ => false,
     }
 }
@@ -57,7 +57,7 @@ fn is_moved(went: MoveResult) -> bool {
 /// The place of the breakpoint by which a move ended.
 fn hit_by(went: MoveResult) -> Option<usize> {
     match went.halt {
-        Halt::Hit { which, .. } => Some(which),
+        HaltReason::Hit { which, .. } => Some(which),
         _ => None,
     }
 }
@@ -65,7 +65,7 @@ fn hit_by(went: MoveResult) -> Option<usize> {
 #[test]
 fn lines_are_stepped_in(rt: HostRuntime) -> Result<(), Fail> {
     let node = NodeId::new(0);
-    let (mut lab, notes) = begun(&rt, rt.alloc(), CALLS, 0)?;
+    let (mut lab, notes) = lab_after_steps(&rt, rt.alloc(), CALLS_PROGRAM, 0)?;
     // To line 6 by the call, to 9 by the next, to 10 by `dup`, to 7 by the return, and round to line 3.
     for wanted in [3, 2, 3, 4] {
         let line = StepMove::step_in(&lab, node, Granularity::Line);
@@ -88,7 +88,7 @@ fn lines_are_stepped_in(rt: HostRuntime) -> Result<(), Fail> {
 #[test]
 fn calls_are_stepped_out_of(rt: HostRuntime) -> Result<(), Fail> {
     let node = NodeId::new(0);
-    let (mut lab, notes) = begun(&rt, rt.alloc(), CALLS, 0)?;
+    let (mut lab, notes) = lab_after_steps(&rt, rt.alloc(), CALLS_PROGRAM, 0)?;
     same(&rt, &StepMove::step_out(&lab, node), &None);
     for wanted in [3, 2] {
         let line = StepMove::step_in(&lab, node, Granularity::Line);
@@ -104,7 +104,7 @@ fn calls_are_stepped_out_of(rt: HostRuntime) -> Result<(), Fail> {
 
 #[test]
 fn slices_stop_at_a_breakpoint(rt: HostRuntime) -> Result<(), Fail> {
-    let (mut lab, notes) = begun(&rt, rt.alloc(), CALLS, 0)?;
+    let (mut lab, notes) = lab_after_steps(&rt, rt.alloc(), CALLS_PROGRAM, 0)?;
     let Some(on_line) = breakpoint_of_line(&notes, 10) else {
         panic!(&rt; "line 10 has code");
     };
@@ -113,7 +113,7 @@ fn slices_stop_at_a_breakpoint(rt: HostRuntime) -> Result<(), Fail> {
     let breakpoints = [on_line.breakpoint];
     let halts = each_hit(&lab, &breakpoints);
     let slice = continue_run(&mut lab, Schedule::greedy(), halts, 5);
-    same(&rt, &slice.halt, &Halt::Cut);
+    same(&rt, &slice.halt, &HaltReason::Cut);
     let hit = continue_run(&mut lab, slice.schedule, halts, 100);
     same(&rt, &hit.events, &3);
     same(&rt, &hit_by(hit), &Some(0));
@@ -125,7 +125,7 @@ fn slices_stop_at_a_breakpoint(rt: HostRuntime) -> Result<(), Fail> {
 #[test]
 fn each_third_hit_is_stopped_at(rt: HostRuntime) -> Result<(), Fail> {
     let node = NodeId::new(0);
-    let (mut lab, _) = begun(&rt, rt.alloc(), CALLS, 0)?;
+    let (mut lab, _) = lab_after_steps(&rt, rt.alloc(), CALLS_PROGRAM, 0)?;
     let ten = ValueTest {
         value: NodeValue::DataWord(0),
         comparison: Comparison::Equal,
@@ -133,7 +133,7 @@ fn each_third_hit_is_stopped_at(rt: HostRuntime) -> Result<(), Fail> {
     };
     let third = [Breakpoint {
         condition: Some(ten),
-        hits: Some(HitCount::Each(3)),
+        hits: Some(HitCondition::Each(3)),
         ..watching(SECOND_DUP)
     }];
     let mut halts = each_hit(&lab, &third);
@@ -152,7 +152,7 @@ fn each_third_hit_is_stopped_at(rt: HostRuntime) -> Result<(), Fail> {
 #[test]
 fn a_store_is_stopped_at(rt: HostRuntime) -> Result<(), Fail> {
     let node = NodeId::new(0);
-    let (mut lab, _) = begun(&rt, rt.alloc(), STORES, 0)?;
+    let (mut lab, _) = lab_after_steps(&rt, rt.alloc(), STORES, 0)?;
     let Some(main) = breakpoint_of_address(node, 0) else {
         panic!(&rt; "address 0 is a cell");
     };
@@ -173,18 +173,18 @@ fn a_store_is_stopped_at(rt: HostRuntime) -> Result<(), Fail> {
 fn steps_are_taken_back(rt: HostRuntime) -> Result<(), Fail> {
     let alloc = rt.alloc();
     let node = NodeId::new(0);
-    let (mut lab, notes) = begun(&rt, alloc, CALLS, 14)?;
+    let (mut lab, notes) = lab_after_steps(&rt, alloc, CALLS_PROGRAM, 14)?;
     // To the fetch of `2* ;`, then over the call of `quad` to that of its line, then before the call of `double`.
     same(&rt, &step_back_line(&mut lab, &notes, node), &2);
     same(&rt, &step_back_line(&mut lab, &notes, node), &9);
     same(&rt, &step_back(&mut lab, node), &1);
     same(&rt, &lab.steps(node), &2);
     // Cell 05 has two lines: to its slot 2, and to the call of `quad`.
-    let (mut lab, notes) = begun(&rt, alloc, CALLS, 10)?;
+    let (mut lab, notes) = lab_after_steps(&rt, alloc, CALLS_PROGRAM, 10)?;
     same(&rt, &step_back_line(&mut lab, &notes, node), &2);
     same(&rt, &step_back_line(&mut lab, &notes, node), &3);
-    let (mut lab, _) = begun(&rt, alloc, CALLS, 14)?;
-    let double = watching(Watched::Comes(SlotAddress { cell: 3, slot: 0 }));
+    let (mut lab, _) = lab_after_steps(&rt, alloc, CALLS_PROGRAM, 14)?;
+    let double = watching(Watched::ArrivesAtSlot(SlotAddress { cell: 3, slot: 0 }));
     same(&rt, &reverse_to(&mut lab, node, &[double]), &11);
     same(&rt, &reverse_to(&mut lab, node, &[double]), &3);
     Ok(())
@@ -200,16 +200,16 @@ fn found(word: Option<SlotWord>) -> Option<(u8, usize, usize, u32, u32)> {
     Some((word.cell, word.first, word.last, word.line, word.column))
 }
 
-// The answers for these words are in the folder `examples/explore` at the top.
+// The answers for these words are in the folder `rfc_8259_examples/explore` at the top.
 #[test]
 fn lines_have_words(rt: HostRuntime) -> Result<(), Fail> {
-    let (_, notes) = begun(&rt, rt.alloc(), LONG_LINE, 0)?;
+    let (_, notes) = lab_after_steps(&rt, rt.alloc(), LONG_LINE, 0)?;
     let words = [
         found(notes.first_word(1)),
         found(notes.first_word(3)),
         found(notes.first_word(4)),
     ];
     let wanted = [Some((0, 0, 0, 2, 10)), Some((2, 0, 0, 3, 2)), None];
-    each_same(&rt, &words, &wanted);
+    assert_each_equal(&rt, &words, &wanted);
     Ok(())
 }

@@ -2,12 +2,12 @@
 
 ghost use Rattle.std.specs.Prelude.{◌≡◌, ◌<◌, ◌^◌, All, IfOk, vec_len};
 
-use crate::common::{PAIR, same};
+use crate::common::{PAIR_PROGRAM, same};
 use ga_grid::NodeId;
 use ga_image::parse;
 use ga_shared::{
-    Answer, Call, CloseFault, Closed, Entry, Free, Gate, Receipt, Seat, Shared, race,
-    receipts_match,
+    Call, CallAnswer, CallGate, CloseFault, ClosedLab, LogEntry, OpenGate, Receipt, SharedChip,
+    WorkerSeat, race, receipts_match,
 };
 use std::alloc::Global;
 use std::marker::Brand;
@@ -44,27 +44,27 @@ fn sixteen_lists(alloc: Global) -> Result<Vec<Vec<Call>>, Fail>
 }
 
 /// How many calls are in the log, and how many events the lab keeps and has made.
-fn counts(rt: &impl Abort, closed: &Closed, calls: usize, kept: u32, made: u64) {
+fn counts(rt: &impl Abort, closed: &ClosedLab, calls: usize, kept: u32, made: u64) {
     same(rt, &closed.log.len(), &calls);
     let counts = closed.lab.counts();
     same(rt, &(counts.kept, counts.made), &(kept, made));
 }
 
 /// The race of two workers, each of whom makes four steps of its node, past a gate.
-fn raced<G: Gate + Sync, R: Threads + Wait + Sync + AllocGlobal>(
+fn raced<G: CallGate + Sync, R: Threads + Wait + Sync + AllocGlobal>(
     rt: &R,
     gate: &G,
-) -> Result<Closed, Fail> {
+) -> Result<ClosedLab, Fail> {
     let alloc = rt.alloc();
     let lists = two_lists(alloc)?;
-    let closed = race(rt, alloc, parse(alloc, PAIR)?, 1000000, lists, gate)?;
+    let closed = race(rt, alloc, parse(alloc, PAIR_PROGRAM)?, 1000000, lists, gate)?;
     Ok(closed)
 }
 
 // The race that reports eight calls, whatever the schedule.
 #[test]
 fn close_always_disagrees(rt: HostRuntime) -> Result<(), Fail> {
-    let closed = raced(&rt, &Free)?;
+    let closed = raced(&rt, &OpenGate)?;
     counts(&rt, &closed, 8, 8, 8);
     Ok(())
 }
@@ -88,7 +88,7 @@ struct Holds {
     has_failed: AtomicBool,
 }
 
-impl Gate for Holds {
+impl CallGate for Holds {
     fn before(&self, worker: u32, call: u32) {
         if worker == self.held && call == 1 {
             hold(&self.is_answered, &self.has_failed);
@@ -149,7 +149,7 @@ impl Told {
     }
 }
 
-impl Gate for Told {
+impl CallGate for Told {
     fn before(&self, worker: u32, call: u32) {
         self.tell(worker, call, false);
     }
@@ -170,7 +170,7 @@ fn gates_are_told_of_each_call(rt: HostRuntime) -> Result<(), Fail> {
     let _closed = race(
         &rt,
         alloc,
-        parse(alloc, PAIR)?,
+        parse(alloc, PAIR_PROGRAM)?,
         1000000,
         sixteen_lists(alloc)?,
         &gate,
@@ -189,7 +189,7 @@ struct OneFirst {
     has_failed: AtomicBool,
 }
 
-impl Gate for OneFirst {
+impl CallGate for OneFirst {
     fn before(&self, worker: u32, call: u32) {
         if worker == 1 && call == 1 {
             hold(&self.is_told, &self.has_failed);
@@ -208,7 +208,7 @@ impl Gate for OneFirst {
 }
 
 /// The workers of a log, call by call.
-fn is_log_of(rt: &impl Abort, closed: &Closed, workers: &[u32]) {
+fn is_log_of(rt: &impl Abort, closed: &ClosedLab, workers: &[u32]) {
     same(rt, &closed.log.len(), &workers.len());
     for (entry, worker) in closed.log.iter().zip(workers) {
         same(rt, &entry.worker, worker);
@@ -233,12 +233,18 @@ fn after_four<L: Ledger, R: Wait>(
     rt: &R,
     alloc: Global,
     blank: Blank,
-) -> Result<(Shared<L>, Vec<Seat<L>>), Fail>
+) -> Result<(SharedChip<L>, Vec<WorkerSeat<L>>), Fail>
     requires ledger { (blank.name ≡ L.name) × (blank.parts ≡ L.parts) }
     requires parts { blank.parts ≡ 2 }
     ensures { IfOk result (λ made. vec_len made.1 ≡ 2) }
 {
-    let (shared, mut seats) = Shared::<L>::new(alloc, blank, parse(alloc, PAIR)?, 1000000, 2)?;
+    let (shared, mut seats) = SharedChip::<L>::new(
+        alloc,
+        blank,
+        parse(alloc, PAIR_PROGRAM)?,
+        1000000,
+        2,
+    )?;
     for place in 0..4usize {
         let number = place % 2;
         let node = NodeId::new(number as u8);
@@ -251,7 +257,7 @@ fn after_four<L: Ledger, R: Wait>(
 }
 
 /// The log of two workers, of whom each made two steps of its node: 0, 1, 0, 1.
-fn log_of_four<L: Ledger, R: Wait>(rt: &R, alloc: Global, blank: Blank) -> Result<Closed, Fail>
+fn log_of_four<L: Ledger, R: Wait>(rt: &R, alloc: Global, blank: Blank) -> Result<ClosedLab, Fail>
     requires ledger { (blank.name ≡ L.name) × (blank.parts ≡ L.parts) }
     requires parts { blank.parts ≡ 2 }
 {
@@ -270,7 +276,7 @@ fn after_change<L: Ledger, R: Wait>(
     alloc: Global,
     blank: Blank,
     change: u32,
-) -> Result<(Option<u32>, Closed), Fail>
+) -> Result<(Option<u32>, ClosedLab), Fail>
     requires ledger { (blank.name ≡ L.name) × (blank.parts ≡ L.parts) }
     requires parts { blank.parts ≡ 2 }
 {
@@ -284,7 +290,7 @@ fn after_change<L: Ledger, R: Wait>(
                 let _last = seat.receipts.pop();
             }
             3 => seat.receipts.swap(0, 1),
-            _ => seat.receipts[1].answer = Answer::Refused(1),
+            _ => seat.receipts[1].answer = CallAnswer::Refused(1),
         }
     }
     match shared.close(seats) {
@@ -315,9 +321,9 @@ fn changed_receipts(rt: HostRuntime) -> Result<(), Fail> {
 
 /// What is handed back where a seat is missing.
 fn handed_back<L: Ledger>(
-    shared: Shared<L>,
-    seats: Vec<Seat<L>>,
-) -> Option<(Shared<L>, Vec<Seat<L>>)> {
+    shared: SharedChip<L>,
+    seats: Vec<WorkerSeat<L>>,
+) -> Option<(SharedChip<L>, Vec<WorkerSeat<L>>)> {
     match shared.close(seats) {
         Err(CloseFault::Missing { shared, seats }) => Some((shared, seats)),
         Err(CloseFault::Disagree { .. }) => None,
@@ -326,7 +332,7 @@ fn handed_back<L: Ledger>(
 }
 
 /// Whether closing with these seats ends well.
-fn closes<L: Ledger>(shared: Shared<L>, seats: Vec<Seat<L>>) -> bool {
+fn closes<L: Ledger>(shared: SharedChip<L>, seats: Vec<WorkerSeat<L>>) -> bool {
     match shared.close(seats) {
         Ok(_) => true,
         Err(CloseFault::Disagree { .. }) => false,
@@ -359,14 +365,14 @@ fn missing_seat(rt: HostRuntime) -> Result<(), Fail> {
 
 #[test]
 fn no_receipts(rt: HostRuntime) {
-    let log = [Entry {
+    let log = [LogEntry {
         worker: 1,
         call: Call::Step(NodeId::new(0)),
-        answer: Answer::Refused(1),
+        answer: CallAnswer::Refused(1),
     }];
     let none: [Receipt; 0] = [];
     assert!(rt; receipts_match(log.as_slice(), 0, none.as_slice()));
     assert!(rt; !receipts_match(log.as_slice(), 1, none.as_slice()));
-    let empty: [Entry; 0] = [];
+    let empty: [LogEntry; 0] = [];
     assert!(rt; receipts_match(empty.as_slice(), 1, none.as_slice()));
 }

@@ -1,7 +1,7 @@
 //! What some bytes begin with; messages taken from inputs that come in pieces, end, and fail; a text that is written whole or
 //! not. Streams of the program that fail are in `.ci/io_faults` at the top.
 
-use crate::common::{each_said, each_same, same};
+use crate::common::{assert_each_equal, assert_each_text, same};
 use ga_dap_protocol::{
     CONTENT_LIMIT, FrameError, FramePrefix, Inbox, Next, parse_frame_prefix, push_frame,
 };
@@ -151,7 +151,7 @@ fn causes_are_said(rt: HostRuntime) -> Result<(), Fail> {
         ),
         (FrameError::Cut, "the input ends within a message"),
     ];
-    each_said(&rt, rt.alloc(), &causes)
+    assert_each_text(&rt, rt.alloc(), &causes)
 }
 
 /// Returns at most a given number of bytes a call, and fails at one call.
@@ -222,7 +222,7 @@ fn assert_taken(
 ) -> Result<(), AllocError> {
     for most in 1..=text.len() + 1 {
         let got = taken(alloc, in_pieces(text, most))?;
-        each_same(rt, &got.0, contents);
+        assert_each_equal(rt, &got.0, contents);
         same(rt, &got.1, &ending);
     }
     Ok(())
@@ -277,7 +277,7 @@ fn a_failed_read_is_told(rt: HostRuntime) -> Result<(), Fail> {
                 _ => {}
             }
         }
-        each_same(&rt, &contents, b"{}[1,2,3]");
+        assert_each_equal(&rt, &contents, b"{}[1,2,3]");
         assert!(rt; failed <= 1);
         assert!(rt; failed == 1 || fails_at > 14);
     }

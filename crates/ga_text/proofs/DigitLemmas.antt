@@ -9,7 +9,7 @@ use Rattle.std.proofs.lemmas.Bool.{ne_eqb, eqb-false}
 use Rattle.hex.specs.declared.error.FromHexError.{FromHexError}
 use Rattle.hex.specs.declared.error.FromHexError.TheVariants.{OddLength, InvalidStringLength}
 use Rattle.hex.specs.Hex.{decode_pairs, decode_sized, digit_or_error, hex_digit_value, ◌>>=◌}
-use Rattle.ga_text.specs.Digits.{byte_in, hex2_of}
+use Rattle.ga_text.specs.Digits.{hex_byte_value, hex2_of}
 use Rattle.std.proofs.lemmas.Bool.Decides.{nat_tests}
 use Rattle.ga_word.specs.Word.{hex_digit, hex6_of}
 use Rattle.ga_text.specs.declared.text.TheConstants.{DECIMAL, HEXADECIMAL, NAMES}
@@ -99,8 +99,8 @@ refused false true bytes other = absurd (let clash : true ≡ false = other refl
 refused false false bytes other = refl
 
 -- two digits decode to a byte where they name a cell
-pub cell_agrees : (text : List ℕ) → Agrees (decode_sized text 1) (byte_in text)
-unfolding decode_pairs byte_in
+pub cell_agrees : (text : List ℕ) → Agrees (decode_sized text 1) (hex_byte_value text)
+unfolding decode_pairs hex_byte_value
 cell_agrees [] = refl
 cell_agrees (x ∷ []) = refl
 cell_agrees (x ∷ y ∷ []) = pair_agrees x y (hex_digit_value x) (hex_digit_value y)

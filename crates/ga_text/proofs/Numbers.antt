@@ -8,9 +8,9 @@ use Rattle.std.specs.Str.{str_to_ascii_lowercase}
 use Rattle.std.proofs.lemmas.Bool.Decides.{nat_tests}
 use Rattle.hex.specs.Hex.{hex_digit_value, lower_digits}
 use Rattle.hex.proofs.HexLemmas.{IsDigits-lower_digits}
-use Rattle.ga_word.specs.Word.{hex_digit, hex6_of, read6_of}
-use Rattle.ga_grid.specs.Grid.{decimal_digit, node_number}
-use Rattle.ga_text.specs.Digits.{byte_in, hex2_of, decimal3_of}
+use Rattle.ga_word.specs.Word.{hex_digit, hex6_of, hex6_value}
+use Rattle.ga_grid.specs.Grid.{decimal_digit, parse_node_name}
+use Rattle.ga_text.specs.Digits.{hex_byte_value, hex2_of, decimal3_of}
 use Rattle.ga_ports.specs.Steps.{◌>>=◌}
 
 -- ---- the first line feed of a text ends its first line
@@ -108,7 +108,7 @@ six_equal : (a b c d e f a' b' c' d' e' f' : ℕ) → a ≡ a' → b ≡ b' → 
 six_equal a b c d e f a' b' c' d' e' f' p q r s t u = cc
 
 -- six digits that give a number are that number's
-pub word_spelled : (a b c d e f n : ℕ) → read6_of (a ∷ b ∷ c ∷ d ∷ e ∷ f ∷ []) ≡ Some n → (n < 2 ^ 24) × (str_to_ascii_lowercase (a ∷ b ∷ c ∷ d ∷ e ∷ f ∷ []) ≡ hex6_of n)
+pub word_spelled : (a b c d e f n : ℕ) → hex6_value (a ∷ b ∷ c ∷ d ∷ e ∷ f ∷ []) ≡ Some n → (n < 2 ^ 24) × (str_to_ascii_lowercase (a ∷ b ∷ c ∷ d ∷ e ∷ f ∷ []) ≡ hex6_of n)
 word_spelled a b c d e f n is =
     let (u, v, w, x, y, z, ua, vb, wc, xd, ye, zf, whole) = stepped (hex_digit_value a) (hex_digit_value b) (hex_digit_value c) (hex_digit_value d) (hex_digit_value e) (hex_digit_value f) n is in
     let (u_small, a_is) = digit_spelled a u ua in
@@ -134,7 +134,7 @@ word_spelled a b c d e f n is =
     )
 
 -- the digits of a number give it back
-pub word_read : (text : List ℕ) (n : ℕ) → n < 2 ^ 24 → str_to_ascii_lowercase text ≡ hex6_of n → read6_of text ≡ Some n
+pub word_read : (text : List ℕ) (n : ℕ) → n < 2 ^ 24 → str_to_ascii_lowercase text ≡ hex6_of n → hex6_value text ≡ Some n
 word_read [] n small is = cc
 word_read (a ∷ []) n small is = cc
 word_read (a ∷ b ∷ []) n small is = cc
@@ -165,8 +165,8 @@ pair_stepped (Some a) None n is = cc
 pair_stepped (Some a) (Some b) n is = let same : a * 16 + b ≡ n = cc in (a, b, refl, refl, same)
 
 -- two digits that give a number are that number's
-pub cell_spelled : (a b n : ℕ) → byte_in (a ∷ b ∷ []) ≡ Some n → (n < 256) × (str_to_ascii_lowercase (a ∷ b ∷ []) ≡ hex2_of n)
-unfolding byte_in
+pub cell_spelled : (a b n : ℕ) → hex_byte_value (a ∷ b ∷ []) ≡ Some n → (n < 256) × (str_to_ascii_lowercase (a ∷ b ∷ []) ≡ hex2_of n)
+unfolding hex_byte_value
 cell_spelled a b n is =
     let (u, v, ua, vb, whole) = pair_stepped (hex_digit_value a) (hex_digit_value b) n is in
     let (u_small, a_is) = digit_spelled a u ua in
@@ -176,8 +176,8 @@ cell_spelled a b n is =
     (omega arith, two_equal _ _ _ _ (a_is ∙ ap (slice_index lower_digits) first) (b_is ∙ ap (slice_index lower_digits) second))
 
 -- the digits of a number give it back
-pub cell_read : (a b n : ℕ) → n < 256 → to_ascii_lowercase a ≡ hex_digit n 1 → to_ascii_lowercase b ≡ hex_digit n 0 → byte_in (a ∷ b ∷ []) ≡ Some n
-unfolding byte_in
+pub cell_read : (a b n : ℕ) → n < 256 → to_ascii_lowercase a ≡ hex_digit n 1 → to_ascii_lowercase b ≡ hex_digit n 0 → hex_byte_value (a ∷ b ∷ []) ≡ Some n
+unfolding hex_byte_value
 cell_read a b n small first second =
     let whole : n / 16 % 16 * 16 + n / 1 % 16 ≡ n = omega arith in
     rw (digit_read a _ (omega arith) first, digit_read b _ (omega arith) second) (ap (λ (k : ℕ). Some k) whole)
@@ -203,8 +203,8 @@ three_equal : (a b c x y z : ℕ) → a ≡ x → b ≡ y → c ≡ z → (a ∷
 three_equal a b c x y z p q r = cc
 
 -- three digits that give a number are that number's
-pub node_spelled : (text : List ℕ) (n : ℕ) → node_number text ≡ Some n → (n < 1000) × (text ≡ decimal3_of n)
-unfolding node_number
+pub node_spelled : (text : List ℕ) (n : ℕ) → parse_node_name text ≡ Some n → (n < 1000) × (text ≡ decimal3_of n)
+unfolding parse_node_name
 node_spelled [] n is = cc
 node_spelled (x ∷ []) n is = cc
 node_spelled (x ∷ y ∷ []) n is = cc
@@ -217,8 +217,8 @@ node_spelled (x ∷ y ∷ z ∷ []) n is =
 node_spelled (x ∷ y ∷ z ∷ w ∷ text) n is = cc
 
 -- the digits of a number give it back
-pub node_read : (n : ℕ) → n < 1000 → node_number (decimal3_of n) ≡ Some n
-unfolding node_number
+pub node_read : (n : ℕ) → n < 1000 → parse_node_name (decimal3_of n) ≡ Some n
+unfolding parse_node_name
 node_read n small =
     let whole : 100 * (n / 100) + 10 * (n / 10 % 10) + n % 10 ≡ n = omega arith in
     rw (decimal_read (n / 100) (omega arith), decimal_read (n / 10 % 10) (omega arith), decimal_read (n % 10) (omega arith)) (ap (λ (k : ℕ). Some k) whole)

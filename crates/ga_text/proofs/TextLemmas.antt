@@ -3,19 +3,19 @@ use Rattle.std.proofs.Common.{◌≡◌, ℕ, ◌+◌, ◌/◌, ◌%◌, ◌<◌
 use Rattle.std.specs.List.{AllByRecursion}
 use Rattle.std.proofs.lemmas.List.{append-nil, take_all, length-drop}
 use Rattle.std.proofs.lemmas.List.Elements.{recursion_from_All, All-append, All-nil}
-use Rattle.ga_text.specs.Lines.{lines_of, with_byte, ends_line, HasNoFeed, ended, text_of, onto_first, ended_lines}
+use Rattle.ga_text.specs.Lines.{lines_of, with_byte, ends_line, HasNoLineFeed, ended, text_of, with_byte_in_first_line, terminated_lines}
 use Rattle.ga_grid.specs.Grid.{yxx_of}
 use Rattle.ga_grid.specs.declared.node_id.NodeId.{NodeId}
 use Rattle.ga_text.specs.Digits.{name_of_node}
 use Rattle.ga_text.specs.inner.{two_digits}
 use Rattle.std.proofs.lemmas.Grind.{flat_map-append}
-use Rattle.ga_text.specs.Image.{IsBodyLine, end_line, HasNoEnd}
+use Rattle.ga_text.specs.Image.{IsBodyLine, end_line, HasNoEndLine}
 
 -- no line feed, byte by byte
 NoFeed : List ℕ → Type 0
 NoFeed bytes = AllByRecursion (λ b. ends_line b ≡ false) bytes
 
-by_byte : (bytes : List ℕ) → HasNoFeed bytes → NoFeed bytes
+by_byte : (bytes : List ℕ) → HasNoLineFeed bytes → NoFeed bytes
 unfolding NoFeed
 by_byte bytes h = recursion_from_All (λ b. ends_line b ≡ false) bytes h
 
@@ -27,54 +27,54 @@ unfolding NoFeed
 lines_at [] more h = refl
 lines_at (b ∷ line) more h = otherwise (ends_line b) _ _ h.0 ∙ ap (with_byte b) (lines_at line more h.1)
 
-ended_at : (line more : List ℕ) → NoFeed line → ended_lines (line ++ 10 ∷ more) ≡ line ∷ ended_lines more
+ended_at : (line more : List ℕ) → NoFeed line → terminated_lines (line ++ 10 ∷ more) ≡ line ∷ terminated_lines more
 unfolding NoFeed
 ended_at [] more h = refl
-ended_at (b ∷ line) more h = otherwise (ends_line b) _ _ h.0 ∙ ap (onto_first b) (ended_at line more h.1)
+ended_at (b ∷ line) more h = otherwise (ends_line b) _ _ h.0 ∙ ap (with_byte_in_first_line b) (ended_at line more h.1)
 
-ended_by_byte : (bytes : List ℕ) → NoFeed bytes → ended_lines bytes ≡ []
+ended_by_byte : (bytes : List ℕ) → NoFeed bytes → terminated_lines bytes ≡ []
 unfolding NoFeed
 ended_by_byte [] h = refl
-ended_by_byte (b ∷ bytes) h = otherwise (ends_line b) _ _ h.0 ∙ ap (onto_first b) (ended_by_byte bytes h.1)
+ended_by_byte (b ∷ bytes) h = otherwise (ends_line b) _ _ h.0 ∙ ap (with_byte_in_first_line b) (ended_by_byte bytes h.1)
 
 last_by_byte : (b : ℕ) (bytes : List ℕ) → NoFeed (b ∷ bytes) → lines_of (b ∷ bytes) ≡ (b ∷ bytes) ∷ []
 unfolding NoFeed
 last_by_byte b [] h = otherwise (ends_line b) _ _ h.0
 last_by_byte b (x ∷ bytes) h = otherwise (ends_line b) _ _ h.0 ∙ ap (with_byte b) (last_by_byte x bytes h.1)
 
-pub lines_front : (lines : List (List ℕ)) (tail : List ℕ) → AllByRecursion HasNoFeed lines → lines_of (text_of lines ++ tail) ≡ lines ++ lines_of tail
+pub lines_front : (lines : List (List ℕ)) (tail : List ℕ) → AllByRecursion HasNoLineFeed lines → lines_of (text_of lines ++ tail) ≡ lines ++ lines_of tail
 lines_front [] tail h = refl
 lines_front (line ∷ lines) tail h =
     ap lines_of (append_assoc (ended line) (text_of lines) tail ∙ append_assoc line (10 ∷ []) (text_of lines ++ tail))
     ∙ lines_at line (text_of lines ++ tail) (by_byte line h.0) ∙ ap (λ (ls : List (List ℕ)). line ∷ ls) (lines_front lines tail h.1)
 
-pub ended_front : (lines : List (List ℕ)) (tail : List ℕ) → AllByRecursion HasNoFeed lines → ended_lines (text_of lines ++ tail) ≡ lines ++ ended_lines tail
+pub ended_front : (lines : List (List ℕ)) (tail : List ℕ) → AllByRecursion HasNoLineFeed lines → terminated_lines (text_of lines ++ tail) ≡ lines ++ terminated_lines tail
 ended_front [] tail h = refl
 ended_front (line ∷ lines) tail h =
-    ap ended_lines (append_assoc (ended line) (text_of lines) tail ∙ append_assoc line (10 ∷ []) (text_of lines ++ tail))
+    ap terminated_lines (append_assoc (ended line) (text_of lines) tail ∙ append_assoc line (10 ∷ []) (text_of lines ++ tail))
     ∙ ended_at line (text_of lines ++ tail) (by_byte line h.0) ∙ ap (λ (ls : List (List ℕ)). line ∷ ls) (ended_front lines tail h.1)
 
-pub ended_none : (tail : List ℕ) → HasNoFeed tail → ended_lines tail ≡ []
+pub ended_none : (tail : List ℕ) → HasNoLineFeed tail → terminated_lines tail ≡ []
 ended_none tail h = ended_by_byte tail (by_byte tail h)
 
-pub lines_last : (tail : List ℕ) → HasNoFeed tail → 0 < length tail → lines_of tail ≡ tail ∷ []
+pub lines_last : (tail : List ℕ) → HasNoLineFeed tail → 0 < length tail → lines_of tail ≡ tail ∷ []
 lines_last [] h some = absurd (omega arith)
 lines_last (b ∷ bytes) h some = last_by_byte b bytes (by_byte (b ∷ bytes) h)
 
-pub ended_whole : (lines : List (List ℕ)) (tail : List ℕ) → AllByRecursion HasNoFeed lines → HasNoFeed tail → ended_lines (text_of lines ++ tail) ≡ lines
+pub ended_whole : (lines : List (List ℕ)) (tail : List ℕ) → AllByRecursion HasNoLineFeed lines → HasNoLineFeed tail → terminated_lines (text_of lines ++ tail) ≡ lines
 ended_whole lines tail h none = ended_front lines tail h ∙ ap (λ (ls : List (List ℕ)). lines ++ ls) (ended_none tail none) ∙ append-nil lines
 
 -- The lines are those that a line feed ends, and at most one more.
 pub record MoreLines (text : List ℕ) : Type 0 where
   pub more : List (List ℕ)
-  pub same : lines_of text ≡ ended_lines text ++ more
+  pub same : lines_of text ≡ terminated_lines text ++ more
 
-with_byte_more : (b : ℕ) (all first more : List (List ℕ)) → all ≡ first ++ more → (rest : List (List ℕ)) × (with_byte b all ≡ onto_first b first ++ rest)
+with_byte_more : (b : ℕ) (all first more : List (List ℕ)) → all ≡ first ++ more → (rest : List (List ℕ)) × (with_byte b all ≡ with_byte_in_first_line b first ++ rest)
 with_byte_more b all [] more e = (with_byte b all, refl)
 with_byte_more b all (l ∷ ls) more e = (more, ap (with_byte b) e)
 
 more_by_byte : (b : ℕ) (feed : Bool) (all first : List (List ℕ)) (more : List (List ℕ)) → all ≡ first ++ more
-    → (rest : List (List ℕ)) × (cond feed ([] ∷ all) (with_byte b all) ≡ cond feed ([] ∷ first) (onto_first b first) ++ rest)
+    → (rest : List (List ℕ)) × (cond feed ([] ∷ all) (with_byte b all) ≡ cond feed ([] ∷ first) (with_byte_in_first_line b first) ++ rest)
 more_by_byte b true all first more e = (more, ap (λ (ls : List (List ℕ)). [] ∷ ls) e)
 more_by_byte b false all first more e = with_byte_more b all first more e
 
@@ -82,7 +82,7 @@ pub more_lines : (text : List ℕ) → MoreLines text
 more_lines [] = record { more = []; same = refl }
 more_lines (b ∷ text) =
     let later = more_lines text in
-    let found = more_by_byte b (ends_line b) (lines_of text) (ended_lines text) later.more later.same in
+    let found = more_by_byte b (ends_line b) (lines_of text) (terminated_lines text) later.more later.same in
     record { more = found.0; same = found.1 }
 
 -- ---- a node's name
@@ -103,18 +103,18 @@ pub record Body (text : List ℕ) (start : ℕ) : Type 0 where
   pub lines : List (List ℕ)
   pub part : List ℕ
   pub before : AllByRecursion IsBodyLine lines
-  pub no_feed : HasNoFeed part
+  pub no_feed : HasNoLineFeed part
   pub splits : text ≡ text_of lines ++ part
   pub starts : start ≡ length (text_of lines)
 
-nothing : HasNoFeed []
+nothing : HasNoLineFeed []
 nothing = All-nil (λ b. ends_line b ≡ false)
 
-pub no_end : (text : List ℕ) (start : ℕ) → Body text start → HasNoEnd text
+pub no_end : (text : List ℕ) (start : ℕ) → Body text start → HasNoEndLine text
 no_end text start b = record { lines = b.lines; part = b.part; before = b.before; no_feed = b.no_feed; splits = b.splits }
 
 -- more of the line
-pub body_more : (text more : List ℕ) (start : ℕ) (piece : List ℕ) → Body text start → HasNoFeed piece → more ≡ text ++ piece → Body more start
+pub body_more : (text more : List ℕ) (start : ℕ) (piece : List ℕ) → Body text start → HasNoLineFeed piece → more ≡ text ++ piece → Body more start
 body_more text more start piece b none e = record {
   lines = b.lines;
   part = b.part ++ piece;
@@ -147,7 +147,7 @@ push_body : (lines : List (List ℕ)) (line : List ℕ) → AllByRecursion IsBod
 push_body [] line h p = (p, tt)
 push_body (l ∷ ls) line h p = (h.0, push_body ls line h.1 p)
 
-pub body_line : (text more : List ℕ) (start : ℕ) (piece : List ℕ) (b : Body text start) → HasNoFeed piece → more ≡ text ++ ended piece
+pub body_line : (text more : List ℕ) (start : ℕ) (piece : List ℕ) (b : Body text start) → HasNoLineFeed piece → more ≡ text ++ ended piece
     → (ended (b.part ++ piece) ≡ ended end_line → ⊥) → Body more (length more)
 body_line text more start piece b none e other =
     let line : List ℕ = b.part ++ piece in

@@ -10,8 +10,8 @@ use Rattle.std.specs.Prelude.{flat_map, ◌==◌}
 use Rattle.std.proofs.lemmas.Grind.{flat_map-append}
 use Rattle.std.proofs.lemmas.Bool.Decides.{nat_tests}
 use Rattle.std.proofs.lemmas.List.Elements.{All-append, All-nil}
-use Rattle.ga_text.specs.Lines.{HasNoFeed, ends_line}
-use Rattle.ga_text.specs.Input.{IsLine}
+use Rattle.ga_text.specs.Lines.{HasNoLineFeed, ends_line}
+use Rattle.ga_text.specs.Input.{IsBoundedLine}
 
 -- ---- what known bytes become
 
@@ -132,16 +132,16 @@ take-take-append zero xs ys = refl
 take-take-append (suc n) [] ys = refl
 take-take-append (suc n) (x ∷ xs) ys = ap (λ (t : List ℕ). x ∷ t) (take-take-append n xs ys)
 
-pub line_none : (whole line : List ℕ) → line ≡ [] → IsLine whole line [] whole
+pub line_none : (whole line : List ℕ) → line ≡ [] → IsBoundedLine whole line [] whole
 line_none whole line e = record { splits = refl; no_feed = All-nil (λ b. ends_line b ≡ false); kept = e }
 
 -- the same bytes, split the same
-pub line_same : (whole line part more other : List ℕ) → more ≡ other → IsLine whole line part more → IsLine whole line part other
-line_same whole line part more other e l = let P : List ℕ → Type 0 = λ xs. IsLine whole line part xs in subst P e l
+pub line_same : (whole line part more other : List ℕ) → more ≡ other → IsBoundedLine whole line part more → IsBoundedLine whole line part other
+line_same whole line part more other e l = let P : List ℕ → Type 0 = λ xs. IsBoundedLine whole line part xs in subst P e l
 
 -- a piece more
-pub line_piece : (whole line longer part piece old new rest : List ℕ) → IsLine whole line part (old ++ rest)
-    → HasNoFeed piece → old ≡ piece ++ new → longer ≡ take 201 (line ++ piece) → IsLine whole longer (part ++ piece) (new ++ rest)
+pub line_piece : (whole line longer part piece old new rest : List ℕ) → IsBoundedLine whole line part (old ++ rest)
+    → HasNoLineFeed piece → old ≡ piece ++ new → longer ≡ take 201 (line ++ piece) → IsBoundedLine whole longer (part ++ piece) (new ++ rest)
 line_piece whole line longer part piece old new rest l none e kept = record {
   splits = l.splits ∙ ap (λ (t : List ℕ). part ++ t) (ap (λ (t : List ℕ). t ++ rest) e ∙ append_assoc piece new rest) ∙ sym (append_assoc part piece (new ++ rest));
   no_feed = All-append (λ b. ends_line b ≡ false) part piece l.no_feed none;
@@ -149,8 +149,8 @@ line_piece whole line longer part piece old new rest l none e kept = record {
 }
 
 -- all that was read
-pub line_all : (whole line longer part piece old rest : List ℕ) → IsLine whole line part (old ++ rest)
-    → HasNoFeed piece → old ≡ piece → longer ≡ take 201 (line ++ piece) → IsLine whole longer (part ++ piece) rest
+pub line_all : (whole line longer part piece old rest : List ℕ) → IsBoundedLine whole line part (old ++ rest)
+    → HasNoLineFeed piece → old ≡ piece → longer ≡ take 201 (line ++ piece) → IsBoundedLine whole longer (part ++ piece) rest
 line_all whole line longer part piece old rest l none e kept =
     line_piece whole line longer part piece old [] rest l none (e ∙ sym (append-nil piece)) kept
 

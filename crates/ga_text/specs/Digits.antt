@@ -24,12 +24,12 @@ words_text words = flat_map (λ word. 32 ∷ hex6_of word) words
 -- ---- read
 
 -- the number of exactly two hexadecimal digits, in either case
-unfoldable pub byte_in : Text → Option ℕ
-byte_in (x ∷ y ∷ []) = do
+unfoldable pub hex_byte_value : Text → Option ℕ
+hex_byte_value (x ∷ y ∷ []) = do
   high ← hex_digit_value x
   low ← hex_digit_value y
   Some (high * 16 + low)
-byte_in _ = None
+hex_byte_value _ = None
 
 -- ---- the names of nodes and of their steps (docs/REFERENCE.md, "Sessions"; this project's own)
 

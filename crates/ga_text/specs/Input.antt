@@ -1,12 +1,12 @@
 -- How much of an input is taken, and in which blocks; what the reading of one line does.
 use Rattle.std.specs.Prelude.{ℕ, ◌+◌, ◌≤◌, length, ◌≡◌, [], ◌∷◌, ◌++◌, take, Result, Ok, Err}
-use Rattle.ga_text.specs.Lines.{Bytes, Line, longest, HasNoFeed}
+use Rattle.ga_text.specs.Lines.{Bytes, Line, max_input_line, HasNoLineFeed}
 use Rattle.ga_text.specs.declared.output.WriteError.{WriteError}
 use Rattle.ga_text.specs.declared.lines.LineEnd.{LineEnd}
 use Rattle.ga_text.specs.declared.lines.LineEnd.TheVariants.{Feed, Last, Past, ReadFailed}
 
 -- what was read and is not taken yet, and how many bytes were taken
-pub record Unread : Type 0 where
+pub record UnreadInput : Type 0 where
   pub bytes : Bytes
   pub taken : ℕ
 
@@ -19,40 +19,40 @@ abbrev pub block_size : ℕ
 block_size = 65536
 
 -- no byte past the limit was read
-abbrev pub IsWithin : Unread → Type 0
-IsWithin u = u.taken + length u.bytes ≤ input_limit
+abbrev pub IsWithinInputLimit : UnreadInput → Type 0
+IsWithinInputLimit u = u.taken + length u.bytes ≤ input_limit
 
 -- ---- what the reading of one line does
 
--- whether the whole is the part and more, and the first `longest + 1` bytes of the part are in line
-pub record IsLine (whole line part more : Bytes) : Type 0 where
+-- whether the whole is the part and more, and the first `max_input_line + 1` bytes of the part are in line
+pub record IsBoundedLine (whole line part more : Bytes) : Type 0 where
   pub splits : whole ≡ part ++ more
-  pub no_feed : HasNoFeed part
-  pub kept : line ≡ take (longest + 1) part
+  pub no_feed : HasNoLineFeed part
+  pub kept : line ≡ take (max_input_line + 1) part
 
 -- whether a line was taken, with the line feed after it
-pub record TakesLine (old : Unread) (input : Bytes) (line : Line) (new : Unread) (rest : Bytes) : Type 0 where
+pub record TakesLine (old : UnreadInput) (input : Bytes) (line : Line) (new : UnreadInput) (rest : Bytes) : Type 0 where
   pub part : Bytes
-  pub is_line : IsLine (old.bytes ++ input) line part (10 ∷ (new.bytes ++ rest))
+  pub is_line : IsBoundedLine (old.bytes ++ input) line part (10 ∷ (new.bytes ++ rest))
   pub counts : new.taken ≡ old.taken + length part + 1
 
 -- all was taken that was read, and there is no line feed in it
-pub record TakesAll (old : Unread) (input : Bytes) (line : Line) (new : Unread) (more : Bytes) : Type 0 where
+pub record TakesAllUnread (old : UnreadInput) (input : Bytes) (line : Line) (new : UnreadInput) (more : Bytes) : Type 0 where
   pub part : Bytes
-  pub is_line : IsLine (old.bytes ++ input) line part more
+  pub is_line : IsBoundedLine (old.bytes ++ input) line part more
   pub counts : new.taken ≡ old.taken + length part
   pub none_left : new.bytes ≡ []
 
 -- the byte past the limit was read
-pub record TakesOne (old : Unread) (input : Bytes) (line : Line) (new : Unread) (rest : Bytes) : Type 0 where
+pub record TakesLineToLimit (old : UnreadInput) (input : Bytes) (line : Line) (new : UnreadInput) (rest : Bytes) : Type 0 where
   pub byte : ℕ
-  pub takes : TakesAll old input line new (byte ∷ rest)
+  pub takes : TakesAllUnread old input line new (byte ∷ rest)
   pub full : new.taken ≡ input_limit
 
 -- Input is what the reader has left before the call, rest what it has left afterwards.
-abbrev pub ReadsLine : Unread → Bytes → Line → Unread → Bytes → Result LineEnd WriteError → Type 0
+abbrev pub ReadsLine : UnreadInput → Bytes → Line → UnreadInput → Bytes → Result LineEnd WriteError → Type 0
 ReadsLine old input line new rest (Ok Feed) = TakesLine old input line new rest
-ReadsLine old input line new rest (Ok Last) = TakesAll old input line new [] × (rest ≡ [])
-ReadsLine old input line new rest (Ok Past) = TakesOne old input line new rest
-ReadsLine old input line new rest (Ok ReadFailed) = TakesAll old input line new rest
-ReadsLine old input line new rest (Err failed) = TakesAll old input line new rest
+ReadsLine old input line new rest (Ok Last) = TakesAllUnread old input line new [] × (rest ≡ [])
+ReadsLine old input line new rest (Ok Past) = TakesLineToLimit old input line new rest
+ReadsLine old input line new rest (Ok ReadFailed) = TakesAllUnread old input line new rest
+ReadsLine old input line new rest (Err failed) = TakesAllUnread old input line new rest

@@ -24,16 +24,16 @@ lines_of [] = []
 lines_of (byte ∷ text) = if byte == 10 then [] ∷ lines_of text else with_byte byte (lines_of text)
 
 -- the most bytes of a line, without its line feed
-abbrev pub longest : ℕ
-longest = 200
+abbrev pub max_input_line : ℕ
+max_input_line = 200
 
 -- ---- lines that a line feed ends
 
 abbrev pub ends_line : ℕ → Bool
 ends_line b = b == 10
 
-abbrev pub HasNoFeed : Bytes → Type 0
-HasNoFeed part = All (λ b. ends_line b ≡ false) part
+abbrev pub HasNoLineFeed : Bytes → Type 0
+HasNoLineFeed part = All (λ b. ends_line b ≡ false) part
 
 -- a line with its line feed
 abbrev pub ended : Line → Text
@@ -44,11 +44,11 @@ abbrev pub text_of : List Line → Text
 text_of lines = flat_map ended lines
 
 -- a byte in front of the first line
-abbrev pub onto_first : ℕ → List Line → List Line
-onto_first b [] = []
-onto_first b (line ∷ lines) = (b ∷ line) ∷ lines
+abbrev pub with_byte_in_first_line : ℕ → List Line → List Line
+with_byte_in_first_line b [] = []
+with_byte_in_first_line b (line ∷ lines) = (b ∷ line) ∷ lines
 
 -- The lines of a text that are ended by a line feed. The bytes after the last line feed are none of them.
-abbrev pub ended_lines : Bytes → List Line
-ended_lines [] = []
-ended_lines (b ∷ text) = if ends_line b then [] ∷ ended_lines text else onto_first b (ended_lines text)
+abbrev pub terminated_lines : Bytes → List Line
+terminated_lines [] = []
+terminated_lines (b ∷ text) = if ends_line b then [] ∷ terminated_lines text else with_byte_in_first_line b (terminated_lines text)

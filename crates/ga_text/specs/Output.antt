@@ -2,7 +2,7 @@
 use Rattle.std.specs.Prelude.{◌≡◌, ◌<◌, ◌⊎◌, [], ◌++◌, length, Option, Some, Result, Ok, Err, codes}
 use Rattle.ga_text.specs.Lines.{Bytes, Text}
 use Rattle.ga_text.specs.Input.{input_limit, block_size}
-use Rattle.ga_text.specs.Image.{EndsAtEnd, HasNoEnd}
+use Rattle.ga_text.specs.Image.{EndsWithEndLine, HasNoEndLine}
 use Rattle.ga_text.specs.declared.whole.WholeRead.{WholeRead}
 use Rattle.ga_text.specs.declared.whole.WholeRead.TheVariants.{Whole, TooLong, ReadFailed, NoMemory}
 use Rattle.ga_text.specs.declared.output.WriteError.{WriteError}
@@ -13,22 +13,22 @@ use Rattle.ga_text.specs.declared.output.Writer.{Writer}
 -- Whether the source ends with its line `end`, and after it only what the same read brought was read; or it is all of an input
 -- in which no line is `end`.
 abbrev pub IsReadWhole : Text → Bytes → Bytes → Type 0
-IsReadWhole source ahead rest = (EndsAtEnd source × (length ahead < block_size)) ⊎ ((ahead ≡ []) × (rest ≡ []) × HasNoEnd source)
+IsReadWhole source ahead rest = (EndsWithEndLine source × (length ahead < block_size)) ⊎ ((ahead ≡ []) × (rest ≡ []) × HasNoEndLine source)
 
 -- whether the text is all that is within the limit, and the next byte was read after it
-abbrev pub IsTooLong : Text → Bytes → Type 0
-IsTooLong text ahead = (length text ≡ input_limit) × (length ahead ≡ 1) × HasNoEnd text
+abbrev pub IsInputTooLong : Text → Bytes → Type 0
+IsInputTooLong text ahead = (length text ≡ input_limit) × (length ahead ≡ 1) × HasNoEndLine text
 
 -- the text was read whole, where read was read of the input and rest is left of it
 abbrev pub IsWholeText : Bytes → Bytes → Text → Type 0
 IsWholeText read rest text = (ahead : Bytes) × (read ≡ text ++ ahead) × IsReadWhole text ahead rest
 
 -- What a call that reads a whole input may do: read was read of it, and rest is left.
-abbrev pub ReadsWhole : Bytes → Bytes → WholeRead → Type 0
-ReadsWhole read rest (Whole text) = IsWholeText read rest text.items
-ReadsWhole read rest (TooLong text) = (ahead : Bytes) × (read ≡ text.items ++ ahead) × IsTooLong text.items ahead
-ReadsWhole read rest ReadFailed = HasNoEnd read
-ReadsWhole read rest NoMemory = Unit {0}
+abbrev pub ReadsWholeInput : Bytes → Bytes → WholeRead → Type 0
+ReadsWholeInput read rest (Whole text) = IsWholeText read rest text.items
+ReadsWholeInput read rest (TooLong text) = (ahead : Bytes) × (read ≡ text.items ++ ahead) × IsInputTooLong text.items ahead
+ReadsWholeInput read rest ReadFailed = HasNoEndLine read
+ReadsWholeInput read rest NoMemory = Unit {0}
 
 -- the first output after an accepted image
 abbrev pub ready : Text
@@ -60,8 +60,8 @@ abbrev pub IsSameStream : {W : Type 0} → Writer W → Writer W → Type 0
 IsSameStream old new = new.stream.ghost_name ≡ old.stream.ghost_name
 
 -- Whether the output doesn't grow between two states of a writer; a pending part of it may be sent to the stream.
-abbrev pub SaysNothing : {T W : Type 0} → Result T WriteError → (W → Option Bytes) → Writer W → Writer W → Type 0
-SaysNothing result contents old new =
+abbrev pub WritesNothing : {T W : Type 0} → Result T WriteError → (W → Option Bytes) → Writer W → Writer W → Type 0
+WritesNothing result contents old new =
     IsSameStream old new
     × ((before said : Text)
     → IsWritten (contents old.stream.now) before said old.pending.items
@@ -93,8 +93,8 @@ WritesText IsText old new = (before : Bytes) → old ≡ Some before → (text :
 
 -- Whether some of an input, of which these bytes were taken ahead, is read and the rest is left, and a stream holds a text
 -- after what it held before.
-abbrev pub ReadsOnAndWrites : Bytes → (Bytes → Bytes → Text → Type 0) → Option Bytes → Option Bytes → Option Bytes → Option Bytes → Type 0
-ReadsOnAndWrites ahead Does input left old new =
+abbrev pub ReadsAheadAndWrites : Bytes → (Bytes → Bytes → Text → Type 0) → Option Bytes → Option Bytes → Option Bytes → Option Bytes → Type 0
+ReadsAheadAndWrites ahead Does input left old new =
     (unread before : Bytes)
     → input ≡ Some unread
     → old ≡ Some before
@@ -106,4 +106,4 @@ ReadsOnAndWrites ahead Does input left old new =
 
 -- Whether some of an input is read and the rest is left, and a stream holds a text after what it held before.
 abbrev pub ReadsAndWrites : (Bytes → Bytes → Text → Type 0) → Option Bytes → Option Bytes → Option Bytes → Option Bytes → Type 0
-ReadsAndWrites Does input left old new = ReadsOnAndWrites [] Does input left old new
+ReadsAndWrites Does input left old new = ReadsAheadAndWrites [] Does input left old new

@@ -4,29 +4,29 @@ use Rattle.std.specs.Prelude.{◌≡◌, ℕ, ◌+◌, ◌*◌, ◌^◌, ◌<◌
 use Rattle.std.specs.Str.{str_to_ascii_lowercase}
 use Rattle.ga_text.specs.Lines.{Text}
 use Rattle.ga_text.specs.Digits.{hex2_of}
-use Rattle.ga_grid.specs.Grid.{node_of, node_id, decimal_digit, node_number}
+use Rattle.ga_grid.specs.Grid.{number_of_yxx, node_id, decimal_digit, parse_node_name}
 use Rattle.ga_grid.specs.declared.node_id.NodeId.{NodeId}
 use Rattle.ga_ports.specs.Steps.{◌>>=◌}
 
 -- a byte more in front of the first part
-abbrev pub in_front : ℕ → Option (Text × Text) → Option (Text × Text)
-in_front b None = None
-in_front b (Some parts) = Some (b ∷ parts.0, parts.1)
+abbrev pub with_prepended_byte : ℕ → Option (Text × Text) → Option (Text × Text)
+with_prepended_byte b None = None
+with_prepended_byte b (Some parts) = Some (b ∷ parts.0, parts.1)
 
 -- the text before the first space, and the text after it
 abbrev pub split_at_space : Text → Option (Text × Text)
 split_at_space [] = None
-split_at_space (b ∷ text) = if b == 32 then Some ([], text) else in_front b (split_at_space text)
+split_at_space (b ∷ text) = if b == 32 then Some ([], text) else with_prepended_byte b (split_at_space text)
 
 -- the node of three decimal digits
 unfoldable pub parse_node : Text → Option NodeId
 parse_node word = do
-  yxx ← node_number word
-  option_map node_id (node_of yxx)
+  yxx ← parse_node_name word
+  option_map node_id (number_of_yxx yxx)
 
 -- a number that fits
-abbrev pub fitting : ℕ → Option ℕ
-fitting n = if nat_lt n (2 ^ 32) then Some n else None
+abbrev pub u32_if_fits : ℕ → Option ℕ
+u32_if_fits n = if nat_lt n (2 ^ 32) then Some n else None
 
 -- a number with one decimal digit more; none after a leading zero
 abbrev pub with_digit : ℕ → ℕ → Option ℕ
@@ -34,7 +34,7 @@ with_digit n byte =
     if n == 0 then None
     else (do
       digit ← decimal_digit byte
-      fitting (10 * n + digit))
+      u32_if_fits (10 * n + digit))
 
 -- a number with all of these decimal digits more
 abbrev pub with_digits : ℕ → Text → Option ℕ
@@ -51,8 +51,8 @@ parse_number (byte ∷ text) = do
   with_digits digit text
 
 -- the numbers of steps that can be named
-abbrev pub IsNumber : ℕ → Type 0
-IsNumber k = k < 2 ^ 32
+abbrev pub IsStepNumber : ℕ → Type 0
+IsStepNumber k = k < 2 ^ 32
 
 -- an address has two hexadecimal digits, of either case
 pub record SpellsAddress (address : ℕ) (word : Text) : Type 0 where

@@ -1,9 +1,9 @@
 -- What only private contracts and proofs name.
 use Rattle.std.specs.Prelude.{ℕ, ◌+◌, ◌/◌, ◌%◌, [], ◌∷◌, Bool, true, false, ◌≡◌, ◌<◌, length, ◌++◌, Option, Result}
-use Rattle.ga_text.specs.Lines.{Text, Line, ended, Bytes, HasNoFeed}
+use Rattle.ga_text.specs.Lines.{Text, Line, ended, Bytes, HasNoLineFeed}
 use Rattle.ga_text.specs.declared.input.ReadStatus.{ReadStatus}
 use Rattle.ga_text.specs.declared.input.ReadStatus.TheVariants.{More, End, Past, Failed}
-use Rattle.ga_text.specs.Input.{Unread, input_limit}
+use Rattle.ga_text.specs.Input.{UnreadInput, input_limit}
 use Rattle.ga_text.specs.declared.output.WriteError.{WriteError}
 use Rattle.ga_text.specs.Output.{IsWritten, IsWrittenOrTruncated}
 
@@ -41,6 +41,6 @@ HasFilled bytes Past = bytes ≡ []
 HasFilled bytes Failed = bytes ≡ []
 
 -- A part was taken: up to a line feed, which is taken too, or all that was read.
-abbrev pub TakesPart : Unread → Bytes → Unread → Bool → Type 0
-TakesPart old part new true = HasNoFeed part × (old.bytes ≡ part ++ 10 ∷ new.bytes) × (new.taken ≡ old.taken + length part + 1)
-TakesPart old part new false = HasNoFeed part × (old.bytes ≡ part) × (new.bytes ≡ []) × (new.taken ≡ old.taken + length part)
+abbrev pub TakesPart : UnreadInput → Bytes → UnreadInput → Bool → Type 0
+TakesPart old part new true = HasNoLineFeed part × (old.bytes ≡ part ++ 10 ∷ new.bytes) × (new.taken ≡ old.taken + length part + 1)
+TakesPart old part new false = HasNoLineFeed part × (old.bytes ≡ part) × (new.bytes ≡ []) × (new.taken ≡ old.taken + length part)

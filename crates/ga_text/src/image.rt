@@ -1,7 +1,7 @@
 //! The image part of a session.
 ghost use Rattle.std.specs.Prelude.{◌≡◌, ◌<◌, ◌++◌, [], length, Some, Ok, IfOk, OnErr, IsTrue, ◌↔◌};
 ghost use Rattle.ga_text.specs.Lines.{Bytes, ended};
-ghost use Rattle.ga_text.specs.Input.{IsWithin, block_size};
+ghost use Rattle.ga_text.specs.Input.{IsWithinInputLimit, block_size};
 ghost use Rattle.ga_text.specs.Image.{ReadsImage, end_line};
 
 use super::input::{Input, ReadStatus};
@@ -27,7 +27,7 @@ pub fn read_image<R: Read>(
     reader: &mut R,
     text: &mut Vec<u8>,
 ) -> Result<ImageEnd, AllocError>
-    requires within { IsWithin input.old }
+    requires within { IsWithinInputLimit input.old }
     requires empty { text.old.items ≡ [] }
     ensures reads { IfOk result (λ stop. (left : Bytes) → R.remaining reader.old ≡ Some left →
         (rest : Bytes) × (R.remaining reader.new ≡ Some rest)
@@ -36,7 +36,7 @@ pub fn read_image<R: Read>(
         (read : Bytes) × (rest : Bytes) × (R.remaining reader.new ≡ Some rest)
         × (input.old.bytes ++ left ≡ read ++ rest)) }
     ensures behind { result ≡ Ok ImageEnd.EndLine → length input.new.bytes < block_size }
-    ensures within { IsWithin input.new }
+    ensures within { IsWithinInputLimit input.new }
 {
     let mut start = 0;
     'parts: loop {

@@ -1,7 +1,7 @@
 //! The input, block by block, up to its limit.
 ghost use Rattle.std.specs.Prelude.{◌≡◌, ◌+◌, ◌≤◌, ◌<◌, ◌++◌, ◌∷◌, true, [], length, take, drop, slice_index, Some, IfSome, IfNone, IfOk, OnErr};
-ghost use Rattle.ga_text.specs.Lines.{Bytes, HasNoFeed};
-ghost use Rattle.ga_text.specs.Input.{Unread, IsWithin, block_size};
+ghost use Rattle.ga_text.specs.Lines.{Bytes, HasNoLineFeed};
+ghost use Rattle.ga_text.specs.Input.{UnreadInput, IsWithinInputLimit, block_size};
 ghost use Rattle.ga_text.specs.inner.{Fills, HasFilled, TakesPart, with_feed};
 
 use super::lines::{LineBuffer, append_bounded};
@@ -39,9 +39,9 @@ pub enum ReadStatus {
 
 impl Model for Input {
     ghost use Rattle.std.specs.Prelude.{◌+◌, ◌-◌, ◌≤◌, slice_range};
-    ghost use Rattle.ga_text.specs.Input.{Unread, input_limit};
+    ghost use Rattle.ga_text.specs.Input.{UnreadInput, input_limit};
 
-    ghost Value = { Unread };
+    ghost Value = { UnreadInput };
 
     ghost view = { λ u. record { bytes = slice_range u.block u.start u.end; taken = u.taken } };
 
@@ -69,7 +69,7 @@ impl Input {
             × Fills self.old.taken input self.new.bytes rest result }
         ensures filled { HasFilled self.new.bytes result }
         ensures taken { self.new.taken ≡ self.old.taken }
-        ensures within { IsWithin self.new }
+        ensures within { IsWithinInputLimit self.new }
     {
         self.start = 0;
         self.end = 0;
@@ -108,7 +108,7 @@ impl Input {
         requires short { count ≤ 200 }
         ensures bytes { self.new.bytes ≡ drop (count + 1) self.old.bytes }
         ensures taken { self.new.taken ≡ self.old.taken + count + 1 }
-        ensures within { IsWithin self.new }
+        ensures within { IsWithinInputLimit self.new }
     {
         self.start += count + 1;
         self.taken += count as u32 + 1;
@@ -118,7 +118,7 @@ impl Input {
     pub(crate) fn read_buffered_line(&mut self, line: &mut LineBuffer) -> bool
         ensures takes { (part : Bytes) × TakesPart self.old part self.new result
             × (line.new.items ≡ take 201 (line.old.items ++ part)) }
-        ensures within { IsWithin self.new }
+        ensures within { IsWithinInputLimit self.new }
     {
         let ahead = &self.block[self.start..self.end];
         match find_line_feed(ahead) {
@@ -143,7 +143,7 @@ impl Input {
             × (text.new.items ≡ text.old.items ++ with_feed part fed)) }
         ensures behind { IfOk result (λ fed. fed ≡ true → length self.new.bytes < block_size) }
         ensures err { OnErr result ((self.new ≡ self.old) × (text.new.items ≡ text.old.items)) }
-        ensures within { IsWithin self.new }
+        ensures within { IsWithinInputLimit self.new }
     {
         let ahead = &self.block[self.start..self.end];
         match find_line_feed(ahead) {
@@ -167,8 +167,8 @@ impl Input {
 #[tactic(auto, using(crate::proofs::Taking::no_feed))]
 pub fn find_line_feed(bytes: &[u8]) -> Option<usize>
     ensures found { IfSome result (λ count. (count < length bytes.now)
-        × HasNoFeed (take count bytes.now) × (slice_index bytes.now count ≡ 10)) }
-    ensures none { IfNone result (HasNoFeed bytes.now) }
+        × HasNoLineFeed (take count bytes.now) × (slice_index bytes.now count ≡ 10)) }
+    ensures none { IfNone result (HasNoLineFeed bytes.now) }
 {
     for count in 0..bytes.len() {
         let byte = bytes[count];

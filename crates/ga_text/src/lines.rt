@@ -1,8 +1,8 @@
 //! Lines of a text, and of the input.
 ghost use Rattle.std.specs.Prelude.{◌≡◌, ◌+◌, ◌≤◌, ◌<◌, ◌∷◌, ◌++◌, Some, length, take, Ok};
 ghost use Rattle.ga_text.specs.Lines.{Bytes, lines_of};
-ghost use Rattle.ga_text.specs.Input.{IsWithin, ReadsLine};
-ghost use Rattle.ga_text.specs.Output.{SaysNothing};
+ghost use Rattle.ga_text.specs.Input.{IsWithinInputLimit, ReadsLine};
+ghost use Rattle.ga_text.specs.Output.{WritesNothing};
 
 use super::input::{Input, ReadStatus};
 use super::output::{WriteError, Writer};
@@ -35,12 +35,12 @@ pub fn read_line<R: Read, W: Write>(
     writer: &mut Writer<'_, W>,
     line: &mut LineBuffer,
 ) -> Result<LineEnd, WriteError>
-    requires { IsWithin input.old }
+    requires { IsWithinInputLimit input.old }
     ensures reads { (left : Bytes) → R.remaining reader.old ≡ Some left →
         (rest : Bytes) × (R.remaining reader.new ≡ Some rest)
         × ReadsLine input.old left line.new.items input.new rest result }
-    ensures said { SaysNothing result W.contents writer.old writer.new }
-    ensures within { IsWithin input.new }
+    ensures said { WritesNothing result W.contents writer.old writer.new }
+    ensures within { IsWithinInputLimit input.new }
     ensures goes_on { result ≡ Ok LineEnd.Feed → input.old.taken < input.new.taken }
 {
     line.clear();

@@ -1,7 +1,7 @@
 //! The output to a stream, buffered before it is written.
 ghost use Rattle.std.specs.Prelude.{◌≡◌, ◌++◌, ◌+◌, ◌≤◌, length, ℕ, List, [], OnOk};
 ghost use Rattle.ga_text.specs.Lines.{Bytes};
-ghost use Rattle.ga_text.specs.Output.{IsWritten, IsWrittenOrTruncated, WritesExactly, SaysNothing, ready};
+ghost use Rattle.ga_text.specs.Output.{IsWritten, IsWrittenOrTruncated, WritesExactly, WritesNothing, ready};
 
 use arrayvec::ArrayVec;
 use std::io::Write;
@@ -93,7 +93,7 @@ impl<'w, W: Write> Writer<'w, W> {
     #[inline(always)]
     pub fn make_room(&mut self, count: usize) -> WriteResult
         requires { count ≤ OUTPUT_CAPACITY }
-        ensures said { SaysNothing result W.contents self.old self.new }
+        ensures said { WritesNothing result W.contents self.old self.new }
         ensures room { OnOk result (length self.new.pending.items + count ≤ OUTPUT_CAPACITY) }
     {
         if self.pending.remaining_capacity() >= count {
@@ -107,7 +107,7 @@ impl<'w, W: Write> Writer<'w, W> {
     /// # Errors
     /// A write failed.
     pub fn flush(&mut self) -> WriteResult
-        ensures said { SaysNothing result W.contents self.old self.new }
+        ensures said { WritesNothing result W.contents self.old self.new }
         ensures sent { OnOk result (self.new.pending.items ≡ []) }
     {
         if self.pending.is_empty() {

@@ -22,7 +22,7 @@ pub const NODE_NAME_BYTES: usize = b"717".len();
 
 pub const WORD_DIGITS: usize = b"03ffff".len();
 
-pub const BYTE_ROOM: usize = b"ff".len();
+pub const BYTE_DIGITS: usize = b"ff".len();
 
 /// The most bytes of a step: the name of its node, a space and its number.
 pub const MAX_STEP_BYTES: usize = NODE_NAME_BYTES + 1 + MAX_NUMBER_DIGITS;
@@ -48,7 +48,7 @@ pub fn push_number<const ROOM: usize>(out: &mut ArrayVec<u8, ROOM>, number: u64)
     ensures len { array_vec_len out.new ≤ array_vec_len out.old + MAX_NUMBER_DIGITS }
 {
     if number < 100000000 {
-        push_eight(out, number);
+        push_eight_digits(out, number);
     } else {
         push_long(out, number);
     }
@@ -68,7 +68,7 @@ fn push_long<const ROOM: usize>(out: &mut ArrayVec<u8, ROOM>, number: u64)
 
 /// Adds a number of at most eight decimal digits, in pieces of fixed size.
 #[inline(always)]
-pub fn push_eight<const ROOM: usize>(out: &mut ArrayVec<u8, ROOM>, number: u64)
+pub fn push_eight_digits<const ROOM: usize>(out: &mut ArrayVec<u8, ROOM>, number: u64)
     requires small { number < 100000000 }
     requires room { array_vec_len out.old + length (decimal number) ≤ ROOM }
     ensures text { out.new.items ≡ out.old.items ++ decimal number }
@@ -211,7 +211,7 @@ pub fn push_word<const ROOM: usize>(out: &mut ArrayVec<u8, ROOM>, word: Word18)
 
 /// Adds a space and a word.
 #[inline(always)]
-pub fn push_spaced<const ROOM: usize>(out: &mut ArrayVec<u8, ROOM>, word: Word18)
+pub fn push_spaced_word<const ROOM: usize>(out: &mut ArrayVec<u8, ROOM>, word: Word18)
     requires { array_vec_len out.old + 1 + WORD_DIGITS ≤ ROOM }
     ensures text { out.new.items ≡ out.old.items ++ (codes " " ++ hex6_of word) }
     ensures len { array_vec_len out.new ≡ array_vec_len out.old + 1 + WORD_DIGITS }
@@ -234,10 +234,10 @@ fn hex6(word: Word18) -> [u8; WORD_DIGITS]
 }
 
 /// Adds a number in two hexadecimal digits.
-pub fn push_byte<const ROOM: usize>(out: &mut ArrayVec<u8, ROOM>, number: u8)
-    requires { array_vec_len out.old + BYTE_ROOM ≤ ROOM }
+pub fn push_hex_byte<const ROOM: usize>(out: &mut ArrayVec<u8, ROOM>, number: u8)
+    requires { array_vec_len out.old + BYTE_DIGITS ≤ ROOM }
     ensures text { out.new.items ≡ out.old.items ++ hex2_of number }
-    ensures len { array_vec_len out.new ≡ array_vec_len out.old + BYTE_ROOM }
+    ensures len { array_vec_len out.new ≡ array_vec_len out.old + BYTE_DIGITS }
 {
     push_text(out, &hex2(number));
 }
@@ -245,7 +245,7 @@ pub fn push_byte<const ROOM: usize>(out: &mut ArrayVec<u8, ROOM>, number: u8)
 /// The two hexadecimal digits of a number, in lower case.
 #[inline(always)]
 #[tactic(auto, using(crate::proofs::DigitLemmas::hexadecimal_pair))]
-pub fn hex2(number: u8) -> [u8; BYTE_ROOM]
+pub fn hex2(number: u8) -> [u8; BYTE_DIGITS]
     ensures { result ≡ hex2_of number }
 {
     let at = 2 * number as usize;

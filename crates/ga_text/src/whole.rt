@@ -1,7 +1,7 @@
 //! An input that is read whole before anything is made of it: source, or an image without commands.
 ghost use Rattle.std.specs.Prelude.{◌≡◌, ◌++◌, Some};
 ghost use Rattle.ga_text.specs.Lines.{Bytes};
-ghost use Rattle.ga_text.specs.Output.{ReadsWhole};
+ghost use Rattle.ga_text.specs.Output.{ReadsWholeInput};
 
 use super::image::{ImageEnd, read_image};
 use super::input::Input;
@@ -22,10 +22,10 @@ pub enum WholeRead {
 }
 
 /// Reads an input up to its first line `end`, or to its end.
-pub fn read_whole<R: Read>(alloc: Global, reader: &mut R) -> WholeRead
+pub fn read_whole_input<R: Read>(alloc: Global, reader: &mut R) -> WholeRead
     // For a reader whose bytes contracts see: the bytes read of them, and the result for these.
     ensures { (left : Bytes) → R.remaining reader.old ≡ Some left →
-        (read rest : Bytes) × (left ≡ read ++ rest) × (R.remaining reader.new ≡ Some rest) × ReadsWhole read rest result }
+        (read rest : Bytes) × (left ≡ read ++ rest) × (R.remaining reader.new ≡ Some rest) × ReadsWholeInput read rest result }
 {
     let mut input = Input::new();
     let mut text = Vec::new(alloc);

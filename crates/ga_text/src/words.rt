@@ -1,8 +1,8 @@
 //! The words of a line: where one ends, and the node, the number or the byte that it names.
 
 ghost use Rattle.std.specs.Prelude.{◌≡◌, ◌+◌, ◌*◌, ◌<◌, [], ◌∷◌, option_map};
-ghost use Rattle.ga_grid.specs.Grid.{node_of as node_numbered, node_id, decimal_digit};
-ghost use Rattle.ga_text.specs.Digits.{byte_in};
+ghost use Rattle.ga_grid.specs.Grid.{number_of_yxx as node_numbered, node_id, decimal_digit};
+ghost use Rattle.ga_text.specs.Digits.{hex_byte_value};
 ghost use Rattle.ga_text.specs.Parsing.{split_at_space, parse_node, parse_number, with_digit};
 
 use ga_grid::{NodeId, decimal_digit};
@@ -21,7 +21,7 @@ pub fn split_at_space(text: &[u8]) -> Option<(&[u8], &[u8])>
 }
 
 /// The node that is named by three decimal digits: its row, and two of its column.
-#[tactic(auto, unfolding(crate::specs::Parsing::parse_node, ga_grid::specs::Grid::node_number))]
+#[tactic(auto, unfolding(crate::specs::Parsing::parse_node, ga_grid::specs::Grid::parse_node_name))]
 pub fn parse_node(word: &[u8]) -> Option<NodeId>
     ensures { result ≡ parse_node word.now }
 {
@@ -32,7 +32,7 @@ pub fn parse_node(word: &[u8]) -> Option<NodeId>
 }
 
 /// The node of three decimal digits: one of its row, and two of its column.
-#[tactic(auto, unfolding(crate::specs::Parsing::parse_node, ga_grid::specs::Grid::node_number))]
+#[tactic(auto, unfolding(crate::specs::Parsing::parse_node, ga_grid::specs::Grid::parse_node_name))]
 #[inline(always)]
 pub fn parse_node_digits(row: u8, tens: u8, ones: u8) -> Option<NodeId>
     ensures { result ≡ parse_node (row ∷ tens ∷ ones ∷ []) }
@@ -81,7 +81,7 @@ fn with_digit(number: u32, byte: u8) -> Option<u32>
 
 /// A number of exactly two hexadecimal digits in either case.
 pub fn parse_hex_byte(text: &[u8]) -> Option<u8>
-    ensures { result ≡ byte_in text.now }
+    ensures { result ≡ hex_byte_value text.now }
 {
     let mut byte = [0];
     let Ok(()) = hex::decode_to_slice(text, &mut byte) else {

@@ -7,7 +7,7 @@ use Rattle.ga_grid.specs.declared.node_id.NodeId.{NodeId}
 use Rattle.ga_event.specs.declared.event.Cause.{Cause}
 use Rattle.ga_event.specs.Apply.{EventOutcome, apply, cause_of}
 use Rattle.ga_event.specs.Next.{next}
-use Rattle.ga_lab.specs.Machine.{State, causes_of, actor_of}
+use Rattle.ga_lab.specs.Machine.{State, causes_of, acting_node}
 use Rattle.ga_grid.specs.Chip.{records_of}
 use Rattle.ga_text.specs.Lines.{lines_of}
 use Rattle.ga_image.specs.Grammar.{IsImage}
@@ -43,7 +43,7 @@ pub data MakesAll (load : List NodeRecord) : List ℕ → List Cause → List No
 -- ---- the nodes that made the events of a machine, by their numbers
 
 abbrev pub maker_of : Cause → ℕ
-maker_of cause = (actor_of cause.event).number
+maker_of cause = (acting_node cause.event).number
 
 -- the numbers of the nodes that made a machine's events, in the order of the events
 abbrev pub makers_of : State → List ℕ

@@ -2,12 +2,12 @@
 
 ghost use Rattle.std.specs.Prelude.{◌≡◌, ◌++◌, length, take, false};
 ghost use Rattle.ga_text.specs.Lines.{Bytes};
-ghost use Rattle.ga_check_report.specs.Checking.{ChecksEnds};
+ghost use Rattle.ga_check_report.specs.Checking.{IsCheckOutcome};
 ghost use Rattle.ga_check_report.specs.declared.report.Verdict.{Verdict as Found};
 
 use crate::buffer::{put_front, streams};
 use ga_check_report::{CheckBounds, check_ends};
-use ga_state_search::SearchWatch;
+use ga_state_search::SearchControl;
 use std::alloc::Global;
 
 /// The kinds of ends of a program, an image or source, in whatever order its nodes run, of at most `most` stored states. If `asked` isn't
@@ -23,12 +23,12 @@ pub extern "C" fn ga_check(
     asked: u32,
 ) -> usize
     ensures { (read rest text : Bytes) × (found : Found) × (input.now ≡ read ++ rest)
-        × ChecksEnds (record { most = most; seconds = 0 }) limit false asked read rest text found
+        × IsCheckOutcome (record { most = most; seconds = 0 }) limit false asked read rest text found
         × (result ≡ length text) × (take result output.new ≡ take (length output.old) text) }
 {
     let (mut reader, mut answer, mut errors) = streams(alloc, input);
     let bounds = CheckBounds { most, seconds: 0 };
-    let watch = SearchWatch::new();
+    let watch = SearchControl::new();
     let _verdict = check_ends(
         alloc,
         &mut reader,

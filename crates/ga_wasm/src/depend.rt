@@ -6,7 +6,7 @@ ghost use Rattle.ga_wasm.specs.inner.{AreCodes, Makes, MakesAll, code_of};
 
 use crate::buffer::put_front;
 use ga_event::{Cause, apply, cause_of, next_event};
-use ga_grid::{Chip, NODES, NodeId};
+use ga_grid::{CHIP_NODES, Chip, NodeId};
 use ga_image::parse;
 use ga_picture::{Shade, shades};
 use std::alloc::Global;
@@ -81,7 +81,7 @@ fn make_all(alloc: Global, chip: &mut Chip, nodes: &[u8]) -> Option<Vec<Cause>>
 fn make(chip: &mut Chip, number: u8) -> Option<Cause>
     ensures { IfSome result (λ cause. Makes (records_of chip.old) number cause (records_of chip.new)) }
 {
-    if number as usize >= NODES {
+    if number as usize >= CHIP_NODES {
         return None;
     }
     let node = NodeId::new(number);

@@ -3,7 +3,7 @@
 ghost use Rattle.std.specs.Prelude.{◌≡◌, ◌++◌, ◌⊎◌, ℕ, List, None, Ok, IfSome, length, take};
 ghost use Rattle.ga_text.specs.Lines.{Bytes};
 ghost use Rattle.ga_explorer.specs.Opening.{ExplorerState};
-ghost use Rattle.ga_picture.specs.Following.{FollowsTo};
+ghost use Rattle.ga_picture.specs.Following.{IsSilentSessionResult};
 ghost use Rattle.ga_wasm.specs.inner.{maker_of, makers_of};
 
 use crate::buffer::{put_front, streams};
@@ -18,7 +18,7 @@ use std::alloc::Global;
 #[unsafe(no_mangle)]
 pub extern "C" fn ga_kept(alloc: Global, input: &[u8], output: &mut [u8], limit: u32) -> usize
     ensures { (result ≡ 0) ⊎ ((read rest text : Bytes) × (last : ExplorerState) × (input.now ≡ read ++ rest)
-        × FollowsTo None limit read rest text (Ok last) × (nodes : List ℕ) × (nodes ≡ makers_of last.lab)
+        × IsSilentSessionResult None limit read rest text (Ok last) × (nodes : List ℕ) × (nodes ≡ makers_of last.lab)
         × (result ≡ length nodes) × (take result output.new ≡ take (length output.old) nodes)) }
 {
     let (mut reader, mut refusal, mut errors) = streams(alloc, input);

@@ -2,7 +2,7 @@
 
 ghost use Rattle.std.specs.Prelude.{◌≡◌, ◌++◌, length, take};
 ghost use Rattle.ga_text.specs.Lines.{Bytes};
-ghost use Rattle.ga_asm_text.specs.Source.{Assembles, Lists};
+ghost use Rattle.ga_asm_text.specs.Source.{WritesAssembly, WritesListing};
 ghost use Rattle.ga_console.specs.declared.run.Status.{Status as Ended};
 
 use crate::buffer::{put_front, streams};
@@ -18,7 +18,7 @@ pub extern "C" fn ga_assemble(
     output: &mut [u8],
     told: &mut [u8],
 ) -> usize
-    ensures { (read rest text : Bytes) × (status : Ended) × (input.now ≡ read ++ rest) × Assembles read rest text status
+    ensures { (read rest text : Bytes) × (status : Ended) × (input.now ≡ read ++ rest) × WritesAssembly read rest text status
         × (result ≡ length text) × (take result output.new ≡ take (length output.old) text) }
 {
     let (mut reader, mut image, mut faults) = streams(alloc, input);
@@ -30,7 +30,7 @@ pub extern "C" fn ga_assemble(
 /// The listing of a source, as far as there is room for it; says how many bytes it has, 0 where the source is refused.
 #[unsafe(no_mangle)]
 pub extern "C" fn ga_list(alloc: Global, input: &[u8], output: &mut [u8]) -> usize
-    ensures { (read rest text : Bytes) × (status : Ended) × (input.now ≡ read ++ rest) × Lists read rest text status
+    ensures { (read rest text : Bytes) × (status : Ended) × (input.now ≡ read ++ rest) × WritesListing read rest text status
         × (result ≡ length text) × (take result output.new ≡ take (length output.old) text) }
 {
     let (mut reader, mut listing, mut faults) = streams(alloc, input);

@@ -2,7 +2,7 @@
 #![tactic(auto)]
 
 ghost use Rattle.std.specs.Prelude.{◌≡◌, ◌+◌, ◌*◌, ◌%◌, ◌^◌, ◌<◌, ◌↔◌, nat_le, IsSome, IfSome};
-ghost use Rattle.ga_word.specs.Word.{words, carry_value, signed_of, doubled, halved, step_sum, step_high, step_low, hex6_of, read6_of};
+ghost use Rattle.ga_word.specs.Word.{words, carry_value, signed_of, doubled_word, halved_word, multiply_step_sum, multiply_step_t, multiply_step_a, hex6_of, hex6_value};
 
 use std::fmt;
 use std::marker::Model;
@@ -46,7 +46,7 @@ impl Word18 {
     }
 
     /// The lowest 18 bits of a number.
-    pub fn truncated(value: u32) -> Self
+    pub fn from_low_bits(value: u32) -> Self
         ensures { result ≡ value % words }
     {
         Word18 {
@@ -66,7 +66,7 @@ impl Word18 {
     pub fn add(self, other: Self) -> Self
         ensures { result ≡ (self + other) % words }
     {
-        Word18::truncated(self.bits + other.bits)
+        Word18::from_low_bits(self.bits + other.bits)
     }
 
     /// The sum with a carry, and whether it passes the greatest word.
@@ -75,7 +75,7 @@ impl Word18 {
         ensures carry { result.1 ≡ nat_le words (self + other + carry_value carry) }
     {
         let sum = self.bits + other.bits + u32::from(carry);
-        (Word18::truncated(sum), sum >= WORDS)
+        (Word18::from_low_bits(sum), sum >= WORDS)
     }
 
     /// The value of the word in two's complement: -2^17 to 2^17 - 1.
@@ -91,14 +91,14 @@ impl Word18 {
 
     /// Twice the word.
     pub fn shl(self) -> Self
-        ensures { result ≡ doubled self }
+        ensures { result ≡ doubled_word self }
     {
-        Word18::truncated(self.bits << 1)
+        Word18::from_low_bits(self.bits << 1)
     }
 
     /// Half the word, with its highest bit kept.
     pub fn shr(self) -> Self
-        ensures { result ≡ halved self }
+        ensures { result ≡ halved_word self }
     {
         Word18 {
             bits: (self.bits >> 1) + (self.bits >> 17 << 17),
@@ -108,8 +108,8 @@ impl Word18 {
     /// T and A after a multiply step, which is this project's own choice: T is half the sum of signed T and, where A is odd,
     /// signed S, rounded down; A is shifted right by one, with the sum's lowest bit in front.
     pub fn mul_step(t: Self, s: Self, a: Self) -> (Self, Self)
-        ensures high { result.0 ≡ step_high (step_sum t s a) }
-        ensures low { result.1 ≡ step_low (step_sum t s a) a }
+        ensures high { result.0 ≡ multiply_step_t (multiply_step_sum t s a) }
+        ensures low { result.1 ≡ multiply_step_a (multiply_step_sum t s a) a }
     {
         let sum = t.signed() + if a.bits % 2 == 1 { s.signed() } else { 0 };
         let high = sum.div_euclid(2).rem_euclid(WORDS as i32) as u32;
@@ -132,8 +132,8 @@ impl Word18 {
     }
 
     /// The number of exactly six hexadecimal digits in either case. It may be past the greatest word.
-    pub fn read6(text: &[u8]) -> Option<u32>
-        ensures value { result ≡ read6_of text.now }
+    pub fn parse_hex6(text: &[u8]) -> Option<u32>
+        ensures value { result ≡ hex6_value text.now }
         ensures in_range { IfSome result (λ number. number < 2 ^ 24) }
     {
         let mut bytes = [0u8; 3];

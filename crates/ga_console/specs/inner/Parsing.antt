@@ -6,7 +6,7 @@ use Rattle.ga_grid.specs.declared.node_id.NodeId.{NodeId}
 use Rattle.ga_ports.specs.Steps.{◌>>=◌}
 use Rattle.ga_console.specs.declared.command.Command.{Command}
 use Rattle.ga_console.specs.declared.command.Command.TheVariants.{Step, Back, Rewind, Node, Memory, Trace, Why, Count, Dump, Quit}
-use Rattle.ga_text.specs.Digits.{byte_in}
+use Rattle.ga_text.specs.Digits.{hex_byte_value}
 use Rattle.ga_text.specs.Parsing.{split_at_space, parse_node, parse_number}
 
 -- a node and a step of it
@@ -24,7 +24,7 @@ unfoldable pub memory_in : Text → Option Command
 memory_in text = do
   parts ← split_at_space text
   node ← parse_node parts.0
-  address ← byte_in parts.1
+  address ← hex_byte_value parts.1
   Some (Memory node address)
 
 unfoldable pub why_in : Text → Option Command

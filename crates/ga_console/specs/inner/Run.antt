@@ -1,9 +1,9 @@
 -- What is written once the image was read.
 use Rattle.std.specs.Prelude.{◌≡◌, ◌≢◌, ◌≤◌, ◌<◌, ℕ, ◌∷◌, ◌++◌, length, take, slice_index, decimal, ◌+◌, [], Result, Ok, Err, ◌⊎◌, ◌-◌}
-use Rattle.ga_text.specs.Lines.{Bytes, Line, longest, HasNoFeed, Text}
-use Rattle.ga_text.specs.Parsing.{IsNumber}
+use Rattle.ga_text.specs.Lines.{Bytes, Line, max_input_line, HasNoLineFeed, Text}
+use Rattle.ga_text.specs.Parsing.{IsStepNumber}
 use Rattle.ga_console.specs.Commands.{SpellsCommand}
-use Rattle.ga_console.specs.Session.{quit_line, Answering, Serves, Written}
+use Rattle.ga_console.specs.Session.{quit_line, AnswerRelation, ServesCommands, IsWrittenOrPrefix}
 use Rattle.ga_console.specs.declared.command.Command.{Command}
 use Rattle.ga_console.specs.declared.fast_path.PrefixCommand.{PrefixCommand}
 use Rattle.ga_console.specs.declared.fast_path.PrefixCommand.TheVariants.{Spelled, Other, Nothing}
@@ -11,12 +11,12 @@ use Rattle.ga_text.specs.declared.output.WriteError.{WriteError}
 use Rattle.ga_text.specs.Output.{TextHasPrefix, ready}
 use Rattle.ga_console.specs.declared.run.Status.{Status}
 use Rattle.ga_console.specs.declared.run.Status.TheVariants.{Done, ImageRefused, StreamFault, NotFinished}
-use Rattle.ga_console.specs.Race.{IsReport, IsRefusal, IsCutShort}
+use Rattle.ga_console.specs.Race.{IsRaceReport, IsImageRefusal, IsTruncationOf}
 use Rattle.ga_image.specs.declared.fault.ImageFault.{ImageFault}
 use Rattle.ga_text.specs.Input.{input_limit}
 use Rattle.ga_lab.specs.Machine.{State}
 use Rattle.ga_console.specs.declared.commands.CommandsEnd.{CommandsEnd}
-use Rattle.ga_console.specs.Run.{status_of, Refuses, Opens, IsFault}
+use Rattle.ga_console.specs.Run.{status_of, WritesImageRefusal, IsOpenedOnImage, IsFaultOfImage}
 
 -- ---- A line that was read whole and is not taken yet
 
@@ -25,24 +25,24 @@ pub record IsAhead (bytes : Bytes) (asked : Command) (count : ℕ) : Type 0 wher
   pub line : Line
   pub more : Bytes
   pub splits : bytes ≡ line ++ 10 ∷ more
-  pub no_feed : HasNoFeed line
+  pub no_feed : HasNoLineFeed line
   pub counts : length line ≡ count
-  pub short : count ≤ longest
+  pub short : count ≤ max_input_line
   pub spelled : SpellsCommand asked line
   pub not_quit : line ≢ quit_line
 
 -- the bytes begin with a line of `count` bytes and its line feed
 pub record IsLineAhead (bytes : Bytes) (count : ℕ) : Type 0 where
   pub below : count < length bytes
-  pub no_feed : HasNoFeed (take count bytes)
+  pub no_feed : HasNoLineFeed (take count bytes)
   pub feed : slice_index bytes count ≡ 10
-  pub short : count ≤ longest
+  pub short : count ≤ max_input_line
 
 -- the bytes begin with a number of `digits` digits, followed by a line feed
 pub record IsNumberAhead (bytes : Bytes) (number digits : ℕ) : Type 0 where
   pub line : IsLineAhead bytes digits
   pub few : digits ≤ 20
-  pub fits : IsNumber number
+  pub fits : IsStepNumber number
   pub spelled : take digits bytes ≡ decimal number
 
 -- what the bytes begin with
@@ -54,8 +54,8 @@ StandsAhead bytes Nothing = Unit {0}
 -- ---- what private contracts, invariants and bridges cite
 
 -- a line that spells this command of the debugger is answered
-abbrev pub AnswersCommand : {M : Type 0} → Answering M → M → Command → M → Text → Type 0
-AnswersCommand A m asked new answer = (line : Line) → length line ≤ longest → SpellsCommand asked line → A m line answer new
+abbrev pub AnswersCommand : {M : Type 0} → AnswerRelation M → M → Command → M → Text → Type 0
+AnswersCommand A m asked new answer = (line : Line) → length line ≤ max_input_line → SpellsCommand asked line → A m line answer new
 
 -- ---- what a race writes once the image was read
 
@@ -68,16 +68,16 @@ Writes whole text NotFinished = ⊥
 
 -- What may be written once the image was read.
 abbrev pub Races : ℕ → ℕ → ℕ → Bytes → Text → Status → Type 0
-Races limit workers calls image text Done = IsReport limit workers calls image text
-Races limit workers calls image text ImageRefused = IsRefusal image text
+Races limit workers calls image text Done = IsRaceReport limit workers calls image text
+Races limit workers calls image text ImageRefused = IsImageRefusal image text
 Races limit workers calls image text StreamFault =
-    IsCutShort (IsReport limit workers calls image) text ⊎ IsCutShort (IsRefusal image) text
+    IsTruncationOf (IsRaceReport limit workers calls image) text ⊎ IsTruncationOf (IsImageRefusal image) text
 Races limit workers calls image text NotFinished = text ≡ []
 
 -- What may be written after the image was read, of which `taken` bytes were consumed: `ahead` is what was read with it. If it
 -- is refused, no more is read.
-abbrev pub AfterImage : {M : Type 0} → Answering M → (State → M) → ℕ → Text → ℕ → Bytes → Bytes → Bytes → Text → Status → Type 0
+abbrev pub AfterImage : {M : Type 0} → AnswerRelation M → (State → M) → ℕ → Text → ℕ → Bytes → Bytes → Bytes → Text → Status → Type 0
 AfterImage {M} A begin limit image taken ahead read rest text status =
-    ((machine : State) × Opens image limit machine × (ending : Result CommandsEnd WriteError) × (status ≡ status_of ending)
-    × (said : Text) × (last : M) × Serves A (input_limit - taken) (begin machine) read rest said last ending × Written ending (ready ++ said) text)
-    ⊎ ((fault : ImageFault) × IsFault image fault × Refuses fault text status × (read ≡ ahead))
+    ((machine : State) × IsOpenedOnImage image limit machine × (ending : Result CommandsEnd WriteError) × (status ≡ status_of ending)
+    × (said : Text) × (last : M) × ServesCommands A (input_limit - taken) (begin machine) read rest said last ending × IsWrittenOrPrefix ending (ready ++ said) text)
+    ⊎ ((fault : ImageFault) × IsFaultOfImage image fault × WritesImageRefusal fault text status × (read ≡ ahead))

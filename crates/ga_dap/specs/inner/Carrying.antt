@@ -8,6 +8,6 @@ use Rattle.ga_dap.specs.declared.unanswered.NoResponse.TheVariants.{Memory, Unto
 -- messages were sent for which this holds; or an allocation failed before anything changed, for which that holds; or for what
 -- had to be reported of a change
 abbrev pub Carries : Result (Unit {0}) NoResponse → (Messages → Type 0) → Type 0 → SentMessages → SentMessages → Type 0
-Carries (Ok done) Does Stays old new = (messages : Messages) × Does messages × SendsAll old messages new
-Carries (Err Memory) Does Stays old new = Stays
-Carries (Err Untold) Does Stays old new = Unit {0}
+Carries (Ok done) IsCommandReply Stays old new = (messages : Messages) × IsCommandReply messages × SendsAll old messages new
+Carries (Err Memory) IsCommandReply Stays old new = Stays
+Carries (Err Untold) IsCommandReply Stays old new = Unit {0}

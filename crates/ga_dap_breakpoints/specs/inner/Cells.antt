@@ -8,24 +8,24 @@ use Rattle.ga_node.specs.Record.{NodeRecord}
 use Rattle.ga_grid.specs.declared.node_id.NodeId.{NodeId}
 use Rattle.ga_grid.specs.Chip.{record_at}
 use Rattle.ga_event.specs.declared.made.Made.{Made}
-use Rattle.ga_event.specs.Told.{steps_of}
+use Rattle.ga_event.specs.Told.{count_steps}
 use Rattle.ga_lab.specs.Machine.{State, chip_of, history_of}
 use Rattle.ga_provenance.specs.Fetched.{fetched_cell}
 use Rattle.ga_scheduler.specs.Conditions.{is_step_of}
 use Rattle.ga_dap_views.specs.declared.spots.SlotAddress.{SlotAddress}
-use Rattle.ga_dap_views.specs.Spots.{spot_by}
+use Rattle.ga_dap_views.specs.Spots.{node_slot_address}
 use Rattle.ga_dap_breakpoints.specs.declared.back.Watched.{Watched}
-use Rattle.ga_dap_breakpoints.specs.declared.back.Watched.TheVariants.{Comes, Writes}
+use Rattle.ga_dap_breakpoints.specs.declared.back.Watched.TheVariants.{ArrivesAtSlot, Writes}
 use Rattle.ga_dap_breakpoints.specs.declared.breakpoint.Breakpoint.{Breakpoint}
 use Rattle.ga_dap_breakpoints.specs.declared.hits.HitTally.{HitTally}
-use Rattle.ga_dap_breakpoints.specs.Back.{can_reach_slot, is_at_spot}
-use Rattle.ga_dap_breakpoints.specs.Breakpoints.{has_done, hit_counted, is_stopping}
+use Rattle.ga_dap_breakpoints.specs.Back.{can_reach_slot, is_at_slot_address}
+use Rattle.ga_dap_breakpoints.specs.Breakpoints.{is_watched_event, tally_with_hit, is_ending_stop}
 use Rattle.ga_dap_breakpoints.specs.Conditions.{meets_test}
 use Rattle.ga_dap_breakpoints.specs.inner.Words.{keeps_kind}
 use Rattle.ga_scheduler.specs.declared.watched.WatchedEnd.{WatchedEnd}
 use Rattle.ga_dap_breakpoints.specs.declared.halts.HaltMonitor.{HaltMonitor}
-use Rattle.ga_dap_breakpoints.specs.declared.going.Halt.{Halt}
-use Rattle.ga_dap_breakpoints.specs.declared.going.Halt.TheVariants.{Hit, Stopped, Moved, Cut, Quiet, Refused}
+use Rattle.ga_dap_breakpoints.specs.declared.going.HaltReason.{HaltReason}
+use Rattle.ga_dap_breakpoints.specs.declared.going.HaltReason.TheVariants.{Hit, Stopped, Moved, Cut, Quiet, Refused}
 
 -- the cells of the nodes' words by the numbers of the nodes: known or not, and of a memory or not
 abbrev pub InstructionCells : Type 0
@@ -39,7 +39,7 @@ cells_left (made.Pass writer i reader j word) cells = slice_set cells reader.num
 -- a node's cell, as it is known, or as the kept events say
 abbrev pub cell_known : State → NodeId → Option (Option ℕ) → Option ℕ
 cell_known s node (Some cell) = cell
-cell_known s node None = fetched_cell s node (steps_of node.number s.kept)
+cell_known s node None = fetched_cell s node (count_steps node.number s.kept)
 
 abbrev pub cell_in : State → InstructionCells → NodeId → Option ℕ
 cell_in s cells node = cell_known s node (slice_index_or cells node.number None)
@@ -59,22 +59,22 @@ cells_asked asked s node cells = if asked then cells_with node.number (cell_in s
 -- the node's newest step came to the slot, where its word came from this cell
 abbrev pub comes_by : State → NodeId → SlotAddress → Option ℕ → Bool
 comes_by s node at cell =
-    can_reach_slot (slice_get (history_of s node.number) (steps_of node.number s.kept - 1)) && is_at_spot at (spot_by (record_at (chip_of s) node.number) cell)
+    can_reach_slot (slice_get (history_of s node.number) (count_steps node.number s.kept - 1)) && is_at_slot_address at (node_slot_address (record_at (chip_of s) node.number) cell)
 
 abbrev pub has_done_by : Watched → NodeId → Made → State → InstructionCells → Bool
-has_done_by (Comes at) node told s cells = is_step_of node.number told && comes_by s node at (cell_in s cells node)
-has_done_by (Writes address) node told s cells = has_done (Writes address) node told s
+has_done_by (ArrivesAtSlot at) node told s cells = is_step_of node.number told && comes_by s node at (cell_in s cells node)
+has_done_by (Writes address) node told s cells = is_watched_event (Writes address) node told s
 
 abbrev pub cells_done : Watched → NodeId → Made → State → InstructionCells → InstructionCells
-cells_done (Comes at) node told s cells = cells_asked (is_step_of node.number told && asks_word at (record_at (chip_of s) node.number)) s node cells
+cells_done (ArrivesAtSlot at) node told s cells = cells_asked (is_step_of node.number told && asks_word at (record_at (chip_of s) node.number)) s node cells
 cells_done (Writes address) node told s cells = cells
 
 abbrev pub is_hit_by : Made → State → Breakpoint → InstructionCells → Bool
 is_hit_by told s one cells =
-    has_done_by one.watched one.node told s cells && meets_test one.condition (record_at (chip_of s) one.node.number) (steps_of one.node.number s.kept)
+    has_done_by one.watched one.node told s cells && meets_test one.condition (record_at (chip_of s) one.node.number) (count_steps one.node.number s.kept)
 
 abbrev pub one_counted_by : Made → State → Breakpoint → ℕ → InstructionCells → HitTally → HitTally
-one_counted_by told s one place cells tally = if is_hit_by told s one cells then hit_counted one place tally else tally
+one_counted_by told s one place cells tally = if is_hit_by told s one cells then tally_with_hit one place tally else tally
 
 -- the breakpoints of the list from a place on are counted if this event hits them by the cells; and the cells after them
 abbrev pub counted_by : Made → State → ℕ → List Breakpoint → InstructionCells → HitTally → HitTally
@@ -94,20 +94,20 @@ abbrev pub cells_behind : List Breakpoint → Made → State → InstructionCell
 cells_behind breakpoints told s cells = cells_from told s breakpoints (cells_left told cells)
 
 abbrev pub ends_by : List Breakpoint → InstructionCells → HitTally → Bool → Option NodeId → Made → State → Bool
-ends_by breakpoints cells tally stops node told s = is_some (tally_by breakpoints told s cells tally).hit || is_stopping stops node told
+ends_by breakpoints cells tally stops node told s = is_some (tally_by breakpoints told s cells tally).hit || is_ending_stop stops node told
 
 -- ---- why a move ended, by how its run did
 
 -- why a move ended by this event
-abbrev pub halt_hit : Bool → Made → Option ℕ → Halt
+abbrev pub halt_hit : Bool → Made → Option ℕ → HaltReason
 halt_hit stopping told (Some which) = Hit told which
 halt_hit stopping told None = if stopping then Stopped told else Moved told
 
-abbrev pub halt_by : Option ℕ → Bool → Option NodeId → Made → Halt
-halt_by hit stops node told = halt_hit (is_stopping stops node told) told hit
+abbrev pub halt_by : Option ℕ → Bool → Option NodeId → Made → HaltReason
+halt_by hit stops node told = halt_hit (is_ending_stop stops node told) told hit
 
 -- why a move ended by this end of its run, where the newest event hit the breakpoint at this place
-abbrev pub halt_of : Option ℕ → Bool → Option NodeId → WatchedEnd → Halt
+abbrev pub halt_of : Option ℕ → Bool → Option NodeId → WatchedEnd → HaltReason
 halt_of hit stops first (the_end.Seen told) = halt_by hit stops first told
 halt_of hit stops first the_end.Made = Cut
 halt_of hit stops first the_end.Quiet = Quiet

@@ -16,12 +16,12 @@ pub enum Choice {
 impl Choice {
     ghost use Rattle.std.specs.Prelude.{◌≡◌};
     ghost use Rattle.ga_ports.specs.Address.{IsTarget};
-    ghost use Rattle.ga_event.specs.Flow.{target_of, test_holds};
+    ghost use Rattle.ga_event.specs.Flow.{choice_target, test_holds};
 
     /// What the address names; nothing where there is none.
     pub(crate) fn target(self) -> Target
-        requires { IsTarget (target_of self) }
-        ensures value { result ≡ target_of self }
+        requires { IsTarget (choice_target self) }
+        ensures value { result ≡ choice_target self }
         ensures in_range { IsTarget result }
     {
         match self {

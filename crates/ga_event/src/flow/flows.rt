@@ -4,14 +4,14 @@ ghost use Rattle.std.specs.Prelude.{◌≡◌, ◌≤◌, ◌∷◌, []};
 ghost use Rattle.ga_ports.specs.Address.{IsTarget};
 ghost use Rattle.ga_node.specs.Record.{record_of};
 ghost use Rattle.ga_node.specs.Table.{next_action_of};
-ghost use Rattle.ga_event.specs.declared.flow.part.Part.TheVariants.{P};
-ghost use Rattle.ga_event.specs.Flow.{Same, From, SetI, SetP, StartAgain, IsPart, choice, target_of, moves_where, fetch_moves, execute_moves, multiply_moves, send_moves, take_moves, flow_where, own_flow, send_flow, take_flow, flow_of, AreSources, IsSource};
+ghost use Rattle.ga_event.specs.declared.flow.part.NodePart.TheVariants.{P};
+ghost use Rattle.ga_event.specs.Flow.{Same, From, SetI, SetP, StartAgain, IsNodePart, choice, choice_target, moves_by_choice, fetch_moves, execute_moves, multiply_moves, send_moves, take_moves, flow_by_choice, own_flow, send_flow, take_flow, flow_of, HasValidSources, IsSource};
 ghost use Rattle.ga_event.specs.inner.{sought_of, At, before_all, read_before, write_before, count_before, IsSought};
 
 use super::sought::TracedPart;
-use super::{Choice, Flow, Part, from_one, from_three, from_two};
+use super::{Choice, Flow, NodePart, from_one, from_three, from_two};
 use ga_node::{NextAction, Node, Place, Wait};
-use ga_ports::{Target, classify};
+use ga_ports::{Target, classify_address};
 use ga_slots::{Op, opcode};
 use ga_word::Word18;
 
@@ -28,11 +28,11 @@ fn slot_of(node: &Node) -> u8
 fn i_of(node: &Node) -> Word18
     ensures { result ≡ (record_of node.now).i }
 {
-    Word18::truncated(node.get(Place::I))
+    Word18::from_low_bits(node.get(Place::I))
 }
 
 /// What comes next in a node that runs.
-pub fn due_in(node: &Node) -> NextAction
+pub fn next_action_in(node: &Node) -> NextAction
     ensures { result ≡ next_action_of (record_of node.now) }
 {
     let slot = slot_of(node);
@@ -46,10 +46,10 @@ pub fn due_in(node: &Node) -> NextAction
 #[tactic(auto, unfolding(ga_node::specs::Record::record_of))]
 fn choice_of(node: &Node, due: NextAction) -> Choice
     ensures value { result ≡ choice due (record_of node.now) }
-    ensures in_range { IsTarget (target_of result) }
+    ensures in_range { IsTarget (choice_target result) }
 {
     match due {
-        NextAction::Fetch => Choice::At(classify(node.get(Place::P))),
+        NextAction::Fetch => Choice::At(classify_address(node.get(Place::P))),
         NextAction::Run(op) => choice_by(node, op),
     }
 }
@@ -58,51 +58,51 @@ fn choice_of(node: &Node, due: NextAction) -> Choice
 #[tactic(auto, unfolding(ga_node::specs::Record::record_of))]
 fn choice_by(node: &Node, op: Op) -> Choice
     ensures value { result ≡ choice (NextAction.Run op) (record_of node.now) }
-    ensures in_range { IsTarget (target_of result) }
+    ensures in_range { IsTarget (choice_target result) }
 {
     match op {
         Op::Unext | Op::Next => Choice::Test(node.r(0) == 0),
         Op::If => Choice::Test(node.d(0) == 0),
         Op::MinusIf => Choice::Test(node.d(0) / 131072 == 0),
         Op::Plus => Choice::Test(node.get(Place::P) / 512 % 2 == 1),
-        Op::FetchP | Op::StoreP => Choice::At(classify(node.get(Place::P))),
-        Op::FetchPlus | Op::Fetch | Op::StorePlus | Op::Store => Choice::At(classify(node.get(
-            Place::A,
-        ))),
-        Op::FetchB | Op::StoreB => Choice::At(classify(node.get(Place::B))),
+        Op::FetchP | Op::StoreP => Choice::At(classify_address(node.get(Place::P))),
+        Op::FetchPlus | Op::Fetch | Op::StorePlus | Op::Store => Choice::At(classify_address(
+            node.get(Place::A),
+        )),
+        Op::FetchB | Op::StoreB => Choice::At(classify_address(node.get(Place::B))),
         _ => Choice::Plain,
     }
 }
 
 // A part followed back over a word read at the address and pushed, where `later` is followed back over what came after it.
-fn before_read(choice: Choice, part: Part, later: TracedPart) -> TracedPart
-    requires choice { IsTarget (target_of choice) }
-    requires part { IsPart part }
+fn before_read(choice: Choice, part: NodePart, later: TracedPart) -> TracedPart
+    requires choice { IsTarget (choice_target choice) }
+    requires part { IsNodePart part }
     requires known { IsSought (sought_of later) }
-    ensures value { sought_of result ≡ read_before (target_of choice) part (sought_of later) }
+    ensures value { sought_of result ≡ read_before (choice_target choice) part (sought_of later) }
     ensures known { IsSought (sought_of result) }
 {
     match choice.target() {
-        Target::Ram(k) => later.push_data(Flow::Same(Part::Ram(k))),
-        Target::Rom(k) => later.push_data(Flow::Same(Part::Rom(k))),
-        Target::Io => later.push_data(Flow::Same(Part::Outside)),
+        Target::Ram(k) => later.push_data(Flow::Same(NodePart::Ram(k))),
+        Target::Rom(k) => later.push_data(Flow::Same(NodePart::Rom(k))),
+        Target::Io => later.push_data(Flow::Same(NodePart::Outside)),
         Target::Ports(_) => TracedPart::At(part).set_wait(),
         Target::Bad => TracedPart::At(part).set_stop(),
     }
 }
 
 // A part followed back over T written at the address, where `later` is followed back over what came after it.
-fn before_write(choice: Choice, part: Part, later: TracedPart) -> TracedPart
-    requires choice { IsTarget (target_of choice) }
-    requires part { IsPart part }
+fn before_write(choice: Choice, part: NodePart, later: TracedPart) -> TracedPart
+    requires choice { IsTarget (choice_target choice) }
+    requires part { IsNodePart part }
     requires known { IsSought (sought_of later) }
-    ensures value { sought_of result ≡ write_before (target_of choice) part (sought_of later) }
+    ensures value { sought_of result ≡ write_before (choice_target choice) part (sought_of later) }
     ensures known { IsSought (sought_of result) }
 {
     match choice.target() {
-        Target::Ram(k) => later.set(Part::Ram(k), Flow::Same(Part::T)),
+        Target::Ram(k) => later.set(NodePart::Ram(k), Flow::Same(NodePart::T)),
         Target::Rom(_) => later,
-        Target::Io => later.set(Part::Io, Flow::Same(Part::T)),
+        Target::Io => later.set(NodePart::Io, Flow::Same(NodePart::T)),
         Target::Ports(sides) => {
             if sides.single().is_some() {
                 TracedPart::At(part).set_wait()
@@ -115,29 +115,29 @@ fn before_write(choice: Choice, part: Part, later: TracedPart) -> TracedPart
 }
 
 // A part followed back over an instruction word fetched from the source.
-fn before_word(part: Part, source: Part) -> TracedPart
-    requires part { IsPart part }
+fn before_word(part: NodePart, source: NodePart) -> TracedPart
+    requires part { IsNodePart part }
     requires source { IsSource source }
     ensures value { sought_of result ≡ before_all (SetI (Same source) ∷ SetP (From (P ∷ [])) ∷ StartAgain ∷ []) (At part) }
     ensures known { IsSought (sought_of result) }
 {
     TracedPart::At(part)
         .start_again()
-        .advance(Part::P)
-        .set(Part::I, Flow::Same(source))
+        .advance(NodePart::P)
+        .set(NodePart::I, Flow::Same(source))
 }
 
 // A part followed back over a fetch.
-fn before_fetch(choice: Choice, part: Part) -> TracedPart
-    requires choice { IsTarget (target_of choice) }
-    requires part { IsPart part }
-    ensures value { sought_of result ≡ before_all (fetch_moves (target_of choice)) (At part) }
+fn before_fetch(choice: Choice, part: NodePart) -> TracedPart
+    requires choice { IsTarget (choice_target choice) }
+    requires part { IsNodePart part }
+    ensures value { sought_of result ≡ before_all (fetch_moves (choice_target choice)) (At part) }
     ensures known { IsSought (sought_of result) }
 {
     match choice.target() {
-        Target::Ram(k) => before_word(part, Part::Ram(k)),
-        Target::Rom(k) => before_word(part, Part::Rom(k)),
-        Target::Io => before_word(part, Part::Outside),
+        Target::Ram(k) => before_word(part, NodePart::Ram(k)),
+        Target::Rom(k) => before_word(part, NodePart::Rom(k)),
+        Target::Io => before_word(part, NodePart::Outside),
         Target::Ports(_) => TracedPart::At(part).set_wait(),
         Target::Bad => TracedPart::At(part).set_stop(),
     }
@@ -150,8 +150,8 @@ fn before_execute(at: TracedPart) -> TracedPart
     ensures known { IsSought (sought_of result) }
 {
     at.skip()
-        .set(Part::R, Flow::Same(Part::P))
-        .set(Part::P, from_one(Part::R))
+        .set(NodePart::R, Flow::Same(NodePart::P))
+        .set(NodePart::P, from_one(NodePart::R))
 }
 
 // A part followed back over `+*`.
@@ -161,13 +161,19 @@ fn before_multiply(at: TracedPart) -> TracedPart
     ensures known { IsSought (sought_of result) }
 {
     at.go_on()
-        .set(Part::T, from_three(Part::T, Part::S, Part::A))
-        .set(Part::A, from_three(Part::T, Part::S, Part::A))
+        .set(
+            NodePart::T,
+            from_three(NodePart::T, NodePart::S, NodePart::A),
+        )
+        .set(
+            NodePart::A,
+            from_three(NodePart::T, NodePart::S, NodePart::A),
+        )
 }
 
 // A part followed back over the writer's half of a transfer.
-fn before_send(part: Part) -> TracedPart
-    requires { IsPart part }
+fn before_send(part: NodePart) -> TracedPart
+    requires { IsNodePart part }
     ensures value { sought_of result ≡ before_all send_moves (At part) }
     ensures known { IsSought (sought_of result) }
 {
@@ -175,8 +181,8 @@ fn before_send(part: Part) -> TracedPart
 }
 
 // A part followed back over the reader's half of a transfer, of a node that waited for this.
-fn before_take(wait: Wait, part: Part) -> TracedPart
-    requires { IsPart part }
+fn before_take(wait: Wait, part: NodePart) -> TracedPart
+    requires { IsNodePart part }
     ensures value { sought_of result ≡ before_all (take_moves wait) (At part) }
     ensures known { IsSought (sought_of result) }
 {
@@ -184,11 +190,11 @@ fn before_take(wait: Wait, part: Part) -> TracedPart
         Wait::Nothing => TracedPart::At(part),
         Wait::Fetch(_) => TracedPart::At(part)
             .start_again()
-            .set(Part::I, Flow::Same(Part::Outside))
+            .set(NodePart::I, Flow::Same(NodePart::Outside))
             .set_wait(),
         Wait::Read(_) => TracedPart::At(part)
             .go_on()
-            .push_data(Flow::Same(Part::Outside))
+            .push_data(Flow::Same(NodePart::Outside))
             .set_wait(),
         Wait::Write(_) => TracedPart::At(part),
     }
@@ -196,18 +202,21 @@ fn before_take(wait: Wait, part: Part) -> TracedPart
 
 // A part followed back over the opcode.
 #[tactic(auto, using(crate::proofs::Following::read_found, crate::proofs::Following::write_found, crate::proofs::Following::count_found))]
-fn before_op(op: Op, choice: Choice, part: Part) -> TracedPart
-    requires choice { IsTarget (target_of choice) }
-    requires part { IsPart part }
-    ensures value { sought_of result ≡ before_all (moves_where (NextAction.Run op) choice) (At part) }
+fn before_op(op: Op, choice: Choice, part: NodePart) -> TracedPart
+    requires choice { IsTarget (choice_target choice) }
+    requires part { IsNodePart part }
+    ensures value { sought_of result ≡ before_all (moves_by_choice (NextAction.Run op) choice) (At part) }
     ensures known { IsSought (sought_of result) }
 {
     let at = TracedPart::At(part);
     match op {
-        Op::Return => at.skip().pop_return().set(Part::P, from_one(Part::R)),
+        Op::Return => at
+            .skip()
+            .pop_return()
+            .set(NodePart::P, from_one(NodePart::R)),
         Op::Execute => before_execute(at),
         Op::Jump => at.jump(),
-        Op::Call => at.jump().push_return(Flow::Same(Part::P)),
+        Op::Call => at.jump().push_return(Flow::Same(NodePart::P)),
         Op::Unext => before_count(
             choice.holds(),
             at.go_on(),
@@ -216,30 +225,36 @@ fn before_op(op: Op, choice: Choice, part: Part) -> TracedPart
         Op::Next => before_count(choice.holds(), at.skip(), TracedPart::At(part).jump()),
         Op::If => at.jump_where(choice.holds()),
         Op::MinusIf => at.jump_where(choice.holds()),
-        Op::FetchP => before_read(choice, part, at.go_on().advance(Part::P)),
-        Op::FetchPlus => before_read(choice, part, at.go_on().advance(Part::A)),
+        Op::FetchP => before_read(choice, part, at.go_on().advance(NodePart::P)),
+        Op::FetchPlus => before_read(choice, part, at.go_on().advance(NodePart::A)),
         Op::FetchB => before_read(choice, part, at.go_on()),
         Op::Fetch => before_read(choice, part, at.go_on()),
-        Op::StoreP => before_write(choice, part, at.go_on().advance(Part::P).pop_data()),
-        Op::StorePlus => before_write(choice, part, at.go_on().advance(Part::A).pop_data()),
+        Op::StoreP => before_write(choice, part, at.go_on().advance(NodePart::P).pop_data()),
+        Op::StorePlus => before_write(choice, part, at.go_on().advance(NodePart::A).pop_data()),
         Op::StoreB => before_write(choice, part, at.go_on().pop_data()),
         Op::Store => before_write(choice, part, at.go_on().pop_data()),
         Op::MultiplyStep => before_multiply(at),
-        Op::TwoStar => at.go_on().set(Part::T, from_one(Part::T)),
-        Op::TwoSlash => at.go_on().set(Part::T, from_one(Part::T)),
-        Op::Invert => at.go_on().set(Part::T, from_one(Part::T)),
+        Op::TwoStar => at.go_on().set(NodePart::T, from_one(NodePart::T)),
+        Op::TwoSlash => at.go_on().set(NodePart::T, from_one(NodePart::T)),
+        Op::Invert => at.go_on().set(NodePart::T, from_one(NodePart::T)),
         Op::Plus => before_plus(choice, at),
-        Op::And => at.go_on().pop_to(from_two(Part::T, Part::S)),
-        Op::Or => at.go_on().pop_to(from_two(Part::T, Part::S)),
+        Op::And => at.go_on().pop_to(from_two(NodePart::T, NodePart::S)),
+        Op::Or => at.go_on().pop_to(from_two(NodePart::T, NodePart::S)),
         Op::Drop => at.go_on().pop_data(),
-        Op::Dup => at.go_on().push_data(Flow::Same(Part::T)),
-        Op::Pop => at.go_on().pop_return().push_data(Flow::Same(Part::R)),
-        Op::Over => at.go_on().push_data(Flow::Same(Part::S)),
-        Op::A => at.go_on().push_data(Flow::Same(Part::A)),
+        Op::Dup => at.go_on().push_data(Flow::Same(NodePart::T)),
+        Op::Pop => at.go_on().pop_return().push_data(Flow::Same(NodePart::R)),
+        Op::Over => at.go_on().push_data(Flow::Same(NodePart::S)),
+        Op::A => at.go_on().push_data(Flow::Same(NodePart::A)),
         Op::Nop => at.go_on(),
-        Op::Push => at.go_on().pop_data().push_return(Flow::Same(Part::T)),
-        Op::BStore => at.go_on().pop_data().set(Part::B, from_one(Part::T)),
-        Op::AStore => at.go_on().pop_data().set(Part::A, Flow::Same(Part::T)),
+        Op::Push => at.go_on().pop_data().push_return(Flow::Same(NodePart::T)),
+        Op::BStore => at
+            .go_on()
+            .pop_data()
+            .set(NodePart::B, from_one(NodePart::T)),
+        Op::AStore => at
+            .go_on()
+            .pop_data()
+            .set(NodePart::A, Flow::Same(NodePart::T)),
     }
 }
 
@@ -260,23 +275,26 @@ fn before_count(ends: bool, last: TracedPart, again: TracedPart) -> TracedPart
 // A part followed back over `+`.
 fn before_plus(choice: Choice, at: TracedPart) -> TracedPart
     requires { IsSought (sought_of at) }
-    ensures value { sought_of result ≡ before_all (moves_where (NextAction.Run Op.Plus) choice) (sought_of at) }
+    ensures value { sought_of result ≡ before_all (moves_by_choice (NextAction.Run Op.Plus) choice) (sought_of at) }
     ensures known { IsSought (sought_of result) }
 {
     if choice.holds() {
         at.go_on()
-            .pop_to(from_three(Part::T, Part::S, Part::Carry))
-            .set(Part::Carry, from_three(Part::T, Part::S, Part::Carry))
+            .pop_to(from_three(NodePart::T, NodePart::S, NodePart::Carry))
+            .set(
+                NodePart::Carry,
+                from_three(NodePart::T, NodePart::S, NodePart::Carry),
+            )
     } else {
-        at.go_on().pop_to(from_two(Part::T, Part::S))
+        at.go_on().pop_to(from_two(NodePart::T, NodePart::S))
     }
 }
 
 // A part followed back over what comes next in its node.
-fn before_due(due: NextAction, choice: Choice, part: Part) -> TracedPart
-    requires choice { IsTarget (target_of choice) }
-    requires part { IsPart part }
-    ensures value { sought_of result ≡ before_all (moves_where due choice) (At part) }
+fn before_due(due: NextAction, choice: Choice, part: NodePart) -> TracedPart
+    requires choice { IsTarget (choice_target choice) }
+    requires part { IsNodePart part }
+    ensures value { sought_of result ≡ before_all (moves_by_choice due choice) (At part) }
     ensures known { IsSought (sought_of result) }
 {
     match due {
@@ -288,40 +306,40 @@ fn before_due(due: NextAction, choice: Choice, part: Part) -> TracedPart
 /// Where the value of a part comes from after the node's next event of its own, if it makes one (DB001, opcodes): from which
 /// parts of the node before. In two nodes in which the same is decided, as the opcode, its test and what its address names, and
 /// which have the same values in these parts, the event leaves the same value ([`crate::laws::flows`]).
-pub fn own_flow(node: &Node, part: Part) -> Flow
-    requires { IsPart part }
+pub fn own_flow(node: &Node, part: NodePart) -> Flow
+    requires { IsNodePart part }
     ensures value { flow_of result ≡ own_flow (record_of node.now) part }
-    ensures sources { AreSources (flow_of result) }
+    ensures sources { HasValidSources (flow_of result) }
 {
-    let due = due_in(node);
-    flow_where(due, choice_of(node, due), part)
+    let due = next_action_in(node);
+    flow_by_choice(due, choice_of(node, due), part)
 }
 
 /// Where the value of a part comes from after the next event of its node, where this decides it: by the opcode and the choice
 /// alone, whatever the node's other values are.
-pub fn flow_where(due: NextAction, choice: Choice, part: Part) -> Flow
-    requires choice { IsTarget (target_of choice) }
-    requires part { IsPart part }
-    ensures value { flow_of result ≡ flow_where due choice part }
-    ensures sources { AreSources (flow_of result) }
+pub fn flow_by_choice(due: NextAction, choice: Choice, part: NodePart) -> Flow
+    requires choice { IsTarget (choice_target choice) }
+    requires part { IsNodePart part }
+    ensures value { flow_of result ≡ flow_by_choice due choice part }
+    ensures sources { HasValidSources (flow_of result) }
 {
     before_due(due, choice, part).settle()
 }
 
 /// Where the value of a part comes from after the writer's half of a transfer.
-pub fn send_flow(part: Part) -> Flow
-    requires { IsPart part }
+pub fn send_flow(part: NodePart) -> Flow
+    requires { IsNodePart part }
     ensures value { flow_of result ≡ send_flow part }
-    ensures sources { AreSources (flow_of result) }
+    ensures sources { HasValidSources (flow_of result) }
 {
     before_send(part).settle()
 }
 
 /// Where the value of a part comes from after the reader's half of a transfer, of a node that waits for this.
-pub fn take_flow(wait: Wait, part: Part) -> Flow
-    requires { IsPart part }
+pub fn take_flow(wait: Wait, part: NodePart) -> Flow
+    requires { IsNodePart part }
     ensures value { flow_of result ≡ take_flow wait part }
-    ensures sources { AreSources (flow_of result) }
+    ensures sources { HasValidSources (flow_of result) }
 {
     before_take(wait, part).settle()
 }

@@ -8,13 +8,13 @@ use Rattle.ga_node.specs.declared.place.Place.{Place}
 use Rattle.ga_grid.specs.Chip.{node_at}
 use Rattle.ga_grid.specs.declared.node_id.NodeId.{NodeId}
 use Rattle.ga_event.specs.declared.event.OwnOutcome.{OwnOutcome}
-use Rattle.ga_event.specs.Undo.{own_effect, IsApplied, CanRestore, restored_at, told_of}
+use Rattle.ga_event.specs.Undo.{own_effect, IsApplied, CanRestore, with_restored_node, outcome_of_effect}
 use Rattle.ga_journal.specs.declared.entry.Act.{Act}
 use Rattle.ga_journal.specs.declared.entry.Head.{Head}
-use Rattle.ga_journal.specs.Histories.{EntryRecord, past, history, appended}
+use Rattle.ga_journal.specs.Histories.{EntryRecord, past, history, histories_with_event}
 use Rattle.ga_event.specs.declared.event.Event.{Event}
 use Rattle.ga_event.specs.declared.event.Effect.{Effect}
-use Rattle.ga_event.specs.Apply.{EventOutcome, Did, Carried}
+use Rattle.ga_event.specs.Apply.{EventOutcome, ExecutedOwn, PassedWord}
 use Rattle.ga_event.specs.declared.made.Made.{Made}
 
 -- the entry at a position has this stamp and this part
@@ -44,17 +44,17 @@ pub record IsGoneBack
   pub entry : EntryRecord
   pub last : old ≡ new ++ entry ∷ []
   pub part : entry.act ≡ act
-  pub node : now ≡ restored_at chip n entry.saved
+  pub node : now ≡ with_restored_node chip n entry.saved
 
 -- ---- a new event as made, by the histories alone
 
 -- an event as made with this outcome, with step numbers by the lengths of the histories
 abbrev pub made_over : List (List EntryRecord) → Event → EventOutcome → Option Made
-made_over hs (event.Own node) (Did kind) = Some (made.Own node (length (history hs node.number) + 1) kind)
-made_over hs (event.Pass w r side) (Carried word) =
+made_over hs (event.Own node) (ExecutedOwn kind) = Some (made.Own node (length (history hs node.number) + 1) kind)
+made_over hs (event.Pass w r side) (PassedWord word) =
     Some (made.Pass w (length (history hs w.number) + 1) r (length (history hs r.number) + 1) word)
-made_over hs (event.Own node) (Carried word) = None
-made_over hs (event.Pass w r side) (Did kind) = None
+made_over hs (event.Own node) (PassedWord word) = None
+made_over hs (event.Pass w r side) (ExecutedOwn kind) = None
 
 -- the event was made on the chip and added to the histories, and this is what was made
 pub record IsAdded
@@ -62,5 +62,5 @@ pub record IsAdded
     : Type 0 where
   pub effect : Effect
   pub applied : IsApplied chip e effect now
-  pub histories : gs ≡ appended hs stamp e effect
-  pub told_is : made_over hs e (told_of effect) ≡ Some told
+  pub histories : gs ≡ histories_with_event hs stamp e effect
+  pub told_is : made_over hs e (outcome_of_effect effect) ≡ Some told

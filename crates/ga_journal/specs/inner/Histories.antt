@@ -2,19 +2,19 @@
 use Rattle.std.specs.Prelude.{◌≡◌, ℕ, ◌+◌, ◌≤◌, List, [], ◌∷◌, ◌++◌, length, take, Some, slice_index, slice_set, ◌-◌, drop, zero, suc, ◌<◌, Bool, true, false, slice_index_or, map, ◌^◌}
 use Rattle.ga_event.specs.declared.event.Event.{Event}
 use Rattle.ga_event.specs.declared.event.Cause.{Cause}
-use Rattle.ga_event.specs.Undo.{told_of, cause_with, unapplied}
+use Rattle.ga_event.specs.Undo.{outcome_of_effect, cause_from_effect, chip_after_undo}
 use Rattle.ga_journal.specs.declared.entry.Head.{Head}
 use Rattle.ga_event.specs.declared.made.Made.{Made}
-use Rattle.ga_journal.specs.Histories.{EntryRecord, history, JournalState, past, Room, no_room}
-use Rattle.ga_event.specs.Told.{made_after}
-use Rattle.ga_journal.specs.Logs.{Stamped, Records}
+use Rattle.ga_journal.specs.Histories.{EntryRecord, history, JournalState, past, ReservedCapacity, no_capacity}
+use Rattle.ga_event.specs.Told.{made_event_after}
+use Rattle.ga_journal.specs.Logs.{StampedEvent, AreHistoriesOfLog}
 use Rattle.ga_journal.specs.Looks.{IsNewestLook, HasNoLook}
 use Rattle.ga_node.specs.Record.{NodeState}
 use Rattle.ga_event.specs.declared.event.Effect.{Effect}
-use Rattle.ga_journal.specs.Popped.{IsNewest}
+use Rattle.ga_journal.specs.Popped.{IsNewestOfLog}
 use Rattle.ga_journal.specs.declared.entry.Taken.{Taken}
-use Rattle.ga_journal.specs.Events.{kept_before}
-use Rattle.ga_journal.specs.Marks.{GoWithin, AreMatched}
+use Rattle.ga_journal.specs.Events.{kept_outcomes_before}
+use Rattle.ga_journal.specs.Marks.{AreRemovalsInRange, HaveMatchedPasses}
 
 -- ---- histories cut to their first entries, and walking back over the log without taking anything out
 
@@ -41,28 +41,28 @@ pub record IsShorter (hs : List (List EntryRecord)) (lengths : List ℕ) (n : �
   pub size : length fewer ≡ length lengths
 
 -- the events of a log, the oldest first, each with whether it looked
-abbrev pub older_causes : List Stamped → List Cause
+abbrev pub older_causes : List StampedEvent → List Cause
 older_causes [] = []
-older_causes (x ∷ older) = older_causes older ++ cause_with x.event x.effect ∷ []
+older_causes (x ∷ older) = older_causes older ++ cause_from_effect x.event x.effect ∷ []
 
 -- the events of a log, the oldest first
-abbrev pub older_events : List Stamped → List Event
+abbrev pub older_events : List StampedEvent → List Event
 older_events [] = []
 older_events (x ∷ older) = older_events older ++ x.event ∷ []
 
 -- the histories, cut to these lengths, are those of these events
-pub record WalksBack (hs : List (List EntryRecord)) (lengths : List ℕ) (top : ℕ) (log : List Stamped) : Type 0 where
+pub record WalksBack (hs : List (List EntryRecord)) (lengths : List ℕ) (top : ℕ) (log : List StampedEvent) : Type 0 where
   pub fits : IsCutWithin hs lengths
-  pub records : Records log (cut hs lengths) top
+  pub records : AreHistoriesOfLog log (cut hs lengths) top
 
 -- the event is the first of the log, with whether it looked and its outcome
-abbrev pub IsFirst : List Stamped → Cause → Made → Type 0
+abbrev pub IsFirst : List StampedEvent → Cause → Made → Type 0
 IsFirst [] cause told = ⊥
 IsFirst (x ∷ older) cause told =
-    (cause_with x.event x.effect ≡ cause) × (made_after (older_events older) x.event (told_of x.effect) ≡ Some told)
+    (cause_from_effect x.event x.effect ≡ cause) × (made_event_after (older_events older) x.event (outcome_of_effect x.effect) ≡ Some told)
 
 -- the histories, cut to these lengths, are those of the events of a log but for the first
-abbrev pub IsWalked : List (List EntryRecord) → List ℕ → ℕ → List Stamped → Type 0
+abbrev pub IsWalked : List (List EntryRecord) → List ℕ → ℕ → List StampedEvent → Type 0
 IsWalked hs lengths top [] = ⊥
 IsWalked hs lengths top (x ∷ older) = WalksBack hs lengths top older
 
@@ -70,19 +70,19 @@ IsWalked hs lengths top (x ∷ older) = WalksBack hs lengths top older
 
 -- the first entries, as many of each node as `lengths` has, are those of the events that are not read yet
 pub record IsUntold (book : JournalState) (lengths : List ℕ) (top place : ℕ) : Type 0 where
-  pub log : List Stamped
-  pub records : Records log book.histories book.made
+  pub log : List StampedEvent
+  pub records : AreHistoriesOfLog log book.histories book.made
   pub within : place ≤ length log
   pub walks : WalksBack book.histories lengths top (drop (length log - place) log)
   pub size : length lengths ≡ 144
 
 -- ---- the events of a log, as made, at places of their list, in which the oldest is at place 0
 
-abbrev pub IsToldAt : List Stamped → ℕ → Made → Type 0
+abbrev pub IsToldAt : List StampedEvent → ℕ → Made → Type 0
 IsToldAt log place told = (cause : Cause) × IsFirst (drop (length log - place - 1) log) cause told
 
 -- each of these is the event at its place
-abbrev pub AreTold : List Stamped → List ℕ → List Made → Type 0
+abbrev pub AreTold : List StampedEvent → List ℕ → List Made → Type 0
 AreTold log [] [] = Unit {0}
 AreTold log [] (told ∷ more) = ⊥
 AreTold log (place ∷ places) [] = ⊥
@@ -112,8 +112,8 @@ pub record IsTakenOut
     (hs : List (List EntryRecord)) (chip : List NodeState) (e : Event) (left : List (List EntryRecord)) (now : List NodeState)
     : Type 0 where
   pub effect : Effect
-  pub newest : (log : List Stamped) (made : ℕ) → Records log hs made → IsNewest log e effect left
-  pub chip_is : now ≡ unapplied chip e effect
+  pub newest : (log : List StampedEvent) (made : ℕ) → AreHistoriesOfLog log hs made → IsNewestOfLog log e effect left
+  pub chip_is : now ≡ chip_after_undo chip e effect
 
 -- what an entry that was taken out kept
 abbrev pub past_of : Taken → EntryRecord
@@ -122,17 +122,17 @@ past_of e = past e.stamp e.act e.saved
 -- the history of one node
 pub record Held : Type 0 where
   pub items : List EntryRecord
-  pub room : Room
+  pub room : ReservedCapacity
 
 abbrev pub pasts_of : Held → List EntryRecord
 pasts_of h = h.items
 
-abbrev pub room_in : Held → Room
+abbrev pub room_in : Held → ReservedCapacity
 room_in h = h.room
 
 -- the history at a number, in the list of the histories
 abbrev pub held_at : List Held → ℕ → Held
-held_at hs n = slice_index_or hs n (record { items = []; room = no_room })
+held_at hs n = slice_index_or hs n (record { items = []; room = no_capacity })
 
 -- the list of the histories with one of them changed
 abbrev pub with_held : List Held → ℕ → Held → List Held
@@ -142,7 +142,7 @@ with_held hs n h = slice_set hs n h
 abbrev pub lists_of : List Held → List (List EntryRecord)
 lists_of hs = map pasts_of hs
 
-abbrev pub room_of : List Held → List Room
+abbrev pub room_of : List Held → List ReservedCapacity
 room_of hs = map room_in hs
 
 -- a history's stamps rise, from `low` on and below `high`
@@ -179,7 +179,7 @@ pub record Keeps (histories : List Held) (top made kept limit : ℕ) : Type 0 wh
   pub size : length histories ≡ 144
   pub rise : AllRise (lists_of histories) top
   pub below : top ≤ made
-  pub count : kept ≡ length (kept_before (lists_of histories) made)
+  pub count : kept ≡ length (kept_outcomes_before (lists_of histories) made)
   pub within : kept ≤ limit
   pub fits : limit < 2 ^ 32
 
@@ -188,7 +188,7 @@ pub record IsJournal
     (histories : List Held) (top made kept limit : ℕ) (going : List ℕ) (waiting : List Bool)
     : Type 0 where
   pub keeps : Keeps histories top made kept limit
-  pub go_within : GoWithin (lists_of histories) going
+  pub go_within : AreRemovalsInRange (lists_of histories) going
   pub going_size : length going ≡ 144
   pub waiting_size : length waiting ≡ 144
-  pub matched : AreMatched (lists_of histories)
+  pub matched : HaveMatchedPasses (lists_of histories)

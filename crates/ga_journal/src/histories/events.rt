@@ -62,19 +62,19 @@ impl Histories {
     ghost use Rattle.ga_node.specs.Record.{record_of};
     ghost use Rattle.ga_node.specs.Table.{refusal};
     ghost use Rattle.ga_grid.specs.Chip.{records_of, record_at, node_at};
-    ghost use Rattle.ga_event.specs.Apply.{refusal_of, is_open};
-    ghost use Rattle.ga_event.specs.Undo.{IsOfKind, own_effect};
-    ghost use Rattle.ga_journal.specs.Histories.{past, has_room, has_pass_room, HasRoom, history, with_entry, appended};
+    ghost use Rattle.ga_event.specs.Apply.{refusal_of, is_transfer_ready};
+    ghost use Rattle.ga_event.specs.Undo.{IsEffectOfEvent, own_effect};
+    ghost use Rattle.ga_journal.specs.Histories.{past, has_entry_capacity, has_pass_capacity, HasEventCapacity, history, with_entry, histories_with_event};
     ghost use Rattle.ga_journal.specs.inner.Histories.{past_of, lists_of, room_of, bound_of, IsTopmost, IsTakenOut};
-    ghost use Rattle.ga_journal.specs.Logs.{Stamped, Records, IsWhole};
-    ghost use Rattle.ga_journal.specs.Popped.{IsNewest, TakesBack};
+    ghost use Rattle.ga_journal.specs.Logs.{StampedEvent, AreHistoriesOfLog, AreConsistentHistories};
+    ghost use Rattle.ga_journal.specs.Popped.{IsNewestOfLog, HasUndoableNewest};
     ghost use Rattle.ga_journal.specs.inner.Stored.{act_with};
     ghost use Rattle.ga_journal.specs.inner.Ends.{CanGoBack, IsGoneBack, IsAdded};
 
     /// Adds an own event to one history.
     #[inline(always)]
     fn push_own(&mut self, node: NodeId, stamp: u64, deed: OwnOutcome, saved: Saved, before: NodeId)
-        requires room { has_room (room_of self.old) node.number }
+        requires room { has_entry_capacity (room_of self.old) node.number }
         requires fits { length (history (lists_of self.old) node.number) + 1 < 2 ^ 32 }
         ensures after { lists_of self.new
             ≡ with_entry (lists_of self.old) node.number (past stamp (Act.Own deed) saved) }
@@ -94,12 +94,12 @@ impl Histories {
         saved: Saved,
         before: NodeId,
     )
-        requires room { has_pass_room (room_of self.old) node.number }
+        requires room { has_pass_capacity (room_of self.old) node.number }
         requires fits { length (history (lists_of self.old) node.number) < 2 ^ 32 }
         ensures after { lists_of self.new
             ≡ with_entry (lists_of self.old) node.number (past stamp (act_with role pass) saved) }
         ensures others { (n : ℕ) → n ≢ node.number →
-            has_pass_room (room_of self.old) n → has_pass_room (room_of self.new) n }
+            has_pass_capacity (room_of self.old) n → has_pass_capacity (room_of self.new) n }
         ensures size { length self.new ≡ 144 }
     {
         let history = self.at_mut(node);
@@ -122,7 +122,7 @@ impl Histories {
 
     /// Writes the values of a node's last entry back, and takes the entry out.
     #[inline(always)]
-    pub(crate) fn go_back(&mut self, chip: &mut Chip, node: NodeId) -> Act
+    pub(crate) fn undo_last_entry(&mut self, chip: &mut Chip, node: NodeId) -> Act
         requires some { 0 < bound_of (history (lists_of self.old) node.number) }
         requires can { CanGoBack (history (lists_of self.old) node.number) chip.old node.number }
         ensures back { IsGoneBack (history (lists_of self.old) node.number) chip.old node.number
@@ -132,16 +132,16 @@ impl Histories {
         ensures size { length self.new ≡ 144 }
     {
         let history = self.at_mut(node);
-        history.go_back(chip, node)
+        history.undo_last_entry(chip, node)
     }
 
     /// Takes the newest event out, in which the node had a part.
     pub(crate) fn take_event(&mut self, node: NodeId) -> (Event, Effect)
         requires topmost { IsTopmost (lists_of self.old) node.number }
-        requires whole { (made : ℕ) × IsWhole (lists_of self.old) made }
+        requires whole { (made : ℕ) × AreConsistentHistories (lists_of self.old) made }
         ensures size { length self.new ≡ 144 }
-        ensures newest { (log : List Stamped) (made : ℕ) → Records log (lists_of self.old) made →
-            IsNewest log result.0 result.1 (lists_of self.new) }
+        ensures newest { (log : List StampedEvent) (made : ℕ) → AreHistoriesOfLog log (lists_of self.old) made →
+            IsNewestOfLog log result.0 result.1 (lists_of self.new) }
     {
         let Taken { act, saved, .. } = self.take_last(node);
         match act {
@@ -172,10 +172,10 @@ impl Histories {
         saved: (Saved, Saved),
         before: NodeId,
     )
-        requires room { HasRoom (room_of self.old) (Event.Pass ends.0 ends.1 side) }
+        requires room { HasEventCapacity (room_of self.old) (Event.Pass ends.0 ends.1 side) }
         requires two { ends.0.number ≢ ends.1.number }
         requires fits { (n : ℕ) → length (history (lists_of self.old) n) < 2 ^ 32 }
-        ensures after { lists_of self.new ≡ appended (lists_of self.old) stamp
+        ensures after { lists_of self.new ≡ histories_with_event (lists_of self.old) stamp
             (Event.Pass ends.0 ends.1 side) (Effect.Pass word saved.0 saved.1) }
         ensures size { length self.new ≡ 144 }
     {
@@ -202,10 +202,10 @@ impl Histories {
     /// Adds the entries of an event.
     #[inline(always)]
     pub(crate) fn push_event(&mut self, stamp: u64, event: Event, effect: Effect, before: NodeId)
-        requires room { HasRoom (room_of self.old) event }
-        requires of_kind { IsOfKind event effect }
+        requires room { HasEventCapacity (room_of self.old) event }
+        requires of_kind { IsEffectOfEvent event effect }
         requires fits { (n : ℕ) → length (history (lists_of self.old) n) + 1 < 2 ^ 32 }
-        ensures after { lists_of self.new ≡ appended (lists_of self.old) stamp event effect }
+        ensures after { lists_of self.new ≡ histories_with_event (lists_of self.old) stamp event effect }
         ensures size { length self.new ≡ 144 }
     {
         match event {
@@ -240,7 +240,7 @@ impl Histories {
     #[inline(always)]
     fn make_own(&mut self, chip: &mut Chip, node: NodeId, stamp: u64, before: NodeId) -> Made
         requires ready { refusal (record_of (node_at chip.old node.number)) ≡ None }
-        requires room { has_room (room_of self.old) node.number }
+        requires room { has_entry_capacity (room_of self.old) node.number }
         requires fits { length (history (lists_of self.old) node.number) + 1 < 2 ^ 32 }
         ensures added { IsAdded (lists_of self.old) chip.old stamp (Event.Own node) result
             (lists_of self.new) chip.new }
@@ -265,10 +265,10 @@ impl Histories {
         stamp: u64,
         before: NodeId,
     ) -> Made
-        requires open { is_open ends.0.number ends.1.number side
+        requires open { is_transfer_ready ends.0.number ends.1.number side
             (record_at (records_of chip.old) ends.0.number).wait
             (record_at (records_of chip.old) ends.1.number).wait ≡ true }
-        requires room { HasRoom (room_of self.old) (Event.Pass ends.0 ends.1 side) }
+        requires room { HasEventCapacity (room_of self.old) (Event.Pass ends.0 ends.1 side) }
         requires fits { (n : ℕ) → length (history (lists_of self.old) n) + 1 < 2 ^ 32 }
         ensures added { IsAdded (lists_of self.old) chip.old stamp
             (Event.Pass ends.0 ends.1 side) result (lists_of self.new) chip.new }
@@ -294,7 +294,7 @@ impl Histories {
         before: NodeId,
     ) -> Made
         requires can { refusal_of (records_of chip.old) event ≡ None }
-        requires room { HasRoom (room_of self.old) event }
+        requires room { HasEventCapacity (room_of self.old) event }
         requires fits { (n : ℕ) → length (history (lists_of self.old) n) + 1 < 2 ^ 32 }
         ensures added { IsAdded (lists_of self.old) chip.old stamp event result
             (lists_of self.new) chip.new }
@@ -313,14 +313,14 @@ impl Histories {
     /// Takes the newest event back on the chip, in which the node had a part, and its entries out.
     pub(crate) fn undo_event(&mut self, chip: &mut Chip, node: NodeId) -> Event
         requires topmost { IsTopmost (lists_of self.old) node.number }
-        requires back { (made : ℕ) × TakesBack chip.old (lists_of self.old) made }
+        requires back { (made : ℕ) × HasUndoableNewest chip.old (lists_of self.old) made }
         ensures size { length self.new ≡ 144 }
-        ensures undone { IsTakenOut (lists_of self.old) chip.old result (lists_of self.new) chip.new }
+        ensures state_after_undo { IsTakenOut (lists_of self.old) chip.old result (lists_of self.new) chip.new }
     {
-        match self.go_back(chip, node) {
+        match self.undo_last_entry(chip, node) {
             Act::Own(_) => Event::Own(node),
             Act::Sent { to, side, .. } => {
-                let _ = self.go_back(chip, to);
+                let _ = self.undo_last_entry(chip, to);
                 Event::Pass {
                     writer: node,
                     reader: to,
@@ -328,7 +328,7 @@ impl Histories {
                 }
             }
             Act::Took { from, side, .. } => {
-                let _ = self.go_back(chip, from);
+                let _ = self.undo_last_entry(chip, from);
                 Event::Pass {
                     writer: from,
                     reader: node,

@@ -1,7 +1,7 @@
 //! The other entry of a pass.
 
 ghost use Rattle.std.specs.Prelude.{◌≡◌};
-ghost use Rattle.ga_journal.specs.Marks.{partner_of, numbers_of_position, is_counted};
+ghost use Rattle.ga_journal.specs.Marks.{partner_of, numbers_of_position, counts_event};
 
 use super::Histories;
 use crate::entry::Act;
@@ -20,7 +20,7 @@ fn named_by(act: &Act) -> Option<(NodeId, u32)>
 
 /// Whether an event is counted by an act.
 fn counts(act: &Act) -> bool
-    ensures { result ≡ is_counted act.now }
+    ensures { result ≡ counts_event act.now }
 {
     match act {
         Act::Own(_) => true,
@@ -33,7 +33,7 @@ impl Histories {
     ghost use Rattle.std.specs.Prelude.{◌≡◌, ◌<◌, ℕ, Some, length, nat_lt, slice_index};
     ghost use Rattle.ga_journal.specs.inner.Histories.{lists_of};
     ghost use Rattle.ga_journal.specs.Histories.{history};
-    ghost use Rattle.ga_journal.specs.Marks.{partner_of, numbers_of_position, partner_at, counted_at};
+    ghost use Rattle.ga_journal.specs.Marks.{partner_of, numbers_of_position, partner_at, counts_event_at};
     ghost use Rattle.ga_journal.specs.inner.Marks.{has_partner};
 
     /// The other entry of the pass of the entry at a position.
@@ -46,9 +46,9 @@ impl Histories {
     }
 
     /// Whether an event is counted by the entry at a position.
-    pub(crate) fn is_counted(&self, node: NodeId, at: u32) -> bool
+    pub(crate) fn counts_event(&self, node: NodeId, at: u32) -> bool
         requires there { at < length (history (lists_of self.now) node.number) }
-        ensures { Some result ≡ counted_at (lists_of self.now) node.number at }
+        ensures { Some result ≡ counts_event_at (lists_of self.now) node.number at }
     {
         let history = self.at(node);
         counts(&history.head(at as usize).act)

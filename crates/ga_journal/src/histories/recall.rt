@@ -6,9 +6,9 @@ use super::Histories;
 use super::bounds::{Firsts, newest};
 use crate::entry::{Act, Head};
 use crate::fault::JournalFault;
-use crate::since::Since;
+use crate::since::EventsSince;
 use ga_event::{Cause, Event, Made, OwnOutcome};
-use ga_grid::{NODES, NodeId};
+use ga_grid::{CHIP_NODES, NodeId};
 use ga_ports::Side;
 use ga_word::Word18;
 use std::alloc::Global;
@@ -60,7 +60,7 @@ impl Histories {
     ghost use Rattle.std.specs.Prelude.{◌≡◌, ◌-◌, ◌<◌, ◌≤◌, ◌^◌, ℕ, List, length, drop, slice_index, false, IfOk, IfErr, ◌+◌, [], ◌∷◌, ◌++◌, OnOk};
     ghost use Rattle.ga_journal.specs.inner.Histories.{lists_of, bound_of, cut, older_causes, WalksBack, IsCutWithin, IsShorter, IsFirst, IsWalked, AreTold};
     ghost use Rattle.ga_journal.specs.Histories.{history};
-    ghost use Rattle.ga_journal.specs.Logs.{Stamped, Records, IsSince};
+    ghost use Rattle.ga_journal.specs.Logs.{StampedEvent, AreHistoriesOfLog, AreEventsSince};
     ghost use Rattle.std.specs.List.{All};
     ghost use Rattle.std.specs.List.Sorted.{IsStrictlyIncreasing};
 
@@ -71,7 +71,7 @@ impl Histories {
         ensures all { length result ≡ 144 }
         ensures nodes { length self.now ≡ 144 }
     {
-        prove!(self.nodes.as_slice().len() == NODES);
+        prove!(self.nodes.as_slice().len() == CHIP_NODES);
         let mut lengths = [0u32; 144];
         for number in 0..144u8 {
             lengths[number as usize] = self.count(NodeId::new(number));
@@ -100,11 +100,11 @@ impl Histories {
         top: &mut u64,
         hint: &mut NodeId,
     ) -> (Cause, Made)
-        requires { (log : List Stamped) × (0 < length log)
+        requires { (log : List StampedEvent) × (0 < length log)
             × WalksBack (lists_of self.now) lengths.old top.old log }
-        ensures first { (log : List Stamped) →
+        ensures first { (log : List StampedEvent) →
             WalksBack (lists_of self.now) lengths.old top.old log → IsFirst log result.0 result.1 }
-        ensures left { (log : List Stamped) →
+        ensures left { (log : List StampedEvent) →
             WalksBack (lists_of self.now) lengths.old top.old log →
             IsWalked (lists_of self.now) lengths.new top.new log }
         ensures size { length lengths.new ≡ 144 }
@@ -148,12 +148,12 @@ impl Histories {
         count: u32,
     ) -> (Cause, Made)
         requires some { 0 < count }
-        requires walk { (log : List Stamped) × (count ≤ length log)
+        requires walk { (log : List StampedEvent) × (count ≤ length log)
             × WalksBack (lists_of self.now) lengths.old top.old log }
-        ensures first { (log : List Stamped) → count ≤ length log →
+        ensures first { (log : List StampedEvent) → count ≤ length log →
             WalksBack (lists_of self.now) lengths.old top.old log →
             IsFirst (drop (count - 1) log) result.0 result.1 }
-        ensures left { (log : List Stamped) → count ≤ length log →
+        ensures left { (log : List StampedEvent) → count ≤ length log →
             WalksBack (lists_of self.now) lengths.old top.old log →
             WalksBack (lists_of self.now) lengths.new top.new (drop count log) }
         ensures size { length lengths.new ≡ 144 }
@@ -168,10 +168,10 @@ impl Histories {
     pub(crate) fn recall(&self, top: u64, hint: NodeId, back_by: u32) -> (Cause, Made)
         requires fits { (n : ℕ) → length (history (lists_of self.now) n) < 2 ^ 32 }
         requires some { 0 < back_by }
-        requires walk { (log : List Stamped) × (back_by ≤ length log)
-            × Records log (lists_of self.now) top }
-        ensures { (log : List Stamped) → back_by ≤ length log →
-            Records log (lists_of self.now) top →
+        requires walk { (log : List StampedEvent) × (back_by ≤ length log)
+            × AreHistoriesOfLog log (lists_of self.now) top }
+        ensures { (log : List StampedEvent) → back_by ≤ length log →
+            AreHistoriesOfLog log (lists_of self.now) top →
             IsFirst (drop (back_by - 1) log) result.0 result.1 }
     {
         let mut lengths = self.lengths_of();
@@ -189,11 +189,11 @@ impl Histories {
         places: &[u32],
     ) -> Result<Vec<Made>, JournalFault>
         requires fits { (n : ℕ) → length (history (lists_of self.now) n) < 2 ^ 32 }
-        requires walk { (log : List Stamped) × (kept ≡ length log) × Records log (lists_of self.now) top }
+        requires walk { (log : List StampedEvent) × (kept ≡ length log) × AreHistoriesOfLog log (lists_of self.now) top }
         requires rise { IsStrictlyIncreasing places.now }
         requires within { All (λ place. place < kept) places.now }
-        ensures ok { IfOk result (λ list. (log : List Stamped) → kept ≡ length log →
-            Records log (lists_of self.now) top → AreTold log places.now list.items) }
+        ensures ok { IfOk result (λ list. (log : List StampedEvent) → kept ≡ length log →
+            AreHistoriesOfLog log (lists_of self.now) top → AreTold log places.now list.items) }
         ensures err { IfErr result (λ fault. fault ≡ JournalFault.Memory) }
     {
         let mut list = Vec::new(self.alloc());
@@ -224,9 +224,9 @@ impl Histories {
         kept: u32,
     ) -> Result<Vec<Cause>, JournalFault>
         requires fits { (n : ℕ) → length (history (lists_of self.now) n) < 2 ^ 32 }
-        requires walk { (log : List Stamped) × (kept ≡ length log) × Records log (lists_of self.now) top }
-        ensures ok { IfOk result (λ list. (log : List Stamped) → kept ≡ length log →
-            Records log (lists_of self.now) top → list.items ≡ older_causes log) }
+        requires walk { (log : List StampedEvent) × (kept ≡ length log) × AreHistoriesOfLog log (lists_of self.now) top }
+        ensures ok { IfOk result (λ list. (log : List StampedEvent) → kept ≡ length log →
+            AreHistoriesOfLog log (lists_of self.now) top → list.items ≡ older_causes log) }
         ensures err { IfErr result (λ fault. fault ≡ JournalFault.Memory) }
     {
         let mut list = Vec::new(self.alloc());
@@ -252,14 +252,14 @@ impl Histories {
         kept: u32,
         from: (NodeId, u32),
         other: NodeId,
-    ) -> Result<Since, JournalFault>
+    ) -> Result<EventsSince, JournalFault>
         requires fits { (n : ℕ) → length (history (lists_of self.now) n) < 2 ^ 32 }
-        requires walk { (log : List Stamped) × (kept ≡ length log) × Records log (lists_of self.now) top }
+        requires walk { (log : List StampedEvent) × (kept ≡ length log) × AreHistoriesOfLog log (lists_of self.now) top }
         requires counted { 0 < from.1 }
         requires stands { from.1 ≤ length (history (lists_of self.now) from.0.number) }
-        ensures ok { IfOk result (λ since. (log : List Stamped) → kept ≡ length log →
-            Records log (lists_of self.now) top →
-            IsSince (older_causes log) from.0.number from.1 other.number since.causes.items since.before since.steps) }
+        ensures ok { IfOk result (λ since. (log : List StampedEvent) → kept ≡ length log →
+            AreHistoriesOfLog log (lists_of self.now) top →
+            AreEventsSince (older_causes log) from.0.number from.1 other.number since.causes.items since.before since.steps) }
         ensures short { IfOk result (λ since. since.before + length since.causes.items ≡ kept) }
         ensures err { IfErr result (λ fault. fault ≡ JournalFault.Memory) }
     {
@@ -281,7 +281,7 @@ impl Histories {
         }
         causes.reverse();
         let steps = lengths[other.index()];
-        Ok(Since {
+        Ok(EventsSince {
             causes,
             before,
             steps,

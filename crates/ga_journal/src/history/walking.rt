@@ -8,15 +8,15 @@ const FAR: usize = 512;
 
 impl History {
     ghost use Rattle.std.specs.Prelude.{◌≡◌, ◌≤◌, length, take, drop};
-    ghost use Rattle.ga_journal.specs.Walked.{walked_back, CanWalk};
+    ghost use Rattle.ga_journal.specs.Walked.{node_before_entries, CanRestoreEntries};
 
     /// Writes the values of the entries from the position `to` on and below `from` back to a node, those of the last entry
     /// first.
     pub fn walk_back(&self, node: &mut Node, from: usize, to: usize)
         requires order { to ≤ from }
         requires within { from ≤ length self.now.items }
-        requires can { CanWalk node.old (drop to (take from self.now.items)) }
-        ensures { node.new ≡ walked_back node.old (drop to (take from self.now.items)) }
+        requires can { CanRestoreEntries node.old (drop to (take from self.now.items)) }
+        ensures { node.new ≡ node_before_entries node.old (drop to (take from self.now.items)) }
     {
         if from - to < FAR {
             self.walk_near(node, from, to);
@@ -29,8 +29,8 @@ impl History {
     fn walk_near(&self, node: &mut Node, from: usize, to: usize)
         requires order { to ≤ from }
         requires within { from ≤ length self.now.items }
-        requires can { CanWalk node.old (drop to (take from self.now.items)) }
-        ensures { node.new ≡ walked_back node.old (drop to (take from self.now.items)) }
+        requires can { CanRestoreEntries node.old (drop to (take from self.now.items)) }
+        ensures { node.new ≡ node_before_entries node.old (drop to (take from self.now.items)) }
     {
         let mut aside = node.suspend_status();
         for entry in self.entries[to..from].iter().rev() {
@@ -43,8 +43,8 @@ impl History {
     fn walk_far(&self, node: &mut Node, from: usize, to: usize)
         requires order { to ≤ from }
         requires within { from ≤ length self.now.items }
-        requires can { CanWalk node.old (drop to (take from self.now.items)) }
-        ensures { node.new ≡ walked_back node.old (drop to (take from self.now.items)) }
+        requires can { CanRestoreEntries node.old (drop to (take from self.now.items)) }
+        ensures { node.new ≡ node_before_entries node.old (drop to (take from self.now.items)) }
     {
         let mut gathered = OverwrittenValues::new();
         for entry in self.entries[to..from].iter().rev() {

@@ -19,42 +19,42 @@ pub struct BackwardEvents<'j> {
 }
 
 impl<'j> Model for BackwardEvents<'j> {
-    ghost use Rattle.ga_journal.specs.Histories.{BackwardModel, backward_of};
+    ghost use Rattle.ga_journal.specs.Histories.{BackwardModel, backward_model_at};
     ghost use Rattle.ga_journal.specs.inner.Histories.{IsUntold};
 
     ghost Value = { BackwardModel };
 
-    ghost view = { λ b. backward_of b.journal.now b.place };
+    ghost view = { λ b. backward_model_at b.journal.now b.place };
 
     ghost invariant = { λ b. IsUntold b.journal.now b.lengths b.top b.place };
 }
 
 impl<'j> BackwardEvents<'j> {
     ghost use Rattle.std.specs.Prelude.{◌≡◌, ◌-◌, ◌≤◌, ◌↔◌, length, take, Some, IfSome, IsNone};
-    ghost use Rattle.ga_event.specs.Told.{steps_of, made_in};
-    ghost use Rattle.ga_journal.specs.Events.{kept_of, events_of};
-    ghost use Rattle.ga_journal.specs.Histories.{backward_of};
+    ghost use Rattle.ga_event.specs.Told.{count_steps, made_event_in};
+    ghost use Rattle.ga_journal.specs.Events.{kept_outcomes, journal_events};
+    ghost use Rattle.ga_journal.specs.Histories.{backward_model_at};
 
     /// The number of events that are not read yet: the place of the one that was read last.
     pub fn place(&self) -> u32
         ensures value { result ≡ self.now.place }
-        ensures within { result ≤ length (kept_of self.now.book) }
+        ensures within { result ≤ length (kept_outcomes self.now.book) }
     {
         self.place
     }
 
     /// The number of steps of a node that are not read yet.
     pub fn steps(&self, node: NodeId) -> u32
-        ensures { result ≡ steps_of node.number (take self.now.place (events_of self.now.book)) }
+        ensures { result ≡ count_steps node.number (take self.now.place (journal_events self.now.book)) }
     {
         self.lengths[node.index()]
     }
 
     /// Reads the newest event that is not read yet, and returns it as made; none if all are read.
     pub fn back(&mut self) -> Option<Made>
-        ensures some { IfSome result (λ made. made_in (kept_of self.old.book) (self.old.place - 1) ≡ Some made) }
+        ensures some { IfSome result (λ made. made_event_in (kept_outcomes self.old.book) (self.old.place - 1) ≡ Some made) }
         ensures none { IsNone result ↔ (self.old.place ≡ 0) }
-        ensures left { self.new ≡ backward_of self.old.book (self.old.place - 1) }
+        ensures left { self.new ≡ backward_model_at self.old.book (self.old.place - 1) }
     {
         if self.place == 0 {
             return None;
@@ -70,14 +70,14 @@ impl<'j> BackwardEvents<'j> {
 
 impl Journal {
     ghost use Rattle.std.specs.Prelude.{◌≡◌, length};
-    ghost use Rattle.ga_journal.specs.Events.{kept_of};
-    ghost use Rattle.ga_journal.specs.Logs.{IsWhole};
-    ghost use Rattle.ga_journal.specs.Histories.{backward_of};
+    ghost use Rattle.ga_journal.specs.Events.{kept_outcomes};
+    ghost use Rattle.ga_journal.specs.Logs.{AreConsistentHistories};
+    ghost use Rattle.ga_journal.specs.Histories.{backward_model_at};
 
     /// A reader of the history, which has read no event yet.
     pub(crate) fn backward(&self) -> BackwardEvents<'_>
-        requires { IsWhole self.now.histories self.now.made }
-        ensures { result ≡ backward_of self.now (length (kept_of self.now)) }
+        requires { AreConsistentHistories self.now.histories self.now.made }
+        ensures { result ≡ backward_model_at self.now (length (kept_outcomes self.now)) }
     {
         BackwardEvents {
             journal: self,

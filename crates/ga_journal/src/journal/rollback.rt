@@ -7,8 +7,8 @@ use ga_grid::{Chip, NodeId};
 impl Journal {
     ghost use Rattle.std.specs.Prelude.{◌≡◌, ◌<◌, ◌+◌, ◌^◌, ℕ, Some, length, true, false, IfSome, IfNone};
     ghost use Rattle.ga_journal.specs.Histories.{no_work, history};
-    ghost use Rattle.ga_journal.specs.Marks.{AreMarks, mark_of, entries_to_remove, is_pending, numbers_of_position, partner_at, counted_at, ticked, lowered, raised, taken_up, CanTakeBack, IsTakenBack};
-    ghost use Rattle.ga_journal.specs.Looks.{IsLookToGo, SawNoneToGo, IsSought};
+    ghost use Rattle.ga_journal.specs.Marks.{HasValidMarks, mark_of, entries_to_remove, is_pending, numbers_of_position, partner_at, counts_event_at, tick_counted, with_lowered_mark, with_raised_mark, with_dequeued_node, CanRestoreLastEntry, IsLastEntryRestored};
+    ghost use Rattle.ga_journal.specs.Looks.{IsLookToRemove, HasNoLookToRemove, IsFailedLookSearch};
 
     /// The ticks that were counted.
     pub fn ticks(&self) -> &Ticks
@@ -18,7 +18,7 @@ impl Journal {
     }
 
     /// Counts ticks from 0 on again.
-    pub(crate) fn count_anew(&mut self)
+    pub(crate) fn reset_ticks(&mut self)
         ensures { self.new ≡ record self.old { ticks = no_work } }
     {
         self.ticks = Ticks::new();
@@ -30,7 +30,7 @@ impl Journal {
         requires there { at < length (history self.old.histories node.number) }
         requires fits { self.old.ticks.count + 1 < 2 ^ 64 }
         ensures value { numbers_of_position result ≡ partner_at self.old.histories node.number at }
-        ensures ticks { self.new ≡ ticked self.old }
+        ensures ticks { self.new ≡ tick_counted self.old }
     {
         self.ticks.raise();
         self.histories.partner(node, at)
@@ -39,7 +39,7 @@ impl Journal {
     /// How many of a node's entries are to stay.
     pub fn mark_of(&self, node: NodeId) -> u32
         ensures value { result ≡ mark_of self.now node.number }
-        ensures sound { AreMarks self.now }
+        ensures sound { HasValidMarks self.now }
     {
         self.histories.count(node) - self.going[node.index()]
     }
@@ -48,7 +48,7 @@ impl Journal {
     #[inline(always)]
     pub fn entries_to_remove(&self, node: NodeId) -> u32
         ensures value { result ≡ entries_to_remove self.now node.number }
-        ensures sound { AreMarks self.now }
+        ensures sound { HasValidMarks self.now }
     {
         self.going[node.index()]
     }
@@ -59,9 +59,9 @@ impl Journal {
     pub fn look_to_remove(&mut self, node: NodeId, looker: NodeId) -> Option<u32>
         requires { self.old.ticks.count + 1 < 2 ^ 64 }
         ensures some { IfSome result (λ at.
-            IsLookToGo self.old node.number looker.number at × (self.new ≡ ticked self.old)) }
+            IsLookToRemove self.old node.number looker.number at × (self.new ≡ tick_counted self.old)) }
         ensures none { IfNone result (
-            SawNoneToGo self.old node.number looker.number × IsSought self.old looker.number self.new) }
+            HasNoLookToRemove self.old node.number looker.number × IsFailedLookSearch self.old looker.number self.new) }
     {
         if !self.histories.has_looked(looker) {
             return None;
@@ -81,10 +81,10 @@ impl Journal {
     }
 
     /// Lowers a node's mark: only its first `to` entries are to stay. The node waits from then on. One tick.
-    pub fn lower(&mut self, node: NodeId, to: u32)
+    pub fn lower_mark(&mut self, node: NodeId, to: u32)
         requires smaller { to < mark_of self.old node.number }
         requires fits { self.old.ticks.count + 1 < 2 ^ 64 }
-        ensures { self.new ≡ lowered self.old node.number to }
+        ensures { self.new ≡ with_lowered_mark self.old node.number to }
     {
         self.ticks.raise();
         let entries = self.histories.count(node);
@@ -97,20 +97,20 @@ impl Journal {
     pub fn raise(&mut self, node: NodeId) -> bool
         requires going { mark_of self.old node.number < length (history self.old.histories node.number) }
         requires fits { self.old.ticks.count + 1 < 2 ^ 64 }
-        ensures counted { Some result ≡ counted_at self.old.histories node.number (mark_of self.old node.number) }
-        ensures raised { self.new ≡ raised self.old node.number }
+        ensures counted { Some result ≡ counts_event_at self.old.histories node.number (mark_of self.old node.number) }
+        ensures with_raised_mark { self.new ≡ with_raised_mark self.old node.number }
     {
         self.ticks.raise();
         let at = self.mark_of(node);
         self.going[node.index()] -= 1;
-        self.histories.is_counted(node, at)
+        self.histories.counts_event(node, at)
     }
 
     /// Takes one of the nodes that wait out, in one tick. None, and no tick, where none waits.
-    pub fn take_up(&mut self) -> Option<NodeId>
+    pub fn dequeue_node(&mut self) -> Option<NodeId>
         requires { self.old.ticks.count + 1 < 2 ^ 64 }
         ensures some { IfSome result (λ node.
-            (is_pending self.old node.number ≡ true) × (self.new ≡ taken_up self.old node.number)) }
+            (is_pending self.old node.number ≡ true) × (self.new ≡ with_dequeued_node self.old node.number)) }
         ensures none { IfNone result (((n : ℕ) → is_pending self.old n ≡ false) × (self.new ≡ self.old)) }
     {
         let node = self.waiting.pop()?;
@@ -122,12 +122,12 @@ impl Journal {
     /// with the second entry of a pass. One tick.
     pub fn restore_last(&mut self, chip: &mut Chip, node: NodeId)
         requires going { mark_of self.old node.number < length (history self.old.histories node.number) }
-        requires sound { CanTakeBack self.old chip.old node.number }
+        requires sound { CanRestoreLastEntry self.old chip.old node.number }
         requires fits { self.old.ticks.count + 1 < 2 ^ 64 }
-        ensures { IsTakenBack self.old chip.old node.number self.new chip.new }
+        ensures { IsLastEntryRestored self.old chip.old node.number self.new chip.new }
     {
         self.ticks.raise();
-        let act = self.histories.go_back(chip, node);
+        let act = self.histories.undo_last_entry(chip, node);
         self.going[node.index()] -= 1;
         if !self.histories.has_partner(&act) {
             self.kept -= 1;

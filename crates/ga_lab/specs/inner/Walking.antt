@@ -8,7 +8,7 @@ use Rattle.ga_node.specs.Record.{NodeState}
 use Rattle.ga_grid.specs.declared.node_id.NodeId.{NodeId}
 use Rattle.ga_grid.specs.Chip.{node_at}
 use Rattle.ga_journal.specs.Histories.{JournalState, history, BackwardModel}
-use Rattle.ga_journal.specs.Walked.{walked_back}
+use Rattle.ga_journal.specs.Walked.{node_before_entries}
 use Rattle.ga_lab.specs.Machine.{NodeAtStep, node_at_step, BackwardState, backward_state}
 use Rattle.ga_lab.specs.inner.LabInvariant.{state_of, IsLab}
 
@@ -26,7 +26,7 @@ standing_of chip book node step = node_at_step (state_of chip book) node step
 pub record IsWalk (chip : List NodeState) (book : JournalState) (id : NodeId) (step : ℕ) (node : NodeState) : Type 0 where
   pub lab : IsLab chip book
   pub within : step ≤ length (history book.histories id.number)
-  pub walked_to : node ≡ walked_back (node_at chip id.number) (drop step (history book.histories id.number))
+  pub walked_to : node ≡ node_before_entries (node_at chip id.number) (drop step (history book.histories id.number))
 
 -- a reading of the journal's history as one of the machine's
 abbrev pub telling_of : List NodeState → BackwardModel → BackwardState

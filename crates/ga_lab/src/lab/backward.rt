@@ -27,8 +27,8 @@ impl<'l> Model for Backward<'l> {
 
 impl<'l> Backward<'l> {
     ghost use Rattle.std.specs.Prelude.{◌≡◌, ◌-◌, ◌≤◌, ◌↔◌, length, take, IsNone};
-    ghost use Rattle.ga_event.specs.Told.{steps_of};
-    ghost use Rattle.ga_lab.specs.Machine.{made_before};
+    ghost use Rattle.ga_event.specs.Told.{count_steps};
+    ghost use Rattle.ga_lab.specs.Machine.{made_event_before};
 
     /// The number of events that are not read yet: the place of the one that was read last.
     pub fn place(&self) -> u32
@@ -40,7 +40,7 @@ impl<'l> Backward<'l> {
 
     /// The number of steps of a node in the events that are not read yet.
     pub fn steps(&self, node: NodeId) -> u32
-        ensures { result ≡ steps_of node.number (take self.now.place self.now.machine.kept) }
+        ensures { result ≡ count_steps node.number (take self.now.place self.now.machine.kept) }
     {
         self.walk.steps(node)
     }
@@ -48,7 +48,7 @@ impl<'l> Backward<'l> {
     /// Reads the event right before the place, which becomes the place, and returns it as made; none if no event is left. Takes
     /// no memory, and the same time whatever the history is.
     pub fn back(&mut self) -> Option<Made>
-        ensures told { result ≡ made_before self.old.machine self.old.place }
+        ensures told { result ≡ made_event_before self.old.machine self.old.place }
         ensures none { IsNone result ↔ (self.old.place ≡ 0) }
         ensures left { self.new ≡ record self.old { place = self.old.place - 1 } }
     {

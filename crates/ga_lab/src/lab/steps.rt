@@ -4,29 +4,29 @@ use super::Lab;
 use crate::fault::LabFault;
 use ga_event::Made;
 use ga_grid::NodeId;
-use ga_rollback::{RollbackFault, RollbackForecast, would_rewind};
+use ga_rollback::{RollbackFault, RollbackForecast, forecast_rollback};
 
 impl Lab {
     ghost use Rattle.std.specs.Prelude.{◌≡◌, ◌↔◌, ◌+◌, ℕ, false, length, slice_index, Ok, Err, IfOk, IfErr};
     ghost use Rattle.std.specs.List.{slice_get};
-    ghost use Rattle.ga_event.specs.Told.{steps_of};
-    ghost use Rattle.ga_lab.specs.Machine.{history_of, rewind_answer, rewound, has_step};
+    ghost use Rattle.ga_event.specs.Told.{count_steps};
+    ghost use Rattle.ga_lab.specs.Machine.{history_of, rewind_answer, state_after_rewind, has_step};
 
     /// The number of steps of a node in the history.
     pub fn steps(&self, node: NodeId) -> u32
-        ensures steps { result ≡ steps_of node.number self.now.kept }
+        ensures steps { result ≡ count_steps node.number self.now.kept }
         ensures told { result ≡ length (history_of self.now node.number) }
     {
-        self.chronicle.journal.steps_of(node)
+        self.chronicle.journal.count_steps(node)
     }
 
     /// A node's step as made, the first of which is at place 0; none past its steps. Takes no memory, and the same time
     /// whatever the history is.
     #[tactic(auto, using(crate::proofs::Replays::told_tied))]
-    pub fn made_by_step(&self, node: NodeId, place: u32) -> Option<Made>
+    pub fn made_event_of_step(&self, node: NodeId, place: u32) -> Option<Made>
         ensures { result ≡ slice_get (history_of self.now node.number) place }
     {
-        self.chronicle.made_by_step(node, place)
+        self.chronicle.made_event_of_step(node, place)
     }
 
     /// What `rewind` would remove: the number of events, and the number of steps of each node. Nothing is removed. Takes no
@@ -34,10 +34,14 @@ impl Lab {
     ///
     /// # Errors
     /// `NoStep`, where the node has no such step.
-    pub fn would_rewind(&mut self, node: NodeId, step: u32) -> Result<RollbackForecast, LabFault>
+    pub fn forecast_rollback(
+        &mut self,
+        node: NodeId,
+        step: u32,
+    ) -> Result<RollbackForecast, LabFault>
         ensures answer { IfOk result (λ going. rewind_answer self.old node.number step ≡ Ok going.events) }
         ensures steps { IfOk result (λ going. (m : ℕ) → slice_index going.steps m
-            + steps_of m (rewound self.old node.number step).kept ≡ steps_of m self.old.kept) }
+            + count_steps m (state_after_rewind self.old node.number step).kept ≡ count_steps m self.old.kept) }
         ensures err { IfErr result (λ why. rewind_answer self.old node.number step ≡ Err why) }
         ensures same { self.new ≡ self.old }
         ensures refused { (result ≡ Err LabFault.NoStep) ↔ (has_step self.old node.number step ≡ false) }
@@ -45,8 +49,8 @@ impl Lab {
         // So few that the ticks can't overflow.
         let kept = self.chronicle.journal.kept();
         prove!(kept <= u32::MAX);
-        self.chronicle.count_anew();
-        match would_rewind(&mut self.chronicle.journal, node, step) {
+        self.chronicle.reset_ticks();
+        match forecast_rollback(&mut self.chronicle.journal, node, step) {
             Ok(going) => Ok(going),
             Err(RollbackFault::NoStep) => Err(LabFault::NoStep),
         }

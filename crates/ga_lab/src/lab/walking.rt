@@ -9,7 +9,7 @@ use std::marker::Model;
 /// A copy of a node as it was right after one of its steps, which is walked back step by step. Nothing of the lab is undone. A
 /// contract sees the lab's machine, the node, and how many steps it had made.
 #[derive(Drop)]
-pub struct Walk<'l> {
+pub struct NodeWalk<'l> {
     chip: &'l Chip,
     chronicle: &'l OrderedJournal,
     id: NodeId,
@@ -17,7 +17,7 @@ pub struct Walk<'l> {
     node: Node,
 }
 
-impl<'l> Model for Walk<'l> {
+impl<'l> Model for NodeWalk<'l> {
     ghost use Rattle.ga_lab.specs.Machine.{NodeAtStep};
     ghost use Rattle.ga_lab.specs.inner.Walking.{standing_of, IsWalk};
 
@@ -28,17 +28,17 @@ impl<'l> Model for Walk<'l> {
     ghost invariant = { λ w. IsWalk w.chip.now w.chronicle.now.journal w.id w.step w.node };
 }
 
-impl<'l> Walk<'l> {
+impl<'l> NodeWalk<'l> {
     ghost use Rattle.std.specs.Prelude.{◌≡◌, ◌<◌, ◌≤◌, ◌-◌, ℕ, take};
     ghost use Rattle.ga_node.specs.Record.{record_of};
     ghost use Rattle.ga_grid.specs.Chip.{record_at};
-    ghost use Rattle.ga_event.specs.Told.{steps_of};
+    ghost use Rattle.ga_event.specs.Told.{count_steps};
     ghost use Rattle.ga_lab.specs.Machine.{chip_of, earlier};
 
     /// The number of steps that the node had made at this point of the walk.
     pub fn step(&self) -> u32
         ensures value { result ≡ self.now.step }
-        ensures within { result ≤ steps_of self.now.node.number self.now.machine.kept }
+        ensures within { result ≤ count_steps self.now.node.number self.now.machine.kept }
     {
         self.step
     }
@@ -46,17 +46,17 @@ impl<'l> Walk<'l> {
     /// The node as it was at this point of the walk: at each place of the history at which it had made this number of steps, it
     /// is the node to which replaying the events before the place leads.
     pub fn node(&self) -> &Node
-        ensures { (place : ℕ) → steps_of self.now.node.number (take place self.now.machine.kept) ≡ self.now.step
+        ensures { (place : ℕ) → count_steps self.now.node.number (take place self.now.machine.kept) ≡ self.now.step
             → record_of result.now ≡ record_at (chip_of (earlier self.now.machine place)) self.now.node.number }
     {
         &self.node
     }
 
     /// A copy of the walk, which is walked back independently. Takes no memory.
-    pub fn copy(&self) -> Walk<'l>
+    pub fn copy(&self) -> NodeWalk<'l>
         ensures { result ≡ self.now }
     {
-        Walk {
+        NodeWalk {
             chip: self.chip,
             chronicle: self.chronicle,
             id: self.id,
@@ -70,11 +70,11 @@ impl<'l> Walk<'l> {
         requires { 0 < self.old.step }
         ensures { self.new ≡ record self.old { step = self.old.step - 1 } }
     {
-        self.back_to(self.step - 1);
+        self.walk_back_to(self.step - 1);
     }
 
     /// Walks back to an earlier step. Takes no memory, and time linear in the number of steps between.
-    pub fn back_to(&mut self, step: u32)
+    pub fn walk_back_to(&mut self, step: u32)
         requires { step ≤ self.old.step }
         ensures { self.new ≡ record self.old { step = step } }
     {
@@ -87,21 +87,21 @@ impl<'l> Walk<'l> {
 impl Lab {
     ghost use Rattle.std.specs.Prelude.{◌≡◌, ◌<◌, ◌≤◌, ◌+◌, ℕ, take, IfSome, IfNone};
     ghost use Rattle.ga_grid.specs.Chip.{record_at};
-    ghost use Rattle.ga_event.specs.Told.{steps_of};
+    ghost use Rattle.ga_event.specs.Told.{count_steps};
     ghost use Rattle.ga_node.specs.State.{IsInRange};
     ghost use Rattle.ga_lab.specs.Machine.{chip_of, earlier, node_at_step};
-    ghost use Rattle.ga_lab.specs.Holding.{Holds};
+    ghost use Rattle.ga_lab.specs.Holding.{HoldsValue};
 
     /// A node as it was right after its step, or at load for step 0, to be walked back from there. Takes no memory, and time by how
     /// many steps the node made since.
-    pub fn walk(&self, node: NodeId, step: u32) -> Walk<'_>
-        requires { step ≤ steps_of node.number self.now.kept }
+    pub fn walk(&self, node: NodeId, step: u32) -> NodeWalk<'_>
+        requires { step ≤ count_steps node.number self.now.kept }
         ensures { result ≡ node_at_step self.now node step }
     {
         let mut copy = self.chip.node(node).copy();
-        let steps = self.chronicle.journal.steps_of(node);
+        let steps = self.chronicle.journal.count_steps(node);
         self.chronicle.walk_back(node, &mut copy, steps, step);
-        Walk {
+        NodeWalk {
             chip: &self.chip,
             chronicle: &self.chronicle,
             id: node,
@@ -114,17 +114,17 @@ impl Lab {
     /// the number of the wait, or a cell of RAM. It is read from the step's entry, without a walk. None if the step didn't
     /// write there, past the node's steps, and for each other place. Takes no memory, and the same time whatever the history
     /// is.
-    pub fn overwritten(&self, node: NodeId, at: u32, what: Place) -> Option<u32>
-        ensures value { IfSome result (λ old. (place : ℕ) → steps_of node.number (take place self.now.kept) ≡ at
-            → Holds (record_at (chip_of (earlier self.now place)) node.number) what old) }
+    pub fn overwritten_value(&self, node: NodeId, at: u32, what: Place) -> Option<u32>
+        ensures value { IfSome result (λ old. (place : ℕ) → count_steps node.number (take place self.now.kept) ≡ at
+            → HoldsValue (record_at (chip_of (earlier self.now place)) node.number) what old) }
         ensures in_range { IfSome result (λ old. IsInRange what old) }
-        ensures within { IfSome result (λ old. at < steps_of node.number self.now.kept) }
-        ensures left { IfNone result ((before behind value : ℕ) → steps_of node.number (take before self.now.kept) ≡ at
-            → steps_of node.number (take behind self.now.kept) ≡ at + 1
-            → Holds (record_at (chip_of (earlier self.now behind)) node.number) what value
-            → Holds (record_at (chip_of (earlier self.now before)) node.number) what value) }
+        ensures within { IfSome result (λ old. at < count_steps node.number self.now.kept) }
+        ensures left { IfNone result ((before behind value : ℕ) → count_steps node.number (take before self.now.kept) ≡ at
+            → count_steps node.number (take behind self.now.kept) ≡ at + 1
+            → HoldsValue (record_at (chip_of (earlier self.now behind)) node.number) what value
+            → HoldsValue (record_at (chip_of (earlier self.now before)) node.number) what value) }
     {
         self.chip.node(node).has_sizes();
-        self.chronicle.overwritten(node, at, what)
+        self.chronicle.overwritten_value(node, at, what)
     }
 }

@@ -5,11 +5,11 @@ use Rattle.ga_node.specs.declared.place.Place.{Place}
 use Rattle.ga_node.specs.declared.place.Place.TheVariants.{T, S, DataCell, DataPointer, R, ReturnCell, ReturnPointer}
 use Rattle.std.specs.Prelude.{◌≡◌, ℕ, List, ◌++◌, map, Result, Ok, Err}
 use Rattle.ga_node.specs.Record.{NodeState, record_of}
-use Rattle.ga_node.specs.State.{restored, AreFit}
+use Rattle.ga_node.specs.State.{with_restored_values, AreValuesInRange}
 use Rattle.ga_node.specs.Changes.{Change, after_changes}
-use Rattle.ga_node.specs.Table.{Access, Plain, Reads, Writes, wrote_at}
-use Rattle.ga_node.specs.declared.kind.Kind.{Kind}
-use Rattle.ga_node.specs.Saving.{written_places, old_values, Overwrites}
+use Rattle.ga_node.specs.Table.{Access, Plain, Reads, Writes, write_access_result}
+use Rattle.ga_node.specs.declared.kind.OwnEventKind.{OwnEventKind}
+use Rattle.ga_node.specs.Saving.{written_places, old_values, IsUndoLog}
 
 -- a place of the data stack
 abbrev pub data_place : StackPlace → Place
@@ -28,15 +28,15 @@ return_place (stack.Cell cell) = ReturnCell cell
 -- These changes were made, and these values saved.
 pub record IsMade (changes : List Change) (old new : NodeState) (saved : List (Place × ℕ)) : Type 0 where
   pub effect : record_of new ≡ after_changes changes (record_of old)
-  pub saves : Overwrites changes old new saved
+  pub saves : IsUndoLog changes old new saved
 
 -- Whether the outcome in the table was made: it has changes and is no other event.
-abbrev pub IsDone : Result (List Change) (Kind × List Change) → NodeState → NodeState → List (Place × ℕ) → Type 0
+abbrev pub IsDone : Result (List Change) (OwnEventKind × List Change) → NodeState → NodeState → List (Place × ℕ) → Type 0
 IsDone (Ok changes) old new saved = IsMade changes old new saved
 IsDone (Err event) old new saved = ⊥
 
 -- Whether the outcome in the table was made in place of the access's purpose: an event of this kind, and its changes.
-abbrev pub IsEnded : {A : Type 0} → Result A (Kind × List Change) → Kind → NodeState → NodeState → List (Place × ℕ) → Type 0
+abbrev pub IsEnded : {A : Type 0} → Result A (OwnEventKind × List Change) → OwnEventKind → NodeState → NodeState → List (Place × ℕ) → Type 0
 IsEnded (Ok given) kind old new saved = ⊥
 IsEnded (Err event) kind old new saved = (event.0 ≡ kind) × IsMade event.1 old new saved
 
@@ -44,19 +44,19 @@ IsEnded (Err event) kind old new saved = (event.0 ≡ kind) × IsMade event.1 ol
 abbrev pub IsDoneBy : Access → NodeState → NodeState → List (Place × ℕ) → Type 0
 IsDoneBy (Plain changes) old new saved = IsMade changes old new saved
 IsDoneBy (Reads address more) old new saved = ⊥
-IsDoneBy (Writes address more) old new saved = IsDone (wrote_at address more (record_of old)) old new saved
+IsDoneBy (Writes address more) old new saved = IsDone (write_access_result address more (record_of old)) old new saved
 
 -- The write that an event is for has become the whole event, of this kind.
-abbrev pub IsEndedBy : Access → Kind → NodeState → NodeState → List (Place × ℕ) → Type 0
+abbrev pub IsEndedBy : Access → OwnEventKind → NodeState → NodeState → List (Place × ℕ) → Type 0
 IsEndedBy (Plain changes) kind old new saved = ⊥
 IsEndedBy (Reads address more) kind old new saved = ⊥
-IsEndedBy (Writes address more) kind old new saved = IsEnded (wrote_at address more (record_of old)) kind old new saved
+IsEndedBy (Writes address more) kind old new saved = IsEnded (write_access_result address more (record_of old)) kind old new saved
 
 -- Some changes were made: their old values are saved after those before, and lead back to the old node.
 pub record Saves (changes : List Change) (old : NodeState) (before : List (Place × ℕ)) (new : NodeState) (later : List (Place × ℕ)) : Type 0 where
   pub exact : later ≡ before ++ old_values old (written_places changes old)
-  pub undone : restored new (old_values old (written_places changes old)) ≡ old
-  pub fit : AreFit (old_values old (written_places changes old))
+  pub state_after_undo : with_restored_values new (old_values old (written_places changes old)) ≡ old
+  pub fit : AreValuesInRange (old_values old (written_places changes old))
 
 -- the values of a stack as values of its node
 abbrev pub data_values : List (StackPlace × ℕ) → List (Place × ℕ)
@@ -68,6 +68,6 @@ return_values values = map (λ v. (return_place v.0, v.1)) values
 -- ---- the kind of an event, without its changes
 
 -- the kind of an event, by kinds alone: an access may have made it another
-abbrev pub kind_of : Kind → Result (Unit {0}) Kind → Kind
+abbrev pub kind_of : OwnEventKind → Result (Unit {0}) OwnEventKind → OwnEventKind
 kind_of kind (Ok done) = kind
 kind_of kind (Err other) = other

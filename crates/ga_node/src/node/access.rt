@@ -1,40 +1,40 @@
 //! Reads and writes at an address, which may turn out to be a wait or a stop.
 
 use super::Node;
-use crate::kind::Kind;
+use crate::kind::OwnEventKind;
 use crate::place::Place;
 use crate::saved::Saved;
 use crate::seen::Seen;
-use crate::wait::{Reader, Wait};
-use ga_ports::{Target, classify};
+use crate::wait::{ReadKind, Wait};
+use ga_ports::{Target, classify_address};
 use ga_word::Word18;
 
 impl Node {
     ghost use Rattle.std.specs.Prelude.{◌≡◌, ◌≤◌, [], Ok, IfOk, IfErr, OnOk, length};
-    ghost use Rattle.ga_ports.specs.Address.{classified};
+    ghost use Rattle.ga_ports.specs.Address.{address_target};
     ghost use Rattle.ga_node.specs.Record.{record_of};
     ghost use Rattle.ga_node.specs.inner.Saving.{IsMade, IsDone, IsEnded};
-    ghost use Rattle.ga_node.specs.Table.{found, stored, posts, stop_effect};
+    ghost use Rattle.ga_node.specs.Table.{found, stored, wait_effect, stop_effect};
     ghost use Rattle.ga_node.specs.Ready.{IsRunning};
 
     /// The node waits, in place of the event's whole effect.
     #[tactic(auto, unfolding(crate::specs::Record::record_of))]
     #[inline(always)]
-    fn wait_for(&mut self, saved: &mut Saved, wait: Wait) -> Kind
+    fn wait_for(&mut self, saved: &mut Saved, wait: Wait) -> OwnEventKind
         requires running { IsRunning (record_of self.old) }
         requires empty { saved.old ≡ [] }
-        ensures kind { result ≡ (posts wait).0 }
-        ensures made { IsMade (posts wait).1 self.old self.new saved.new }
+        ensures kind { result ≡ (wait_effect wait).0 }
+        ensures made { IsMade (wait_effect wait).1 self.old self.new saved.new }
     {
         saved.add(Place::Wait, 0);
         self.wait = wait;
-        Kind::Wait
+        OwnEventKind::Wait
     }
 
     /// The node stops, in place of the event's whole effect.
     #[tactic(auto, unfolding(crate::specs::Record::record_of))]
     #[inline(always)]
-    fn stop_with(&mut self, saved: &mut Saved, code: u8) -> Kind
+    fn stop_with(&mut self, saved: &mut Saved, code: u8) -> OwnEventKind
         requires running { IsRunning (record_of self.old) }
         requires in_range { code ≤ 3 }
         requires empty { saved.old ≡ [] }
@@ -43,7 +43,7 @@ impl Node {
     {
         saved.add(Place::Stop, 0);
         self.stop = code;
-        Kind::Stop(code)
+        OwnEventKind::Stop(code)
     }
 
     /// What a read at an address gives: a word, or the kind of the event that it has become.
@@ -54,23 +54,23 @@ impl Node {
         seen: Seen,
         saved: &mut Saved,
         address: u32,
-        reader: Reader,
-    ) -> Result<Word18, Kind>
+        reader: ReadKind,
+    ) -> Result<Word18, OwnEventKind>
         requires running { IsRunning (record_of self.old) }
         requires empty { saved.old ≡ [] }
-        ensures word { IfOk result (λ word. found (classified address) reader seen (record_of self.old) ≡ Ok word) }
+        ensures word { IfOk result (λ word. found (address_target address) reader seen (record_of self.old) ≡ Ok word) }
         ensures same { OnOk result (self.new ≡ self.old) }
         ensures unsaved { OnOk result (saved.new ≡ []) }
-        ensures ended { IfErr result (λ kind. IsEnded (found (classified address) reader seen (record_of self.old)) kind self.old self.new saved.new) }
+        ensures ended { IfErr result (λ kind. IsEnded (found (address_target address) reader seen (record_of self.old)) kind self.old self.new saved.new) }
     {
-        match classify(address) {
+        match classify_address(address) {
             Target::Ram(k) => Ok(self.ram[k as usize]),
             Target::Rom(k) => Ok(self.rom[k as usize]),
             Target::Io => Ok(seen.io_word()),
             Target::Ports(sides) => {
                 let wait = match reader {
-                    Reader::Instruction => Wait::Fetch(sides),
-                    Reader::Stack => Wait::Read(sides),
+                    ReadKind::Instruction => Wait::Fetch(sides),
+                    ReadKind::Stack => Wait::Read(sides),
                 };
                 Err(self.wait_for(saved, wait))
             }
@@ -81,15 +81,15 @@ impl Node {
     /// Writes T at an address, or answers the kind of the event that this has become.
     #[tactic(auto, using(crate::proofs::Saving::made_nothing), unfolding(crate::specs::Table::stored))]
     #[inline(always)]
-    pub(super) fn write(&mut self, saved: &mut Saved, address: u32) -> Result<(), Kind>
+    pub(super) fn write(&mut self, saved: &mut Saved, address: u32) -> Result<(), OwnEventKind>
         requires running { IsRunning (record_of self.old) }
         requires empty { saved.old ≡ [] }
-        ensures done { OnOk result (IsDone (stored (classified address) (record_of self.old)) self.old self.new saved.new) }
+        ensures done { OnOk result (IsDone (stored (address_target address) (record_of self.old)) self.old self.new saved.new) }
         ensures few { length saved.new ≤ 1 }
-        ensures ended { IfErr result (λ kind. IsEnded (stored (classified address) (record_of self.old)) kind self.old self.new saved.new) }
+        ensures ended { IfErr result (λ kind. IsEnded (stored (address_target address) (record_of self.old)) kind self.old self.new saved.new) }
     {
         let word = self.top();
-        match classify(address) {
+        match classify_address(address) {
             Target::Ram(k) => {
                 self.set_ram(saved, k, word);
                 Ok(())

@@ -52,7 +52,7 @@ impl Node {
     {
         let top = self.top();
         let word = top.get();
-        self.set_top(saved, Word18::truncated(0x3ffff - word));
+        self.set_top(saved, Word18::from_low_bits(0x3ffff - word));
         self.go_on(saved);
     }
 
@@ -85,7 +85,7 @@ impl Node {
         let second = self.second();
         let x = top.get();
         let y = second.get();
-        self.pop_to(saved, Word18::truncated(x & y));
+        self.pop_to(saved, Word18::from_low_bits(x & y));
         self.go_on(saved);
     }
 
@@ -98,7 +98,7 @@ impl Node {
         let second = self.second();
         let x = top.get();
         let y = second.get();
-        self.pop_to(saved, Word18::truncated(x ^ y));
+        self.pop_to(saved, Word18::from_low_bits(x ^ y));
         self.go_on(saved);
     }
 }

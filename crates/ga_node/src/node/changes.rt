@@ -8,13 +8,13 @@ use super::Node;
 use crate::place::Place;
 use crate::saved::Saved;
 use crate::wait::Wait;
-use ga_stacks::Overwritten;
+use ga_stacks::OverwrittenPlaces;
 use ga_word::Word18;
 
 /// Adds the values that a change of the data stack overwrote.
 #[tactic(auto, using(crate::proofs::Saving::word_in, crate::proofs::Saving::data_place_in))]
 #[inline(always)]
-fn save_data(saved: &mut Saved, overwritten: &Overwritten)
+fn save_data(saved: &mut Saved, overwritten: &OverwrittenPlaces)
     requires fit { AreStackChanges 2 overwritten.now.items }
     requires room { length saved.old + length overwritten.now.items ≤ 6 }
     ensures { saved.new ≡ saved.old ++ data_values overwritten.now.items }
@@ -27,7 +27,7 @@ fn save_data(saved: &mut Saved, overwritten: &Overwritten)
 /// Adds the values that a change of the return stack overwrote.
 #[tactic(auto, using(crate::proofs::Saving::word_in, crate::proofs::Saving::return_place_in))]
 #[inline(always)]
-fn save_return(saved: &mut Saved, overwritten: &Overwritten)
+fn save_return(saved: &mut Saved, overwritten: &OverwrittenPlaces)
     requires fit { AreStackChanges 1 overwritten.now.items }
     requires room { length saved.old + length overwritten.now.items ≤ 6 }
     ensures { saved.new ≡ saved.old ++ return_values overwritten.now.items }
@@ -39,9 +39,9 @@ fn save_return(saved: &mut Saved, overwritten: &Overwritten)
 
 impl Node {
     ghost use Rattle.std.specs.Prelude.{◌≡◌, ◌+◌, ◌<◌, ◌≤◌, ◌^◌, [], ◌∷◌, length};
-    ghost use Rattle.ga_node.specs.State.{IsApart};
+    ghost use Rattle.ga_node.specs.State.{HasAtMostOneStatus};
     ghost use Rattle.ga_node.specs.Record.{record_of};
-    ghost use Rattle.ga_node.specs.Changes.{after_changes, changed, PushData, PopData, SetTop, PopTo, PushReturn, PopReturn, SetTopReturn, SetP, SetA, SetB, SetI, SetIo, SetCarry, SetRam, GoOn, Skip, StartAgain, SetWait, SetStop};
+    ghost use Rattle.ga_node.specs.Changes.{after_changes, node_after_change, PushData, PopData, SetTop, PopTo, PushReturn, PopReturn, SetTopReturn, SetP, SetA, SetB, SetI, SetIo, SetCarry, SetRam, GoOn, Skip, StartAgain, SetWait, SetStop};
     ghost use Rattle.ga_node.specs.inner.Saving.{Saves};
     ghost use Rattle.ga_node.specs.Ready.{IsRunning};
 
@@ -51,7 +51,7 @@ impl Node {
     pub(super) fn set_p(&mut self, saved: &mut Saved, p: u32)
         requires in_range { p < 2 ^ 10 }
         requires room { length saved.old < 6 }
-        ensures change { record_of self.new ≡ changed (SetP p) (record_of self.old) }
+        ensures change { record_of self.new ≡ node_after_change (SetP p) (record_of self.old) }
         ensures saves { Saves (SetP p ∷ []) self.old saved.old self.new saved.new }
         ensures count { length saved.new ≡ length saved.old + 1 }
     {
@@ -64,7 +64,7 @@ impl Node {
     #[inline(always)]
     pub(super) fn set_a(&mut self, saved: &mut Saved, a: Word18)
         requires room { length saved.old < 6 }
-        ensures change { record_of self.new ≡ changed (SetA a) (record_of self.old) }
+        ensures change { record_of self.new ≡ node_after_change (SetA a) (record_of self.old) }
         ensures saves { Saves (SetA a ∷ []) self.old saved.old self.new saved.new }
         ensures count { length saved.new ≡ length saved.old + 1 }
     {
@@ -78,7 +78,7 @@ impl Node {
     pub(super) fn set_b(&mut self, saved: &mut Saved, b: u32)
         requires in_range { b < 2 ^ 9 }
         requires room { length saved.old < 6 }
-        ensures change { record_of self.new ≡ changed (SetB b) (record_of self.old) }
+        ensures change { record_of self.new ≡ node_after_change (SetB b) (record_of self.old) }
         ensures saves { Saves (SetB b ∷ []) self.old saved.old self.new saved.new }
         ensures count { length saved.new ≡ length saved.old + 1 }
     {
@@ -91,7 +91,7 @@ impl Node {
     #[inline(always)]
     pub(super) fn set_i(&mut self, saved: &mut Saved, i: Word18)
         requires room { length saved.old < 6 }
-        ensures change { record_of self.new ≡ changed (SetI i) (record_of self.old) }
+        ensures change { record_of self.new ≡ node_after_change (SetI i) (record_of self.old) }
         ensures saves { Saves (SetI i ∷ []) self.old saved.old self.new saved.new }
         ensures count { length saved.new ≡ length saved.old + 1 }
     {
@@ -104,7 +104,7 @@ impl Node {
     #[inline(always)]
     pub(super) fn set_carry(&mut self, saved: &mut Saved, carry: bool)
         requires room { length saved.old < 6 }
-        ensures change { record_of self.new ≡ changed (SetCarry carry) (record_of self.old) }
+        ensures change { record_of self.new ≡ node_after_change (SetCarry carry) (record_of self.old) }
         ensures saves { Saves (SetCarry carry ∷ []) self.old saved.old self.new saved.new }
         ensures count { length saved.new ≡ length saved.old + 1 }
     {
@@ -117,7 +117,7 @@ impl Node {
     #[inline(always)]
     pub(super) fn go_on(&mut self, saved: &mut Saved)
         requires room { length saved.old < 6 }
-        ensures change { record_of self.new ≡ changed GoOn (record_of self.old) }
+        ensures change { record_of self.new ≡ node_after_change GoOn (record_of self.old) }
         ensures saves { Saves (GoOn ∷ []) self.old saved.old self.new saved.new }
         ensures count { length saved.new ≡ length saved.old + 1 }
     {
@@ -130,7 +130,7 @@ impl Node {
     #[inline(always)]
     pub(super) fn go_on_seventh(&mut self, saved: &mut Saved)
         requires room { length saved.old < 7 }
-        ensures change { record_of self.new ≡ changed GoOn (record_of self.old) }
+        ensures change { record_of self.new ≡ node_after_change GoOn (record_of self.old) }
         ensures saves { Saves (GoOn ∷ []) self.old saved.old self.new saved.new }
         ensures count { length saved.new ≡ length saved.old + 1 }
     {
@@ -143,7 +143,7 @@ impl Node {
     #[inline(always)]
     pub(super) fn skip(&mut self, saved: &mut Saved)
         requires room { length saved.old < 6 }
-        ensures change { record_of self.new ≡ changed Skip (record_of self.old) }
+        ensures change { record_of self.new ≡ node_after_change Skip (record_of self.old) }
         ensures saves { Saves (Skip ∷ []) self.old saved.old self.new saved.new }
         ensures count { length saved.new ≡ length saved.old + 1 }
     {
@@ -189,7 +189,7 @@ impl Node {
     #[inline(always)]
     pub(super) fn start_again(&mut self, saved: &mut Saved)
         requires room { length saved.old < 6 }
-        ensures change { record_of self.new ≡ changed StartAgain (record_of self.old) }
+        ensures change { record_of self.new ≡ node_after_change StartAgain (record_of self.old) }
         ensures saves { Saves (StartAgain ∷ []) self.old saved.old self.new saved.new }
         ensures count { length saved.new ≡ length saved.old + 1 }
     {
@@ -202,7 +202,7 @@ impl Node {
     #[inline(always)]
     pub(super) fn push_data(&mut self, saved: &mut Saved, word: Word18)
         requires room { length saved.old + 4 ≤ 6 }
-        ensures change { record_of self.new ≡ changed (PushData word) (record_of self.old) }
+        ensures change { record_of self.new ≡ node_after_change (PushData word) (record_of self.old) }
         ensures saves { Saves (PushData word ∷ []) self.old saved.old self.new saved.new }
         ensures count { length saved.new ≡ length saved.old + 4 }
     {
@@ -214,7 +214,7 @@ impl Node {
     #[inline(always)]
     pub(super) fn pop_data(&mut self, saved: &mut Saved)
         requires room { length saved.old + 3 ≤ 6 }
-        ensures change { record_of self.new ≡ changed PopData (record_of self.old) }
+        ensures change { record_of self.new ≡ node_after_change PopData (record_of self.old) }
         ensures saves { Saves (PopData ∷ []) self.old saved.old self.new saved.new }
         ensures count { length saved.new ≡ length saved.old + 3 }
     {
@@ -226,7 +226,7 @@ impl Node {
     #[inline(always)]
     pub(super) fn set_top(&mut self, saved: &mut Saved, word: Word18)
         requires room { length saved.old < 6 }
-        ensures change { record_of self.new ≡ changed (SetTop word) (record_of self.old) }
+        ensures change { record_of self.new ≡ node_after_change (SetTop word) (record_of self.old) }
         ensures saves { Saves (SetTop word ∷ []) self.old saved.old self.new saved.new }
         ensures count { length saved.new ≡ length saved.old + 1 }
     {
@@ -238,7 +238,7 @@ impl Node {
     #[inline(always)]
     pub(super) fn pop_to(&mut self, saved: &mut Saved, word: Word18)
         requires room { length saved.old + 3 ≤ 6 }
-        ensures change { record_of self.new ≡ changed (PopTo word) (record_of self.old) }
+        ensures change { record_of self.new ≡ node_after_change (PopTo word) (record_of self.old) }
         ensures saves { Saves (PopTo word ∷ []) self.old saved.old self.new saved.new }
         ensures count { length saved.new ≡ length saved.old + 3 }
     {
@@ -252,7 +252,7 @@ impl Node {
     #[inline(always)]
     pub(super) fn push_return(&mut self, saved: &mut Saved, word: Word18)
         requires room { length saved.old + 3 ≤ 6 }
-        ensures change { record_of self.new ≡ changed (PushReturn word) (record_of self.old) }
+        ensures change { record_of self.new ≡ node_after_change (PushReturn word) (record_of self.old) }
         ensures saves { Saves (PushReturn word ∷ []) self.old saved.old self.new saved.new }
         ensures count { length saved.new ≡ length saved.old + 3 }
     {
@@ -264,7 +264,7 @@ impl Node {
     #[inline(always)]
     pub(super) fn pop_return(&mut self, saved: &mut Saved)
         requires room { length saved.old + 2 ≤ 6 }
-        ensures change { record_of self.new ≡ changed PopReturn (record_of self.old) }
+        ensures change { record_of self.new ≡ node_after_change PopReturn (record_of self.old) }
         ensures saves { Saves (PopReturn ∷ []) self.old saved.old self.new saved.new }
         ensures count { length saved.new ≡ length saved.old + 2 }
     {
@@ -276,7 +276,7 @@ impl Node {
     #[inline(always)]
     pub(super) fn set_top_return(&mut self, saved: &mut Saved, word: Word18)
         requires room { length saved.old < 6 }
-        ensures change { record_of self.new ≡ changed (SetTopReturn word) (record_of self.old) }
+        ensures change { record_of self.new ≡ node_after_change (SetTopReturn word) (record_of self.old) }
         ensures saves { Saves (SetTopReturn word ∷ []) self.old saved.old self.new saved.new }
         ensures count { length saved.new ≡ length saved.old + 1 }
     {
@@ -288,10 +288,10 @@ impl Node {
     #[inline(always)]
     pub(super) fn end_wait(&mut self, saved: &mut Saved)
         requires room { length saved.old < 6 }
-        ensures change { record_of self.new ≡ changed (SetWait Wait.Nothing) (record_of self.old) }
+        ensures change { record_of self.new ≡ node_after_change (SetWait Wait.Nothing) (record_of self.old) }
         ensures saves { Saves (SetWait Wait.Nothing ∷ []) self.old saved.old self.new saved.new }
         ensures count { length saved.new ≡ length saved.old + 1 }
-        ensures apart { IsApart self.old }
+        ensures apart { HasAtMostOneStatus self.old }
     {
         saved.add(Place::Wait, self.wait.code());
         self.wait = Wait::Nothing;
@@ -303,7 +303,7 @@ impl Node {
     pub(super) fn set_ram(&mut self, saved: &mut Saved, k: u8, word: Word18)
         requires cell { k < 64 }
         requires room { length saved.old < 6 }
-        ensures change { record_of self.new ≡ changed (SetRam k word) (record_of self.old) }
+        ensures change { record_of self.new ≡ node_after_change (SetRam k word) (record_of self.old) }
         ensures saves { Saves (SetRam k word ∷ []) self.old saved.old self.new saved.new }
         ensures count { length saved.new ≡ length saved.old + 1 }
     {
@@ -316,7 +316,7 @@ impl Node {
     #[inline(always)]
     pub(super) fn set_io(&mut self, saved: &mut Saved, word: Word18)
         requires room { length saved.old < 6 }
-        ensures change { record_of self.new ≡ changed (SetIo word) (record_of self.old) }
+        ensures change { record_of self.new ≡ node_after_change (SetIo word) (record_of self.old) }
         ensures saves { Saves (SetIo word ∷ []) self.old saved.old self.new saved.new }
         ensures count { length saved.new ≡ length saved.old + 1 }
     {

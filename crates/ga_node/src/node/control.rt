@@ -10,7 +10,7 @@ impl Node {
     ghost use Rattle.ga_node.specs.Record.{record_of};
     ghost use Rattle.ga_node.specs.Changes.{after_changes};
     ghost use Rattle.ga_node.specs.inner.Saving.{IsDoneBy, Saves, IsMade};
-    ghost use Rattle.ga_node.specs.Table.{opcode_effect, jumps, jumps_where};
+    ghost use Rattle.ga_node.specs.Table.{opcode_effect, jump_changes, jump_changes_if};
 
     /// P := the address that the slot names, and the rest of the word is passed over.
     #[tactic(auto, using(crate::proofs::Saving::saves_as))]
@@ -18,8 +18,8 @@ impl Node {
     fn jump(&mut self, saved: &mut Saved)
         requires slot { (record_of self.old).slot < 3 }
         requires room { length saved.old + 2 ≤ 6 }
-        ensures change { record_of self.new ≡ after_changes (jumps (record_of self.old)) (record_of self.old) }
-        ensures saves { Saves (jumps (record_of self.old)) self.old saved.old self.new saved.new }
+        ensures change { record_of self.new ≡ after_changes (jump_changes (record_of self.old)) (record_of self.old) }
+        ensures saves { Saves (jump_changes (record_of self.old)) self.old saved.old self.new saved.new }
     {
         let p = self.p();
         let i = self.i();
@@ -33,7 +33,7 @@ impl Node {
     fn jump_where(&mut self, saved: &mut Saved, is_so: bool)
         requires slot { (record_of self.old).slot < 3 }
         requires empty { saved.old ≡ [] }
-        ensures { IsMade (jumps_where is_so (record_of self.old)) self.old self.new saved.new }
+        ensures { IsMade (jump_changes_if is_so (record_of self.old)) self.old self.new saved.new }
     {
         if is_so {
             self.jump(saved);
@@ -63,7 +63,7 @@ impl Node {
         let top = self.top_return();
         let p = top.get();
         self.set_p(saved, p % 1024);
-        self.set_top_return(saved, Word18::truncated(old));
+        self.set_top_return(saved, Word18::from_low_bits(old));
         self.skip(saved);
     }
 
@@ -84,7 +84,7 @@ impl Node {
         ensures { IsDoneBy (opcode_effect Op.Call (record_of self.old)) self.old self.new saved.new }
     {
         let p = self.p();
-        self.push_return(saved, Word18::truncated(p));
+        self.push_return(saved, Word18::from_low_bits(p));
         self.jump(saved);
     }
 
@@ -99,7 +99,7 @@ impl Node {
             self.pop_return(saved);
             self.go_on(saved);
         } else {
-            self.set_top_return(saved, Word18::truncated(count - 1));
+            self.set_top_return(saved, Word18::from_low_bits(count - 1));
             self.start_again(saved);
         }
     }
@@ -116,7 +116,7 @@ impl Node {
             self.pop_return(saved);
             self.skip(saved);
         } else {
-            self.set_top_return(saved, Word18::truncated(count - 1));
+            self.set_top_return(saved, Word18::from_low_bits(count - 1));
             self.jump(saved);
         }
     }

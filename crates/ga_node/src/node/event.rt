@@ -5,16 +5,16 @@ ghost use Rattle.ga_node.specs.inner.Saving.{kind_of};
 
 use super::Node;
 use crate::due::NextAction;
-use crate::kind::{Kind, NotReady};
+use crate::kind::{NotReady, OwnEventKind};
 use crate::saved::Saved;
 use crate::seen::Seen;
-use crate::wait::{Reader, Wait};
-use ga_ports::{Target, advance_p, classify};
+use crate::wait::{ReadKind, Wait};
+use ga_ports::{Target, advance_p, classify_address};
 use ga_slots::{Op, opcode};
 
 /// The kind of an event, which an access may have made another.
 #[inline(always)]
-fn named(kind: Kind, done: Result<(), Kind>) -> Kind
+fn named(kind: OwnEventKind, done: Result<(), OwnEventKind>) -> OwnEventKind
     ensures { result ≡ kind_of kind done }
 {
     match done {
@@ -26,16 +26,21 @@ fn named(kind: Kind, done: Result<(), Kind>) -> Kind
 impl Node {
     ghost use Rattle.std.specs.Prelude.{◌≡◌, ◌<◌, ◌%◌, [], IfOk, IfErr, IfNone, OnOk, OnErr, None, Some, MatchResult};
     ghost use Rattle.ga_slots.specs.Codes.{code_of};
-    ghost use Rattle.ga_node.specs.State.{IsApart};
+    ghost use Rattle.ga_node.specs.State.{HasAtMostOneStatus};
     ghost use Rattle.ga_node.specs.Record.{record_of};
-    ghost use Rattle.ga_node.specs.Saving.{Overwrites};
+    ghost use Rattle.ga_node.specs.Saving.{IsUndoLog};
     ghost use Rattle.ga_node.specs.inner.Saving.{IsDone, IsEnded};
-    ghost use Rattle.ga_node.specs.Table.{own, own_event, effect, fetched, looks, looks_by, reads_io, next_action_of, refusal};
-    ghost use Rattle.ga_node.specs.Ready.{IsRunning, CanDo};
+    ghost use Rattle.ga_node.specs.Table.{own, own_event, effect, fetch_result, looks, is_look_action, opcode_reads_io, next_action_of, refusal};
+    ghost use Rattle.ga_node.specs.Ready.{IsRunning, CanExecute};
 
     /// Carries out an opcode, or answers the kind of the event that its access has become.
     #[inline(always)]
-    pub(super) fn execute(&mut self, seen: Seen, saved: &mut Saved, op: Op) -> Result<(), Kind>
+    pub(super) fn execute(
+        &mut self,
+        seen: Seen,
+        saved: &mut Saved,
+        op: Op,
+    ) -> Result<(), OwnEventKind>
         requires running { IsRunning (record_of self.old) }
         requires slot { (record_of self.old).slot < 4 }
         requires last { (record_of self.old).slot ≡ 3 → code_of op % 4 ≡ 0 }
@@ -100,14 +105,14 @@ impl Node {
 
     /// Fetches the word at P, or answers the kind of the event that this has become.
     #[inline(always)]
-    pub(super) fn fetch(&mut self, seen: Seen, saved: &mut Saved) -> Result<(), Kind>
+    pub(super) fn fetch(&mut self, seen: Seen, saved: &mut Saved) -> Result<(), OwnEventKind>
         requires running { IsRunning (record_of self.old) }
         requires empty { saved.old ≡ [] }
-        ensures done { OnOk result (IsDone (fetched seen (record_of self.old)) self.old self.new saved.new) }
-        ensures ended { IfErr result (λ kind. IsEnded (fetched seen (record_of self.old)) kind self.old self.new saved.new) }
+        ensures done { OnOk result (IsDone (fetch_result seen (record_of self.old)) self.old self.new saved.new) }
+        ensures ended { IfErr result (λ kind. IsEnded (fetch_result seen (record_of self.old)) kind self.old self.new saved.new) }
     {
         let p = self.p();
-        let word = self.read(seen, saved, p, Reader::Instruction)?;
+        let word = self.read(seen, saved, p, ReadKind::Instruction)?;
         self.begin(saved, word, advance_p(p));
         Ok(())
     }
@@ -115,8 +120,8 @@ impl Node {
     /// Whether the opcode reads `io`.
     #[inline(always)]
     #[tactic(auto, using(crate::proofs::Looks::reads_not))]
-    fn reads_io(&self, op: Op) -> bool
-        ensures { result ≡ reads_io op (record_of self.now) }
+    fn opcode_reads_io(&self, op: Op) -> bool
+        ensures { result ≡ opcode_reads_io op (record_of self.now) }
     {
         // the four that read have the codes 08 to 0b: this test excludes most others, without a jump by opcode
         if op.code() / 4 != 2 {
@@ -129,15 +134,15 @@ impl Node {
             Op::Fetch => self.a().get(),
             _ => return false,
         };
-        classify(address) == Target::Io
+        classify_address(address) == Target::Io
     }
 
-    /// What the node's next event of its own carries out, for [`Node::looks_by`] and [`Node::execute_logged`].
+    /// What the node's next event of its own carries out, for [`Node::is_look_action`] and [`Node::execute_logged`].
     #[inline(always)]
     pub fn due(&self) -> NextAction
         requires { refusal (record_of self.now) ≡ None }
         ensures due { result ≡ next_action_of (record_of self.now) }
-        ensures can { CanDo result (record_of self.now) }
+        ensures can { CanExecute result (record_of self.now) }
     {
         let slot = self.slot();
         if slot == 4 {
@@ -148,12 +153,12 @@ impl Node {
 
     /// Whether an event that carries this out is a look ([`Node::looks`]).
     #[inline(always)]
-    pub fn looks_by(&self, due: NextAction) -> bool
-        ensures { result ≡ looks_by due (record_of self.now) }
+    pub fn is_look_action(&self, due: NextAction) -> bool
+        ensures { result ≡ is_look_action due (record_of self.now) }
     {
         match due {
-            NextAction::Fetch => classify(self.p()) == Target::Io,
-            NextAction::Run(op) => self.reads_io(op),
+            NextAction::Fetch => classify_address(self.p()) == Target::Io,
+            NextAction::Run(op) => self.opcode_reads_io(op),
         }
     }
 
@@ -166,29 +171,29 @@ impl Node {
     {
         let slot = self.slot();
         if slot == 4 {
-            return self.looks_by(NextAction::Fetch);
+            return self.is_look_action(NextAction::Fetch);
         }
-        self.looks_by(NextAction::Run(opcode(self.i(), slot)))
+        self.is_look_action(NextAction::Run(opcode(self.i(), slot)))
     }
 
     /// Makes the node's next event, which carries this out, as [`Node::own`] does, and puts the values that it overwrote
     /// into a list that the caller keeps, which is empty before.
     #[inline(always)]
-    pub fn execute_logged(&mut self, due: NextAction, seen: Seen, saved: &mut Saved) -> Kind
+    pub fn execute_logged(&mut self, due: NextAction, seen: Seen, saved: &mut Saved) -> OwnEventKind
         requires due { due ≡ next_action_of (record_of self.old) }
-        requires can { CanDo due (record_of self.old) }
+        requires can { CanExecute due (record_of self.old) }
         requires empty { saved.old ≡ [] }
         ensures event { (result, record_of self.new) ≡ own seen (record_of self.old) }
-        ensures saves { Overwrites (own_event seen (record_of self.old)).1 self.old self.new saved.new }
+        ensures saves { IsUndoLog (own_event seen (record_of self.old)).1 self.old self.new saved.new }
     {
         match due {
             NextAction::Fetch => {
                 let done = self.fetch(seen, saved);
-                named(Kind::Fetch, done)
+                named(OwnEventKind::Fetch, done)
             }
             NextAction::Run(op) => {
                 let done = self.execute(seen, saved, op);
-                named(Kind::Run(op.code()), done)
+                named(OwnEventKind::Run(op.code()), done)
             }
         }
     }
@@ -200,11 +205,11 @@ impl Node {
     /// # Errors
     /// `Waiting` or `Stopped`, where the node waits or is stopped.
     #[tactic(auto, using(crate::proofs::Restoring::apart_from_ready))]
-    pub fn own(&mut self, seen: Seen) -> Result<(Kind, Saved), NotReady>
+    pub fn own(&mut self, seen: Seen) -> Result<(OwnEventKind, Saved), NotReady>
         ensures ready { MatchResult result (λ _. refusal (record_of self.old) ≡ None) (λ reason. refusal (record_of self.old) ≡ Some reason) }
         ensures event { IfOk result (λ event. (event.0, record_of self.new) ≡ own seen (record_of self.old)) }
-        ensures saves { IfOk result (λ event. Overwrites (own_event seen (record_of self.old)).1 self.old self.new event.1) }
-        ensures apart { OnOk result (IsApart self.old) }
+        ensures saves { IfOk result (λ event. IsUndoLog (own_event seen (record_of self.old)).1 self.old self.new event.1) }
+        ensures apart { OnOk result (HasAtMostOneStatus self.old) }
         ensures same { OnErr result (self.new ≡ self.old) }
     {
         if let Some(reason) = self.not_ready() {

@@ -1,10 +1,10 @@
 //! Opcodes that read or write at an address. An access that turns out to be a wait or a stop is answered as an `Err`.
 
 use super::Node;
-use crate::kind::Kind;
+use crate::kind::OwnEventKind;
 use crate::saved::Saved;
 use crate::seen::Seen;
-use crate::wait::Reader;
+use crate::wait::ReadKind;
 use ga_ports::{advance_a, advance_p};
 use ga_slots::Op;
 
@@ -16,14 +16,14 @@ impl Node {
     ghost use Rattle.ga_node.specs.Ready.{IsRunning};
 
     /// `@p`, fetch p: the word at P is pushed, and P advances.
-    pub(super) fn run_fetch_p(&mut self, seen: Seen, saved: &mut Saved) -> Result<(), Kind>
+    pub(super) fn run_fetch_p(&mut self, seen: Seen, saved: &mut Saved) -> Result<(), OwnEventKind>
         requires running { IsRunning (record_of self.old) }
         requires empty { saved.old ≡ [] }
         ensures done { OnOk result (IsDone (effect Op.FetchP seen (record_of self.old)) self.old self.new saved.new) }
         ensures ended { IfErr result (λ kind. IsEnded (effect Op.FetchP seen (record_of self.old)) kind self.old self.new saved.new) }
     {
         let p = self.p();
-        let word = self.read(seen, saved, p, Reader::Stack)?;
+        let word = self.read(seen, saved, p, ReadKind::Stack)?;
         self.push_data(saved, word);
         self.set_p(saved, advance_p(p));
         self.go_on(saved);
@@ -31,14 +31,18 @@ impl Node {
     }
 
     /// `@+`, fetch plus: the word at A is pushed, and A advances.
-    pub(super) fn run_fetch_plus(&mut self, seen: Seen, saved: &mut Saved) -> Result<(), Kind>
+    pub(super) fn run_fetch_plus(
+        &mut self,
+        seen: Seen,
+        saved: &mut Saved,
+    ) -> Result<(), OwnEventKind>
         requires running { IsRunning (record_of self.old) }
         requires empty { saved.old ≡ [] }
         ensures done { OnOk result (IsDone (effect Op.FetchPlus seen (record_of self.old)) self.old self.new saved.new) }
         ensures ended { IfErr result (λ kind. IsEnded (effect Op.FetchPlus seen (record_of self.old)) kind self.old self.new saved.new) }
     {
         let a = self.a();
-        let word = self.read(seen, saved, a.get(), Reader::Stack)?;
+        let word = self.read(seen, saved, a.get(), ReadKind::Stack)?;
         self.push_data(saved, word);
         self.set_a(saved, advance_a(a));
         self.go_on(saved);
@@ -46,35 +50,35 @@ impl Node {
     }
 
     /// `@b`, fetch b: the word at B is pushed.
-    pub(super) fn run_fetch_b(&mut self, seen: Seen, saved: &mut Saved) -> Result<(), Kind>
+    pub(super) fn run_fetch_b(&mut self, seen: Seen, saved: &mut Saved) -> Result<(), OwnEventKind>
         requires running { IsRunning (record_of self.old) }
         requires empty { saved.old ≡ [] }
         ensures done { OnOk result (IsDone (effect Op.FetchB seen (record_of self.old)) self.old self.new saved.new) }
         ensures ended { IfErr result (λ kind. IsEnded (effect Op.FetchB seen (record_of self.old)) kind self.old self.new saved.new) }
     {
         let b = self.b();
-        let word = self.read(seen, saved, b, Reader::Stack)?;
+        let word = self.read(seen, saved, b, ReadKind::Stack)?;
         self.push_data(saved, word);
         self.go_on(saved);
         Ok(())
     }
 
     /// `@`, fetch: the word at A is pushed.
-    pub(super) fn run_fetch(&mut self, seen: Seen, saved: &mut Saved) -> Result<(), Kind>
+    pub(super) fn run_fetch(&mut self, seen: Seen, saved: &mut Saved) -> Result<(), OwnEventKind>
         requires running { IsRunning (record_of self.old) }
         requires empty { saved.old ≡ [] }
         ensures done { OnOk result (IsDone (effect Op.Fetch seen (record_of self.old)) self.old self.new saved.new) }
         ensures ended { IfErr result (λ kind. IsEnded (effect Op.Fetch seen (record_of self.old)) kind self.old self.new saved.new) }
     {
         let a = self.a();
-        let word = self.read(seen, saved, a.get(), Reader::Stack)?;
+        let word = self.read(seen, saved, a.get(), ReadKind::Stack)?;
         self.push_data(saved, word);
         self.go_on(saved);
         Ok(())
     }
 
     /// `!p`, store p: stores T at the address in P and pops it, and P advances.
-    pub(super) fn run_store_p(&mut self, saved: &mut Saved) -> Result<(), Kind>
+    pub(super) fn run_store_p(&mut self, saved: &mut Saved) -> Result<(), OwnEventKind>
         requires running { IsRunning (record_of self.old) }
         requires empty { saved.old ≡ [] }
         ensures done { OnOk result (IsDoneBy (opcode_effect Op.StoreP (record_of self.old)) self.old self.new saved.new) }
@@ -89,7 +93,7 @@ impl Node {
     }
 
     /// `!+`, store plus: stores T at the address in A and pops it, and A advances.
-    pub(super) fn run_store_plus(&mut self, saved: &mut Saved) -> Result<(), Kind>
+    pub(super) fn run_store_plus(&mut self, saved: &mut Saved) -> Result<(), OwnEventKind>
         requires running { IsRunning (record_of self.old) }
         requires empty { saved.old ≡ [] }
         ensures done { OnOk result (IsDoneBy (opcode_effect Op.StorePlus (record_of self.old)) self.old self.new saved.new) }
@@ -104,7 +108,7 @@ impl Node {
     }
 
     /// `!b`, store b: stores T at the address in B and pops it.
-    pub(super) fn run_store_b(&mut self, saved: &mut Saved) -> Result<(), Kind>
+    pub(super) fn run_store_b(&mut self, saved: &mut Saved) -> Result<(), OwnEventKind>
         requires running { IsRunning (record_of self.old) }
         requires empty { saved.old ≡ [] }
         ensures done { OnOk result (IsDoneBy (opcode_effect Op.StoreB (record_of self.old)) self.old self.new saved.new) }
@@ -118,7 +122,7 @@ impl Node {
     }
 
     /// `!`, store: stores T at the address in A and pops it.
-    pub(super) fn run_store(&mut self, saved: &mut Saved) -> Result<(), Kind>
+    pub(super) fn run_store(&mut self, saved: &mut Saved) -> Result<(), OwnEventKind>
         requires running { IsRunning (record_of self.old) }
         requires empty { saved.old ≡ [] }
         ensures done { OnOk result (IsDoneBy (opcode_effect Op.Store (record_of self.old)) self.old self.new saved.new) }

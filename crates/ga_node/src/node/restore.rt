@@ -8,17 +8,17 @@ use crate::wait::Wait;
 
 impl Node {
     ghost use Rattle.std.specs.Prelude.{◌≡◌, ◌≤◌, take};
-    ghost use Rattle.ga_node.specs.State.{with_value, restored, with_aside, IsInRange, AreFit, IsApart, IsCleared};
+    ghost use Rattle.ga_node.specs.State.{with_value, with_restored_values, with_suspended_status, IsInRange, AreValuesInRange, HasAtMostOneStatus, HasClearedStatus};
 
     /// Writes one old value back, of a node whose wait and stop are set aside.
     #[tactic(auto, using(crate::proofs::Restoring::stays_apart))]
     #[inline(always)]
     pub(crate) fn put_back(&mut self, aside: &mut SuspendedStatus, place: Place, old: u32)
         requires fit { IsInRange place old }
-        requires cleared { IsCleared self.old }
+        requires cleared { HasClearedStatus self.old }
         requires in_range { aside.old.stop ≤ 3 }
-        ensures back { with_aside self.new aside.new ≡ with_value (with_aside self.old aside.old) place old }
-        ensures cleared { IsCleared self.new }
+        ensures back { with_suspended_status self.new aside.new ≡ with_value (with_suspended_status self.old aside.old) place old }
+        ensures cleared { HasClearedStatus self.new }
         ensures in_range { aside.new.stop ≤ 3 }
     {
         match place {
@@ -31,9 +31,9 @@ impl Node {
     /// Sets the wait and the stop aside, for old values of many events to be written back by `write_back`.
     #[inline(always)]
     pub fn suspend_status(&mut self) -> SuspendedStatus
-        ensures same { with_aside self.new result ≡ self.old }
-        ensures apart { IsApart self.old }
-        ensures cleared { IsCleared self.new }
+        ensures same { with_suspended_status self.new result ≡ self.old }
+        ensures apart { HasAtMostOneStatus self.old }
+        ensures cleared { HasClearedStatus self.new }
         ensures in_range { result.stop ≤ 3 }
     {
         let aside = SuspendedStatus {
@@ -49,11 +49,11 @@ impl Node {
     /// are set aside.
     #[inline(always)]
     fn write_six_back(&mut self, aside: &mut SuspendedStatus, saved: &Saved)
-        requires fit { AreFit saved.now }
-        requires cleared { IsCleared self.old }
+        requires fit { AreValuesInRange saved.now }
+        requires cleared { HasClearedStatus self.old }
         requires in_range { aside.old.stop ≤ 3 }
-        ensures back { with_aside self.new aside.new ≡ restored (with_aside self.old aside.old) (take 6 saved.now) }
-        ensures cleared { IsCleared self.new }
+        ensures back { with_suspended_status self.new aside.new ≡ with_restored_values (with_suspended_status self.old aside.old) (take 6 saved.now) }
+        ensures cleared { HasClearedStatus self.new }
         ensures in_range { aside.new.stop ≤ 3 }
     {
         let count = saved.six();
@@ -66,11 +66,11 @@ impl Node {
     /// Writes the values that an event overwrote back, the last of them first, where the wait and the stop are set aside.
     #[inline(always)]
     pub fn write_back(&mut self, aside: &mut SuspendedStatus, saved: &Saved)
-        requires fit { AreFit saved.now }
-        requires cleared { IsCleared self.old }
+        requires fit { AreValuesInRange saved.now }
+        requires cleared { HasClearedStatus self.old }
         requires in_range { aside.old.stop ≤ 3 }
-        ensures back { with_aside self.new aside.new ≡ restored (with_aside self.old aside.old) saved.now }
-        ensures cleared { IsCleared self.new }
+        ensures back { with_suspended_status self.new aside.new ≡ with_restored_values (with_suspended_status self.old aside.old) saved.now }
+        ensures cleared { HasClearedStatus self.new }
         ensures in_range { aside.new.stop ≤ 3 }
     {
         if saved.is_full() {
@@ -84,8 +84,8 @@ impl Node {
     #[inline(always)]
     pub fn resume_status(&mut self, aside: SuspendedStatus)
         requires in_range { aside.stop ≤ 3 }
-        requires apart { IsApart (with_aside self.old aside) }
-        ensures { self.new ≡ with_aside self.old aside }
+        requires apart { HasAtMostOneStatus (with_suspended_status self.old aside) }
+        ensures { self.new ≡ with_suspended_status self.old aside }
     {
         self.wait = aside.wait;
         self.stop = aside.stop;
@@ -94,9 +94,9 @@ impl Node {
     /// Writes the seven values that an event overwrote back, the last of them first.
     #[inline(never)]
     fn restore_seven(&mut self, saved: &Saved)
-        requires fit { AreFit saved.now }
-        requires apart { IsApart (restored self.old saved.now) }
-        ensures { self.new ≡ restored self.old saved.now }
+        requires fit { AreValuesInRange saved.now }
+        requires apart { HasAtMostOneStatus (with_restored_values self.old saved.now) }
+        ensures { self.new ≡ with_restored_values self.old saved.now }
     {
         let mut aside = self.suspend_status();
         self.write_back(&mut aside, saved);
@@ -105,9 +105,9 @@ impl Node {
 
     /// Writes the values that an event overwrote back, the last of them first.
     pub fn restore(&mut self, saved: &Saved)
-        requires fit { AreFit saved.now }
-        requires apart { IsApart (restored self.old saved.now) }
-        ensures { self.new ≡ restored self.old saved.now }
+        requires fit { AreValuesInRange saved.now }
+        requires apart { HasAtMostOneStatus (with_restored_values self.old saved.now) }
+        ensures { self.new ≡ with_restored_values self.old saved.now }
     {
         if saved.is_full() {
             return self.restore_seven(saved);

@@ -7,21 +7,21 @@ use ga_word::Word18;
 
 impl Node {
     ghost use Rattle.std.specs.Prelude.{◌≡◌, []};
-    ghost use Rattle.ga_node.specs.State.{IsApart};
+    ghost use Rattle.ga_node.specs.State.{HasAtMostOneStatus};
     ghost use Rattle.ga_node.specs.Record.{record_of};
-    ghost use Rattle.ga_node.specs.Saving.{Overwrites};
-    ghost use Rattle.ga_node.specs.Table.{t, sent, sending, taken, taking};
-    ghost use Rattle.ga_node.specs.Ready.{IsWriting, IsReading};
+    ghost use Rattle.ga_node.specs.Saving.{IsUndoLog};
+    ghost use Rattle.ga_node.specs.Table.{t, sent, send_changes, taken, take_changes};
+    ghost use Rattle.ga_node.specs.Ready.{IsWriteWait, IsReadWait};
 
     /// Completes the writer's side, as [`Node::send_half`] does, with the overwritten values put into an empty list that
     /// the caller keeps.
     pub fn send_half_into(&mut self, saved: &mut Saved) -> Word18
-        requires writing { IsWriting (record_of self.old).wait }
+        requires writing { IsWriteWait (record_of self.old).wait }
         requires empty { saved.old ≡ [] }
         ensures word { result ≡ t (record_of self.old) }
         ensures sent { record_of self.new ≡ sent (record_of self.old) }
-        ensures saves { Overwrites sending self.old self.new saved.new }
-        ensures apart { IsApart self.old }
+        ensures saves { IsUndoLog send_changes self.old self.new saved.new }
+        ensures apart { HasAtMostOneStatus self.old }
     {
         let word = self.top();
         self.end_wait(saved);
@@ -32,11 +32,11 @@ impl Node {
 
     /// Completes the writer's side of a transfer: pops T, the transferred word. Returns T and the overwritten values.
     pub fn send_half(&mut self) -> (Word18, Saved)
-        requires { IsWriting (record_of self.old).wait }
+        requires { IsWriteWait (record_of self.old).wait }
         ensures word { result.0 ≡ t (record_of self.old) }
         ensures sent { record_of self.new ≡ sent (record_of self.old) }
-        ensures saves { Overwrites sending self.old self.new result.1 }
-        ensures apart { IsApart self.old }
+        ensures saves { IsUndoLog send_changes self.old self.new result.1 }
+        ensures apart { HasAtMostOneStatus self.old }
     {
         let mut saved = Saved::new();
         let word = self.send_half_into(&mut saved);
@@ -46,11 +46,11 @@ impl Node {
     /// Completes the reader's side, as [`Node::take_half`] does, with the overwritten values put into an empty list that
     /// the caller keeps.
     pub fn take_half_into(&mut self, word: Word18, saved: &mut Saved)
-        requires reading { IsReading (record_of self.old).wait }
+        requires reading { IsReadWait (record_of self.old).wait }
         requires empty { saved.old ≡ [] }
         ensures taken { record_of self.new ≡ taken word (record_of self.old) }
-        ensures saves { Overwrites (taking (record_of self.old).wait word) self.old self.new saved.new }
-        ensures apart { IsApart self.old }
+        ensures saves { IsUndoLog (take_changes (record_of self.old).wait word) self.old self.new saved.new }
+        ensures apart { HasAtMostOneStatus self.old }
     {
         let wait = self.wait();
         self.end_wait(saved);
@@ -71,10 +71,10 @@ impl Node {
     /// Completes the reader's side of a transfer: the word becomes the instruction word or is pushed, by what the node
     /// waits for. Answers the overwritten values.
     pub fn take_half(&mut self, word: Word18) -> Saved
-        requires { IsReading (record_of self.old).wait }
+        requires { IsReadWait (record_of self.old).wait }
         ensures taken { record_of self.new ≡ taken word (record_of self.old) }
-        ensures saves { Overwrites (taking (record_of self.old).wait word) self.old self.new result }
-        ensures apart { IsApart self.old }
+        ensures saves { IsUndoLog (take_changes (record_of self.old).wait word) self.old self.new result }
+        ensures apart { HasAtMostOneStatus self.old }
     {
         let mut saved = Saved::new();
         self.take_half_into(word, &mut saved);

@@ -1,16 +1,16 @@
 -- The rows of tables of words.
 use Rattle.std.specs.Prelude.{ℕ, nat_le, Bool, List, length}
-use Rattle.ga_parser.specs.declared.hint_words.OtherWord.{OtherWord}
+use Rattle.ga_parser.specs.declared.hint_words.ForeignWord.{ForeignWord}
 use Rattle.ga_parser.specs.declared.hint_words.KnownWord.{KnownWord}
 
-abbrev pub row_of : OtherWord → List ℕ × List ℕ
+abbrev pub row_of : ForeignWord → List ℕ × List ℕ
 row_of row = (row.word.now, row.here.now)
 
 abbrev pub name_of : KnownWord → List ℕ
 name_of known = known.name.now
 
 -- what a hint has beside a part of the word is of 64 bytes at most
-abbrev pub is_short_row : OtherWord → Bool
+abbrev pub is_short_row : ForeignWord → Bool
 is_short_row row = nat_le (length row.here.now) 64
 
 abbrev pub is_short_name : KnownWord → Bool

@@ -10,5 +10,5 @@ recovery_of reading = record {
   last = reading.last;
   now = asking_of reading.draft;
   refused = map word_refusal reading.faults.items;
-  is_passed = reading.is_passed;
+  is_last_skipped = reading.is_last_skipped;
 }

@@ -7,14 +7,14 @@ use Rattle.ga_parser.specs.declared.fault.SourceCause.TheVariants.{LabelTwice, R
 use Rattle.ga_parser.specs.declared.item.RegisterValue.{RegisterValue}
 use Rattle.ga_parser.specs.declared.vocabulary.Control.{Control}
 use Rattle.ga_parser.specs.declared.vocabulary.Control.TheVariants.{Begin, For, Again, Until, Next, NextAround, Unext, While, Repeat, If, Else, Then}
-use Rattle.ga_parser.specs.Asking.{Mention, Refusal, refuse_line, is_behind, named_before}
-use Rattle.ga_parser.specs.Requests.{wrong_of}
+use Rattle.ga_parser.specs.Asking.{LabelContent, Refusal, refusal_at_line, is_marked_label, known_label_number}
+use Rattle.ga_parser.specs.Requests.{refusal_cause_of}
 use Rattle.ga_parser.specs.Vocabulary.{is_reserved}
 
 -- what words ask for is refused for just this cause, where there is one
 abbrev pub RefusesBy : {X : Type 0} → Option SourceCause → ℕ → Result X Refusal → Type 0
 RefusesBy None line asks = IsOk asks
-RefusesBy (Some cause) line asks = asks ≡ refuse_line line (wrong_of cause)
+RefusesBy (Some cause) line asks = asks ≡ refusal_at_line line (refusal_cause_of cause)
 
 -- ---- the causes
 
@@ -32,8 +32,8 @@ abbrev pub loop_cause_of : Option Open → Option SourceCause
 loop_cause_of (Some (Loop _ _)) = None
 loop_cause_of _ = Some Unmatched
 
-abbrev pub ahead_cause_of : List Mention → Option Open → Option SourceCause
-ahead_cause_of labels (Some (JumpAhead _ label)) = if is_behind labels label then Some LabelTwice else None
+abbrev pub ahead_cause_of : List LabelContent → Option Open → Option SourceCause
+ahead_cause_of labels (Some (JumpAhead _ label)) = if is_marked_label labels label then Some LabelTwice else None
 ahead_cause_of labels _ = Some Unmatched
 
 -- the first of two causes
@@ -41,7 +41,7 @@ abbrev pub cause_or : Option SourceCause → Option SourceCause → Option Sourc
 cause_or (Some cause) _ = Some cause
 cause_or None other = other
 
-abbrev pub control_cause_of : List Mention → List Open → Control → Option SourceCause
+abbrev pub control_cause_of : List LabelContent → List Open → Control → Option SourceCause
 control_cause_of labels opened Begin = None
 control_cause_of labels opened For = None
 control_cause_of labels opened (If op) = None
@@ -56,12 +56,12 @@ control_cause_of labels opened (While op) = loop_cause_of (first_open opened)
 control_cause_of labels opened Repeat = cause_or (loop_cause_of (first_open opened)) (ahead_cause_of labels (first_open (around_first opened)))
 
 -- a label that has a place already
-abbrev pub twice_cause_of : List Mention → Option ℕ → Option SourceCause
-twice_cause_of labels (Some label) = if is_behind labels label then Some LabelTwice else None
+abbrev pub twice_cause_of : List LabelContent → Option ℕ → Option SourceCause
+twice_cause_of labels (Some label) = if is_marked_label labels label then Some LabelTwice else None
 twice_cause_of labels None = None
 
-abbrev pub name_cause_of : List Mention → List ℕ → Option SourceCause
-name_cause_of labels name = if is_reserved name then Some Taken else twice_cause_of labels (named_before labels name)
+abbrev pub name_cause_of : List LabelContent → List ℕ → Option SourceCause
+name_cause_of labels name = if is_reserved name then Some Taken else twice_cause_of labels (known_label_number labels name)
 
 -- a register that is given already
 abbrev pub given_cause_of : Option RegisterValue → Option SourceCause

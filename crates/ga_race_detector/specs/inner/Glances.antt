@@ -8,17 +8,17 @@ use Rattle.ga_event.specs.declared.event.Event.{Event}
 use Rattle.ga_event.specs.declared.event.Event.TheVariants.{Own, Pass}
 use Rattle.ga_event.specs.declared.event.Cause.{Cause}
 use Rattle.ga_event.specs.Apply.{neighbour_states}
-use Rattle.ga_event.specs.Told.{steps_of}
-use Rattle.ga_causal.specs.Dependence.{event_at, rewound_list}
+use Rattle.ga_event.specs.Told.{count_steps}
+use Rattle.ga_causal.specs.Dependence.{event_at, events_after_rewind}
 use Rattle.ga_races.specs.declared.act.EventAccess.{EventAccess}
-use Rattle.ga_races.specs.HappensBefore.{actions, action_at, are_linked}
-use Rattle.ga_races.specs.Acts.{action_in}
-use Rattle.ga_lab.specs.Machine.{State, chip_of, causes_of, earlier, rewound}
+use Rattle.ga_races.specs.HappensBefore.{actions, action_at, are_neighbours}
+use Rattle.ga_races.specs.Acts.{action_of_access}
+use Rattle.ga_lab.specs.Machine.{State, chip_of, causes_of, earlier, state_after_rewind}
 use Rattle.ga_race_detector.specs.declared.moments.StepCounts.{StepCounts}
 use Rattle.ga_ports.specs.declared.side.Side.{Side}
 use Rattle.ga_ports.specs.declared.side.Side.TheVariants.{Right, Down, Left, Up}
 use Rattle.ga_grid.specs.Grid.{neighbour_of}
-use Rattle.ga_causal.specs.Steps.{touching, IsStep}
+use Rattle.ga_causal.specs.Steps.{count_touching_events, IsKthStep}
 use Rattle.ga_race_detector.specs.declared.around.Around.{Around}
 use Rattle.ga_race_detector.specs.declared.around.StepsLeftNearby.{StepsLeftNearby}
 use Rattle.ga_race_detector.specs.declared.around.Sweep.{Sweep}
@@ -27,7 +27,7 @@ use Rattle.ga_race_detector.specs.inner.Writers.{AreLeft, IsTaken}
 use Rattle.ga_races.specs.declared.racing_pairs.RacingPair.{RacingPair}
 use Rattle.ga_race_detector.specs.declared.readings.LookRace.{LookRace}
 use Rattle.ga_race_detector.specs.Races.{looks_next}
-use Rattle.ga_race_detector.specs.Readings.{IsTold}
+use Rattle.ga_race_detector.specs.Readings.{IsReportedLookRace}
 use Rattle.ga_race_detector.specs.declared.look_changes.LookChange.{LookChange}
 
 -- ---- nodes as they were before a place of the history, and the event at the place as it was made
@@ -36,7 +36,7 @@ use Rattle.ga_race_detector.specs.declared.look_changes.LookChange.{LookChange}
 pub record StoodSo (s : State) (m place code count : ℕ) : Type 0 where
   pub wait : (record_at (chip_of (earlier s place)) m).wait ≡ wait_of code
   pub valid : IsWaitCode code
-  pub steps : count ≡ steps_of m (take place s.kept)
+  pub steps : count ≡ count_steps m (take place s.kept)
 
 -- before the place each node of the chip had its wait, by number, and its number of steps in these lists
 abbrev pub AllStood : State → ℕ → List ℕ → List ℕ → Type 0
@@ -49,7 +49,7 @@ pub record IsAt (s : State) (place : ℕ) (cause : Cause) : Type 0 where
 
 -- the act has what the event at the place changed of what is shown to each node of the chip
 abbrev pub IsActAt : State → ℕ → EventAccess → Type 0
-IsActAt s place act = (n : ℕ) → n < 144 → (action_in act).changes n ≡ (action_at (actions s.load s.kept) place).changes n
+IsActAt s place act = (n : ℕ) → n < 144 → (action_of_access act).changes n ≡ (action_at (actions s.load s.kept) place).changes n
 
 -- the node of an event, of a pass its writer
 abbrev pub first_part : Event → NodeId
@@ -63,8 +63,8 @@ last_part (Pass w r side) = r
 
 -- before the event at the place its nodes had made these numbers of steps, and if it looks it reads this word
 pub record IsMoment (s : State) (place : ℕ) (cause : Cause) (moment : StepCounts) : Type 0 where
-  pub first : moment.first ≡ steps_of (first_part cause.event).number (take place s.kept)
-  pub last : moment.last ≡ steps_of (last_part cause.event).number (take place s.kept)
+  pub first : moment.first ≡ count_steps (first_part cause.event).number (take place s.kept)
+  pub last : moment.last ≡ count_steps (last_part cause.event).number (take place s.kept)
   pub word : cause.look ≡ true → moment.word ≡ io_word (neighbour_states (chip_of (earlier s place)) (first_part cause.event).number)
 
 -- the moment that is read past the end of a list of moments
@@ -130,8 +130,8 @@ pub record AreFew (sweep : Sweep) : Type 0 where
 
 -- a rollback of step k of node b leaves these numbers of steps of node n and of each of its neighbours
 pub record IsAround (causes : List Cause) (b k n : ℕ) (around : Around) : Type 0 where
-  pub node : around.node ≡ touching n (rewound_list causes b k)
-  pub beside : (side : Side) (m : ℕ) → neighbour_of n side ≡ Some m → around_over around side ≡ touching m (rewound_list causes b k)
+  pub node : around.node ≡ count_touching_events n (events_after_rewind causes b k)
+  pub beside : (side : Side) (m : ℕ) → neighbour_of n side ≡ Some m → around_over around side ≡ count_touching_events m (events_after_rewind causes b k)
 
 -- the lists have how many steps of node n and of its neighbours a rollback of each step of node b leaves
 pub record AreAround (causes : List Cause) (b n : ℕ) (lists : StepsLeftNearby) : Type 0 where
@@ -143,19 +143,19 @@ pub record AreAround (causes : List Cause) (b n : ℕ) (lists : StepsLeftNearby)
 -- the node of an event that is a neighbour of another, of a pass the writer if that is one
 abbrev pub part_beside : Event → ℕ → NodeId
 part_beside (Own own) n = own
-part_beside (Pass writer reader side) n = if are_linked n writer.number then writer else reader
+part_beside (Pass writer reader side) n = if are_neighbours n writer.number then writer else reader
 
 -- the look and the change of a reading are at these two places
 pub record IsAtNear (s : State) (near : RacingPair) (reading : LookRace) : Type 0 where
-  pub looks : IsStep (causes_of s) reading.node.number reading.step near.look
-  pub changes : IsStep (causes_of s) reading.neighbour.number reading.change near.change
+  pub looks : IsKthStep (causes_of s) reading.node.number reading.step near.look
+  pub changes : IsKthStep (causes_of s) reading.neighbour.number reading.change near.change
   pub side : Side
   pub beside : neighbour_of reading.node.number side ≡ Some reading.neighbour.number
-  pub order : reading.early ≡ nat_lt near.look near.change
+  pub order : reading.is_look_first ≡ nat_lt near.look near.change
 
 -- the step that a rollback removes for the look to read another word
 abbrev pub taken_of : LookChange → NodeId × ℕ
-taken_of glance = if glance.early then (glance.node, glance.step) else (glance.neighbour, glance.change)
+taken_of glance = if glance.is_look_first then (glance.node, glance.step) else (glance.neighbour, glance.change)
 
 -- two looks are of one node, and the removed steps for both are of one node
 pub record HangTogether (one other : LookChange) : Type 0 where
@@ -167,11 +167,11 @@ pub record IsGlance (s : State) (near : RacingPair) (glance : LookChange) : Type
   pub look : near.look < length (causes_of s)
   pub change_at : near.change < length (causes_of s)
   pub looked : event_at (causes_of s) near.look ≡ record { event = Own glance.node; look = true }
-  pub step : glance.step ≡ touching glance.node.number (take near.look (causes_of s)) + 1
+  pub step : glance.step ≡ count_touching_events glance.node.number (take near.look (causes_of s)) + 1
   pub word : glance.word ≡ io_word (neighbour_states (chip_of (earlier s near.look)) glance.node.number)
   pub neighbour : glance.neighbour ≡ part_beside (event_at (causes_of s) near.change).event glance.node.number
-  pub change : glance.change ≡ touching glance.neighbour.number (take near.change (causes_of s)) + 1
-  pub early : glance.early ≡ nat_lt near.look near.change
+  pub change : glance.change ≡ count_touching_events glance.neighbour.number (take near.change (causes_of s)) + 1
+  pub is_look_first : glance.is_look_first ≡ nat_lt near.look near.change
 
 -- the look and the change are at some places, and the node that looked is the requested one, if one was
 abbrev pub IsGlanced : State → Option NodeId → LookChange → Type 0
@@ -183,7 +183,7 @@ IsShownBy s near list = (glance : LookChange) × Contains list glance × IsGlanc
 
 -- for each reading to be reported that is at listed places, one of the list is the look and the change there
 abbrev pub AreGlanced : State → Option NodeId → List RacingPair → List LookChange → Type 0
-AreGlanced s only nears list = (reading : LookRace) (near : RacingPair) → Contains nears near → IsTold s only reading → IsAtNear s near reading → IsShownBy s near list
+AreGlanced s only nears list = (reading : LookRace) (near : RacingPair) → Contains nears near → IsReportedLookRace s only reading → IsAtNear s near reading → IsShownBy s near list
 
 -- how many steps of the node that looked, and of its neighbours, a rollback of the step for it to read another word leaves
 abbrev pub IsAroundOf : List Cause → LookChange → Around → Type 0
@@ -192,7 +192,7 @@ IsAroundOf causes glance around = IsAround causes (taken_of glance).0.number (ta
 -- the step that is removed for the look to read another word was made
 pub record HasStep (causes : List Cause) (glance : LookChange) : Type 0 where
   pub first : 0 < (taken_of glance).1
-  pub within : (taken_of glance).1 ≤ touching (taken_of glance).0.number causes
+  pub within : (taken_of glance).1 ≤ count_touching_events (taken_of glance).0.number causes
 
 -- what is known of how many steps are left around some of the looks is true
 abbrev pub AreKnown : List Cause → List LookChange → List (Option Around) → Type 0
@@ -201,12 +201,12 @@ AreKnown causes glances known =
 
 -- After a rollback of the one step, the look comes next and reads the word.
 pub record IsOtherWord (s : State) (glance : LookChange) (word : ℕ) : Type 0 where
-  pub is : word ≡ io_word (neighbour_states (chip_of (rewound s (taken_of glance).0.number (taken_of glance).1)) glance.node.number)
-  pub next : looks_next (chip_of (rewound s (taken_of glance).0.number (taken_of glance).1)) glance.node.number ≡ true
-  pub step : steps_of glance.node.number (rewound s (taken_of glance).0.number (taken_of glance).1).kept + 1 ≡ glance.step
+  pub is : word ≡ io_word (neighbour_states (chip_of (state_after_rewind s (taken_of glance).0.number (taken_of glance).1)) glance.node.number)
+  pub next : looks_next (chip_of (state_after_rewind s (taken_of glance).0.number (taken_of glance).1)) glance.node.number ≡ true
+  pub step : count_steps glance.node.number (state_after_rewind s (taken_of glance).0.number (taken_of glance).1).kept + 1 ≡ glance.step
 
 -- no reading of these looks and changes that is to be reported is left out
 abbrev pub AreRead : State → Option NodeId → List LookChange → List LookRace → Type 0
 AreRead s only glances list =
-    (near : RacingPair) (glance : LookChange) (reading : LookRace) → Contains glances glance → IsGlance s near glance → IsTold s only reading → IsAtNear s near reading
+    (near : RacingPair) (glance : LookChange) (reading : LookRace) → Contains glances glance → IsGlance s near glance → IsReportedLookRace s only reading → IsAtNear s near reading
     → Contains list reading

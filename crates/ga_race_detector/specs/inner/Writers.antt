@@ -6,15 +6,15 @@ use Rattle.ga_node.specs.Record.{NodeRecord}
 use Rattle.ga_node.specs.Table.{t}
 use Rattle.ga_grid.specs.Grid.{neighbour_of}
 use Rattle.ga_event.specs.declared.event.Cause.{Cause}
-use Rattle.ga_event.specs.Apply.{writes_to}
-use Rattle.ga_event.specs.Touches.{seen_by}
+use Rattle.ga_event.specs.Apply.{waits_to_write_side}
+use Rattle.ga_event.specs.Touches.{observed_by}
 use Rattle.ga_event.specs.declared.made.Made.{Made}
 use Rattle.ga_event.specs.declared.made.Made.TheVariants.{Own, Pass}
-use Rattle.ga_causal.specs.Dependence.{cause_touches, rewound_list}
-use Rattle.ga_causal.specs.Steps.{touching}
+use Rattle.ga_causal.specs.Dependence.{cause_touches, events_after_rewind}
+use Rattle.ga_causal.specs.Steps.{count_touching_events}
 use Rattle.ga_race_detector.specs.declared.left.LeftBeside.{LeftBeside}
 use Rattle.ga_race_detector.specs.declared.left.StepsLeft.{StepsLeft}
-use Rattle.ga_lab.specs.Machine.{State, chip_of, rewound, causes_of}
+use Rattle.ga_lab.specs.Machine.{State, chip_of, state_after_rewind, causes_of}
 use Rattle.ga_race_detector.specs.Races.{alternative_word}
 use Rattle.ga_race_detector.specs.declared.writers.Writers.{Writers}
 use Rattle.ga_race_detector.specs.declared.races.Besides.{Besides}
@@ -34,15 +34,15 @@ greater_with known (Some n) number = max (known n) number
 -- The depth of an event: on how many of a node's first steps it depends, itself among them. `made` steps of the node come
 -- before it, and `known` has the depth of the newest event of each node.
 abbrev pub depth : (ℕ → ℕ) → ℕ → ℕ → Cause → ℕ
-depth known n made cause = if cause_touches cause n then made + 1 else greatest known (seen_by cause)
+depth known n made cause = if cause_touches cause n then made + 1 else greatest known (observed_by cause)
 
 -- the list has how many steps of node m a rollback of each of the first steps of node n leaves
 abbrev pub IsLeftBehind : List Cause → ℕ → ℕ → List ℕ → Type 0
-IsLeftBehind causes n m left = (k : ℕ) → k < length left → slice_index left k ≡ touching m (rewound_list causes n (k + 1))
+IsLeftBehind causes n m left = (k : ℕ) → k < length left → slice_index left k ≡ count_touching_events m (events_after_rewind causes n (k + 1))
 
 -- the list has how many steps of node m a rollback of each step of node n leaves
 pub record AreLeft (causes : List Cause) (n m : ℕ) (left : List ℕ) : Type 0 where
-  pub size : length left ≡ touching n causes
+  pub size : length left ≡ count_touching_events n causes
   pub each : IsLeftBehind causes n m left
 
 -- a list was filled up to a length with a number
@@ -60,7 +60,7 @@ pub record IsTaken (old new : StepsLeft) (cause : Cause) (depth : ℕ) : Type 0 
 
 -- the word that a node waits to write over the side
 abbrev pub posted : NodeRecord → Side → Option ℕ
-posted node side = if writes_to node.wait side then Some (t node) else None
+posted node side = if waits_to_write_side node.wait side then Some (t node) else None
 
 -- the word of a pass from the one node to the other
 abbrev pub word_between : ℕ → ℕ → Made → Option ℕ
@@ -87,7 +87,7 @@ at_side flags Up = flags.up
 
 -- a rollback of none of the node's steps leaves a word offered to it over the side
 abbrev pub NeverOffers : State → ℕ → Side → Type 0
-NeverOffers s n side = (k : ℕ) → alternative_word (chip_of (rewound s n k)) n side ≡ None
+NeverOffers s n side = (k : ℕ) → alternative_word (chip_of (state_after_rewind s n k)) n side ≡ None
 
 -- a rollback of none of the node's steps leaves a word offered to it over a side that has no flag
 abbrev pub AreSilent : State → ℕ → Writers → Type 0

@@ -4,13 +4,13 @@ ghost use Rattle.std.specs.Prelude.{◌≡◌, ◌<◌, ◌&&◌, ◌||◌, ℕ,
 ghost use Rattle.ga_grid.specs.Grid.{neighbour_of};
 ghost use Rattle.ga_causal.specs.Dependence.{is_marked};
 ghost use Rattle.ga_causal.specs.inner.{any_of};
-ghost use Rattle.ga_event.specs.Apply.{is_number};
+ghost use Rattle.ga_event.specs.Apply.{equals_some};
 ghost use Rattle.ga_races.specs.HappensBefore.{HappensBefore};
-ghost use Rattle.ga_races.specs.Acts.{side_leads_to, action_in, actions_in};
+ghost use Rattle.ga_races.specs.Acts.{has_side_to, action_of_access, actions_of_accesses};
 ghost use Rattle.ga_races.specs.inner.{shows_marked, has_touched, has_shown, has_looked, is_shown_to, is_met};
 
-use crate::act::{EventAccess, Sides};
-use ga_causal::Nodes;
+use crate::act::{EventAccess, SideSet};
+use ga_causal::NodeSet;
 use ga_event::{Cause, Event};
 use ga_grid::{NodeId, neighbour};
 use ga_ports::Side;
@@ -18,13 +18,13 @@ use ga_ports::Side;
 // Of some actions the nodes that they touch, those to which they change what is shown, and those that look in them.
 #[derive(Drop)]
 struct Reached {
-    touched: Nodes,
-    shown: Nodes,
-    looked: Nodes,
+    touched: NodeSet,
+    shown: NodeSet,
+    looked: NodeSet,
 }
 
 // Whether the neighbour on a side, if it is one of some, is marked.
-fn is_marked_over(marks: &Nodes, node: NodeId, side: Side, has: bool) -> bool
+fn is_marked_over(marks: &NodeSet, node: NodeId, side: Side, has: bool) -> bool
     ensures { result ≡ (has && any_of (is_marked marks.now) (neighbour_of node.number side)) }
 {
     match neighbour(node, side) {
@@ -34,7 +34,7 @@ fn is_marked_over(marks: &Nodes, node: NodeId, side: Side, has: bool) -> bool
 }
 
 // Whether a neighbour on one of the sides is marked.
-fn is_marked_beside(marks: &Nodes, node: NodeId, sides: &Sides) -> bool
+fn is_marked_beside(marks: &NodeSet, node: NodeId, sides: &SideSet) -> bool
     ensures { result ≡ shows_marked (is_marked marks.now) sides.now node.number }
 {
     is_marked_over(marks, node, Side::Right, sides.right)
@@ -44,8 +44,8 @@ fn is_marked_beside(marks: &Nodes, node: NodeId, sides: &Sides) -> bool
 }
 
 // Marks the neighbour on a side, if it is one of some.
-fn mark_over(marks: &mut Nodes, node: NodeId, side: Side, has: bool)
-    ensures { (n : ℕ) → is_marked marks.new n ≡ (is_marked marks.old n || (has && is_number (neighbour_of node.number side) n)) }
+fn mark_over(marks: &mut NodeSet, node: NodeId, side: Side, has: bool)
+    ensures { (n : ℕ) → is_marked marks.new n ≡ (is_marked marks.old n || (has && equals_some (neighbour_of node.number side) n)) }
 {
     match neighbour(node, side) {
         Some(other) if has => marks.add_touched(&Cause {
@@ -57,8 +57,8 @@ fn mark_over(marks: &mut Nodes, node: NodeId, side: Side, has: bool)
 }
 
 // Marks the neighbours on the sides.
-fn mark_beside(marks: &mut Nodes, node: NodeId, sides: &Sides)
-    ensures { (n : ℕ) → is_marked marks.new n ≡ (is_marked marks.old n || side_leads_to sides.now node.number n) }
+fn mark_beside(marks: &mut NodeSet, node: NodeId, sides: &SideSet)
+    ensures { (n : ℕ) → is_marked marks.new n ≡ (is_marked marks.old n || has_side_to sides.now node.number n) }
 {
     mark_over(marks, node, Side::Right, sides.right);
     mark_over(marks, node, Side::Down, sides.down);
@@ -67,8 +67,8 @@ fn mark_beside(marks: &mut Nodes, node: NodeId, sides: &Sides)
 }
 
 // Marks the nodes to which an action changes what is shown.
-fn mark_shown(marks: &mut Nodes, act: &EventAccess)
-    ensures { (n : ℕ) → is_marked marks.new n ≡ (is_marked marks.old n || has_shown (action_in act.now) n) }
+fn mark_shown(marks: &mut NodeSet, act: &EventAccess)
+    ensures { (n : ℕ) → is_marked marks.new n ≡ (is_marked marks.old n || has_shown (action_of_access act.now) n) }
 {
     match act.cause.event {
         Event::Own(node) => mark_beside(marks, node, &act.first),
@@ -80,8 +80,8 @@ fn mark_shown(marks: &mut Nodes, act: &EventAccess)
 }
 
 // Marks the nodes of a look.
-pub(super) fn mark_look(marks: &mut Nodes, act: &EventAccess)
-    ensures { (n : ℕ) → is_marked marks.new n ≡ (is_marked marks.old n || has_looked (action_in act.now) n) }
+pub(super) fn mark_look(marks: &mut NodeSet, act: &EventAccess)
+    ensures { (n : ℕ) → is_marked marks.new n ≡ (is_marked marks.old n || has_looked (action_of_access act.now) n) }
 {
     if act.cause.look {
         marks.add_touched(&act.cause);
@@ -91,14 +91,14 @@ pub(super) fn mark_look(marks: &mut Nodes, act: &EventAccess)
 impl Reached {
     // The nodes that one action touches, those to which it changes what is shown, and those that look in it.
     fn by(act: &EventAccess) -> Self
-        ensures touched { (n : ℕ) → is_marked result.touched n ≡ has_touched (action_in act.now) n }
-        ensures shown { (n : ℕ) → is_marked result.shown n ≡ has_shown (action_in act.now) n }
-        ensures looked { (n : ℕ) → is_marked result.looked n ≡ has_looked (action_in act.now) n }
+        ensures touched { (n : ℕ) → is_marked result.touched n ≡ has_touched (action_of_access act.now) n }
+        ensures shown { (n : ℕ) → is_marked result.shown n ≡ has_shown (action_of_access act.now) n }
+        ensures looked { (n : ℕ) → is_marked result.looked n ≡ has_looked (action_of_access act.now) n }
     {
         let mut reached = Reached {
-            touched: Nodes::none(),
-            shown: Nodes::none(),
-            looked: Nodes::none(),
+            touched: NodeSet::none(),
+            shown: NodeSet::none(),
+            looked: NodeSet::none(),
         };
         reached.add(act);
         reached
@@ -106,9 +106,9 @@ impl Reached {
 
     // Adds the nodes that an action touches, those to which it changes what is shown, and those that look in it.
     fn add(&mut self, act: &EventAccess)
-        ensures touched { (n : ℕ) → is_marked self.new.touched n ≡ (is_marked self.old.touched n || has_touched (action_in act.now) n) }
-        ensures shown { (n : ℕ) → is_marked self.new.shown n ≡ (is_marked self.old.shown n || has_shown (action_in act.now) n) }
-        ensures looked { (n : ℕ) → is_marked self.new.looked n ≡ (is_marked self.old.looked n || has_looked (action_in act.now) n) }
+        ensures touched { (n : ℕ) → is_marked self.new.touched n ≡ (is_marked self.old.touched n || has_touched (action_of_access act.now) n) }
+        ensures shown { (n : ℕ) → is_marked self.new.shown n ≡ (is_marked self.old.shown n || has_shown (action_of_access act.now) n) }
+        ensures looked { (n : ℕ) → is_marked self.new.looked n ≡ (is_marked self.old.looked n || has_looked (action_of_access act.now) n) }
     {
         self.touched.add_touched(&act.cause);
         mark_shown(&mut self.shown, act);
@@ -118,11 +118,11 @@ impl Reached {
     // Returns whether an action is dependent with one of the actions that were added. If so it is added too.
     fn take(&mut self, act: &EventAccess) -> bool
         ensures answer { result ≡ is_met (is_marked self.old.touched) (is_marked self.old.shown) (is_marked self.old.looked) act.now }
-        ensures touched { (n : ℕ) → is_marked self.new.touched n ≡ (is_marked self.old.touched n || (result && has_touched (action_in act.now) n)) }
-        ensures shown { (n : ℕ) → is_marked self.new.shown n ≡ (is_marked self.old.shown n || (result && has_shown (action_in act.now) n)) }
-        ensures looked { (n : ℕ) → is_marked self.new.looked n ≡ (is_marked self.old.looked n || (result && has_looked (action_in act.now) n)) }
+        ensures touched { (n : ℕ) → is_marked self.new.touched n ≡ (is_marked self.old.touched n || (result && has_touched (action_of_access act.now) n)) }
+        ensures shown { (n : ℕ) → is_marked self.new.shown n ≡ (is_marked self.old.shown n || (result && has_shown (action_of_access act.now) n)) }
+        ensures looked { (n : ℕ) → is_marked self.new.looked n ≡ (is_marked self.old.looked n || (result && has_looked (action_of_access act.now) n)) }
     {
-        if !self.meets(act) {
+        if !self.has_common_node(act) {
             return false;
         }
         self.add(act);
@@ -130,7 +130,7 @@ impl Reached {
     }
 
     // Whether an action is dependent with one of the actions that were added.
-    fn meets(&self, act: &EventAccess) -> bool
+    fn has_common_node(&self, act: &EventAccess) -> bool
         ensures { result ≡ is_met (is_marked self.now.touched) (is_marked self.now.shown) (is_marked self.now.looked) act.now }
     {
         self.touched.is_touched_by(&act.cause)
@@ -164,9 +164,9 @@ pub(super) fn is_between(acts: &[EventAccess], first: usize, later: usize) -> bo
     requires order { first < later }
     requires within { later < length acts.now }
     ensures some { result ≡ true →
-        (m : ℕ) × HappensBefore (actions_in acts.now) first m × HappensBefore (actions_in acts.now) m later }
+        (m : ℕ) × HappensBefore (actions_of_accesses acts.now) first m × HappensBefore (actions_of_accesses acts.now) m later }
     ensures none { result ≡ false → (m : ℕ) →
-        HappensBefore (actions_in acts.now) first m → HappensBefore (actions_in acts.now) m later → ⊥ }
+        HappensBefore (actions_of_accesses acts.now) first m → HappensBefore (actions_of_accesses acts.now) m later → ⊥ }
 {
     let end = acts[later];
     let mut reached = Reached::by(&acts[first]);

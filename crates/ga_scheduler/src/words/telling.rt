@@ -2,7 +2,7 @@
 
 ghost use Rattle.std.specs.Prelude.{◌≡◌, ◌≤◌, option_to_list};
 ghost use Rattle.ga_lab.specs.Machine.{history_of};
-ghost use Rattle.ga_scheduler.specs.Words.{end_of, words_of, words_after, carried_as, is_over, one_over, word_count};
+ghost use Rattle.ga_scheduler.specs.Words.{link_end_node, words_of, numbered_transfers, transfer_of_event, is_transfer_over, transfer_count_of_event, link_transfer_count};
 
 use super::{Transfer, TransferIter};
 use ga_grid::NodeId;
@@ -11,22 +11,22 @@ use ga_lab::{Lab, Made};
 // Whether the reader has fewer steps than the writer. The steps of either tell the words.
 #[tactic(auto, using(crate::proofs::WordCounts::by_either))]
 fn is_shorter(lab: &Lab, writer: NodeId, reader: NodeId) -> bool
-    ensures { words_after writer.number reader.number 0 (history_of lab.now (end_of result writer reader))
+    ensures { numbered_transfers writer.number reader.number 0 (history_of lab.now (link_end_node result writer reader))
         ≡ words_of lab.now writer.number reader.number }
 {
     lab.steps(reader) < lab.steps(writer)
 }
 
 // The end of a link whose steps are read: the reader or the writer.
-fn end_of(by_reader: bool, writer: NodeId, reader: NodeId) -> NodeId
-    ensures { result.number ≡ end_of by_reader writer reader }
+fn link_end_node(by_reader: bool, writer: NodeId, reader: NodeId) -> NodeId
+    ensures { result.number ≡ link_end_node by_reader writer reader }
 {
     if by_reader { reader } else { writer }
 }
 
 // Whether the event carried a word over the link.
-pub(crate) fn is_over(made: &Made, writer: NodeId, reader: NodeId) -> bool
-    ensures { result ≡ is_over writer.number reader.number made.now }
+pub(crate) fn is_transfer_over(made: &Made, writer: NodeId, reader: NodeId) -> bool
+    ensures { result ≡ is_transfer_over writer.number reader.number made.now }
 {
     match made {
         Made::Own { .. } => false,
@@ -39,22 +39,26 @@ pub(crate) fn is_over(made: &Made, writer: NodeId, reader: NodeId) -> bool
 }
 
 // 1 where the event carried a word over the link, else 0.
-pub(crate) fn one_over(made: &Made, writer: NodeId, reader: NodeId) -> u32
-    ensures one { result ≡ one_over writer.number reader.number made.now }
+pub(crate) fn transfer_count_of_event(made: &Made, writer: NodeId, reader: NodeId) -> u32
+    ensures one { result ≡ transfer_count_of_event writer.number reader.number made.now }
     ensures most { result ≤ 1 }
 {
-    if is_over(made, writer, reader) { 1 } else { 0 }
+    if is_transfer_over(made, writer, reader) {
+        1
+    } else {
+        0
+    }
 }
 
 /// How many words went from the writer to the reader, of those that are kept. Takes time by the steps of the one that has fewer.
 pub fn count_transfers(lab: &Lab, writer: NodeId, reader: NodeId) -> u32
-    ensures { result ≡ word_count lab.now writer.number reader.number }
+    ensures { result ≡ link_transfer_count lab.now writer.number reader.number }
 {
-    let end = end_of(is_shorter(lab, writer, reader), writer, reader);
+    let end = link_end_node(is_shorter(lab, writer, reader), writer, reader);
     let mut words = 0;
     'places: for place in 0..lab.steps(end) {
-        match lab.made_by_step(end, place) {
-            Some(made) => words += one_over(&made, writer, reader),
+        match lab.made_event_of_step(end, place) {
+            Some(made) => words += transfer_count_of_event(&made, writer, reader),
             None => return words,
         }
     }
@@ -63,7 +67,7 @@ pub fn count_transfers(lab: &Lab, writer: NodeId, reader: NodeId) -> u32
 
 // The word that an event carried over the link, with this number.
 fn sent_as(made: &Made, writer: NodeId, reader: NodeId, number: u32) -> Option<Transfer>
-    ensures { option_to_list result ≡ carried_as writer.number reader.number number made.now }
+    ensures { option_to_list result ≡ transfer_of_event writer.number reader.number number made.now }
 {
     match made {
         Made::Own { .. } => None,
@@ -91,11 +95,11 @@ fn sent_as(made: &Made, writer: NodeId, reader: NodeId, number: u32) -> Option<T
 impl TransferIter {
     ghost use Rattle.std.specs.Prelude.{◌≡◌, ◌++◌, [], option_to_list, IfNone};
     ghost use Rattle.ga_lab.specs.Machine.{State};
-    ghost use Rattle.ga_scheduler.specs.Words.{words_of, words_left};
+    ghost use Rattle.ga_scheduler.specs.Words.{words_of, transfers_left};
 
     /// All words from the writer to the reader, of which none is listed yet.
     pub fn new(writer: NodeId, reader: NodeId) -> Self
-        ensures { (s : State) → words_left s result ≡ words_of s writer.number reader.number }
+        ensures { (s : State) → transfers_left s result ≡ words_of s writer.number reader.number }
     {
         TransferIter {
             writer,
@@ -109,7 +113,7 @@ impl TransferIter {
     // Whether the reader's steps are to be read: at first where they are fewer than the writer's, then as before.
     #[tactic(auto, using(crate::proofs::WordCounts::at_first))]
     fn reads_reader(&self, lab: &Lab) -> bool
-        ensures { words_left lab.now (record self.now { by_reader = result }) ≡ words_left lab.now self.now }
+        ensures { transfers_left lab.now (record self.now { by_reader = result }) ≡ transfers_left lab.now self.now }
     {
         if self.place == 0 {
             is_shorter(lab, self.writer, self.reader)
@@ -121,15 +125,15 @@ impl TransferIter {
     /// The next word; none if all are listed. The time is linear in the number of steps between the words, of the writer or of
     /// the reader: of the one that had fewer at the first word.
     pub fn next(&mut self, lab: &Lab) -> Option<Transfer>
-        ensures word { words_left lab.now self.old ≡ option_to_list result ++ words_left lab.now self.new }
-        ensures end { IfNone result (words_left lab.now self.old ≡ []) }
+        ensures word { transfers_left lab.now self.old ≡ option_to_list result ++ transfers_left lab.now self.new }
+        ensures end { IfNone result (transfers_left lab.now self.old ≡ []) }
     {
         let (writer, reader, before) = (self.writer, self.reader, self.before);
         let by_reader = self.reads_reader(lab);
-        let end = end_of(by_reader, writer, reader);
+        let end = link_end_node(by_reader, writer, reader);
         let steps = lab.steps(end);
         for place in self.place..steps {
-            match lab.made_by_step(end, place) {
+            match lab.made_event_of_step(end, place) {
                 Some(made) => {
                     if let Some(sent) = sent_as(&made, writer, reader, before + 1) {
                         *self = TransferIter {

@@ -1,5 +1,5 @@
 use Rattle.std.proofs.Common.{◌≡◌}
-use Rattle.ga_parser.specs.Words.{said_in}
+use Rattle.ga_parser.specs.Words.{source_tokens_until_fault}
 use Rattle.ga_asm_text.proofs.Telling.{read_says, made_of_same}
 use Rattle.ga_asm_text.proofs.laws.disassembly_round_trips.Goals as goal
 
@@ -12,5 +12,5 @@ returns-clause-written c = λ image text again accepted is. (accepted.0, is.chip
 pub returns-clause-read : goal.returns-clause-read
 returns-clause-read c = λ image text read rest again accepted input of.
     let is = of.4 in
-    let same : said_in of.0 ≡ said_in text = read_says text read rest of.0 of.1 input of.2 of.3 in
+    let same : source_tokens_until_fault of.0 ≡ source_tokens_until_fault text = read_says text read rest of.0 of.1 input of.2 of.3 in
     (accepted.0, is.chip, accepted.1, is.back, accepted.2.same is.chip (made_of_same of.0 text is.chip same is.made))

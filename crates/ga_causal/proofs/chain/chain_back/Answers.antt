@@ -1,7 +1,7 @@
 use Rattle.std.proofs.Common.{◌≡◌, ℕ, ◌+◌, ◌<◌, ◌∙◌, length, ap, arith}
 use Rattle.ga_causal.specs.declared.chain.Link.{Link}
-use Rattle.ga_causal.specs.Dependence.{rule_between}
-use Rattle.ga_causal.specs.Chains.{IsOldest}
+use Rattle.ga_causal.specs.Dependence.{dependence_rule_at}
+use Rattle.ga_causal.specs.Chains.{IsOldestCause}
 use Rattle.ga_causal.proofs.Exact.{flag_from_DependsOn}
 use Rattle.ga_causal.proofs.Oldest.{goes_on_longer, goes_on_first, rule_read, oldest_read}
 use Rattle.ga_causal.proofs.ChainOf.{oldest_later, rule_there}
@@ -10,7 +10,7 @@ use Rattle.ga_causal.proofs.chain.chain_back.Goals as goal
 pub bounds-events-before : goal.bounds-events-before
 bounds-events-before c =
     let within : c.loop-at.at < length c.args.events.now = omega arith in
-    let o : IsOldest c.args.events.now c.args.from c.loop-at.at c.oldest-before.result =
+    let o : IsOldestCause c.args.events.now c.args.from c.loop-at.at c.oldest-before.result =
     oldest_read c.args.events.now c.args.from c.args.to c.loop-at.at c.args.firsts.now c.index-events-at.result c.oldest-before.result c.requires.firsts c.requires.none c.requires.from within
     c.loop-at.invariant.within c.loop-at-test.true c.loop-at.invariant.dependent c.index-events-at.is c.oldest-before.ensures in
     omega (arith, o.direct.before)
@@ -18,7 +18,7 @@ bounds-events-before c =
 pub loop-at-smaller : goal.loop-at-smaller
 loop-at-smaller c =
     let within : c.loop-at.at < length c.args.events.now = omega arith in
-    let o : IsOldest c.args.events.now c.args.from c.loop-at.at c.oldest-before.result =
+    let o : IsOldestCause c.args.events.now c.args.from c.loop-at.at c.oldest-before.result =
     oldest_read c.args.events.now c.args.from c.args.to c.loop-at.at c.args.firsts.now c.index-events-at.result c.oldest-before.result c.requires.firsts c.requires.none c.requires.from within
     c.loop-at.invariant.within c.loop-at-test.true c.loop-at.invariant.dependent c.index-events-at.is c.oldest-before.ensures in
     o.direct.before
@@ -26,11 +26,11 @@ loop-at-smaller c =
 pub loop-at-preserved : goal.loop-at-preserved
 loop-at-preserved c =
     let within : c.loop-at.at < length c.args.events.now = omega arith in
-    let o : IsOldest c.args.events.now c.args.from c.loop-at.at c.oldest-before.result =
+    let o : IsOldestCause c.args.events.now c.args.from c.loop-at.at c.oldest-before.result =
     oldest_read c.args.events.now c.args.from c.args.to c.loop-at.at c.args.firsts.now c.index-events-at.result c.oldest-before.result c.requires.firsts c.requires.none c.requires.from within
     c.loop-at.invariant.within c.loop-at-test.true c.loop-at.invariant.dependent c.index-events-at.is c.oldest-before.ensures in
     let l : c.oldest-before.result < length c.args.events.now = omega (arith, o.direct.before) in
-    let r : c.rule.result ≡ rule_between c.args.events.now c.oldest-before.result c.loop-at.at =
+    let r : c.rule.result ≡ dependence_rule_at c.args.events.now c.oldest-before.result c.loop-at.at =
     rule_read c.args.events.now c.oldest-before.result c.loop-at.at c.rule.result c.index-events-before.result c.index-events-at.result l within c.index-events-before.is c.index-events-at.is c.rule.ensures in
     record {
       within = omega (arith, o.direct.before);

@@ -1,7 +1,7 @@
 use Rattle.std.proofs.Common.{◌≡◌, ◌≤◌, ◌+◌, ◌++◌, List, true, false, drop, reverse, slice_index_or}
 use Rattle.ga_event.specs.declared.event.Cause.{Cause}
 use Rattle.ga_causal.specs.declared.chain.Link.{Link}
-use Rattle.ga_causal.specs.Dependence.{dependents}
+use Rattle.ga_causal.specs.Dependence.{dependent_flags}
 use Rattle.ga_causal.specs.Chains.{IsChainTo}
 use Rattle.ga_causal.proofs.chain.chain_back.Given as goal
 
@@ -9,7 +9,7 @@ use Rattle.ga_causal.proofs.chain.chain_back.Given as goal
 abbrev pub invariant-loop-at : goal.invariant-loop-at
 invariant-loop-at l = record {
   within : l.at ≤ l.to;
-  dependent : slice_index_or (dependents l.events l.from) l.at false ≡ true;
+  dependent : slice_index_or (dependent_flags l.events l.from) l.at false ≡ true;
   goes_on : (all : List Cause) → drop l.skipped all ≡ l.events → (links : List Link) → IsChainTo all (l.skipped + l.from) (l.skipped + l.at) links
       → IsChainTo all (l.skipped + l.from) (l.skipped + l.to) (links ++ reverse l.links.items);
 }

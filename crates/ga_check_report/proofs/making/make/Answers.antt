@@ -9,17 +9,17 @@ use Rattle.ga_check_report.proofs.making.make.Goals as goal
 pub returns-in-Ok-clause-made : goal.returns-in-Ok-clause-made
 returns-in-Ok-clause-made c =
     let s : State = c.args.lab.now in
-    let n : NodeId = c.actor_of.result in
+    let n : NodeId = c.acting_node.result in
     c.in-Ok.ensures.ok
     ∙ stepped_is s n c.in-Ok.field-0 c.args.event (answer_of s n c.in-Ok.field-0 c.in-Ok.ensures.answer)
-    (ap (λ (z : NodeId). next (chip_of s) z) c.actor_of.ensures ∙ made_is_next (chip_of s) c.args.event c.requires)
+    (ap (λ (z : NodeId). next (chip_of s) z) c.acting_node.ensures ∙ made_is_next (chip_of s) c.args.event c.requires)
 
 pub returns-in-Ok-clause-chip : goal.returns-in-Ok-clause-chip
 returns-in-Ok-clause-chip c =
     let s : State = c.args.lab.now in
-    let n : NodeId = c.actor_of.result in
+    let n : NodeId = c.acting_node.result in
     let made : c.step.new.self ≡ with_event s (Ok c.args.event) =
     c.in-Ok.ensures.ok
     ∙ stepped_is s n c.in-Ok.field-0 c.args.event (answer_of s n c.in-Ok.field-0 c.in-Ok.ensures.answer)
-    (ap (λ (z : NodeId). next (chip_of s) z) c.actor_of.ensures ∙ made_is_next (chip_of s) c.args.event c.requires) in
+    (ap (λ (z : NodeId). next (chip_of s) z) c.acting_node.ensures ∙ made_is_next (chip_of s) c.args.event c.requires) in
     ap chip_of made ∙ chip_after s c.args.event c.chip-chip.ensures.replays c.requires

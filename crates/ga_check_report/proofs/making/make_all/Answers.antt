@@ -3,7 +3,7 @@ use Rattle.std.proofs.lemmas.List.{take_all, drop_all}
 use Rattle.ga_event.specs.declared.event.Event.{Event}
 use Rattle.ga_event.specs.Apply.{refusal_of, after, replay}
 use Rattle.ga_lab.specs.Machine.{chip_of, with_event}
-use Rattle.ga_check_report.specs.Checking.{HasMade}
+use Rattle.ga_check_report.specs.Checking.{HasAppendedEvents}
 use Rattle.ga_check_report.proofs.Leading.{made_none, next_can, next_rest, next_made}
 use Rattle.ga_check_report.proofs.making.make_all.Goals as goal
 
@@ -28,7 +28,7 @@ events-preserved c =
 
 pub returns-clause-made : goal.returns-clause-made
 returns-clause-made c =
-    subst (λ (z : List Event). HasMade c.args.lab.now z c.events.lab) (take_all c.events.place c.args.events.now (omega arith)) c.events.invariant.made
+    subst (λ (z : List Event). HasAppendedEvents c.args.lab.now z c.events.lab) (take_all c.events.place c.args.events.now (omega arith)) c.events.invariant.made
 
 pub returns-clause-there : goal.returns-clause-there
 returns-clause-there c =

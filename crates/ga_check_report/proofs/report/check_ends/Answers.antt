@@ -1,9 +1,9 @@
 use Rattle.std.proofs.Common.{List, ℕ, ◌++◌, refl, Some, sym, ap, subst, ◌∙◌, append_assoc}
 use Rattle.std.proofs.lemmas.List.{append-nil}
 use Rattle.ga_lab.specs.Machine.{State}
-use Rattle.ga_check_report.specs.Settled.{begun_from}
-use Rattle.ga_check_report.specs.Checking.{TellsEnds}
-use Rattle.ga_check_report.specs.Checking.ChecksEnds.{checked, unbegun}
+use Rattle.ga_check_report.specs.Settled.{check_start}
+use Rattle.ga_check_report.specs.Checking.{WritesEndsReport}
+use Rattle.ga_check_report.specs.Checking.IsCheckOutcome.{checked, unbegun}
 use Rattle.ga_check_report.proofs.report.check_ends.Goals as goal
 
 pub returns-in-Ok : goal.returns-in-Ok
@@ -13,7 +13,7 @@ returns-in-Ok g c = λ left before known held.
     let ahead : List ℕ = c.open_lab.new.input.bytes in
     let silent = begun.3 ∙ ap Some (ap (λ (t : List ℕ). before ++ t) begun.4.0 ∙ append-nil before) in
     let sent = c.tell_settled.ensures before silent in
-    let P : State → Type 0 = λ s. TellsEnds c.args.bounds c.args.asked (begun_from c.args.settles s) sent.0 c.tell_settled.result in (
+    let P : State → Type 0 = λ s. WritesEndsReport c.args.bounds c.args.asked (check_start c.args.settles s) sent.0 c.tell_settled.result in (
       text ++ ahead,
       begun.0,
       sent.0,

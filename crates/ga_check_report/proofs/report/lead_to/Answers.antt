@@ -4,7 +4,7 @@ use Rattle.std.proofs.lemmas.Option.{slice_get-get_or}
 use Rattle.ga_node.specs.Record.{NodeRecord}
 use Rattle.ga_event.specs.Apply.{replay}
 use Rattle.ga_lab.specs.Machine.{State, chip_of}
-use Rattle.ga_state_ends.specs.Ends.{EndsFound}
+use Rattle.ga_state_ends.specs.Ends.{EndSearchResult}
 use Rattle.ga_state_ends.specs.declared.end_kind.EndKind.{EndKind}
 use Rattle.ga_check_report.proofs.Leading.{state_within, path_can, led_to, on_both}
 use Rattle.ga_check_report.proofs.report.lead_to.Goals as goal
@@ -24,7 +24,7 @@ pub make_all-requires : goal.make_all-requires
 make_all-requires c =
     let nothing : EndKind = record { nodes = []; unclean = []; ends = 0; state = 0 } in
     let s : State = c.args.lab.now in
-    let found : EndsFound = c.args.found.now in
+    let found : EndSearchResult = c.args.found.now in
     let kind : EndKind = slice_index_or c.kinds.result.now (c.args.asked - 1) nothing in
     let path = path_can s found (c.args.asked - 1) kind c.in-Ok.events.items c.requires.ends
     (numbered c.kinds.result.now found.kinds (c.args.asked - 1) nothing c.kinds.ensures (omega (arith, c.requires.asked, c.requires.within)))
@@ -35,7 +35,7 @@ pub returns-in-Ok-clause-led : goal.returns-in-Ok-clause-led
 returns-in-Ok-clause-led c =
     let nothing : EndKind = record { nodes = []; unclean = []; ends = 0; state = 0 } in
     let s : State = c.args.lab.now in
-    let found : EndsFound = c.args.found.now in
+    let found : EndSearchResult = c.args.found.now in
     let kind : EndKind = slice_index_or c.kinds.result.now (c.args.asked - 1) nothing in
     let leads : (load chip : List NodeRecord) → slice_get found.searched.chips 0 ≡ Some load → slice_get found.searched.chips kind.state ≡ Some chip
     → replay load c.as_slice.result.now ≡ Some chip = λ load chip first at. ap (replay load) c.as_slice.ensures.value ∙ c.in-Ok.ensures.leads load chip first at in

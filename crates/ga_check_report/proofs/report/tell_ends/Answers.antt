@@ -1,4 +1,4 @@
-use Rattle.ga_check_report.specs.Checking.TellsEnds.{no_memory}
+use Rattle.ga_check_report.specs.Checking.WritesEndsReport.{no_memory}
 use Rattle.ga_check_report.proofs.report.tell_ends.Goals as goal
 
 pub returns-in-Err : goal.returns-in-Err

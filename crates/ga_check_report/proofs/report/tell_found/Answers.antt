@@ -1,4 +1,4 @@
-use Rattle.ga_check_report.specs.Checking.TellsEnds.{all, none}
+use Rattle.ga_check_report.specs.Checking.WritesEndsReport.{all, none}
 use Rattle.ga_check_report.proofs.report.tell_found.Goals as goal
 
 pub returns-then-asked-eq0 : goal.returns-then-asked-eq0

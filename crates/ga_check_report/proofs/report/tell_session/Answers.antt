@@ -1,4 +1,4 @@
-use Rattle.ga_check_report.specs.Checking.TellsEnds.{led}
+use Rattle.ga_check_report.specs.Checking.WritesEndsReport.{led}
 use Rattle.ga_check_report.proofs.report.tell_session.Goals as goal
 
 pub returns-in-Ok : goal.returns-in-Ok

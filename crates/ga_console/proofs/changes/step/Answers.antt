@@ -1,5 +1,5 @@
 use Rattle.std.proofs.Common.{rules, refl}
-use Rattle.ga_display.specs.Texts.{made_text}
+use Rattle.ga_display.specs.Texts.{event_text}
 use Rattle.ga_console.proofs.ReplyLemmas.{step_made, step_refused}
 use Rattle.ga_console.proofs.changes.step.Goals as goal
 
@@ -7,7 +7,7 @@ pub returns-in-Ok : goal.returns-in-Ok
 returns-in-Ok g c = (
   search rules,
   λ before said h. (
-    made_text c.in-Ok.made,
+    event_text c.in-Ok.made,
     step_made c.args.wording c.args.lab.now c.args.node c.in-Ok.made _ c.step_inlined.new.self c.in-Ok.ensures.answer c.in-Ok.ensures.ok refl,
     c.write_event.ensures.1 before said h,
   ),

@@ -2,8 +2,8 @@ use Rattle.std.proofs.Common.{ℕ, ◌+◌, ◌-◌, ◌++◌, [], List, take, d
 use Rattle.std.specs.Prelude.{Result, Ok}
 use Rattle.std.specs.Result.{IsErr}
 use Rattle.ga_console.specs.inner.Run.{IsAhead, IsLineAhead}
-use Rattle.ga_console.specs.Session.{Answering, Serves, ServesCut}
-use Rattle.ga_display.specs.Texts.{no_input}
+use Rattle.ga_console.specs.Session.{AnswerRelation, ServesCommands, ServesToWriteFailure}
+use Rattle.ga_display.specs.Texts.{input_limit_refusal}
 use Rattle.ga_text.specs.declared.output.WriteError.{WriteError}
 use Rattle.ga_console.specs.declared.commands.CommandsEnd.{CommandsEnd}
 use Rattle.ga_console.specs.declared.commands.CommandsEnd.TheVariants.{Ended, Past}
@@ -13,9 +13,9 @@ use Rattle.ga_console.proofs.Heard.{heard_none, heard_push, heard_cut, heard_fai
 use Rattle.ga_console.proofs.commands.answer_lines.Goals as goal
 
 -- a write failed
-serves_cut : {M : Type 0} (A : Answering M) (room : ℕ) (m : M) (read rest text : List ℕ) (last : M) (result : Result CommandsEnd WriteError) → IsErr result
-    → ServesCut A room m read rest text last → Serves A room m read rest text last result
-serves_cut A room m read rest text last result is h = at_err (λ (r : Result CommandsEnd WriteError). Serves A room m read rest text last r) result is (λ why. h)
+serves_cut : {M : Type 0} (A : AnswerRelation M) (room : ℕ) (m : M) (read rest text : List ℕ) (last : M) (result : Result CommandsEnd WriteError) → IsErr result
+    → ServesToWriteFailure A room m read rest text last → ServesCommands A room m read rest text last result
+serves_cut A room m read rest text last result is h = at_err (λ (r : Result CommandsEnd WriteError). ServesCommands A room m read rest text last r) result is (λ why. h)
 
 pub lines-init : goal.lines-init
 lines-init g c = record {
@@ -188,14 +188,14 @@ returns-in_err-write_text-in-Past-clause-serves g c = λ left before said known 
     let heard = inv.4 in (
       read_over heard part got.2.byte,
       got.0,
-      inv.1 ++ no_input,
+      inv.1 ++ input_limit_refusal,
       split_over heard part got.2.byte got.0 got.2.takes.is_line.splits,
       got.1,
       serves_cut _ _ _ _ _ _ _ c.from_residual-in_err-write_text-in-Past.result c.from_residual-in_err-write_text-in-Past.ensures.0
-          (cut_short _ (16777216 - c.args.input.now.taken) c.args.session.now (read_over heard part got.2.byte) got.0 (inv.1 ++ no_input) _ (Ok Past)
+          (cut_short _ (16777216 - c.args.input.now.taken) c.args.session.now (read_over heard part got.2.byte) got.0 (inv.1 ++ input_limit_refusal) _ (Ok Past)
           (heard_past heard part got.2.byte got.0 c.read_line.new.input.taken got.2.takes.is_line.no_feed got.2.takes.counts got.2.full)),
-      truncated_here c.from_residual-in_err-write_text-in-Past.result _ before (said ++ (inv.1 ++ no_input)) _ c.from_residual-in_err-write_text-in-Past.ensures.0
-          (cut_assoc _ before said inv.1 no_input (c.in_err-write_text-in-Past.ensures.1 before (said ++ inv.1) told)),
+      truncated_here c.from_residual-in_err-write_text-in-Past.result _ before (said ++ (inv.1 ++ input_limit_refusal)) _ c.from_residual-in_err-write_text-in-Past.ensures.0
+          (cut_assoc _ before said inv.1 input_limit_refusal (c.in_err-write_text-in-Past.ensures.1 before (said ++ inv.1) told)),
     )
 
 pub returns-in-Past-clause-serves : goal.returns-in-Past-clause-serves
@@ -207,11 +207,11 @@ returns-in-Past-clause-serves g c = λ left before said known held.
     let heard = inv.4 in (
       read_over heard part got.2.byte,
       got.0,
-      inv.1 ++ no_input,
+      inv.1 ++ input_limit_refusal,
       split_over heard part got.2.byte got.0 got.2.takes.is_line.splits,
       got.1,
       heard_past heard part got.2.byte got.0 c.read_line.new.input.taken got.2.takes.is_line.no_feed got.2.takes.counts got.2.full,
-      said_assoc _ before said inv.1 no_input _ (c.in_ok-write_text-in-Past.ensures.1 before (said ++ inv.1) told),
+      said_assoc _ before said inv.1 input_limit_refusal _ (c.in_ok-write_text-in-Past.ensures.1 before (said ++ inv.1) told),
     )
 
 pub returns-in-ReadFailed-clause-serves : goal.returns-in-ReadFailed-clause-serves

@@ -1,12 +1,12 @@
 use Rattle.std.proofs.Common.{◌≡◌, ℕ, ◌-◌, List, ◌++◌, Some}
-use Rattle.ga_text.specs.Input.{IsWithin}
+use Rattle.ga_text.specs.Input.{IsWithinInputLimit}
 use Rattle.ga_text.specs.Output.{IsWritten}
 use Rattle.ga_console.proofs.Heard.{Heard}
 use Rattle.ga_console.proofs.commands.answer_lines.Given as goal
 
 abbrev pub invariant-lines : goal.invariant-lines
 invariant-lines g l = record {
-  within : IsWithin l.input;
+  within : IsWithinInputLimit l.input;
   same : l.writer.stream.ghost_name ≡ l.fn.writer.stream.ghost_name;
   heard : (left before said : List ℕ) → g.R.Read.remaining l.fn.reader ≡ Some left → IsWritten (g.W.Write.contents l.fn.writer.stream.now) before said l.fn.writer.pending.items →
       (rest text : List ℕ) × (g.R.Read.remaining l.reader ≡ Some rest) × IsWritten (g.W.Write.contents l.writer.stream.now) before (said ++ text) l.writer.pending.items

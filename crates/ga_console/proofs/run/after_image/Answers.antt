@@ -5,7 +5,7 @@ use Rattle.ga_console.proofs.run.after_image.Goals as goal
 
 pub returns-in-Ok : goal.returns-in-Ok
 returns-in-Ok g c = λ left before known held.
-    let done = c.serve.ensures.serves left before ready known (written_fresh _ before ready _ (ap g.W.Write.contents c.ready-said.ensures.stream ∙ held) c.ready-said.ensures.said) in
+    let done = c.serve_commands.ensures.serves left before ready known (written_fresh _ before ready _ (ap g.W.Write.contents c.ready-said.ensures.stream ∙ held) c.ready-said.ensures.said) in
     let there = done.6 in (
       done.0,
       done.1,
@@ -13,7 +13,7 @@ returns-in-Ok g c = λ left before known held.
       done.4,
       done.5,
       search rules,
-      inl (c.in-Ok.lab, c.in-Ok.ensures.ok, c.serve.result, c.status_of.ensures, done.2, c.serve.new.session, serves_from _ _ _ _ _ _ _ _ _ c.open-session.ensures done.7, done.8),
+      inl (c.in-Ok.lab, c.in-Ok.ensures.ok, c.serve_commands.result, c.status_of.ensures, done.2, c.serve_commands.new.session, serves_from _ _ _ _ _ _ _ _ _ c.open-session.ensures done.7, done.8),
     )
 
 pub returns-in-Err : goal.returns-in-Err

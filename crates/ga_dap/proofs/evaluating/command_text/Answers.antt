@@ -3,10 +3,10 @@ use Rattle.std.proofs.lemmas.List.{append-nil}
 use Rattle.ga_text.specs.Lines.{Text}
 use Rattle.ga_text.specs.Output.{IsWritten}
 use Rattle.ga_console.proofs.AheadLemmas.{quit_part}
-use Rattle.ga_explorer.specs.Answers.{Explores}
+use Rattle.ga_explorer.specs.Answers.{AnswersExplorerLine}
 use Rattle.ga_explorer.specs.Opening.{ExplorerState}
 use Rattle.ga_dap_queries.specs.declared.debuggee.Debuggee.{Debuggee}
-use Rattle.ga_dap.specs.Opening.{parts_explored}
+use Rattle.ga_dap.specs.Opening.{program_explorer_state}
 use Rattle.ga_dap.proofs.Unmoved.{unmoved}
 use Rattle.ga_dap.proofs.evaluating.command_text.Goals as goal
 
@@ -31,7 +31,7 @@ returns-in-Ok-clause-told c =
     let name : c.flush.new.self.stream.ghost_name ≡ c.new-said.result.stream.ghost_name = ends ∙ goes_on in
     let left = c.answer-in-Ok-Answered-1.given.1 (sym (name ∙ begins)) in (
       refl,
-      subst (λ (z : Text). Explores (parts_explored c.args.program.now.lab c.args.program.now.source) c.args.line.now z (parts_explored c.answer_line.new.lab c.args.program.now.source))
+      subst (λ (z : Text). AnswersExplorerLine (program_explorer_state c.args.program.now.lab c.args.program.now.source) c.args.line.now z (program_explorer_state c.answer_line.new.lab c.args.program.now.source))
           (sym whole ∙ ap (λ v. v.items) (sym left)) part.0,
       part.1,
     )

@@ -6,24 +6,24 @@ use Rattle.ga_dap_protocol.specs.Sent.{SentMessages}
 use Rattle.ga_dap_protocol.specs.declared.request.ClientRequest.{ClientRequest}
 use Rattle.ga_dap_queries.specs.Sending.{Messages, Sends, SendsAll}
 use Rattle.ga_dap_queries.proofs.Sent.{sent_one}
-use Rattle.ga_dap_control.specs.declared.launched.Launched.{Launched}
+use Rattle.ga_dap_control.specs.declared.launched.LaunchedProgram.{LaunchedProgram}
 use Rattle.ga_dap.specs.Opening.{IsNoProgram}
-use Rattle.ga_dap.specs.Launches.{LaunchesText, launch_told, unlaunched}
+use Rattle.ga_dap.specs.Launches.{LaunchesText, launch_messages, launch_error_message}
 use Rattle.ga_dap.proofs.launching.launched_text.Goals as goal
 
 -- the reason is reported why nothing is launched
-refused_so : {E : Type 0} (result : Result (Option Launched) E) (text : Bytes) (path : Text) (limit : ℕ) (schedule : Schedule) (request : ClientRequest) (why : Text) (old new : SentMessages)
-    → IsNoProgram text → IfOk result (λ (l : Option Launched). (l ≡ None) × Sends old (unlaunched request path why) new)
-    → IfOk result (λ (l : Option Launched). (messages : Messages) × LaunchesText text path limit schedule request messages l × SendsAll old messages new)
+refused_so : {E : Type 0} (result : Result (Option LaunchedProgram) E) (text : Bytes) (path : Text) (limit : ℕ) (schedule : Schedule) (request : ClientRequest) (why : Text) (old new : SentMessages)
+    → IsNoProgram text → IfOk result (λ (l : Option LaunchedProgram). (l ≡ None) × Sends old (launch_error_message request path why) new)
+    → IfOk result (λ (l : Option LaunchedProgram). (messages : Messages) × LaunchesText text path limit schedule request messages l × SendsAll old messages new)
 refused_so (Ok l) text path limit schedule request why old new none h =
-    let P : Option Launched → Type 0 = λ z. LaunchesText text path limit schedule request (unlaunched request path why ∷ []) z in
-    (unlaunched request path why ∷ [], subst P (sym h.0) (none, why, refl), sent_one old (unlaunched request path why) new h.1)
+    let P : Option LaunchedProgram → Type 0 = λ z. LaunchesText text path limit schedule request (launch_error_message request path why ∷ []) z in
+    (launch_error_message request path why ∷ [], subst P (sym h.0) (none, why, refl), sent_one old (launch_error_message request path why) new h.1)
 refused_so (Err e) text path limit schedule request why old new none h = tt
 
 pub returns-in_ok-tell_launched-in-Ok : goal.returns-in_ok-tell_launched-in-Ok
 returns-in_ok-tell_launched-in-Ok c =
     let told = c.in_ok-tell_launched-in-Ok.ensures in (
-      launch_told c.args.request.now told.0,
+      launch_messages c.args.request.now told.0,
       (
         record {
           opens = c.in-Ok.ensures.ok;
@@ -38,9 +38,9 @@ returns-in_ok-tell_launched-in-Ok c =
           };
           order = refl;
           stands = refl;
-          open_still = refl;
+          not_configured = refl;
           entry = c.stops_on_entry.ensures;
-          untold = refl;
+          none_reported = refl;
         },
         told.0,
         told.1,
@@ -49,7 +49,7 @@ returns-in_ok-tell_launched-in-Ok c =
       told.2,
     )
 
-pub returns-in-Err-Fault : goal.returns-in-Err-Fault
-returns-in-Err-Fault c =
-    refused_so c.refuse_file.result c.args.text.items c.args.path.now c.args.limit c.args.schedule c.args.request.now c.as_str-in-Err-Fault.result.now c.args.out.now c.refuse_file.new.out
-    (rw c.in-Err-Fault.field-0-is at c.in-Err-Fault.ensures.err) c.refuse_file.ensures
+pub returns-in-Err-SourceFault : goal.returns-in-Err-SourceFault
+returns-in-Err-SourceFault c =
+    refused_so c.refuse_file.result c.args.text.items c.args.path.now c.args.limit c.args.schedule c.args.request.now c.as_str-in-Err-SourceFault.result.now c.args.out.now c.refuse_file.new.out
+    (rw c.in-Err-SourceFault.field-0-is at c.in-Err-SourceFault.ensures.err) c.refuse_file.ensures

@@ -1,7 +1,7 @@
 use Rattle.std.proofs.Common.{◌∙◌, ℕ, suc, List, [], ◌++◌, Some, refl, sym, ap, subst, inl}
 use Rattle.std.proofs.lemmas.List.{append-nil}
 use Rattle.ga_dap_protocol.specs.Sent.{SentMessages}
-use Rattle.ga_dap.specs.Client.{ServesFor, serving_from}
+use Rattle.ga_dap.specs.Client.{ServesIterations, initial_server_state}
 use Rattle.ga_dap.specs.inner.Turning.{serving_at}
 use Rattle.ga_dap.proofs.Serves.{begins_so, serves_on, ends_so, pends, all_sent, written_all}
 use Rattle.ga_dap.proofs.serving.serve_client.Goals as goal
@@ -26,13 +26,13 @@ serving-preserved g c = record {
       let inv = c.serving.invariant.serves left before known held in
       let made = c.in-On.ensures inv.0 inv.3 in
       let told = c.in-Ok.ensures.said before (inv.1 ++ c.turn.new.out.bytes) (pends _ before inv.1 c.turn.new.out.bytes inv.4) in
-      let more = serves_on g.S.ProgramFiles.gives g.A.PendingInput.tells (serving_from c.args.sources.now c.args.arrivals.now left) inv.2 inv.1 _ c.turn.new.out.bytes _ inv.5 c.if-session.false made.2 in (
+      let more = serves_on g.S.ProgramFiles.gives g.A.PendingInput.tells (initial_server_state c.args.sources.now c.args.arrivals.now left) inv.2 inv.1 _ c.turn.new.out.bytes _ inv.5 c.if-session.false made.2 in (
         made.0,
         inv.1 ++ c.turn.new.out.bytes,
         suc inv.2,
         made.1,
         all_sent _ before (inv.1 ++ c.turn.new.out.bytes) told,
-        let P : ℕ → Type 0 = λ seq. ServesFor g.S.ProgramFiles.gives g.A.PendingInput.tells (serving_from c.args.sources.now c.args.arrivals.now left) (suc inv.2) (inv.1 ++ c.turn.new.out.bytes)
+        let P : ℕ → Type 0 = λ seq. ServesIterations g.S.ProgramFiles.gives g.A.PendingInput.tells (initial_server_state c.args.sources.now c.args.arrivals.now left) (suc inv.2) (inv.1 ++ c.turn.new.out.bytes)
             (serving_at c.turn.new.sources c.turn.new.arrivals c.turn.new.session seq c.turn.new.inbox made.0) in
             subst P (sym (ap (λ (z : SentMessages). z.seq) c.in-Ok.ensures.sent)) more,
       );
@@ -82,7 +82,7 @@ returns-in-Err g c = λ left before known held.
     let inv = c.serving.invariant.serves left before known held in
     let made = c.in-On.ensures inv.0 inv.3 in
     let cut = c.in-Err.ensures.said before (inv.1 ++ c.turn.new.out.bytes) (pends _ before inv.1 c.turn.new.out.bytes inv.4) in
-    let more = serves_on g.S.ProgramFiles.gives g.A.PendingInput.tells (serving_from c.args.sources.now c.args.arrivals.now left) inv.2 inv.1 _ c.turn.new.out.bytes _ inv.5 c.if-session.false made.2 in (
+    let more = serves_on g.S.ProgramFiles.gives g.A.PendingInput.tells (initial_server_state c.args.sources.now c.args.arrivals.now left) inv.2 inv.1 _ c.turn.new.out.bytes _ inv.5 c.if-session.false made.2 in (
       made.0,
       cut.sent,
       made.1,

@@ -1,5 +1,5 @@
 use Rattle.std.proofs.Common.{◌≡◌, ℕ, List, [], ◌++◌, Some}
-use Rattle.ga_dap.specs.Client.{ServesFor, serving_from}
+use Rattle.ga_dap.specs.Client.{ServesIterations, initial_server_state}
 use Rattle.ga_dap.specs.inner.Turning.{serving_at}
 use Rattle.ga_dap.proofs.serving.serve_client.Given as goal
 
@@ -8,6 +8,6 @@ invariant-serving g l = record {
   sent : l.out.bytes ≡ [];
   serves : (left before : List ℕ) → g.R.Read.remaining l.fn.reader ≡ Some left → g.W.Write.contents l.fn.writer ≡ Some before →
       (rest said : List ℕ) × (count : ℕ) × (g.R.Read.remaining l.reader ≡ Some rest) × (g.W.Write.contents l.writer ≡ Some (before ++ said))
-      × ServesFor g.S.ProgramFiles.gives g.A.PendingInput.tells (serving_from l.fn.sources l.fn.arrivals left) count said
+      × ServesIterations g.S.ProgramFiles.gives g.A.PendingInput.tells (initial_server_state l.fn.sources l.fn.arrivals left) count said
       (serving_at l.sources l.arrivals l.session l.out.seq l.inbox rest);
 }

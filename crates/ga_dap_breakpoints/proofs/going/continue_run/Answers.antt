@@ -1,11 +1,11 @@
 use Rattle.std.proofs.Common.{◌∙◌, ℕ, None, ap, sym, subst}
 use Rattle.ga_event.specs.declared.made.Made.{Made}
 use Rattle.ga_lab.specs.Machine.{State}
-use Rattle.ga_scheduler.specs.Running.{Running, running, after_events}
+use Rattle.ga_scheduler.specs.Running.{Running, running, run_after_events}
 use Rattle.ga_scheduler.proofs.Events.{after_none}
 use Rattle.std.specs.Prelude.{is_some}
 use Rattle.ga_dap_breakpoints.specs.inner.Cells.{ends_by, halt_of, with_hits}
-use Rattle.ga_dap_breakpoints.specs.Going.{Course, IsMoveResult, tally_on, going_on}
+use Rattle.ga_dap_breakpoints.specs.Going.{MovePlan, IsMoveResult, tally_after_events, continue_plan}
 use Rattle.ga_dap_breakpoints.specs.declared.halts.HaltMonitor.{HaltMonitor}
 use Rattle.ga_dap_breakpoints.proofs.Moving.{counted_so, went_so, BeginsKnown, halting_by, hits_after, go_alike}
 use Rattle.ga_dap_breakpoints.proofs.Cells.{none_known}
@@ -17,7 +17,7 @@ returns-clause-state c =
     ap (running c.run_watched-run.new.lab) c.move_result.ensures.schedule
     ∙ c.run_watched-run.ensures.state
     ∙ after_none start c.run_watched-run.result.events
-    ∙ ap (after_events start) (sym c.move_result.ensures.events)
+    ∙ ap (run_after_events start) (sym c.move_result.ensures.events)
 
 pub returns-clause-hits : goal.returns-clause-hits
 returns-clause-hits c =
@@ -26,7 +26,7 @@ returns-clause-hits c =
     let begins : BeginsKnown watch start = (ap is_some c.chip.ensures.replays, none_known c.args.lab.now) in
     c.move_result.ensures.tally
     ∙ ap (λ (z : HaltMonitor). z.halts.tally) (c.run_watched-run.ensures.watch ∙ hits_after watch start c.run_watched-run.result.events begins)
-    ∙ ap (tally_on None c.args.halts.breakpoints.now c.args.halts.tally start) (sym c.move_result.ensures.events)
+    ∙ ap (tally_after_events None c.args.halts.breakpoints.now c.args.halts.tally start) (sym c.move_result.ensures.events)
 
 pub returns-clause-end : goal.returns-clause-end
 returns-clause-end c =
@@ -34,11 +34,11 @@ returns-clause-end c =
     let n : ℕ = c.run_watched-run.result.events in
     let watch : HaltMonitor = halting_by c.args.halts in
     let begins : BeginsKnown watch start = (ap is_some c.chip.ensures.replays, none_known c.args.lab.now) in
-    let g : Course = going_on c.args.halts.breakpoints.now c.args.halts.tally c.args.halts.stops start in
+    let g : MovePlan = continue_plan c.args.halts.breakpoints.now c.args.halts.tally c.args.halts.stops start in
     subst (λ (z : ℕ). IsMoveResult g start c.args.most z c.move_result.result.halt) (sym c.move_result.ensures.events)
     (went_so (λ (w : HaltMonitor) (told : Made) (s : State). ends_by w.halts.breakpoints.now w.cells w.halts.tally w.halts.stops None told s) (λ (w : HaltMonitor) (told : Made) (s : State). with_hits w told s)
     watch start (running c.run_watched-run.new.lab c.run_watched-run.result.schedule) g c.args.most n c.run_watched-run.result.end c.move_result.result.halt
-    (tally_on None c.args.halts.breakpoints.now c.args.halts.tally start n).hit
+    (tally_after_events None c.args.halts.breakpoints.now c.args.halts.tally start n).hit
     (go_alike watch start begins) c.run_watched-run.ensures.state c.run_watched-run.ensures.end
     (λ (k : ℕ) (told : Made) e is. counted_so None c.args.halts.breakpoints.now c.args.halts.tally start n k told e is)
     (c.move_result.ensures.halt ∙ ap (λ (z : HaltMonitor). halt_of z.halts.tally.hit z.halts.stops None c.run_watched-run.result.end) (c.run_watched-run.ensures.watch ∙ hits_after watch start n begins)))

@@ -4,11 +4,11 @@ use Rattle.ga_event.specs.declared.made.Made.{Made}
 use Rattle.ga_grid.specs.declared.node_id.NodeId.{NodeId}
 use Rattle.ga_lab.specs.Machine.{State}
 use Rattle.ga_scheduler.specs.Running.{Running, running}
-use Rattle.ga_scheduler.specs.Watched.{after_first}
+use Rattle.ga_scheduler.specs.Watched.{precedence_run_after}
 use Rattle.ga_dap_breakpoints.specs.inner.Cells.{ends_by, halt_of, with_hits}
-use Rattle.ga_dap_breakpoints.specs.Stepping.{step_seen, stepped_on}
+use Rattle.ga_dap_breakpoints.specs.Stepping.{move_after_event, move_after_events}
 use Rattle.ga_dap_breakpoints.specs.inner.Words.{word_seen, is_moved_by}
-use Rattle.ga_dap_breakpoints.specs.Going.{Course, IsMoveResult, tally_on, stepping_on}
+use Rattle.ga_dap_breakpoints.specs.Going.{MovePlan, IsMoveResult, tally_after_events, step_plan}
 use Rattle.ga_dap_breakpoints.specs.declared.moves.Steps.{Steps}
 use Rattle.ga_dap_breakpoints.proofs.Moving.{counted_so, went_so, BeginsWell, halting_by, goes_after, step_alike}
 use Rattle.ga_dap_breakpoints.proofs.Cells.{none_known}
@@ -19,14 +19,14 @@ returns-clause-state c =
     let start : Running = running c.args.lab.now c.args.schedule in
     ap (running c.run_watched-run.new.lab) c.move_result.ensures.schedule
     ∙ c.run_watched-run.ensures.state
-    ∙ ap (after_first (Some c.args.stepping.now.node) start) (sym c.move_result.ensures.events)
+    ∙ ap (precedence_run_after (Some c.args.stepping.now.node) start) (sym c.move_result.ensures.events)
 
 pub returns-clause-stepping : goal.returns-clause-stepping
 returns-clause-stepping c =
     let start : Running = running c.args.lab.now c.args.schedule in
     let watch : Steps = record { notes = c.args.notes; halting = halting_by c.args.halts; stepping = c.args.stepping.now; word = c.word_begun.result } in
     ap (λ (z : Steps). z.stepping) (c.run_watched-run.ensures.watch ∙ goes_after watch start c.run_watched-run.result.events (ap is_some c.chip.ensures.replays, none_known c.args.lab.now))
-    ∙ ap (stepped_on c.args.stepping.now start) (sym c.move_result.ensures.events)
+    ∙ ap (move_after_events c.args.stepping.now start) (sym c.move_result.ensures.events)
 
 pub returns-clause-hits : goal.returns-clause-hits
 returns-clause-hits c =
@@ -34,7 +34,7 @@ returns-clause-hits c =
     let watch : Steps = record { notes = c.args.notes; halting = halting_by c.args.halts; stepping = c.args.stepping.now; word = c.word_begun.result } in
     c.move_result.ensures.tally
     ∙ ap (λ (z : Steps). z.halting.halts.tally) (c.run_watched-run.ensures.watch ∙ goes_after watch start c.run_watched-run.result.events (ap is_some c.chip.ensures.replays, none_known c.args.lab.now))
-    ∙ ap (tally_on (Some c.args.stepping.now.node) c.args.halts.breakpoints.now c.args.halts.tally start) (sym c.move_result.ensures.events)
+    ∙ ap (tally_after_events (Some c.args.stepping.now.node) c.args.halts.breakpoints.now c.args.halts.tally start) (sym c.move_result.ensures.events)
 
 pub returns-clause-end : goal.returns-clause-end
 returns-clause-end c =
@@ -43,13 +43,13 @@ returns-clause-end c =
     let first : Option NodeId = Some c.args.stepping.now.node in
     let watch : Steps = record { notes = c.args.notes; halting = halting_by c.args.halts; stepping = c.args.stepping.now; word = c.word_begun.result } in
     let begins : BeginsWell watch start = ((ap is_some c.chip.ensures.replays, none_known c.args.lab.now), c.word_begun.ensures) in
-    let g : Course = stepping_on c.args.notes.now c.args.halts.breakpoints.now c.args.halts.tally c.args.halts.stops c.args.stepping.now start in
+    let g : MovePlan = step_plan c.args.notes.now c.args.halts.breakpoints.now c.args.halts.tally c.args.halts.stops c.args.stepping.now start in
     subst (λ (z : ℕ). IsMoveResult g start c.args.most z c.move_result.result.halt) (sym c.move_result.ensures.events)
     (went_so
     (λ (w : Steps) (told : Made) (s : State). ends_by w.halting.halts.breakpoints.now w.halting.cells w.halting.halts.tally w.halting.halts.stops (Some w.stepping.node) told s || is_moved_by w.notes.now w.stepping w.word told s)
-    (λ (w : Steps) (told : Made) (s : State). record w { halting = with_hits w.halting told s; stepping = step_seen w.stepping told s; word = word_seen w.stepping.node w.word told s }) watch start
+    (λ (w : Steps) (told : Made) (s : State). record w { halting = with_hits w.halting told s; stepping = move_after_event w.stepping told s; word = word_seen w.stepping.node w.word told s }) watch start
     (running c.run_watched-run.new.lab c.run_watched-run.result.schedule) g c.args.most n c.run_watched-run.result.end c.move_result.result.halt
-    (tally_on first c.args.halts.breakpoints.now c.args.halts.tally start n).hit
+    (tally_after_events first c.args.halts.breakpoints.now c.args.halts.tally start n).hit
     (step_alike watch start begins) c.run_watched-run.ensures.state c.run_watched-run.ensures.end
     (λ (k : ℕ) (told : Made) e is. counted_so first c.args.halts.breakpoints.now c.args.halts.tally start n k told e is)
     (c.move_result.ensures.halt ∙ ap (λ (z : Steps). halt_of z.halting.halts.tally.hit z.halting.halts.stops first c.run_watched-run.result.end) (c.run_watched-run.ensures.watch ∙ goes_after watch start n begins.0)))

@@ -4,10 +4,10 @@ use Rattle.ga_dap_breakpoints.proofs.reversing.hits_among.Goals as goal
 
 pub going-preserved : goal.going-preserved
 going-preserved c =
-    let more = hit_more c.args.lab.now c.args.node c.args.one.now c.going.step c.has_hit-hit.result (omega arith) c.has_hit-hit.ensures.hit in
+    let more = hit_more c.args.lab.now c.args.node c.args.one.now c.going.step c.is_hit_step-hit.result (omega arith) c.is_hit_step-hit.ensures.hit in
     record {
-      walk = c.has_hit-hit.ensures.walk;
-      order = omega (arith, c.has_hit-hit.ensures.order);
+      walk = c.is_hit_step-hit.ensures.walk;
+      order = omega (arith, c.is_hit_step-hit.ensures.order);
       within = omega (arith, c.going.invariant.within, c.one_if-number.ensures.most);
       same = c.going.invariant.same ∙ omega (arith, more, c.one_if-number.ensures.value);
     }

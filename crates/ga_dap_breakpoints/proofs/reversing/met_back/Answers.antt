@@ -11,9 +11,9 @@ returns-clause-met c =
     let s = c.args.lab.now in
     let node = c.args.node in
     let step : ℕ = c.args.step in
-    let at : c.back_to.new.self ≡ node_at_step s node step = c.back_to.ensures ∙ ap (λ (z : NodeAtStep). record z { step = step }) c.requires.walk in
+    let at : c.walk_back_to.new.self ≡ node_at_step s node step = c.walk_back_to.ensures ∙ ap (λ (z : NodeAtStep). record z { step = step }) c.requires.walk in
     let there : record_of c.node.result.now ≡ node_after s node.number step =
-    stands_so s node c.back_to.new.self step c.step-reached.result (record_of c.node.result.now) at c.step-reached.ensures.value c.step-reached.ensures.within c.node.ensures in
+    stands_so s node c.walk_back_to.new.self step c.step-reached.result (record_of c.node.result.now) at c.step-reached.ensures.value c.step-reached.ensures.within c.node.ensures in
     c.meets_test.ensures
     ∙ ap (λ (z : ℕ). meets_test c.args.condition (record_of c.node.result.now) z) (c.step-reached.ensures.value ∙ ap (λ (z : NodeAtStep). z.step) at)
     ∙ ap (λ (z : NodeRecord). meets_test c.args.condition z step) there

@@ -10,7 +10,7 @@ returns-then-keeps_word c =
     let node = c.args.node in
     let walk = c.args.walk.now in
     let before = record_of c.node.result.now in
-    word_stays s node walk.step c.step-place.result c.args.word c.made_by_step.result before c.keeps_word.result c.step-place.ensures.value c.made_by_step.ensures
+    word_stays s node walk.step c.step-place.result c.args.word c.made_event_of_step.result before c.keeps_word.result c.step-place.ensures.value c.made_event_of_step.ensures
     (then_of s node walk before c.requires.walk (omega (arith, c.step-place.ensures.value, c.step-place.ensures.within)) c.node.ensures) c.keeps_word.ensures c.if-keeps_word.true
 
 pub returns-else-keeps_word : goal.returns-else-keeps_word
@@ -19,5 +19,5 @@ returns-else-keeps_word c =
     let node = c.args.node in
     let walk = c.args.walk.now in
     let before = record_of c.node.result.now in
-    word_comes s node walk.step c.step-place.result c.args.word c.instruction_cell_after.result c.made_by_step.result before c.keeps_word.result c.step-place.ensures.value c.made_by_step.ensures
+    word_comes s node walk.step c.step-place.result c.args.word c.instruction_cell_after.result c.made_event_of_step.result before c.keeps_word.result c.step-place.ensures.value c.made_event_of_step.ensures
     (then_of s node walk before c.requires.walk (omega (arith, c.step-place.ensures.value, c.step-place.ensures.within)) c.node.ensures) c.keeps_word.ensures c.if-keeps_word.false c.instruction_cell_after.ensures

@@ -7,7 +7,7 @@ use Rattle.ga_dap_control.proofs.execution.go_on_slice.Goals as goal
 pub returns : goal.returns
 returns c =
     let r : Running = running c.args.program.now.lab c.args.execution.now.schedule in
-    let counted = c.halts-halts.ensures.hits ∙ c.tally_begun-tally.ensures in (
+    let counted = c.halts-halts.ensures.hits ∙ c.tally_before_slice-tally.ensures in (
       c.continue_run-went.ensures.state,
       c.continue_run-went.ensures.most,
       hits_so None _ _ _ _ r c.continue_run-went.result.events c.continue_run-went.result.tally c.halts-halts.ensures.points counted c.continue_run-went.ensures.hits,

@@ -1,6 +1,6 @@
 use Rattle.std.proofs.Common.{◌∙◌, ap}
 use Rattle.ga_dap_control.specs.declared.execution.Execution.{Execution}
-use Rattle.ga_dap_control.specs.Slices.{goal_behind}
+use Rattle.ga_dap_control.specs.Slices.{execution_after_stop}
 use Rattle.ga_dap_control.proofs.execution.make_events.Goals as goal
 
 pub returns : goal.returns
@@ -12,6 +12,6 @@ returns c = (
   c.advance-went.ensures,
   c.stuck_of-now.ensures,
   c.newly_stuck-stuck.ensures,
-  c.stop_by-stop.ensures,
-  c.end_for.ensures ∙ ap (λ (z : Execution). goal_behind z c.stop_by-stop.result) c.keep_reported.ensures,
+  c.slice_stop_reason-stop.ensures,
+  c.end_for.ensures ∙ ap (λ (z : Execution). execution_after_stop z c.slice_stop_reason-stop.result) c.keep_reported.ensures,
 )

@@ -1,6 +1,6 @@
 use Rattle.std.proofs.Common.{Option, Some, refl, ap, subst}
 use Rattle.ga_grid.specs.declared.node_id.NodeId.{NodeId}
-use Rattle.ga_dap_control.specs.Slices.{MakesUnless}
+use Rattle.ga_dap_control.specs.Slices.{MakesEventsUnlessDeadlocked}
 use Rattle.ga_dap_control.proofs.execution.make_slice_of.Goals as goal
 
 pub returns-in-Some : goal.returns-in-Some
@@ -10,7 +10,7 @@ returns-in-Some c =
       told.0,
       c.stuck_of-before.ensures,
       told.1,
-      subst (λ (z : Option NodeId). MakesUnless z c.args.goal c.stuck_of-before.result c.args.program.now c.args.settings.now c.args.execution.now c.args.program.now c.report.new.execution
+      subst (λ (z : Option NodeId). MakesEventsUnlessDeadlocked z c.args.goal c.stuck_of-before.result c.args.program.now c.args.settings.now c.args.execution.now c.args.program.now c.report.new.execution
           (Some c.report.result)) told.2 (refl, c.report.ensures.next, ap Some c.report.ensures.reason),
     )
 
@@ -21,6 +21,6 @@ returns-in-None c =
       told.0,
       c.stuck_of-before.ensures,
       told.1,
-      subst (λ (z : Option NodeId). MakesUnless z c.args.goal c.stuck_of-before.result c.args.program.now c.args.settings.now c.args.execution.now c.make_events.new.program
+      subst (λ (z : Option NodeId). MakesEventsUnlessDeadlocked z c.args.goal c.stuck_of-before.result c.args.program.now c.args.settings.now c.args.execution.now c.make_events.new.program
           c.make_events.new.execution c.make_events.result) told.2 c.make_events.ensures,
     )

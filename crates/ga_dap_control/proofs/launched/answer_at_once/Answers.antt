@@ -28,7 +28,7 @@ returns-in-SetExceptionBreakpoints-clause-sent c = with_command _ the.SetExcepti
 
 pub returns-in-DataBreakpointInfo-clause-sent : goal.returns-in-DataBreakpointInfo-clause-sent
 returns-in-DataBreakpointInfo-clause-sent c = with_command _ the.DataBreakpointInfo c.args.command c.args.launched.now c.args.request.now _ c.args.out.now _ c.in-DataBreakpointInfo.is
-    (only_answers _ c.tell_data_info.result c.args.launched.now c.args.launched.now c.args.out.now c.tell_data_info.new.out c.tell_data_info.ensures.sent refl)
+    (only_answers _ c.respond_data_breakpoint_info.result c.args.launched.now c.args.launched.now c.args.out.now c.respond_data_breakpoint_info.new.out c.respond_data_breakpoint_info.ensures.sent refl)
 
 pub returns-in-Threads-clause-sent : goal.returns-in-Threads-clause-sent
 returns-in-Threads-clause-sent c = with_command _ the.Threads c.args.command c.args.launched.now c.args.request.now _ c.args.out.now _ c.in-Threads.is
@@ -48,11 +48,11 @@ returns-in-Variables-clause-sent c = with_command _ the.Variables c.args.command
 
 pub returns-in-ExceptionInfo-clause-sent : goal.returns-in-ExceptionInfo-clause-sent
 returns-in-ExceptionInfo-clause-sent c = with_command _ the.ExceptionInfo c.args.command c.args.launched.now c.args.request.now _ c.args.out.now _ c.in-ExceptionInfo.is
-    (only_answers _ c.tell_exception.result c.args.launched.now c.args.launched.now c.args.out.now c.tell_exception.new.out c.tell_exception.ensures.sent refl)
+    (only_answers _ c.respond_exception_info.result c.args.launched.now c.args.launched.now c.args.out.now c.respond_exception_info.new.out c.respond_exception_info.ensures.sent refl)
 
 pub returns-in-Disassemble-clause-sent : goal.returns-in-Disassemble-clause-sent
 returns-in-Disassemble-clause-sent c = with_command _ the.Disassemble c.args.command c.args.launched.now c.args.request.now _ c.args.out.now _ c.in-Disassemble.is
-    (only_answers _ c.tell_instructions.result c.args.launched.now c.args.launched.now c.args.out.now c.tell_instructions.new.out c.tell_instructions.ensures.sent refl)
+    (only_answers _ c.respond_disassemble.result c.args.launched.now c.args.launched.now c.args.out.now c.respond_disassemble.new.out c.respond_disassemble.ensures.sent refl)
 
 pub returns-in-ConfigurationDone-clause-sent : goal.returns-in-ConfigurationDone-clause-sent
 returns-in-ConfigurationDone-clause-sent c = with_command _ the.ConfigurationDone c.args.command c.args.launched.now c.args.request.now _ c.args.out.now _ c.in-ConfigurationDone.is

@@ -2,7 +2,7 @@ use Rattle.std.proofs.Common.{Option, refl, ap, sym, subst}
 use Rattle.ga_dap_breakpoints.specs.declared.stepping.StepMove.{StepMove}
 use Rattle.ga_dap_queries.specs.Sending.{refused_response}
 use Rattle.ga_dap_queries.proofs.Sent.{ok_then}
-use Rattle.ga_dap_control.specs.Moving.{BeginsStepping}
+use Rattle.ga_dap_control.specs.Moving.{BeginsStepMove}
 use Rattle.ga_dap_control.proofs.Answered.{begins_unless, stopped_unless}
 use Rattle.ga_dap_control.proofs.moving.begin_step_of.Goals as goal
 
@@ -11,7 +11,7 @@ returns-then-can_step-clause-sent c = ok_then c.begin_stepping.result c.begin_st
     (λ sent. (
       sent.0,
       begins_unless _ c.can_step.result c.args.kind c.args.execution.now c.args.request.now _ sent.0 c.begin_stepping.new.execution c.can_step.ensures c.if-can_step.true
-          (subst (λ (z : Option StepMove). BeginsStepping c.args.execution.now c.args.request.now z sent.0 c.begin_stepping.new.execution) c.stepping_of-stepping.ensures sent.1),
+          (subst (λ (z : Option StepMove). BeginsStepMove c.args.execution.now c.args.request.now z sent.0 c.begin_stepping.new.execution) c.requested_step_move-stepping.ensures sent.1),
       sent.2,
     ))
 

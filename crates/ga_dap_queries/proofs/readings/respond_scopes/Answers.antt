@@ -1,6 +1,6 @@
 use Rattle.std.proofs.Common.{codes, Some, None, refl, ap}
 use Rattle.serde_json.specs.View.{view}
-use Rattle.ga_dap_queries.specs.Sending.{answered, refused_response}
+use Rattle.ga_dap_queries.specs.Sending.{success_response, refused_response}
 use Rattle.ga_dap_queries.proofs.Sent.{ok_then}
 use Rattle.ga_dap_queries.proofs.readings.respond_scopes.Goals as goal
 
@@ -10,4 +10,4 @@ returns-in-None-clause-sent c = ok_then c.refuse.result c.refuse.ensures.sent
 
 pub returns-in_ok-body-in-Some-clause-sent : goal.returns-in_ok-body-in-Some-clause-sent
 returns-in_ok-body-in-Some-clause-sent c = ok_then c.respond.result c.respond.ensures.sent
-    (λ sent. (answered c.args.request.now (view c.in_ok-body-in-Some.body), (Some c.in-Some.node, c.in-Some.ensures, ap (answered c.args.request.now) c.in_ok-body-in-Some.ensures), sent))
+    (λ sent. (success_response c.args.request.now (view c.in_ok-body-in-Some.body), (Some c.in-Some.node, c.in-Some.ensures, ap (success_response c.args.request.now) c.in_ok-body-in-Some.ensures), sent))

@@ -2,9 +2,9 @@ use Rattle.std.proofs.Common.{◌≡◌, ◌∙◌, ℕ, codes, Some, None, refl
 use Rattle.ga_debug_info.specs.declared.notes.DebugInfo.{DebugInfo}
 use Rattle.serde_json.specs.View.{view}
 use Rattle.ga_dap_views.specs.Frames.{stack_trace}
-use Rattle.ga_dap_queries.specs.Arguments.{number_given_or}
-use Rattle.ga_dap_queries.specs.Disassembling.{program_notes}
-use Rattle.ga_dap_queries.specs.Sending.{answered, refused_response}
+use Rattle.ga_dap_queries.specs.Arguments.{number_or_default}
+use Rattle.ga_dap_queries.specs.Disassembling.{program_debug_info}
+use Rattle.ga_dap_queries.specs.Sending.{success_response, refused_response}
 use Rattle.ga_dap_queries.proofs.Sent.{ok_then}
 use Rattle.ga_dap_queries.proofs.readings.respond_stack_trace.Goals as goal
 
@@ -14,16 +14,16 @@ returns-in-None-clause-sent c = ok_then c.refuse.result c.refuse.ensures.sent
 
 pub returns-in_ok-body-in-Some-clause-sent : goal.returns-in_ok-body-in-Some-clause-sent
 returns-in_ok-body-in-Some-clause-sent c =
-    let e : view c.in_ok-body-in-Some.body ≡ stack_trace c.file.result (program_notes c.args.program.now) c.args.program.now.lab c.in-Some.node
-    (number_given_or (codes "startFrame") 0 (view c.args.request.now.arguments)) (number_given_or (codes "levels") 0 (view c.args.request.now.arguments)) =
+    let e : view c.in_ok-body-in-Some.body ≡ stack_trace c.file.result (program_debug_info c.args.program.now) c.args.program.now.lab c.in-Some.node
+    (number_or_default (codes "startFrame") 0 (view c.args.request.now.arguments)) (number_or_default (codes "levels") 0 (view c.args.request.now.arguments)) =
     c.in_ok-body-in-Some.ensures
-    ∙ ap (λ (z : DebugInfo). stack_trace c.file.result z c.args.program.now.lab c.in-Some.node c.number_given_or-start.result c.number_given_or-count.result) c.notes-notes.ensures
-    ∙ ap (λ (z : ℕ). stack_trace c.file.result (program_notes c.args.program.now) c.args.program.now.lab c.in-Some.node z c.number_given_or-count.result) c.number_given_or-start.ensures
-    ∙ ap (λ (z : ℕ). stack_trace c.file.result (program_notes c.args.program.now) c.args.program.now.lab c.in-Some.node
-    (number_given_or (codes "startFrame") 0 (view c.args.request.now.arguments)) z) c.number_given_or-count.ensures in
+    ∙ ap (λ (z : DebugInfo). stack_trace c.file.result z c.args.program.now.lab c.in-Some.node c.number_or_default-start.result c.number_or_default-count.result) c.notes-notes.ensures
+    ∙ ap (λ (z : ℕ). stack_trace c.file.result (program_debug_info c.args.program.now) c.args.program.now.lab c.in-Some.node z c.number_or_default-count.result) c.number_or_default-start.ensures
+    ∙ ap (λ (z : ℕ). stack_trace c.file.result (program_debug_info c.args.program.now) c.args.program.now.lab c.in-Some.node
+    (number_or_default (codes "startFrame") 0 (view c.args.request.now.arguments)) z) c.number_or_default-count.ensures in
     ok_then c.respond.result c.respond.ensures.sent
     (λ sent. (
-      answered c.args.request.now (view c.in_ok-body-in-Some.body),
-      (Some c.in-Some.node, c.in-Some.ensures, (c.file.result, (c.file.ensures.name, c.file.ensures.path), ap (answered c.args.request.now) e)),
+      success_response c.args.request.now (view c.in_ok-body-in-Some.body),
+      (Some c.in-Some.node, c.in-Some.ensures, (c.file.result, (c.file.ensures.name, c.file.ensures.path), ap (success_response c.args.request.now) e)),
       sent,
     ))

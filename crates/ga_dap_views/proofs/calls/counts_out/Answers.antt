@@ -8,6 +8,6 @@ use Rattle.ga_dap_views.proofs.calls.counts_out.Goals as goal
 pub returns-clause-value : goal.returns-clause-value
 returns-clause-value c =
     let walk = c.args.walk.now in
-    let back : c.back_to.new.self ≡ node_at_step walk.machine walk.node c.args.at = c.back_to.ensures in
-    let there = stood_of walk.machine walk.node c.back_to.new.self c.args.at (record_of c.node.result.now) back (omega (arith, c.step.ensures.within, c.step.ensures.value)) c.node.ensures in
+    let back : c.walk_back_to.new.self ≡ node_at_step walk.machine walk.node c.args.at = c.walk_back_to.ensures in
+    let there = stood_of walk.machine walk.node c.walk_back_to.new.self c.args.at (record_of c.node.result.now) back (omega (arith, c.step.ensures.within, c.step.ensures.value)) c.node.ensures in
     ap (λ (z : ℕ). z == 0) (c.r.ensures.value ∙ ap r there)

@@ -1,6 +1,6 @@
 use Rattle.std.proofs.Common.{◌≡◌, ◌∙◌, ℕ, sym, ap, map, arith}
 use Rattle.serde_json.specs.View.{view}
-use Rattle.ga_dap_views.specs.Threads.{thread_in, with_threads}
+use Rattle.ga_dap_views.specs.Threads.{thread_in, nodes_with_threads}
 use Rattle.ga_dap_views.proofs.Lists.{no_threads, thread_step}
 use Rattle.ga_dap_views.proofs.thread.shown.Goals as goal
 
@@ -13,4 +13,4 @@ nodes-preserved c =
 
 pub returns : goal.returns
 returns c = let all : c.nodes.number ≡ 144 = omega arith in
-    c.nodes.invariant ∙ ap (λ (z : ℕ). map (thread_in c.args.lab.now) (with_threads c.args.lab.now c.args.programs.now z)) all
+    c.nodes.invariant ∙ ap (λ (z : ℕ). map (thread_in c.args.lab.now) (nodes_with_threads c.args.lab.now c.args.programs.now z)) all

@@ -3,7 +3,7 @@ use Rattle.std.specs.Slice.Iter.{iter_rest}
 use Rattle.std.specs.Iterator.Adapters.{zip_first, zip_second}
 use Rattle.std.proofs.lemmas.List.{length_push}
 use Rattle.std.proofs.lemmas.Slice.Zip.{zip_turn, zip_end}
-use Rattle.ga_debug_info.specs.Source.{noted_by, literal_noted, group_noted}
+use Rattle.ga_debug_info.specs.Source.{cell_source_content, literal_cell_sources, group_cell_sources}
 use Rattle.ga_debug_info.proofs.Adding.{literals_step, literals_all, told_all}
 use Rattle.ga_debug_info.proofs.building.add_group.Goals as goal
 
@@ -15,8 +15,8 @@ loop-item-preserved c =
     let notes = rw c.loop-item.invariant.same at c.in_ok-p.ensures.notes in
     record {
       same = c.add_literal.ensures.same ∙ c.loop-item.invariant.same;
-      told = literals_step (literal_noted c.args.lines.now c.args.program.now) c.args.group.now.items.items c.args.group.now.lines.items
-          (map noted_by c.loop-item.notes.items) (map noted_by c.add_literal.new.notes.items) (map noted_by c.args.notes.now.items ++ group_noted c.args.lines.now c.args.program.now c.args.group.now)
+      told = literals_step (literal_cell_sources c.args.lines.now c.args.program.now) c.args.group.now.items.items c.args.group.now.lines.items
+          (map cell_source_content c.loop-item.notes.items) (map cell_source_content c.add_literal.new.notes.items) (map cell_source_content c.args.notes.now.items ++ group_cell_sources c.args.lines.now c.args.program.now c.args.group.now)
           (length c.loop-item.yielded) (length (c.loop-item.yielded ++ (c.in-Some.item, c.in-Some.line) ∷ [])) c.loop-item.p c.in_ok-p.p c.in-Some.item.now c.in-Some.line.now
           turn.0 turn.1 (turn.2 c.in-Some.item.now) (turn.3 0)
           (length_push c.loop-item.yielded (c.in-Some.item, c.in-Some.line)) c.in_ok-p.ensures.p notes c.loop-item.invariant.told;
@@ -27,4 +27,4 @@ returns-clause-notes c =
     let first : iter_rest (zip_first c.into_iter-item-iterator.result) ≡ c.args.group.now.items.items = search rules in
     let second : iter_rest (zip_second c.into_iter-item-iterator.result) ≡ c.args.group.now.lines.items = search rules in
     let end = zip_end _ _ c.loop-item.yielded c.into_iter-item-iterator.result c.loop-item.item-iterator c.next.new.self c.next.result first second c.loop-item.yielded_by c.in-None.is c.next.ensures.steps in
-    told_all _ _ _ (literals_all (literal_noted c.args.lines.now c.args.program.now) c.loop-item.p c.args.group.now.items.items c.args.group.now.lines.items (length c.loop-item.yielded) (omega (arith, end))) c.loop-item.invariant.told
+    told_all _ _ _ (literals_all (literal_cell_sources c.args.lines.now c.args.program.now) c.loop-item.p c.args.group.now.items.items c.args.group.now.lines.items (length c.loop-item.yielded) (omega (arith, end))) c.loop-item.invariant.told

@@ -1,5 +1,5 @@
 use Rattle.std.proofs.Common.{◌∙◌, map, length, refl}
-use Rattle.ga_debug_info.specs.Notes.{worded_by}
+use Rattle.ga_debug_info.specs.Notes.{displayed_word_content}
 use Rattle.ga_debug_info.proofs.Adding.{slot_step, slots_all, told_all}
 use Rattle.ga_debug_info.proofs.wording.add_slots.Goals as goal
 
@@ -9,7 +9,7 @@ loop-slot-preserved c =
     record {
       same = c.add_word.ensures.same ∙ c.loop-slot.invariant.same;
       words = slot_step c.args.lines.now c.args.words.now c.args.cell (length c.args.numbers.now) c.loop-slot.slot _ c.args.numbers.now
-          (map worded_by c.loop-slot.told.items) (map worded_by c.add_word.new.told.items) _
+          (map displayed_word_content c.loop-slot.told.items) (map displayed_word_content c.add_word.new.told.items) _
           c.loop-slot-test.true refl words c.loop-slot.invariant.words;
     }
 

@@ -5,8 +5,8 @@ use Rattle.ga_display.proofs.event.push_near.Goals as goal
 short : (n : ℕ) → n < 100000000 → length (decimal n) ≤ 20
 short n fits = length-decimal-le 20 n (omega arith) (omega arith) (omega arith)
 
-pub push_eight-requires : goal.push_eight-requires
-push_eight-requires g c =
+pub push_eight_digits-requires : goal.push_eight_digits-requires
+push_eight_digits-requires g c =
     let small : c.from.result < 100000000 = omega (arith, c.requires.small, c.from.ensures) in
     (search rules, (small, omega (arith, c.requires.room, c.push_node_spaced.ensures.len, short c.from.result small)))
 
@@ -14,5 +14,5 @@ pub push_kind-requires : goal.push_kind-requires
 push_kind-requires g c =
     let small : c.from.result < 100000000 = omega (arith, c.requires.small, c.from.ensures) in (
       search rules,
-      omega (arith, c.requires.room, c.push_node_spaced.ensures.len, short c.from.result small, ap length c.push_eight.ensures.text, length-append c.push_node_spaced.new.out.items (decimal c.from.result)),
+      omega (arith, c.requires.room, c.push_node_spaced.ensures.len, short c.from.result small, ap length c.push_eight_digits.ensures.text, length-append c.push_node_spaced.new.out.items (decimal c.from.result)),
     )

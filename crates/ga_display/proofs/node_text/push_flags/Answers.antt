@@ -9,7 +9,7 @@ unfolding record_of
 returns-clause-text g c =
     let number : List ℕ → ℕ → List ℕ = λ text n. text ++ decimal n in
     let word : List ℕ → ℕ → List ℕ = λ text n. text ++ hex6_of n in
-    let same : c.truncated.result ≡ c.get-3.result = omega (arith, c.truncated.ensures, c.get-3.ensures.in_range) in
+    let same : c.from_low_bits.result ≡ c.get-3.result = omega (arith, c.from_low_bits.ensures, c.get-3.ensures.in_range) in
     six_pieces c.args.out.now.items c.push_text.new.out.items c.push_digit.new.out.items c.push_text-2.new.out.items c.push_digit-2.new.out.items c.push_text-3.new.out.items c.push_word.new.out.items
     _ _ _ _ _ _
     c.push_text.ensures.text

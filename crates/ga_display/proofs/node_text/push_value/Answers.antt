@@ -5,5 +5,5 @@ use Rattle.ga_display.proofs.node_text.push_value.Goals as goal
 
 pub returns-clause-text : goal.returns-clause-text
 returns-clause-text g c =
-    let same : c.truncated.result ≡ c.args.value = omega (arith, c.truncated.ensures, c.requires.small) in
-    c.push_spaced.ensures.text ∙ ap (λ (n : ℕ). c.args.out.now.items ++ (codes " " ++ hex6_of n)) same
+    let same : c.from_low_bits.result ≡ c.args.value = omega (arith, c.from_low_bits.ensures, c.requires.small) in
+    c.push_spaced_word.ensures.text ∙ ap (λ (n : ℕ). c.args.out.now.items ++ (codes " " ++ hex6_of n)) same

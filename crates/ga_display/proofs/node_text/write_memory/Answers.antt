@@ -19,9 +19,9 @@ returns g c = (
       let old : List ℕ = c.make_room.new.self.pending.items in
       let text : List ℕ = memory_text c.args.node c.args.address c.args.word in
       let told = c.in_ok-make_room.ensures.said.1 before said h in
-      let whole = piece_more old c.push_spaced.new.out.items c.push_text-3.new.out.items _ _
-      (four_pieces old c.push_text.new.out.items c.push_node_spaced.new.out.items c.push_text-2.new.out.items c.push_spaced.new.out.items _ _ _ _
-      c.push_text.ensures.text c.push_node_spaced.ensures.text (c.push_text-2.ensures.text ∙ ap (λ (t : List ℕ). c.push_node_spaced.new.out.items ++ t) c.hex2.ensures) c.push_spaced.ensures.text)
+      let whole = piece_more old c.push_spaced_word.new.out.items c.push_text-3.new.out.items _ _
+      (four_pieces old c.push_text.new.out.items c.push_node_spaced.new.out.items c.push_text-2.new.out.items c.push_spaced_word.new.out.items _ _ _ _
+      c.push_text.ensures.text c.push_node_spaced.ensures.text (c.push_text-2.ensures.text ∙ ap (λ (t : List ℕ). c.push_node_spaced.new.out.items ++ t) c.hex2.ensures) c.push_spaced_word.ensures.text)
       c.push_text-3.ensures.text in
       record {
         sent = told.sent;

@@ -1,5 +1,5 @@
 use Rattle.std.proofs.Common.{rules, ◌++◌}
-use Rattle.ga_display.specs.Texts.{trace_text}
+use Rattle.ga_display.specs.Texts.{trace_header_text}
 use Rattle.ga_text.proofs.WriteLemmas.{truncated_more, truncated_here}
 use Rattle.ga_display.proofs.writing.write_trace_head.Goals as goal
 
@@ -7,6 +7,6 @@ pub returns-in_err-make_room : goal.returns-in_err-make_room
 returns-in_err-make_room g c = (
   search rules,
   λ before said h.
-      truncated_here c.from_residual.result _ before (said ++ trace_text c.args.node c.args.count) _ c.from_residual.ensures.0
-      (truncated_more _ before said (trace_text c.args.node c.args.count) (c.in_err-make_room.ensures.said.1 before said h)),
+      truncated_here c.from_residual.result _ before (said ++ trace_header_text c.args.node c.args.count) _ c.from_residual.ensures.0
+      (truncated_more _ before said (trace_header_text c.args.node c.args.count) (c.in_err-make_room.ensures.said.1 before said h)),
 )

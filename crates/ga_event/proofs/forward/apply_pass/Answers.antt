@@ -1,11 +1,11 @@
 use Rattle.std.proofs.Common.{◌≡◌, ◌≢◌, ◌<◌, true, length, sym, ◌∙◌, subst, arith}
 use Rattle.std.proofs.lemmas.List.{get_or-set_other}
-use Rattle.ga_node.specs.State.{IsApart}
+use Rattle.ga_node.specs.State.{HasAtMostOneStatus}
 use Rattle.ga_node.specs.Record.{record_of}
-use Rattle.ga_node.specs.Table.{t, sent, sending, taken, taking}
-use Rattle.ga_node.specs.Saving.{Overwrites}
+use Rattle.ga_node.specs.Table.{t, sent, send_changes, taken, take_changes}
+use Rattle.ga_node.specs.Saving.{IsUndoLog}
 use Rattle.ga_grid.specs.Chip.{nowhere, node_at, records_of, record_at}
-use Rattle.ga_event.specs.Apply.{is_open}
+use Rattle.ga_event.specs.Apply.{is_transfer_ready}
 use Rattle.ga_event.proofs.Applied.{pass_applied, open_apart}
 use Rattle.ga_event.proofs.forward.apply_pass.Goals as goal
 
@@ -16,7 +16,7 @@ returns c =
     let size : length c.args.chip.now ≡ 144 = c.node_mut.ensures.size in
     let lw : w < length c.args.chip.now = omega arith in
     let lr : r < length c.args.chip.now = omega arith in
-    let open_ : is_open w r c.args.side (record_at (records_of c.args.chip.now) w).wait (record_at (records_of c.args.chip.now) r).wait ≡ true = c.requires.open in
+    let open_ : is_transfer_ready w r c.args.side (record_at (records_of c.args.chip.now) w).wait (record_at (records_of c.args.chip.now) r).wait ≡ true = c.requires.open in
     let other : w ≢ r = open_apart w r c.args.side _ _ open_ in
     let at_w : c.node_mut.result.now ≡ node_at c.args.chip.now w = c.node_mut.ensures.value in
     let at_r : c.node_mut-2.result.now ≡ node_at c.args.chip.now r =
@@ -25,8 +25,8 @@ returns c =
     c.send_half_into-word.new.saved c.take_half_into.new.saved lw lr other open_
     (subst (λ z. c.send_half_into-word.result ≡ t (record_of z)) at_w c.send_half_into-word.ensures.word)
     (subst (λ z. record_of c.send_half_into-word.new.self ≡ sent (record_of z)) at_w c.send_half_into-word.ensures.sent)
-    (subst (λ z. Overwrites sending z c.send_half_into-word.new.self c.send_half_into-word.new.saved) at_w c.send_half_into-word.ensures.saves)
-    (subst (λ z. IsApart z) at_w c.send_half_into-word.ensures.apart)
+    (subst (λ z. IsUndoLog send_changes z c.send_half_into-word.new.self c.send_half_into-word.new.saved) at_w c.send_half_into-word.ensures.saves)
+    (subst (λ z. HasAtMostOneStatus z) at_w c.send_half_into-word.ensures.apart)
     (subst (λ z. record_of c.take_half_into.new.self ≡ taken c.send_half_into-word.result (record_of z)) at_r c.take_half_into.ensures.taken)
-    (subst (λ z. Overwrites (taking (record_of z).wait c.send_half_into-word.result) z c.take_half_into.new.self c.take_half_into.new.saved) at_r c.take_half_into.ensures.saves)
-    (subst (λ z. IsApart z) at_r c.take_half_into.ensures.apart)
+    (subst (λ z. IsUndoLog (take_changes (record_of z).wait c.send_half_into-word.result) z c.take_half_into.new.self c.take_half_into.new.saved) at_r c.take_half_into.ensures.saves)
+    (subst (λ z. HasAtMostOneStatus z) at_r c.take_half_into.ensures.apart)

@@ -12,7 +12,7 @@ pub returns-in-At-clause-said : goal.returns-in-At-clause-said
 returns-in-At-clause-said g c = record {
   meant = question.At c.in-At.node c.in-At.which c.in-At.most;
   is = c.in-At.is;
-  said = rw (← c.resolve-step-in-At.ensures) c.write_at.ensures;
+  said = rw (← c.resolve-step-in-At.ensures) c.write_steps_around.ensures;
 }
 
 pub returns-in-Whence-clause-said : goal.returns-in-Whence-clause-said

@@ -33,16 +33,16 @@ returns-in-BackUntil g c = (
       ),
 )
 
-pub returns-in-Tell : goal.returns-in-Tell
-returns-in-Tell g c = (
+pub returns-in-AnswerQuery : goal.returns-in-AnswerQuery
+returns-in-AnswerQuery g c = (
   search rules,
   λ before said h.
       let old = explorer_state c.args.lab.now c.args.notes.now in
       let new = explorer_state c.answer_query.new.lab c.args.notes.now in
-      let asked = c.in-Tell.question in
+      let asked = c.in-AnswerQuery.question in
       let done = c.answer_query.ensures.said.said.1 before said h in (
         done.0,
-        answered old new c.args.asked (command.Tell asked) done.0 c.in-Tell.is
+        answered old new c.args.asked (command.AnswerQuery asked) done.0 c.in-AnswerQuery.is
             (subst (λ z. AnswersQuery old z done.0) (sym c.answer_query.ensures.said.is) done.1, ap (λ s. explorer_state s c.args.notes.now) c.answer_query.ensures.same),
         done.2,
       ),

@@ -1,18 +1,18 @@
 use Rattle.std.proofs.Common.{rules, ◌++◌, refl}
 use Rattle.ga_text.proofs.WriteLemmas.{truncated_here, truncated_within}
-use Rattle.ga_explorer.specs.Forms.{form_row_text, about_text}
+use Rattle.ga_explorer.specs.Forms.{form_row_text, command_details_text}
 use Rattle.ga_explorer.specs.inner.{entry_of}
 use Rattle.ga_explorer_text.proofs.Saying.{joined_written}
 use Rattle.ga_explorer.proofs.forms.say_about.Goals as goal
 
-pub returns-in_err-say_row : goal.returns-in_err-say_row
-returns-in_err-say_row g c = (
+pub returns-in_err-write_help_row : goal.returns-in_err-write_help_row
+returns-in_err-write_help_row g c = (
   search rules,
   λ before said h.
       let row = c.args.row.now in
-      let whole = about_text (entry_of row) in
+      let whole = command_details_text (entry_of row) in
       truncated_here c.from_residual.result _ before (said ++ whole) _ c.from_residual.ensures.0
-      (truncated_within _ before said (form_row_text (entry_of row)) row.more.now whole refl (c.in_err-say_row.ensures.1 before said h)),
+      (truncated_within _ before said (form_row_text (entry_of row)) row.more.now whole refl (c.in_err-write_help_row.ensures.1 before said h)),
 )
 
 pub returns : goal.returns
@@ -21,5 +21,5 @@ returns g c = (
   λ before said h.
       let row = c.args.row.now in
       joined_written c.write_blocks.result _ before said (form_row_text (entry_of row)) row.more.now _
-      (c.write_blocks.ensures.1 before (said ++ form_row_text (entry_of row)) (c.in_ok-say_row.ensures.1 before said h)),
+      (c.write_blocks.ensures.1 before (said ++ form_row_text (entry_of row)) (c.in_ok-write_help_row.ensures.1 before said h)),
 )

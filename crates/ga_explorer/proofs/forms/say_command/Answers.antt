@@ -2,8 +2,8 @@ use Rattle.std.proofs.Common.{rules, ◌≡◌, ◌∙◌, [], List, Some, None,
 use Rattle.std.specs.Prelude.{option_map, slice_get}
 use Rattle.std.proofs.lemmas.Option.{slice_get-map}
 use Rattle.ga_text.proofs.WriteLemmas.{written_as, written_pending}
-use Rattle.ga_explorer.specs.Forms.{CommandForm, about_text, about_found}
-use Rattle.ga_explorer.specs.Commands.{command_table, command_text}
+use Rattle.ga_explorer.specs.Forms.{CommandForm, command_details_text, found_command_details}
+use Rattle.ga_explorer.specs.Commands.{command_table, command_help_text}
 use Rattle.ga_explorer.specs.inner.{entry_of}
 use Rattle.ga_explorer_text.proofs.Saying.{text_as}
 use Rattle.ga_explorer.proofs.forms.say_command.Goals as goal
@@ -16,9 +16,9 @@ returns-in-Some g c = (
       let found : Some row ≡ slice_get c.command_table.result.now c.args.place = c.in-Some.ensures in
       let entry : Some (entry_of row) ≡ slice_get command_table c.args.place =
       ap (option_map entry_of) found ∙ sym (slice_get-map entry_of c.command_table.result.now c.args.place) ∙ ap (λ (z : List CommandForm). slice_get z c.args.place) c.command_table.ensures in (
-        command_text c.args.place,
+        command_help_text c.args.place,
         refl,
-        text_as c.say_about.result _ before said (about_text (entry_of row)) (command_text c.args.place) _ (ap about_found entry) (c.say_about.ensures.1 before said h),
+        text_as c.say_about.result _ before said (command_details_text (entry_of row)) (command_help_text c.args.place) _ (ap found_command_details entry) (c.say_about.ensures.1 before said h),
       ),
 )
 
@@ -29,8 +29,8 @@ returns-in-None g c = (
       let found : None ≡ slice_get c.command_table.result.now c.args.place = c.in-None.ensures in
       let entry : None ≡ slice_get command_table c.args.place =
       ap (option_map entry_of) found ∙ sym (slice_get-map entry_of c.command_table.result.now c.args.place) ∙ ap (λ (z : List CommandForm). slice_get z c.args.place) c.command_table.ensures in (
-        command_text c.args.place,
+        command_help_text c.args.place,
         refl,
-        written_as _ before said [] (command_text c.args.place) _ (ap about_found entry) (written_pending _ before said _ h),
+        written_as _ before said [] (command_help_text c.args.place) _ (ap found_command_details entry) (written_pending _ before said _ h),
       ),
 )

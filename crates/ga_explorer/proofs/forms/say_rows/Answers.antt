@@ -10,8 +10,8 @@ use Rattle.ga_explorer.proofs.forms.say_rows.Goals as goal
 pub rows-init : goal.rows-init
 rows-init g c = (search rules, λ before said h. record { front = []; splits = refl; is_said = written_pending _ before said _ h })
 
-pub returns-in_err-say_row : goal.returns-in_err-say_row
-returns-in_err-say_row g c = (
+pub returns-in_err-write_help_row : goal.returns-in_err-write_help_row
+returns-in_err-write_help_row g c = (
   search rules,
   λ before said h.
       let rows = c.args.rows.now in
@@ -22,7 +22,7 @@ returns-in_err-say_row g c = (
         truncated_here c.from_residual.result _ before (said ++ whole) _ c.from_residual.ensures.0
             (line_truncated _ before said whole _ _ _ done.front
             (next_row rows c.rows.row-index _ (omega arith)) done.splits
-            (c.in_err-say_row.ensures.1 before (said ++ done.front) done.is_said)),
+            (c.in_err-write_help_row.ensures.1 before (said ++ done.front) done.is_said)),
       ),
 )
 
@@ -34,7 +34,7 @@ rows-preserved g c = (
       let done = c.rows.invariant.1 before said h in
       line_written _ before said (form_rows_text (map entry_of rows)) _ _ _ done.front _
       (next_row rows c.rows.row-index _ (omega arith)) done.splits
-      (c.in_ok-say_row.ensures.1 before (said ++ done.front) done.is_said),
+      (c.in_ok-write_help_row.ensures.1 before (said ++ done.front) done.is_said),
 )
 
 pub returns : goal.returns

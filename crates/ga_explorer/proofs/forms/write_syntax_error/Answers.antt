@@ -1,7 +1,7 @@
 use Rattle.std.proofs.Common.{rules, ◌++◌, refl}
 use Rattle.std.specs.Prelude.{codes}
 use Rattle.ga_text.proofs.WriteLemmas.{truncated_here, truncated_within}
-use Rattle.ga_explorer.specs.NoCommand.{suggestion, no_command}
+use Rattle.ga_explorer.specs.NoCommand.{suggestion, unknown_command_text}
 use Rattle.ga_explorer_text.proofs.Saying.{joined_written}
 use Rattle.ga_explorer.proofs.forms.write_syntax_error.Goals as goal
 
@@ -9,7 +9,7 @@ pub returns-in_err-write_text : goal.returns-in_err-write_text
 returns-in_err-write_text g c = (
   search rules,
   λ before said h.
-      let whole = no_command c.args.line.now in (
+      let whole = unknown_command_text c.args.line.now in (
         whole,
         refl,
         truncated_here c.from_residual.result _ before (said ++ whole) _ c.from_residual.ensures.0
@@ -21,7 +21,7 @@ pub returns : goal.returns
 returns g c = (
   search rules,
   λ before said h.
-      let whole = no_command c.args.line.now in (
+      let whole = unknown_command_text c.args.line.now in (
         whole,
         refl,
         joined_written c.say_cure.result _ before said (codes "no 31 syntax: ") (suggestion c.args.line.now ++ codes "\n") _

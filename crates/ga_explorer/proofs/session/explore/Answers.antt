@@ -1,10 +1,10 @@
 use Rattle.std.proofs.Common.{rules, ℕ, ◌-◌, List, ◌++◌, refl, Some, sym, ap, subst, ◌∙◌, append_assoc}
 use Rattle.std.proofs.lemmas.List.{append-nil}
 use Rattle.ga_text.specs.Output.{ready}
-use Rattle.ga_console.specs.Session.{Serves}
+use Rattle.ga_console.specs.Session.{ServesCommands}
 use Rattle.ga_console.proofs.RunLemmas.{written_fresh}
-use Rattle.ga_explorer.specs.Opening.{IsFront}
-use Rattle.ga_explorer.specs.Session.{Prompts}
+use Rattle.ga_explorer.specs.Opening.{IsLeadingText}
+use Rattle.ga_explorer.specs.Session.{AnswersWithPrompt}
 use Rattle.ga_explorer.specs.Session.RunsExplorer.{served, unbegun}
 use Rattle.ga_explorer.proofs.session.explore.Goals as goal
 
@@ -15,7 +15,7 @@ returns-in-Ok g c = λ left before known held.
     let silent = begun.3 ∙ ap Some (ap (λ (t : List ℕ). before ++ t) begun.4.0 ∙ append-nil before) in
     let done = c.serve_explorer-ending.ensures.serves begun.0 before ready begun.2 (written_fresh _ before ready _ (ap g.W.Write.contents c.ready-said.ensures.stream ∙ silent) c.ready-said.ensures.said) in
     let there = done.7 in
-    let P : ℕ → Type 0 = λ n. Serves (Prompts c.args.is_prompted) (16777216 - n) c.in-Ok.begun done.0 done.1 done.2 done.4 c.serve_explorer-ending.result in (
+    let P : ℕ → Type 0 = λ n. ServesCommands (AnswersWithPrompt c.args.is_prompted) (16777216 - n) c.in-Ok.begun done.0 done.1 done.2 done.4 c.serve_explorer-ending.result in (
       text ++ done.0,
       done.1,
       done.3,
@@ -28,7 +28,7 @@ returns-in-Ok g c = λ left before known held.
         begun = c.in-Ok.begun;
         said = done.2;
         splits = refl;
-        front = subst (IsFront text) done.5 begun.4.4;
+        front = subst (IsLeadingText text) done.5 begun.4.4;
         opens = begun.4.5;
         last = done.4;
         serves = subst P begun.4.3 done.8;

@@ -1,7 +1,7 @@
 use Rattle.std.proofs.Common.{rules, ◌≡◌, ◌-◌, sym, ap, ◌∙◌}
 use Rattle.ga_lab.specs.Machine.{NodeAtStep}
-use Rattle.ga_provenance.specs.Deciding.{newest_decided}
-use Rattle.ga_explorer_text.specs.Because.{newest_decision_text}
+use Rattle.ga_provenance.specs.Deciding.{newest_decision}
+use Rattle.ga_explorer_text.specs.Because.{decisions_or_none_text}
 use Rattle.ga_explorer_text.proofs.Because.{because_here, because_nowhere}
 use Rattle.ga_explorer_text.proofs.because_text.write_because.Goals as goal
 
@@ -13,7 +13,7 @@ returns-then-has_step g c = (
       let s = c.args.lab.now in
       let done = c.write_decisions.ensures.1 before said h in
       let at : c.new.result.near.step ≡ c.args.step = ap (λ (z : NodeAtStep). z.step) c.new.ensures.near in
-      let told : done.0 ≡ newest_decision_text notes s c.args.node c.args.most (c.args.step - 1) (newest_decided s c.args.node (c.args.step - 1)) = rw (c.new.ensures.notes, c.new.ensures.lab, c.new.ensures.node, at) at done.1 in (
+      let told : done.0 ≡ decisions_or_none_text notes s c.args.node c.args.most (c.args.step - 1) (newest_decision s c.args.node (c.args.step - 1)) = rw (c.new.ensures.notes, c.new.ensures.lab, c.new.ensures.node, at) at done.1 in (
         done.0,
         told ∙ because_here notes s c.args.node c.args.step c.args.most (sym c.has_step.ensures.value ∙ c.if-has_step.true),
         done.2,

@@ -6,9 +6,9 @@ use Rattle.ga_explorer_text.proofs.ended.ended_among.Goals as goal
 
 pub nodes-preserved : goal.nodes-preserved
 nodes-preserved c = record {
-  size = length-set c.nodes.ended c.nodes.number c.is_ended.result ∙ c.nodes.invariant.size;
-  marked = flagged_more c.nodes.ended c.nodes.number c.new.result.number c.is_ended.result (λ n. is_marked c.args.marks.now n && ended_but c.args.live.now n) c.nodes.invariant.size (omega arith) c.new.ensures
-      c.is_ended.ensures c.nodes.invariant.marked;
+  size = length-set c.nodes.ended c.nodes.number c.is_ended_neighbour.result ∙ c.nodes.invariant.size;
+  marked = flagged_more c.nodes.ended c.nodes.number c.new.result.number c.is_ended_neighbour.result (λ n. is_marked c.args.marks.now n && ended_but c.args.live.now n) c.nodes.invariant.size (omega arith) c.new.ensures
+      c.is_ended_neighbour.ensures c.nodes.invariant.marked;
 }
 
 pub returns : goal.returns

@@ -18,8 +18,8 @@ pub returns-in-Err-clause-said : goal.returns-in-Err-clause-said
 returns-in-Err-clause-said g c = (
   search rules,
   λ before said h. (
-    c.advised_text.result.now,
-    races_refused c.args.lab.now c.args.only c.in-Err.fault c.advised_text.result.now c.in-Err.ensures.err c.advised_text.ensures.text,
+    c.advised_refusal_text.result.now,
+    races_refused c.args.lab.now c.args.only c.in-Err.fault c.advised_refusal_text.result.now c.in-Err.ensures.err c.advised_refusal_text.ensures.text,
     c.write_text.ensures.1 before said h,
   ),
 )

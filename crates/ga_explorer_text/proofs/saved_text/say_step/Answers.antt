@@ -9,7 +9,7 @@ returns-in-Some g c = (
   search rules,
   λ before said h. (
     c.as_slice.result.now,
-    c.as_slice.ensures.value ∙ c.step_line.ensures ∙ saved_at c.args.lab.now c.args.place c.in-Some.made c.actor.result (ap is_some c.chip-chip.ensures.replays)
+    c.as_slice.ensures.value ∙ c.step_command_line.ensures ∙ saved_at c.args.lab.now c.args.place c.in-Some.made c.actor.result (ap is_some c.chip-chip.ensures.replays)
         c.in-Some.ensures.value c.actor.ensures,
     c.write_blocks.ensures.1 before said h,
   ),

@@ -7,5 +7,5 @@ pub returns : goal.returns
 returns c =
     let rest : List ℕ = register_text (codes "a") c.args.words.a in
     c.push_named_word.ensures
-    ∙ ap (λ (z : List ℕ). z ++ rest) c.push_spaced.ensures.text
+    ∙ ap (λ (z : List ℕ). z ++ rest) c.push_spaced_word.ensures.text
     ∙ append_assoc c.args.out.now.items (codes " " ++ hex6_of c.args.words.word) rest

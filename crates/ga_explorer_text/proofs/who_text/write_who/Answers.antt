@@ -3,7 +3,7 @@ use Rattle.ga_grid.specs.Chip.{records_of}
 use Rattle.ga_causal.specs.Dependence.{is_marked}
 use Rattle.ga_text.proofs.WriteLemmas.{truncated_here, truncated_within, cut_assoc, said_assoc}
 use Rattle.ga_explorer_text.specs.inner.{ended_but}
-use Rattle.ga_explorer_text.specs.Waiting.{stuck_text, all_rings, rest_text}
+use Rattle.ga_explorer_text.specs.Waiting.{stuck_text, wait_cycles_text, ended_and_idle_text}
 use Rattle.ga_explorer_text.proofs.Saying.{joined_written, who_told}
 use Rattle.ga_explorer_text.proofs.who_text.write_who.Goals as goal
 
@@ -17,8 +17,8 @@ returns-in_err-say_waiting g c = (
       let over = is_marked c.ended_among-ended.result in
       let idle = is_marked c.find_idle-idle.result in
       let second : List ℕ = stuck_text marks over idle in
-      let third : List ℕ = all_rings chip marks in
-      let last : List ℕ = rest_text over idle in (
+      let third : List ℕ = wait_cycles_text chip marks in
+      let last : List ℕ = ended_and_idle_text over idle in (
         done.0 ++ second ++ third ++ last,
         who_told c.args.lab.now chip marks (ended_but c.find_live.result) over idle done.0 second third last c.chip-chip.ensures.value c.find_deadlocked-stuck.ensures.stuck c.find_deadlocked-stuck.ensures.greatest
             c.find_live.ensures.ended c.ended_among-ended.ensures c.find_idle-idle.ensures done.1 refl refl refl,
@@ -39,8 +39,8 @@ returns-in_err-write_blocks g c = (
       let over = is_marked c.ended_among-ended.result in
       let idle = is_marked c.find_idle-idle.result in
       let second = c.as_slice.result.now in
-      let third : List ℕ = all_rings chip marks in
-      let last : List ℕ = rest_text over idle in (
+      let third : List ℕ = wait_cycles_text chip marks in
+      let last : List ℕ = ended_and_idle_text over idle in (
         done.0 ++ second ++ third ++ last,
         who_told c.args.lab.now chip marks (ended_but c.find_live.result) over idle done.0 second third last c.chip-chip.ensures.value c.find_deadlocked-stuck.ensures.stuck c.find_deadlocked-stuck.ensures.greatest
             c.find_live.ensures.ended c.ended_among-ended.ensures c.find_idle-idle.ensures done.1 (c.as_slice.ensures.value ∙ c.stuck_line.ensures) refl refl,
@@ -63,7 +63,7 @@ returns-in_err-write_wait_cycles g c = (
       let second = c.as_slice.result.now in
       let both = said_assoc _ before said done.0 second _ (c.in_ok-write_blocks.ensures.1 before (said ++ done.0) done.2) in
       let third = c.in_err-write_wait_cycles.ensures.1 before (said ++ (done.0 ++ second)) both in
-      let last : List ℕ = rest_text over idle in (
+      let last : List ℕ = ended_and_idle_text over idle in (
         done.0 ++ second ++ third.0 ++ last,
         who_told c.args.lab.now chip marks (ended_but c.find_live.result) over idle done.0 second third.0 last c.chip-chip.ensures.value c.find_deadlocked-stuck.ensures.stuck c.find_deadlocked-stuck.ensures.greatest
             c.find_live.ensures.ended c.ended_among-ended.ensures c.find_idle-idle.ensures done.1 (c.as_slice.ensures.value ∙ c.stuck_line.ensures) third.1 refl,

@@ -1,8 +1,8 @@
 use Rattle.std.proofs.Common.{rules, ◌≡◌, ℕ, List, ◌++◌, length, refl, sym, ap, ◌∙◌, arith}
 use Rattle.std.specs.Prelude.{flat_map}
 use Rattle.ga_text.proofs.WriteLemmas.{truncated_here, truncated_within}
-use Rattle.ga_scheduler.specs.Words.{words_of, words_left}
-use Rattle.ga_explorer_text.specs.Texts.{sent_text, words_head, linked_text}
+use Rattle.ga_scheduler.specs.Words.{words_of, transfers_left}
+use Rattle.ga_explorer_text.specs.Texts.{transfer_line_text, words_head, transfers_text}
 use Rattle.ga_explorer_text.proofs.Saying.{line_written, line_truncated, all_said, none_left}
 use Rattle.ga_explorer_text.proofs.words_text.say_linked.Goals as goal
 
@@ -11,8 +11,8 @@ returns-in_err-write_blocks g c = (
   search rules,
   λ before said h.
       let s = c.args.lab.now in
-      let lines : List ℕ = flat_map (sent_text c.args.from c.args.to) (words_of s c.args.from.number c.args.to.number) in
-      let whole : List ℕ = linked_text s c.args.from c.args.to in (
+      let lines : List ℕ = flat_map (transfer_line_text c.args.from c.args.to) (words_of s c.args.from.number c.args.to.number) in
+      let whole : List ℕ = transfers_text s c.args.from c.args.to in (
         whole,
         refl,
         truncated_here c.from_residual.result _ before (said ++ whole) _ c.from_residual.ensures.0
@@ -25,16 +25,16 @@ returns-in_err-write_blocks g c = (
 pub telling-init : goal.telling-init
 telling-init g c =
     let s = c.args.lab.now in
-    let line = sent_text c.args.from c.args.to in record {
+    let line = transfer_line_text c.args.from c.args.to in record {
       same = search rules;
       up_to = λ before said h. record {
         front = c.as_slice.result.now;
-        splits = ap (λ (z : List ℕ). z ++ flat_map line (words_left s c.new-words.result))
+        splits = ap (λ (z : List ℕ). z ++ flat_map line (transfers_left s c.new-words.result))
             (c.as_slice.ensures.value ∙ c.head_line.ensures ∙ ap (words_head c.args.from c.args.to) c.count_transfers-count.ensures)
             ∙ ap (λ z. words_head c.args.from c.args.to (length (words_of s c.args.from.number c.args.to.number)) ++ flat_map line z) (c.new-words.ensures s);
         is_said = c.in_ok-write_blocks.ensures.1 before said h;
       };
-      left = let all : length (words_left s c.new-words.result) ≡ c.count_transfers-count.result = ap length (c.new-words.ensures s) ∙ sym c.count_transfers-count.ensures in omega (arith, all);
+      left = let all : length (transfers_left s c.new-words.result) ≡ c.count_transfers-count.result = ap length (c.new-words.ensures s) ∙ sym c.count_transfers-count.ensures in omega (arith, all);
     }
 
 pub returns-in_default : goal.returns-in_default
@@ -42,10 +42,10 @@ returns-in_default g c = (
   search rules,
   λ before said h.
       let s = c.args.lab.now in
-      let whole : List ℕ = linked_text s c.args.from c.args.to in (
+      let whole : List ℕ = transfers_text s c.args.from c.args.to in (
         whole,
         refl,
-        all_said _ before said whole _ _ (ap (flat_map (sent_text c.args.from c.args.to)) c.in_default.ensures.end) (c.telling.invariant.up_to before said h),
+        all_said _ before said whole _ _ (ap (flat_map (transfer_line_text c.args.from c.args.to)) c.in_default.ensures.end) (c.telling.invariant.up_to before said h),
       ),
 )
 
@@ -54,8 +54,8 @@ returns-in_err-say_sent g c = (
   search rules,
   λ before said h.
       let s = c.args.lab.now in
-      let line = sent_text c.args.from c.args.to in
-      let whole : List ℕ = linked_text s c.args.from c.args.to in
+      let line = transfer_line_text c.args.from c.args.to in
+      let whole : List ℕ = transfers_text s c.args.from c.args.to in
       let done = c.telling.invariant.up_to before said h in (
         whole,
         refl,
@@ -67,11 +67,11 @@ returns-in_err-say_sent g c = (
 
 pub telling-preserved : goal.telling-preserved
 telling-preserved g c =
-    let line = sent_text c.args.from c.args.to in record {
+    let line = transfer_line_text c.args.from c.args.to in record {
       same = search rules;
       up_to = λ before said h.
           let done = c.telling.invariant.up_to before said h in
-          line_written _ before said (linked_text c.args.lab.now c.args.from c.args.to) _ (line c.in-Some.sent) _ done.front _ (ap (flat_map line) c.in-Some.ensures.word) done.splits
+          line_written _ before said (transfers_text c.args.lab.now c.args.from c.args.to) _ (line c.in-Some.sent) _ done.front _ (ap (flat_map line) c.in-Some.ensures.word) done.splits
           (c.in_ok-say_sent.ensures.1 before (said ++ done.front) done.is_said);
       left = omega (arith, c.telling.invariant.left, ap length c.in-Some.ensures.word);
     }
@@ -81,11 +81,11 @@ returns g c = (
   search rules,
   λ before said h.
       let s = c.args.lab.now in
-      let whole : List ℕ = linked_text s c.args.from c.args.to in (
+      let whole : List ℕ = transfers_text s c.args.from c.args.to in (
         whole,
         refl,
         all_said _ before said whole _ _
-            (ap (flat_map (sent_text c.args.from c.args.to)) (none_left (words_left s c.telling.words) (omega (arith, c.telling.invariant.left))))
+            (ap (flat_map (transfer_line_text c.args.from c.args.to)) (none_left (transfers_left s c.telling.words) (omega (arith, c.telling.invariant.left))))
             (c.telling.invariant.up_to before said h),
       ),
 )

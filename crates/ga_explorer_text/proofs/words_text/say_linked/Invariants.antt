@@ -1,8 +1,8 @@
 use Rattle.std.proofs.Common.{◌≡◌, ℕ, ◌+◌, List, length}
 use Rattle.std.specs.Prelude.{flat_map}
 use Rattle.ga_text.specs.Output.{IsWritten}
-use Rattle.ga_scheduler.specs.Words.{words_left}
-use Rattle.ga_explorer_text.specs.Texts.{sent_text, linked_text}
+use Rattle.ga_scheduler.specs.Words.{transfers_left}
+use Rattle.ga_explorer_text.specs.Texts.{transfer_line_text, transfers_text}
 use Rattle.ga_explorer_text.proofs.Saying.{IsWrittenUpTo}
 use Rattle.ga_explorer_text.proofs.words_text.say_linked.Given as goal
 
@@ -10,6 +10,6 @@ abbrev pub invariant-telling : goal.invariant-telling
 invariant-telling g l = record {
   same : l.writer.stream.ghost_name ≡ l.fn.writer.stream.ghost_name;
   up_to : (before said : List ℕ) → IsWritten (g.W.Write.contents l.fn.writer.stream.now) before said l.fn.writer.pending.items
-      → IsWrittenUpTo (g.W.Write.contents l.writer.stream.now) before said (linked_text l.lab l.from l.to) (flat_map (sent_text l.from l.to) (words_left l.lab l.words)) l.writer.pending.items;
-  left : length (words_left l.lab l.words) + l.counter ≡ l.count;
+      → IsWrittenUpTo (g.W.Write.contents l.writer.stream.now) before said (transfers_text l.lab l.from l.to) (flat_map (transfer_line_text l.from l.to) (transfers_left l.lab l.words)) l.writer.pending.items;
+  left : length (transfers_left l.lab l.words) + l.counter ≡ l.count;
 }

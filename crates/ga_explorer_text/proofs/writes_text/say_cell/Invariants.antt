@@ -1,5 +1,5 @@
 use Rattle.std.proofs.Common.{◌≡◌, ℕ, List}
-use Rattle.ga_event.specs.Told.{steps_of}
+use Rattle.ga_event.specs.Told.{count_steps}
 use Rattle.ga_text.specs.Output.{IsWritten}
 use Rattle.ga_provenance.specs.Writes.{search}
 use Rattle.ga_explorer_text.specs.Writing.{cell_writes}
@@ -11,7 +11,7 @@ invariant-going g l = record {
   writes : l.writes ≡ search l.lab l.node l.cell l.writes.step;
   same : l.writer.stream.ghost_name ≡ l.fn.writer.stream.ghost_name;
   said : (before said : List ℕ) → IsWritten (g.W.Write.contents l.fn.writer.stream.now) before said l.fn.writer.pending.items
-      → IsWrittenUpTo (g.W.Write.contents l.writer.stream.now) before said (cell_writes l.lab l.node l.cell (steps_of l.node.number l.lab.kept)) (cell_writes l.lab l.node l.cell l.writes.step) l.writer.pending.items;
+      → IsWrittenUpTo (g.W.Write.contents l.writer.stream.now) before said (cell_writes l.lab l.node l.cell (count_steps l.node.number l.lab.kept)) (cell_writes l.lab l.node l.cell l.writes.step) l.writer.pending.items;
 }
 
 abbrev pub decreases-going : goal.decreases-going

@@ -13,7 +13,7 @@ loop-word-preserved c =
     let i = c.loop-word.word-index in
     let within : i < length words = omega arith in
     let small : get_or words i 0 < 2 ^ 18 = each_word words i within c.requires in
-    let same : c.truncated.result ≡ get_or words i 0 = omega (arith, c.truncated.ensures) in
+    let same : c.from_low_bits.result ≡ get_or words i 0 = omega (arith, c.from_low_bits.ensures) in
     let digits : c.hex6.result ≡ hex6_of (get_or words i 0) = c.hex6.ensures ∙ ap hex6_of same in
     let piece : new ≡ text ++ 32 ∷ hex6_of (get_or words i 0) =
     grown text c.extend_from_slice.new.self.items new (32 ∷ []) c.hex6.result c.in_ok-extend_from_slice.ensures.items c.in_ok-extend_from_slice-2.ensures.items

@@ -2,7 +2,7 @@ use Rattle.std.proofs.Common.{ℕ, ◌≡◌, ◌*◌, ◌<◌, List, ◌++◌, 
 use Rattle.ga_node.specs.Record.{record_of}
 use Rattle.ga_image.specs.declared.field.Field.{Field}
 use Rattle.ga_image.specs.inner.{field_in, fields_text, words_in}
-use Rattle.ga_image.specs.Printing.{AreWords, line_unless, row_of_words, row_cells}
+use Rattle.ga_image.specs.Printing.{AreWords, line_unless_default, row_of_words, row_start_cells}
 use Rattle.ga_image.proofs.Pieces.{lines_grown, rows_more, row_cell}
 use Rattle.ga_image.proofs.PrintedFields.{rows_words, memory_words}
 use Rattle.ga_image.proofs.printing.push_memory.Goals as goal
@@ -15,17 +15,17 @@ rows-preserved c =
     let text : List ℕ = c.rows.text.items in
     let new : List ℕ = c.push_words_unless.new.text.items in
     let number = c.rows.number in
-    let lines : ℕ → List (Field × List ℕ) = λ cell. line_unless 0 (field_in bank cell) (row_of_words memory cell) in
+    let lines : ℕ → List (Field × List ℕ) = λ cell. line_unless_default 0 (field_in bank cell) (row_of_words memory cell) in
     let within : number < 8 = omega arith in
     let words : c.as_slice.result.now ≡ row_of_words memory (8 * number) = c.as_slice.ensures.value ∙ c.row.ensures.items in
     let last : new ≡ text ++ fields_text (lines (8 * number)) =
     c.in_ok-push_words_unless.ensures
-    ∙ ap (λ field. text ++ fields_text (line_unless 0 field c.as_slice.result.now)) c.field.ensures
-    ∙ ap (λ row. text ++ fields_text (line_unless 0 (field_in bank (8 * number)) row)) words in
+    ∙ ap (λ field. text ++ fields_text (line_unless_default 0 field c.as_slice.result.now)) c.field.ensures
+    ∙ ap (λ row. text ++ fields_text (line_unless_default 0 (field_in bank (8 * number)) row)) words in
     let more =
-    lines_grown old text new (flat_map lines (take number row_cells)) (lines (8 * number)) c.rows.invariant.text last
-    ∙ ap (λ (n : ℕ). old ++ fields_text (flat_map lines (take number row_cells) ++ lines n)) (sym (row_cell number within))
-    ∙ ap (λ found. old ++ fields_text found) (sym (rows_more lines row_cells number within)) in
+    lines_grown old text new (flat_map lines (take number row_start_cells)) (lines (8 * number)) c.rows.invariant.text last
+    ∙ ap (λ (n : ℕ). old ++ fields_text (flat_map lines (take number row_start_cells) ++ lines n)) (sym (row_cell number within))
+    ∙ ap (λ found. old ++ fields_text found) (sym (rows_more lines row_start_cells number within)) in
     record {
       text = more;
       words = rows_words memory number c.rows.invariant.words (subst AreWords c.row.ensures.items c.row.ensures.words);

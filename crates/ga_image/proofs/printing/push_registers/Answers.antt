@@ -5,7 +5,7 @@ use Rattle.ga_node.specs.Record.{record_of}
 use Rattle.ga_grid.specs.Grid.{load_p_of}
 use Rattle.ga_image.specs.declared.field.Field.TheVariants.{A, B, P, I, Io}
 use Rattle.ga_image.specs.inner.{fields_text}
-use Rattle.ga_image.specs.Printing.{word_unless}
+use Rattle.ga_image.specs.Printing.{word_line_unless_default}
 use Rattle.ga_image.proofs.Pieces.{lines_grown, word_grown}
 use Rattle.ga_image.proofs.printing.push_registers.Goals as goal
 
@@ -23,18 +23,18 @@ returns-clause-text c =
     let a = word_grown old t1 0 A c.get.result node.a c.get.ensures.value c.in_ok-push_words_unless.ensures in
     let b = word_grown t1 t2 0x15d B c.get-2.result node.b c.get-2.ensures.value c.in_ok-push_words_unless-2.ensures in
     let at = word_grown t2 t3 c.load_p.result P c.get-3.result node.p c.get-3.ensures.value c.in_ok-push_words_unless-3.ensures
-    ∙ ap (λ (n : ℕ). t2 ++ fields_text (word_unless n P node.p)) c.load_p.ensures.value in
+    ∙ ap (λ (n : ℕ). t2 ++ fields_text (word_line_unless_default n P node.p)) c.load_p.ensures.value in
     let i = word_grown t3 t4 0 I c.get-4.result node.i c.get-4.ensures.value c.in_ok-push_words_unless-4.ensures in
-    let lines_io = word_unless fresh_word Io node.io in
-    let lines_i = word_unless 0 I node.i ++ lines_io in
-    let lines_p = word_unless p P node.p ++ lines_i in
-    let lines_b = word_unless 0x15d B node.b ++ lines_p in
+    let lines_io = word_line_unless_default fresh_word Io node.io in
+    let lines_i = word_line_unless_default 0 I node.i ++ lines_io in
+    let lines_p = word_line_unless_default p P node.p ++ lines_i in
+    let lines_b = word_line_unless_default 0x15d B node.b ++ lines_p in
     on_ok_weaker c.push_words_unless-5.result
     (λ last.
-    lines_grown old t1 t5 (word_unless 0 A node.a) lines_b a
-    (lines_grown t1 t2 t5 (word_unless 0x15d B node.b) lines_p b
-    (lines_grown t2 t3 t5 (word_unless p P node.p) lines_i at
-    (lines_grown t3 t4 t5 (word_unless 0 I node.i) lines_io i
+    lines_grown old t1 t5 (word_line_unless_default 0 A node.a) lines_b a
+    (lines_grown t1 t2 t5 (word_line_unless_default 0x15d B node.b) lines_p b
+    (lines_grown t2 t3 t5 (word_line_unless_default p P node.p) lines_i at
+    (lines_grown t3 t4 t5 (word_line_unless_default 0 I node.i) lines_io i
     (word_grown t4 t5 fresh_word Io c.get-5.result node.io c.get-5.ensures.value last)))))
     c.push_words_unless-5.ensures
 

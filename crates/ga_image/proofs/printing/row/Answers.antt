@@ -1,7 +1,7 @@
 use Rattle.std.proofs.Common.{◌≡◌, ◌<◌, ◌≤◌, length, get_or, take, drop, sym, ◌∙◌, arith, length-drop}
 use Rattle.std.proofs.lemmas.List.{get_or-take, get_or-drop, length-take-le}
 use Rattle.ga_node.specs.Record.{record_of}
-use Rattle.ga_image.specs.inner.{words_in, size_in}
+use Rattle.ga_image.specs.inner.{words_in, bank_size}
 use Rattle.ga_image.proofs.Pieces.{filled_more, filled_whole, words_push}
 use Rattle.ga_image.proofs.printing.row.Goals as goal
 
@@ -28,7 +28,7 @@ returns-clause-items c =
     let first = c.args.first in
     let count = c.args.count in
     let whole = words_in c.args.bank (record_of c.args.at.now) in
-    let size : length whole ≡ size_in c.args.bank = c.words.invariant.size (omega (arith, c.requires.some)) in
+    let size : length whole ≡ bank_size c.args.bank = c.words.invariant.size (omega (arith, c.requires.some)) in
     let left : count ≤ length (drop first whole) = omega (arith, length-drop first whole, c.requires.within) in
     let row : length (take count (drop first whole)) ≡ count = length-take-le count (drop first whole) left in
     filled_whole c.words.words.items (take count (drop first whole)) c.words.place c.words.invariant.len (omega arith) c.words.invariant.filled

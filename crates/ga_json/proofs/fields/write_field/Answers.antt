@@ -1,5 +1,5 @@
 use Rattle.std.proofs.Common.{[], ◌∷◌, ◌++◌, refl}
-use Rattle.ga_json.specs.Compact.{comma_if, compact}
+use Rattle.ga_json.specs.Compact.{optional_comma, compact}
 use Rattle.ga_json.specs.FieldValues.{value_json}
 use Rattle.ga_json.specs.inner.{field_text}
 use Rattle.ga_json.proofs.Says.{begins, keeps, goes_on, pushed, ends_with, cuts_here}
@@ -14,11 +14,11 @@ returns-in_err-make_room g c =
 pub returns : goal.returns
 returns g c =
     let field = c.args.field.now in
-    let key = comma_if c.args.later ++ (34 ∷ (field.name.now ++ 34 ∷ 58 ∷ [])) in
+    let key = optional_comma c.args.later ++ (34 ∷ (field.name.now ++ 34 ∷ 58 ∷ [])) in
     let value = compact (value_json field.value) in
     let start = begins g.W.Write.contents c.args.writer.now (field_text c.args.later field) in
     let new = record c.make_room.new.self { pending = c.push_key.new.out } in
     ends_with c.write_value.result c.write_value.new.writer
-    (goes_on new key value (keeps c.make_room.new.self start c.in_ok-make_room.ensures.said) (field_splits c.args.later field.name.now value field.named)
+    (goes_on new key value (keeps c.make_room.new.self start c.in_ok-make_room.ensures.said) (field_splits c.args.later field.name.now value field.named_field_value)
     (pushed g.W.Write.contents c.make_room.new.self new key refl c.push_key.ensures.text))
     c.write_value.ensures

@@ -9,7 +9,7 @@ use Rattle.ga_json.proofs.report.write_report.Goals as goal
 pub returns-in_err-write_between : goal.returns-in_err-write_between
 returns-in_err-write_between g c =
     let head = c.args.head.now in
-    let rows = g.R.Cursor.left c.args.rows.now in
+    let rows = g.R.RowCursor.left c.args.rows.now in
     cuts c.from_residual.result c.write_between.new.writer (codes "{" ++ (fields_text false head ++ c.rows_lead.result.now)) (items_text false rows ++ codes "]}\n")
     c.from_residual.ensures.0 (begins g.W.Write.contents c.args.writer.now (json_line (report_json head rows)))
     (report_splits head rows ∙ ap (λ z. (codes "{" ++ (fields_text false head ++ z)) ++ (items_text false rows ++ codes "]}\n")) (sym c.rows_lead.ensures))
@@ -18,7 +18,7 @@ returns-in_err-write_between g c =
 pub rows-init : goal.rows-init
 rows-init g c =
     let head = c.args.head.now in
-    let rows = g.R.Cursor.left c.args.rows.now in
+    let rows = g.R.RowCursor.left c.args.rows.now in
     goes_on c.write_between.new.writer (codes "{" ++ (fields_text false head ++ c.rows_lead.result.now)) (items_text false rows ++ codes "]}\n")
     (begins g.W.Write.contents c.args.writer.now (json_line (report_json head rows)))
     (report_splits head rows ∙ ap (λ z. (codes "{" ++ (fields_text false head ++ z)) ++ (items_text false rows ++ codes "]}\n")) (sym c.rows_lead.ensures))
@@ -27,7 +27,7 @@ rows-init g c =
 pub returns-in_err-write_between-2 : goal.returns-in_err-write_between-2
 returns-in_err-write_between-2 g c =
     let fields = c.in-Some.row.items in
-    let rest = g.R.Cursor.left c.next.new.self in
+    let rest = g.R.RowCursor.left c.next.new.self in
     let later = c.rows.later in
     let end = codes "]}\n" in
     cuts c.from_residual-in_err-write_between-2.result c.write_between-in-Some.new.writer
@@ -40,12 +40,12 @@ returns-in_err-write_between-2 g c =
 
 pub rows-smaller : goal.rows-smaller
 rows-smaller g c =
-    let e : count_items (g.R.Cursor.left c.rows.rows) ≡ suc (count_items (g.R.Cursor.left c.next.new.self)) = ap count_items c.in-Some.ensures.row in omega (arith, e)
+    let e : count_items (g.R.RowCursor.left c.rows.rows) ≡ suc (count_items (g.R.RowCursor.left c.next.new.self)) = ap count_items c.in-Some.ensures.row in omega (arith, e)
 
 pub rows-preserved : goal.rows-preserved
 rows-preserved g c =
     let fields = c.in-Some.row.items in
-    let rest = g.R.Cursor.left c.next.new.self in
+    let rest = g.R.RowCursor.left c.next.new.self in
     let later = c.rows.later in
     let end = codes "]}\n" in
     goes_on c.write_between-in-Some.new.writer
@@ -59,5 +59,5 @@ pub returns : goal.returns
 returns g c =
     let end = codes "]}\n" in
     let start = c.rows.invariant in
-    ends_with c.write_text.result c.write_text.new.self start (says_as g.W.Write.contents c.write_text.result c.rows.writer c.write_text.new.self end (items_text c.rows.later (g.R.Cursor.left c.rows.rows) ++ end)
+    ends_with c.write_text.result c.write_text.new.self start (says_as g.W.Write.contents c.write_text.result c.rows.writer c.write_text.new.self end (items_text c.rows.later (g.R.RowCursor.left c.rows.rows) ++ end)
     (sym (ap (λ z. items_text c.rows.later z ++ end) c.in_default.ensures.row)) c.write_text.ensures)

@@ -7,8 +7,8 @@ use Rattle.ga_json.proofs.report.write_report.Given as goal
 
 abbrev pub invariant-rows : goal.invariant-rows
 invariant-rows g l =
-    SaysUpTo g.W.Write.contents l.fn.writer l.writer (json_line (report_json l.head (g.R.Cursor.left l.fn.rows)))
-    (items_text l.later (g.R.Cursor.left l.rows) ++ codes "]}\n")
+    SaysUpTo g.W.Write.contents l.fn.writer l.writer (json_line (report_json l.head (g.R.RowCursor.left l.fn.rows)))
+    (items_text l.later (g.R.RowCursor.left l.rows) ++ codes "]}\n")
 
 abbrev pub decreases-rows : goal.decreases-rows
-decreases-rows g l = count_items (g.R.Cursor.left l.rows)
+decreases-rows g l = count_items (g.R.RowCursor.left l.rows)

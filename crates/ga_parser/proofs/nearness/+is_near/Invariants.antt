@@ -1,5 +1,5 @@
 use Rattle.std.proofs.Common.{length}
-use Rattle.ga_parser.proofs.nearness.+is_near.Given as goal
+use Rattle.ga_parser.proofs.nearness.+is_within_one_edit.Given as goal
 
-abbrev pub decreases-is_near : goal.decreases-is_near
-decreases-is_near l = length l.word.now
+abbrev pub decreases-is_within_one_edit : goal.decreases-is_within_one_edit
+decreases-is_within_one_edit l = length l.word.now

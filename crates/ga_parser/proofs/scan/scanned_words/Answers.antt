@@ -1,6 +1,6 @@
 use Rattle.std.proofs.Common.{◌∙◌, sym, refl}
 use Rattle.std.proofs.lemmas.Bool.{eqb-true}
-use Rattle.ga_parser.proofs.Scanning.{first_split, ends_here, other_line, no_line_left, said_all, said_more, columns_end_here, columns_other_line, no_columns_left, columns_all, columns_more}
+use Rattle.ga_parser.proofs.Scanning.{first_split, ends_here, other_line, no_line_left, said_all, with_added_token, columns_end_here, columns_other_line, no_columns_left, columns_all, columns_more}
 use Rattle.ga_parser.proofs.scan.scanned_words.Goals as goal
 
 pub loop-rest-init : goal.loop-rest-init
@@ -10,25 +10,25 @@ pub returns-then-eq-clause-says : goal.returns-then-eq-clause-says
 returns-then-eq-clause-says c =
     let same = rw c.as_slice.ensures at c.eq.ensures in
     said_all _ _ _
-    (ends_here c.loop-rest.line c.loop-rest.rest.now c.first_line.result.0.now c.bare-first.result.now c.first_line.result.1.now (first_split c.loop-rest.rest.now c.first_line.result.0.now c.first_line.result.1.now c.first_line.ensures.splits) c.bare-first.ensures (sym same ∙ c.if-eq.true))
+    (ends_here c.loop-rest.line c.loop-rest.rest.now c.first_line.result.0.now c.stripped_source_line-first.result.now c.first_line.result.1.now (first_split c.loop-rest.rest.now c.first_line.result.0.now c.first_line.result.1.now c.first_line.ensures.splits) c.stripped_source_line-first.ensures (sym same ∙ c.if-eq.true))
     c.loop-rest.invariant.says
 
 pub returns-then-eq-clause-columns : goal.returns-then-eq-clause-columns
 returns-then-eq-clause-columns c =
     let same = rw c.as_slice.ensures at c.eq.ensures in
     columns_all _ _ _
-    (columns_end_here c.loop-rest.line c.loop-rest.rest.now c.first_line.result.0.now c.bare-first.result.now c.first_line.result.1.now (first_split c.loop-rest.rest.now c.first_line.result.0.now c.first_line.result.1.now c.first_line.ensures.splits) c.bare-first.ensures (sym same ∙ c.if-eq.true))
+    (columns_end_here c.loop-rest.line c.loop-rest.rest.now c.first_line.result.0.now c.stripped_source_line-first.result.now c.first_line.result.1.now (first_split c.loop-rest.rest.now c.first_line.result.0.now c.first_line.result.1.now c.first_line.ensures.splits) c.stripped_source_line-first.ensures (sym same ∙ c.if-eq.true))
     c.loop-rest.invariant.columns
 
 pub loop-rest-preserved : goal.loop-rest-preserved
 loop-rest-preserved c =
     let same = rw c.as_slice.ensures at c.eq.ensures in
     rw c.saturating_add-line.ensures (record {
-      says = said_more _ _ _ _ _ _ c.in_ok-_is_whole.ensures.says
-          (other_line c.loop-rest.line c.loop-rest.rest.now c.first_line.result.0.now c.bare-first.result.now c.first_line.result.1.now (first_split c.loop-rest.rest.now c.first_line.result.0.now c.first_line.result.1.now c.first_line.ensures.splits) c.bare-first.ensures (sym same ∙ c.if-eq.false))
+      says = with_added_token _ _ _ _ _ _ c.in_ok-_is_whole.ensures.says
+          (other_line c.loop-rest.line c.loop-rest.rest.now c.first_line.result.0.now c.stripped_source_line-first.result.now c.first_line.result.1.now (first_split c.loop-rest.rest.now c.first_line.result.0.now c.first_line.result.1.now c.first_line.ensures.splits) c.stripped_source_line-first.ensures (sym same ∙ c.if-eq.false))
           c.loop-rest.invariant.says;
       columns = columns_more _ _ _ _ _ _ c.in_ok-_is_whole.ensures.columns
-          (columns_other_line c.loop-rest.line c.loop-rest.rest.now c.first_line.result.0.now c.bare-first.result.now c.first_line.result.1.now (first_split c.loop-rest.rest.now c.first_line.result.0.now c.first_line.result.1.now c.first_line.ensures.splits) c.bare-first.ensures (sym same ∙ c.if-eq.false))
+          (columns_other_line c.loop-rest.line c.loop-rest.rest.now c.first_line.result.0.now c.stripped_source_line-first.result.now c.first_line.result.1.now (first_split c.loop-rest.rest.now c.first_line.result.0.now c.first_line.result.1.now c.first_line.ensures.splits) c.stripped_source_line-first.ensures (sym same ∙ c.if-eq.false))
           c.loop-rest.invariant.columns;
     })
 

@@ -1,6 +1,6 @@
 use Rattle.std.proofs.Common.{◌≡◌, ℕ, ◌-◌, ◌<◌, Bool, false, length, map, get_or}
 use Rattle.std.specs.List.{range_with_len}
-use Rattle.ga_picture.specs.Items.{item_at, is_plain_at}
+use Rattle.ga_picture.specs.Items.{picture_item_at, is_plain_at}
 use Rattle.ga_picture.specs.inner.{known_in, AreTallied, HasFew}
 use Rattle.ga_picture.proofs.independent.tally_of.Given as goal
 
@@ -9,5 +9,5 @@ invariant-events l = record {
   few : HasFew l.tally (l.place - l.fn.from);
   tallied : (ready : ℕ → Bool)
       → ((place : ℕ) → place < length l.fn.facts.events.now → get_or l.fn.facts.plain.now place false ≡ is_plain_at ready l.fn.facts.events.now place)
-      → AreTallied (map (item_at (known_in l.fn.facts ready) l.fn.view) (range_with_len l.fn.from (l.place - l.fn.from))) l.tally;
+      → AreTallied (map (picture_item_at (known_in l.fn.facts ready) l.fn.view) (range_with_len l.fn.from (l.place - l.fn.from))) l.tally;
 }

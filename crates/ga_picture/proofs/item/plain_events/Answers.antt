@@ -1,6 +1,6 @@
 use Rattle.std.proofs.Common.{◌≡◌, ◌+◌, ◌-◌, ◌<◌, length, ap, sym, ◌∙◌, subst, set, false, arith}
 use Rattle.std.proofs.lemmas.List.{get_or_default, length-replicate}
-use Rattle.ga_causal.specs.Dependence.{is_marked, event_at, no_cause}
+use Rattle.ga_causal.specs.Dependence.{is_marked, event_at, default_cause}
 use Rattle.ga_picture.proofs.Listed.{ArePlain, plain_none, plain_more}
 use Rattle.ga_picture.proofs.item.plain_events.Goals as goal
 
@@ -21,7 +21,7 @@ events-preserved c =
     let down : at ≡ length events - (c.events.back + 1) = omega arith in
     let within : at < length events = omega arith in
     let before = subst (λ z. ArePlain (is_marked c.args.ready) events z c.events.flags.items (is_marked c.events.runs)) next c.events.invariant in
-    let here : event_at events at ≡ e = get_or_default events at no_cause e within ∙ sym c.index-events-at.is in
+    let here : event_at events at ≡ e = get_or_default events at default_cause e within ∙ sym c.index-events-at.is in
     subst (λ z. ArePlain (is_marked c.args.ready) events z (set c.events.flags.items at c.is_plain.result) (is_marked c.go_back.new.runs)) down
     (plain_more (is_marked c.args.ready) events at c.events.flags.items (is_marked c.events.runs) (is_marked c.go_back.new.runs) e c.is_plain.result within before here
     c.is_plain.ensures c.go_back.ensures)

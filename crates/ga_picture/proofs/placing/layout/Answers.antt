@@ -3,8 +3,8 @@ use Rattle.std.proofs.lemmas.List.{get_or_default}
 use Rattle.ga_causal.specs.Dependence.{cause_touches}
 use Rattle.ga_picture.specs.declared.item.PictureItem.{PictureItem}
 use Rattle.ga_picture.specs.declared.placing.PictureRow.{PictureRow}
-use Rattle.ga_picture.specs.Drawing.{IsShape, IsRow}
-use Rattle.ga_picture.specs.Items.{actor, at_place, no_item, IsSimple, run_before, before_at, behind_at, steps_at, rows_below}
+use Rattle.ga_picture.specs.Drawing.{IsDrawnShape, IsPictureRow}
+use Rattle.ga_picture.specs.Items.{actor, item_at_place, no_item, IsPlainOwnEvent, run_length_before, run_events_before, run_events_after, folded_count_at, row_places_below}
 use Rattle.ga_picture.specs.inner.{count_in}
 use Rattle.ga_picture.proofs.Listed.{touched_below}
 use Rattle.ga_picture.proofs.Running.{before_first, before_more, behind_few, count_few}
@@ -18,14 +18,14 @@ items-init c = record {
   laid = laid_none c.args.items.now c.args.fold c.in_ok-nodes.field-0.nodes.items c.new-rows.result.items c.new-rows.ensures.items;
 }
 
-pub drawn_with-steps-requires : goal.drawn_with-steps-requires
-drawn_with-steps-requires c =
+pub folded_count-steps-requires : goal.folded_count-steps-requires
+folded_count-steps-requires c =
     let items = c.args.items.now in
     let place = c.items.place in
     let within : place < length items = omega arith in
     let size : length c.in_ok-behind.behind.items ≡ length items = c.in_ok-behind.ensures.size in
     let near : place < length c.in_ok-behind.behind.items = omega arith in
-    let behind : c.index.result.now ≡ behind_at items place =
+    let behind : c.index.result.now ≡ run_events_after items place =
     c.index.ensures ∙ get_or_default c.in_ok-behind.behind.items place c.index.result.now 0 near ∙ c.in_ok-behind.ensures.exact place within in
     omega (arith, count_few c.items.runs c.actor.result.number c.index-items-place.result.shade place c.items.invariant.runs.within, behind_few items place within)
 
@@ -35,7 +35,7 @@ pass-requires-clause-few c = λ n. omega (arith, c.items.invariant.runs.within n
 pub pass-requires-clause-simple : goal.pass-requires-clause-simple
 pass-requires-clause-simple c =
     let within : c.items.place < length c.args.items.now = omega arith in
-    subst IsSimple (sym c.index-items-place.is) (c.requires.simple c.items.place c.index-items-place.result within)
+    subst IsPlainOwnEvent (sym c.index-items-place.is) (c.requires.simple c.items.place c.index-items-place.result within)
 
 pub items-preserved : goal.items-preserved
 items-preserved c =
@@ -45,19 +45,19 @@ items-preserved c =
     let lines = c.in_ok-nodes.field-0.nodes.items in
     let item = c.index-items-place.result in
     let before = c.count-before.result in
-    let steps = c.drawn_with-steps.result in
+    let steps = c.folded_count-steps.result in
     let within : place < length items = omega arith in
-    let here : at_place items place ≡ item = get_or_default items place no_item item within ∙ sym c.index-items-place.is in
-    let simple : IsSimple item = subst IsSimple (sym c.index-items-place.is) (c.requires.simple place item within) in
+    let here : item_at_place items place ≡ item = get_or_default items place no_item item within ∙ sym c.index-items-place.is in
+    let simple : IsPlainOwnEvent item = subst IsPlainOwnEvent (sym c.index-items-place.is) (c.requires.simple place item within) in
     let node : actor item.cause.event < 144 = subst (λ z. z < 144) c.actor.ensures c.actor.result.in_range in
     let size : length c.in_ok-behind.behind.items ≡ length items = c.in_ok-behind.ensures.size in
     let near : place < length c.in_ok-behind.behind.items = omega arith in
-    let behind : c.index.result.now ≡ behind_at items place =
+    let behind : c.index.result.now ≡ run_events_after items place =
     c.index.ensures ∙ get_or_default c.in_ok-behind.behind.items place c.index.result.now 0 near ∙ c.in_ok-behind.ensures.exact place within in
-    let front : before ≡ before_at items place =
+    let front : before ≡ run_events_before items place =
     c.count-before.ensures ∙ ap (λ z. count_in c.items.runs z item.shade) c.actor.ensures ∙ c.items.invariant.runs.counts (actor item.cause.event) item.shade node
-    ∙ ap (λ (z : PictureItem). run_before (actor z.cause.event) z.shade items place) (sym here) in
-    let many : steps ≡ steps_at items fold place = steps_are items fold place item before c.index.result.now steps here front behind c.drawn_with-steps.ensures in
+    ∙ ap (λ (z : PictureItem). run_length_before (actor z.cause.event) z.shade items place) (sym here) in
+    let many : steps ≡ folded_count_at items fold place = steps_are items fold place item before c.index.result.now steps here front behind c.folded_count-steps.ensures in
     let has = row_is items fold place item before steps c.has_row.result here front many c.has_row.ensures in
     record {
       runs = before_more items place c.items.runs c.pass.new.self item c.items.invariant.runs here c.pass.ensures.sizes
@@ -66,12 +66,12 @@ items-preserved c =
         | then-has_row+in_ok-push w ↦ (
             let in_it : item.out ≡ false = is_in item.out _ c.has_row.result w.if-has_row.true c.has_row.ensures in
             let row : PictureRow = record { place = place; shape = w.shape_of.result } in
-            let is : IsRow items fold lines row = record {
-              shape = subst (λ (z : PictureItem). IsShape z.cause lines w.shape_of.result) (sym here) (w.shape_of.ensures.drawn lines
+            let is : IsPictureRow items fold lines row = record {
+              shape = subst (λ (z : PictureItem). IsDrawnShape z.cause lines w.shape_of.result) (sym here) (w.shape_of.ensures.drawn lines
                   (λ n t. c.in_ok-nodes.ensures.found n (touched_below item.cause.event n t)
                   (c.touched_by.ensures.all n place within (ap (λ (z : PictureItem). z.out) here ∙ in_it) (subst (λ (z : PictureItem). cause_touches z.cause n ≡ true) (sym here) t))));
               shaded = w.shape_of.ensures.shaded ∙ ap (λ (z : PictureItem). z.shade) (sym here);
-              steps = steps_shown item _ steps before c.index.result.now fold simple c.drawn_with-steps.ensures w.shape_of.ensures.steps w.shape_of.ensures.one ∙ many;
+              steps = steps_shown item _ steps before c.index.result.now fold simple c.folded_count-steps.ensures w.shape_of.ensures.steps w.shape_of.ensures.one ∙ many;
             } in
             subst (λ z. AreLaid items fold lines (place + 1) z) (sym (ap (λ z. z.items) w.rows-is))
             (laid_more items fold lines place c.items.rows.items w.push.new.self.items row c.items.invariant.laid (has ∙ w.if-has_row.true) refl is w.in_ok-push.ensures.items))
@@ -85,7 +85,7 @@ pub returns-clause-drawn : goal.returns-clause-drawn
 returns-clause-drawn c =
     let all : c.items.place ≡ length c.args.items.now = omega arith in
     record {
-      places = c.items.invariant.laid.places ∙ ap (rows_below c.args.items.now c.args.fold) all;
+      places = c.items.invariant.laid.places ∙ ap (row_places_below c.args.items.now c.args.fold) all;
       drawn = c.items.invariant.laid.drawn;
       needed = λ line node e. c.touched_by.ensures.needed node.number (c.in_ok-nodes.ensures.needed line node e);
       rising = c.in_ok-nodes.ensures.rising;

@@ -2,12 +2,12 @@ use Rattle.std.proofs.Common.{◌<◌, ◌≤◌, ◌++◌, List, ℕ, length, t
 use Rattle.std.specs.Prelude.{string_bytes}
 use Rattle.ga_picture.specs.declared.placing.PictureRow.{PictureRow}
 use Rattle.ga_picture.specs.Drawing.{shade_of}
-use Rattle.ga_picture.specs.Picture.{class_of, classes_in}
+use Rattle.ga_picture.specs.Picture.{shade_group_tag, row_group_tags}
 use Rattle.ga_picture.proofs.Laid.{AreBehind, behind_more, classes_next, classes_all}
 use Rattle.ga_picture.proofs.text.events.Goals as goal
 
 abbrev class_at : PictureRow → List ℕ
-class_at row = class_of (shade_of row.shape)
+class_at row = shade_group_tag (shade_of row.shape)
 
 pub rows-preserved : goal.rows-preserved
 rows-preserved c =
@@ -15,7 +15,7 @@ rows-preserved c =
     let here : c.rows.at < length rows = omega (arith, c.rows-test.true, c.len-at-end.ensures) in
     subst (λ z. AreBehind (string_bytes c.in_ok-text.text) z (string_bytes c.push_str.new.self))
     (sym (classes_next class_at rows c.rows.at c.index-row.result.now here c.index-row.ensures))
-    (behind_more (string_bytes c.in_ok-text.text) (classes_in (take c.rows.at rows)) (class_at c.index-row.result.now) (string_bytes c.rows.text) (string_bytes c.in_ok-group.group)
+    (behind_more (string_bytes c.in_ok-text.text) (row_group_tags (take c.rows.at rows)) (class_at c.index-row.result.now) (string_bytes c.rows.text) (string_bytes c.in_ok-group.group)
     (string_bytes c.push_str.new.self) c.rows.invariant c.in_ok-group.ensures
     (c.in_ok-push_str.ensures.bytes ∙ ap (λ z. string_bytes c.rows.text ++ z) c.as_str.ensures.value))
 

@@ -5,7 +5,7 @@ use Rattle.std.proofs.lemmas.Result.{IfOk-weaker}
 use Rattle.ga_causal.specs.Dependence.{is_marked}
 use Rattle.ga_picture.specs.Drawing.{IsDrawing}
 use Rattle.ga_picture.specs.Picture.{IsPictureOf, is_ready}
-use Rattle.ga_picture.specs.Items.{IsSimple}
+use Rattle.ga_picture.specs.Items.{IsPlainOwnEvent}
 use Rattle.ga_picture.proofs.Listed.{drawn_simple}
 use Rattle.ga_picture.proofs.view.drawn.Goals as goal
 
@@ -15,7 +15,7 @@ both_ok (Err y) P Q p q = p
 
 pub layout-requires : goal.layout-requires
 layout-requires c = record {
-  simple = subst (λ z. All IsSimple z) (sym c.as_slice-2.ensures.value)
+  simple = subst (λ z. All IsPlainOwnEvent z) (sym c.as_slice-2.ensures.value)
       (drawn_simple c.as_slice.result.now (is_marked c.ready_nodes-ready.result) (is_marked c.find_idle-idle.result) c.args.view _ _ c.in_ok-items.ensures);
 }
 

@@ -8,8 +8,8 @@ returns c = λ ready h.
     let held = items_held (known_in c.args.facts ready) c.args.view c.args.from c.args.to in
     let a = c.tally_of-tally.ensures ready h in
     record {
-      alone = is_marked c.by_itself-alone.result;
-      are_alone = c.by_itself-alone.ensures _ a held;
-      tells = c.in_ok-by_itself.ensures _ a;
+      alone = is_marked c.independent_nodes-alone.result;
+      are_alone = c.independent_nodes-alone.ensures _ a held;
+      tells = c.in_ok-independent_nodes.ensures _ a;
       are = c.in_ok-items.ensures ready h;
     }

@@ -1,7 +1,7 @@
 use Rattle.std.specs.Prelude.{not}
 use Rattle.std.proofs.Common.{◌≡◌, ◌∙◌, Bool, List, [], true, false, refl, true≢false, sym, rules}
 use Rattle.ga_lab.specs.Machine.{State}
-use Rattle.ga_picture.specs.declared.view.View.{View}
+use Rattle.ga_picture.specs.declared.view.PictureView.{PictureView}
 use Rattle.ga_picture.specs.declared.placing.PictureRow.{PictureRow}
 use Rattle.ga_picture.specs.declared.race_marks.RaceMark.{RaceMark}
 use Rattle.ga_picture.specs.Picture.{AreRaceMarks}
@@ -12,7 +12,7 @@ is_off true h = absurd (true≢false (sym h))
 is_off false h = refl
 
 -- where no marks are asked for there are none
-none_marked : (s : State) (view : View) (rows : List PictureRow) (marks : List RaceMark) → view.races ≡ false → marks ≡ [] → AreRaceMarks s view rows marks
+none_marked : (s : State) (view : PictureView) (rows : List PictureRow) (marks : List RaceMark) → view.races ≡ false → marks ≡ [] → AreRaceMarks s view rows marks
 none_marked s view rows marks off none = record {
   readings = [];
   told = search rules;

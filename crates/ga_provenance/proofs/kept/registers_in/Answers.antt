@@ -1,7 +1,7 @@
 use Rattle.std.proofs.Common.{◌≡◌, ◌≤◌, length, arith, ap, sym, ◌∙◌}
 use Rattle.std.proofs.lemmas.List.{length-map}
 use Rattle.ga_node.specs.Record.{NodeRecord, record_of}
-use Rattle.ga_event.specs.Told.{steps_of}
+use Rattle.ga_event.specs.Told.{count_steps}
 use Rattle.ga_lab.specs.Machine.{chip_of}
 use Rattle.ga_provenance.specs.Origins.{node_after}
 use Rattle.ga_provenance.proofs.Made.{then_of, within_so}
@@ -13,7 +13,7 @@ returns c =
     let s = c.args.lab.now in
     let n = c.args.node.number in
     let walk = c.args.walk.now in
-    let within : walk.step ≤ steps_of walk.node.number walk.machine.kept = omega (arith, c.step.ensures.value, c.step.ensures.within) in
+    let within : walk.step ≤ count_steps walk.node.number walk.machine.kept = omega (arith, c.step.ensures.value, c.step.ensures.within) in
     let there : record_of c.node-there.result.now ≡ node_after s n walk.step = then_of s c.args.node walk (record_of c.node-there.result.now) c.requires within c.node-there.ensures in
     record {
       whole = whole_machine s (chip_of s) c.chip.ensures.replays (sym (ap length c.chip.ensures.value) ∙ length-map c.chip.result.now record_of ∙ c.node.ensures.size);

@@ -3,7 +3,7 @@ use Rattle.std.specs.List.{slice_get}
 use Rattle.std.proofs.lemmas.Result.{on_ok_weaker}
 use Rattle.ga_event.specs.Flow.{Same, From}
 use Rattle.ga_lab.specs.Machine.{history_of}
-use Rattle.ga_provenance.specs.Rows.{row_at}
+use Rattle.ga_provenance.specs.Rows.{row_at_depth}
 use Rattle.ga_provenance.proofs.Rows.{below_load, below_made, below_open, load_open}
 use Rattle.ga_provenance.proofs.listing.push_below.Goals as goal
 
@@ -17,15 +17,15 @@ pub returns-in-Same-clause-ok : goal.returns-in-Same-clause-ok
 returns-in-Same-clause-ok c =
     let is : suc (c.args.row.value.step - 1) ≡ c.args.row.value.step = omega (arith, c.if-step-eq0.false) in
     on_ok_weaker c.push_some.result
-    (λ e. e ∙ ap (λ z. z ++ reverse c.args.todo.now.items) (ap (map (row_at (c.args.row.depth + 1))) c.source_in.ensures
-    ∙ below_made c.args.lab.now c.args.row (c.args.row.value.step - 1) c.made_by_step-told.result (Same c.in-Same.from) is c.made_by_step-told.ensures c.in-Same.ensures.value))
+    (λ e. e ∙ ap (λ z. z ++ reverse c.args.todo.now.items) (ap (map (row_at_depth (c.args.row.depth + 1))) c.source_in.ensures
+    ∙ below_made c.args.lab.now c.args.row (c.args.row.value.step - 1) c.made_event_of_step-told.result (Same c.in-Same.from) is c.made_event_of_step-told.ensures c.in-Same.ensures.value))
     c.push_some.ensures.ok
 
 pub returns-in-Same-clause-ready : goal.returns-in-Same-clause-ready
 returns-in-Same-clause-ready c =
     let is : suc (c.args.row.value.step - 1) ≡ c.args.row.value.step = omega (arith, c.if-step-eq0.false) in
     on_ok_weaker c.push_some.result
-    (λ e. below_open c.args.lab.now c.args.row (c.args.row.value.step - 1) c.made_by_step-told.result (Same c.in-Same.from) is c.made_by_step-told.ensures c.in-Same.ensures.value c.in-Same.ensures.sources)
+    (λ e. below_open c.args.lab.now c.args.row (c.args.row.value.step - 1) c.made_event_of_step-told.result (Same c.in-Same.from) is c.made_event_of_step-told.ensures c.in-Same.ensures.value c.in-Same.ensures.sources)
     c.push_some.ensures.ok
 
 pub returns-in-From-clause-ok : goal.returns-in-From-clause-ok

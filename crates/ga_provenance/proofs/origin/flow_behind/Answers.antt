@@ -10,10 +10,10 @@ pub returns-in-Some-clause-value : goal.returns-in-Some-clause-value
 returns-in-Some-clause-value c =
     let s = c.args.lab.now in
     let walk = c.args.walk.now in
-    flow_within s c.args.node.number walk.step c.args.part c.in-Some.made (record_of c.node.result.now) (flow_of c.told_flow.result)
+    flow_within s c.args.node.number walk.step c.args.part c.in-Some.made (record_of c.node.result.now) (flow_of c.event_flow.result)
     (c.in-Some.ensures ∙ ap (slice_get (history_of s c.args.node.number)) c.step.ensures.value)
     (then_of s c.args.node walk (record_of c.node.result.now) c.requires.walk (omega (arith, c.step.ensures.value, c.step.ensures.within)) c.node.ensures)
-    c.told_flow.ensures.value
+    c.event_flow.ensures.value
 
 pub returns-in-None-clause-value : goal.returns-in-None-clause-value
 returns-in-None-clause-value c =

@@ -8,5 +8,5 @@ pub returns : goal.returns
 returns c =
     let s = c.args.lab.now in
     let node = c.args.node in
-    let back : c.walk.result.now ≡ node_at_step s node c.args.place = c.walk.ensures ∙ c.back_to.ensures ∙ ap (λ (z : NodeAtStep). record z { step = c.args.place }) c.requires.trail.stands in
+    let back : c.walk.result.now ≡ node_at_step s node c.args.place = c.walk.ensures ∙ c.walk_back_to.ensures ∙ ap (λ (z : NodeAtStep). record z { step = c.args.place }) c.requires.trail.stands in
     sym (c.p_of.ensures ∙ ap (λ (z : NodeRecord). z.p) (stood_of s node c.walk.result.now c.args.place (record_of c.node.result.now) back c.requires.within c.node.ensures))

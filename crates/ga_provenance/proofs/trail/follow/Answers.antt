@@ -1,6 +1,6 @@
 use Rattle.std.proofs.Common.{◌≡◌, ◌≢◌, ◌≤◌, ◌-◌, true, false, refl, sym, ap, ◌∙◌, arith}
 use Rattle.ga_provenance.specs.declared.value.Value.{Value}
-use Rattle.ga_provenance.specs.Origins.{origin_from, origin_of}
+use Rattle.ga_provenance.specs.Origins.{origin_after_steps, origin_of}
 use Rattle.ga_provenance.proofs.Moves.{one_back}
 use Rattle.ga_provenance.proofs.trail.follow.Goals as goal
 use Rattle.ga_provenance.proofs.trail.follow.Goals.{In-Some, in-Data+else-value-eq0, in_default}
@@ -35,10 +35,10 @@ followed c = elim c.match-value.branch [
       }
 ]
 
-before : (c : In-Some) → origin_from c.args.lab.now c.match-value.value.node (c.match-value.value.step - 1) c.in-Some.part ≡ origin_of c.args.lab.now c.args.value
+before : (c : In-Some) → origin_after_steps c.args.lab.now c.match-value.value.node (c.match-value.value.step - 1) c.in-Some.part ≡ origin_of c.args.lab.now c.args.value
 before c =
     let value = c.match-value.value in
-    one_back c.args.lab.now value value.step value.part c.in-Some.part c.made_by_step-told.result (followed c).some c.made_by_step-told.ensures c.in-Some.ensures.value refl ∙ (followed c).same
+    one_back c.args.lab.now value value.step value.part c.in-Some.part c.made_event_of_step-told.result (followed c).some c.made_event_of_step-told.ensures c.in-Some.ensures.value refl ∙ (followed c).same
 
 pub telling-preserved : goal.telling-preserved
 telling-preserved c =

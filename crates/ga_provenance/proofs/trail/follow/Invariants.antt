@@ -1,12 +1,12 @@
 use Rattle.std.proofs.Common.{◌≡◌, ◌≤◌, true}
-use Rattle.ga_event.specs.Flow.{IsPart}
+use Rattle.ga_event.specs.Flow.{IsNodePart}
 use Rattle.ga_provenance.specs.Origins.{origin_of}
 use Rattle.ga_provenance.specs.inner.{AreHeld}
 use Rattle.ga_provenance.proofs.trail.follow.Given as goal
 
 abbrev pub invariant-telling : goal.invariant-telling
 invariant-telling l = record {
-  part : IsPart l.value.part;
+  part : IsNodePart l.value.part;
   node : l.value.node ≡ l.initial.value.node;
   within : l.value.step ≤ l.initial.value.step;
   held : l.along ≡ true → AreHeld l.lab l.value.node.number l.value.step l.registers;

@@ -1,12 +1,12 @@
 use Rattle.std.proofs.Common.{◌≡◌, ◌≤◌}
-use Rattle.ga_event.specs.Flow.{IsPart}
+use Rattle.ga_event.specs.Flow.{IsNodePart}
 use Rattle.ga_provenance.specs.Origins.{origin_of}
 use Rattle.ga_provenance.specs.inner.{AreHeld}
 use Rattle.ga_provenance.proofs.trail.follow_on.Given as goal
 
 abbrev pub invariant-passing : goal.invariant-passing
 invariant-passing l = record {
-  part : IsPart l.followed.value.part;
+  part : IsNodePart l.followed.value.part;
   node : l.followed.value.node ≡ l.fn.value.node;
   within : l.followed.value.step ≤ l.fn.value.step;
   held : AreHeld l.lab l.followed.value.node.number l.followed.value.step l.followed.registers;

@@ -11,6 +11,6 @@ returns-clause-same c =
     let before = c.registers_before-registers in
     let is : suc (value.step - 1) ≡ value.step = omega (arith, c.if-step-eq0.false) in
     back_on s value.node value.step (value.step - 1) value.part value.part (origin_of s value) is
-    (sym (misses_stays s value.node.number (value.step - 1) value.part c.made_by_step-told.result before.result c.made_by_step-told.ensures before.ensures.a before.ensures.b
+    (sym (misses_stays s value.node.number (value.step - 1) value.part c.made_event_of_step-told.result before.result c.made_event_of_step-told.ensures before.ensures.a before.ensures.b
     (sym c.misses.ensures ∙ c.if-not-misses.false)))
     refl

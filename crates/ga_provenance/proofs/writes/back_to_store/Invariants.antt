@@ -1,7 +1,7 @@
 use Rattle.std.proofs.Common.{◌≡◌, ◌≤◌, ◌<◌, ◌^◌}
 use Rattle.std.specs.Prelude.{slice_index}
 use Rattle.ga_provenance.specs.Origins.{node_after}
-use Rattle.ga_provenance.specs.Writes.{newest_written}
+use Rattle.ga_provenance.specs.Writes.{newest_cell_write}
 use Rattle.ga_provenance.specs.inner.{AreHeld}
 use Rattle.ga_provenance.proofs.writes.back_to_store.Given as goal
 
@@ -12,7 +12,7 @@ invariant-going l = record {
   word : slice_index (node_after l.lab l.node.number l.step).ram l.cell ≡ l.word;
   fits : l.word < 2 ^ 18;
   within : l.step ≤ l.fn.from.step;
-  same : newest_written l.lab l.node.number l.cell l.step ≡ newest_written l.lab l.node.number l.cell l.fn.from.step;
+  same : newest_cell_write l.lab l.node.number l.cell l.step ≡ newest_cell_write l.lab l.node.number l.cell l.fn.from.step;
 }
 
 abbrev pub decreases-going : goal.decreases-going

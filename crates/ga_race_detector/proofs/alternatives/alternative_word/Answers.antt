@@ -2,8 +2,8 @@ use Rattle.std.proofs.Common.{◌≡◌, ℕ, Option, Some, slice_index, take, �
 use Rattle.ga_node.specs.Record.{NodeRecord, record_of}
 use Rattle.ga_grid.specs.Chip.{record_at}
 use Rattle.ga_event.specs.Apply.{replay}
-use Rattle.ga_lab.specs.Machine.{State, chip_of, earlier, rewound}
-use Rattle.ga_race_detector.specs.Races.{offered_by, word_offered_to}
+use Rattle.ga_lab.specs.Machine.{State, chip_of, earlier, state_after_rewind}
+use Rattle.ga_race_detector.specs.Races.{neighbour_offer, word_offered_to}
 use Rattle.ga_race_detector.proofs.Standing.{IsBehind, is_rewound}
 use Rattle.ga_race_detector.proofs.alternatives.alternative_word.Goals as goal
 
@@ -15,7 +15,7 @@ returns-in-Some-clause-word c =
     let k = c.args.step in
     let m = c.in-Some.other.number in
     let side = c.args.side in
-    let same = c.would_rewind.ensures.same in
+    let same = c.forecast_rollback.ensures.same in
     let all : (place : ℕ) → replay s.load (take place s.kept) ≡ Some (chip_of (earlier s place)) =
     subst (λ (z : State). (place : ℕ) → replay z.load (take place z.kept) ≡ Some (chip_of (earlier z place))) same c.behind-reader.ensures.replays in
     let reader = is_rewound s n k n (slice_index c.in-Ok.going.steps n) (record_of c.behind-reader.result) all (c.in-Ok.ensures.steps n)
@@ -24,5 +24,5 @@ returns-in-Some-clause-word c =
     (subst (λ (z : State). IsBehind z (slice_index c.in-Ok.going.steps m) m (record_of c.behind-writer.result)) same c.behind-writer.ensures.value) in
     c.word_offered_to.ensures.value
     ∙ ap (λ (z : NodeRecord). word_offered_to z (record_of c.behind-writer.result) side) reader
-    ∙ ap (λ (z : NodeRecord). word_offered_to (record_at (chip_of (rewound s n k)) n) z side) writer
-    ∙ ap (λ (o : Option ℕ). offered_by (chip_of (rewound s n k)) n side o) c.in-Some.ensures.value
+    ∙ ap (λ (z : NodeRecord). word_offered_to (record_at (chip_of (state_after_rewind s n k)) n) z side) writer
+    ∙ ap (λ (o : Option ℕ). neighbour_offer (chip_of (state_after_rewind s n k)) n side o) c.in-Some.ensures.value

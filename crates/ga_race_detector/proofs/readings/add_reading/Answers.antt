@@ -5,7 +5,7 @@ use Rattle.std.proofs.lemmas.Option.{same_Some}
 use Rattle.std.proofs.lemmas.List.Elements.{All-push, Contains-push, Contains-append_left}
 use Rattle.ga_grid.specs.declared.node_id.NodeId.{NodeId}
 use Rattle.ga_race_detector.specs.declared.readings.LookRace.{LookRace}
-use Rattle.ga_race_detector.specs.Readings.{IsTold}
+use Rattle.ga_race_detector.specs.Readings.{IsReportedLookRace}
 use Rattle.ga_race_detector.proofs.NearReadings.{some_none}
 use Rattle.std.proofs.lemmas.Result.{on_ok_weaker}
 use Rattle.ga_race_detector.proofs.readings.add_reading.Goals as goal
@@ -13,8 +13,8 @@ use Rattle.ga_race_detector.proofs.readings.add_reading.Goals as goal
 pub returns-in-Some-clause-told : goal.returns-in-Some-clause-told
 returns-in-Some-clause-told c =
     on_ok_weaker c.add.result
-    (λ q. subst (λ (z : List LookRace). All (IsTold c.args.lab.now c.args.only) z) (sym q)
-    (All-push (IsTold c.args.lab.now c.args.only) c.args.list.now.items c.in-Some.reading c.requires.told
+    (λ q. subst (λ (z : List LookRace). All (IsReportedLookRace c.args.lab.now c.args.only) z) (sym q)
+    (All-push (IsReportedLookRace c.args.lab.now c.args.only) c.args.list.now.items c.in-Some.reading c.requires.told
     (c.in-Some.ensures.told, subst (λ (z : NodeId). IfSome c.args.only (λ node. z ≡ node)) (sym c.in-Some.ensures.node) c.requires.glance.1)))
     c.add.ensures.ok
 

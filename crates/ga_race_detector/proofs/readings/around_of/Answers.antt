@@ -1,7 +1,7 @@
 use Rattle.std.proofs.Common.{◌∙◌, ◌<◌, ◌≤◌, ℕ, None, sym, ap, subst, arith}
 use Rattle.std.proofs.lemmas.List.{get_or_default}
 use Rattle.std.proofs.lemmas.List.Elements.{All-get_or}
-use Rattle.ga_causal.specs.Steps.{touching}
+use Rattle.ga_causal.specs.Steps.{count_touching_events}
 use Rattle.ga_grid.specs.declared.node_id.NodeId.{NodeId}
 use Rattle.ga_race_detector.specs.declared.look_changes.LookChange.{LookChange}
 use Rattle.ga_race_detector.specs.inner.Glances.{AreAround, IsAround, HasStep, IsAroundOf, taken_of}
@@ -37,5 +37,5 @@ returns-clause-around c = λ glance is.
     let lists = subst (λ (z : NodeId × ℕ). AreAround c.args.causes.now z.0.number of.node.number c.in_ok-lists.lists) c.taken-taken.ensures c.in_ok-lists.ensures.left in
     let here : IsAroundOf c.args.causes.now of c.at.result =
     subst (λ (z : ℕ). IsAround c.args.causes.now (taken_of of).0.number z of.node.number c.at.result) (ap (λ (z : NodeId × ℕ). z.1) c.taken-taken.ensures)
-    (c.at.ensures c.args.causes.now (taken_of of).0.number of.node.number lists (subst (λ (z : ℕ). z ≤ touching (taken_of of).0.number c.args.causes.now) (sym (ap (λ (z : NodeId × ℕ). z.1) c.taken-taken.ensures)) step.within)) in
+    (c.at.ensures c.args.causes.now (taken_of of).0.number of.node.number lists (subst (λ (z : ℕ). z ≤ count_touching_events (taken_of of).0.number c.args.causes.now) (sym (ap (λ (z : NodeId × ℕ). z.1) c.taken-taken.ensures)) step.within)) in
     subst (λ (z : LookChange). IsAroundOf c.args.causes.now z c.at.result) (c.glance_at-of.ensures ∙ get_or_default c.args.glances.now c.args.place of glance c.requires.within ∙ sym is) here

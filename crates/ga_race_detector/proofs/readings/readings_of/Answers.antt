@@ -2,7 +2,7 @@ use Rattle.std.proofs.Common.{List, sym, subst, arith}
 use Rattle.std.specs.List.{All}
 use Rattle.std.proofs.lemmas.List.Elements.{All-nil, All-get_or}
 use Rattle.ga_event.specs.declared.event.Cause.{Cause}
-use Rattle.ga_race_detector.specs.Readings.{IsTold}
+use Rattle.ga_race_detector.specs.Readings.{IsReportedLookRace}
 use Rattle.ga_race_detector.specs.declared.readings.LookRace.{LookRace}
 use Rattle.ga_race_detector.specs.inner.Glances.{IsGlanced, IsAroundOf}
 use Rattle.ga_race_detector.proofs.Glancing.{all_steps}
@@ -14,7 +14,7 @@ pub glances-init : goal.glances-init
 glances-init c = record {
   size = c.in_ok-known.ensures.size;
   known = known_none c.args.causes.now c.args.glances.now c.in_ok-known.known.items c.in_ok-known.ensures.none;
-  told = subst (λ (z : List LookRace). All (IsTold c.args.lab.now c.args.only) z) (sym c.new-list.ensures.items) (All-nil (IsTold c.args.lab.now c.args.only));
+  told = subst (λ (z : List LookRace). All (IsReportedLookRace c.args.lab.now c.args.only) z) (sym c.new-list.ensures.items) (All-nil (IsReportedLookRace c.args.lab.now c.args.only));
   found = read_first c.args.lab.now c.args.only c.args.glances.now c.new-list.result.items;
 }
 

@@ -1,7 +1,7 @@
 use Rattle.std.proofs.Common.{◌∙◌, ◌+◌, ◌≡◌, ap, sym, arith}
 use Rattle.std.specs.Prelude.{is_some}
 use Rattle.ga_node.specs.Record.{record_of}
-use Rattle.ga_event.specs.Apply.{writes_to}
+use Rattle.ga_event.specs.Apply.{waits_to_write_side}
 use Rattle.ga_lab.specs.Machine.{NodeAtStep, node_at_step}
 use Rattle.ga_race_detector.proofs.Silent.{silent, at_walk, silent_here, silent_last, silent_more, walked}
 use Rattle.ga_race_detector.proofs.writers.has_written.Goals as goal
@@ -18,7 +18,7 @@ back-init c =
       walk = is;
       silent = λ free. silent_last s node.number c.args.side w.step (step ∙ c.steps.ensures.steps)
           (silent_here s node.number c.args.side w.step held c.is_writing-waits.result (at_walk w s node held is c.node.ensures)
-          (c.is_writing-waits.ensures ∙ ap (λ z. writes_to z c.args.side) c.wait.ensures.value) free);
+          (c.is_writing-waits.ensures ∙ ap (λ z. waits_to_write_side z c.args.side) c.wait.ensures.value) free);
     }
 
 pub back-preserved : goal.back-preserved
@@ -34,7 +34,7 @@ back-preserved c =
       walk = is;
       silent = λ free. silent_more s node.number c.args.side old.step new.step step (c.back.invariant.silent c.back-test.true)
           (silent_here s node.number c.args.side new.step held c.is_writing-waits-in-back.result (at_walk new s node held is c.node-in-back.ensures)
-          (c.is_writing-waits-in-back.ensures ∙ ap (λ z. writes_to z c.args.side) c.wait-in-back.ensures.value) free);
+          (c.is_writing-waits-in-back.ensures ∙ ap (λ z. waits_to_write_side z c.args.side) c.wait-in-back.ensures.value) free);
     }
 
 pub returns-else-step-gt0 : goal.returns-else-step-gt0

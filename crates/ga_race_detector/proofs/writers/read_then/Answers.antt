@@ -1,7 +1,7 @@
 use Rattle.std.proofs.Common.{◌∙◌, ap}
 use Rattle.std.specs.Prelude.{is_some}
 use Rattle.ga_node.specs.Record.{NodeRecord, record_of}
-use Rattle.ga_event.specs.Apply.{reads_from}
+use Rattle.ga_event.specs.Apply.{waits_to_read_side}
 use Rattle.ga_lab.proofs.Called.{runs_of}
 use Rattle.ga_race_detector.proofs.Silent.{stood_then}
 use Rattle.ga_race_detector.proofs.writers.read_then.Goals as goal
@@ -11,5 +11,5 @@ returns-in-Some c =
     let s = c.args.lab.now in
     let n = c.args.node.number in
     c.is_reading.ensures
-    ∙ ap (λ w. reads_from w c.args.side) (c.wait.ensures.value ∙ ap (λ (z : NodeRecord). z.wait)
+    ∙ ap (λ w. waits_to_read_side w c.args.side) (c.wait.ensures.value ∙ ap (λ (z : NodeRecord). z.wait)
     (stood_then s (runs_of s (ap is_some c.node-stands.ensures.replays)) n c.args.step (record_of c.in-Some.then) c.requires c.in-Some.ensures.value))

@@ -8,5 +8,5 @@ use Rattle.ga_races.proofs.deadlock.halted.Given as goal
 abbrev pub invariant-loop-number : goal.invariant-loop-number
 invariant-loop-number l = record {
   size : length l.marks ≡ 144;
-  marked : (n : ℕ) → n < l.number → is_marked l.marks n ≡ is_some (refusal (record_at (records_of l.chip) n));
+  marked_nodes : (n : ℕ) → n < l.number → is_marked l.marks n ≡ is_some (refusal (record_at (records_of l.chip) n));
 }

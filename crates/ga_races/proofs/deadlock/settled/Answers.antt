@@ -14,7 +14,7 @@ freeing-preserved c = record {
 pub freeing-smaller : goal.freeing-smaller
 freeing-smaller c =
     let l : c.index.result < length c.freeing.marks = omega (arith, c.index.ensures.in_range, c.freeing.invariant.size) in
-    let k = one_less c.freeing.marks c.index.result l (ap (is_marked c.freeing.marks) c.index.ensures.value ∙ c.in-Some.ensures.marked) in
+    let k = one_less c.freeing.marks c.index.result l (ap (is_marked c.freeing.marks) c.index.ensures.value ∙ c.in-Some.ensures.marked_nodes) in
     let q : how_many (set c.freeing.marks c.index.result false) < how_many c.freeing.marks = omega (arith, k) in q
 
 pub returns-clause-settled : goal.returns-clause-settled

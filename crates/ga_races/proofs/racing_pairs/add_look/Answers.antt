@@ -3,7 +3,7 @@ use Rattle.std.proofs.lemmas.Bool.{cases_lt}
 use Rattle.std.proofs.lemmas.Result.{on_ok_weaker}
 use Rattle.ga_races.specs.declared.racing_pairs.RacingPair.{RacingPair}
 use Rattle.ga_races.specs.HappensBefore.{action_at}
-use Rattle.ga_races.specs.Acts.{actions_in, is_look_of}
+use Rattle.ga_races.specs.Acts.{actions_of_accesses, is_look_of}
 use Rattle.ga_races.specs.inner.{IsMore, OfPair, OfChange}
 use Rattle.ga_races.proofs.Asking.{look_found, look_hidden, look_none}
 use Rattle.ga_races.proofs.racing_pairs.add_look.Goals as goal
@@ -18,7 +18,7 @@ back-preserved c = record {
   none = λ q l k. elim (cases_lt (c.back.place - 1) q) [
     | inl more ↦ c.back.invariant.none q (omega (arith, more)) k
     | inr less ↦ (let e : c.back.place - 1 ≡ q = omega (arith, less, l) in
-        subst (λ (z : ℕ). is_look_of (action_at (actions_in c.args.acts.now) z) c.args.node.number ≡ false) e (sym c.is_look_of.ensures ∙ c.if-is_look_of.false))
+        subst (λ (z : ℕ). is_look_of (action_at (actions_of_accesses c.args.acts.now) z) c.args.node.number ≡ false) e (sym c.is_look_of.ensures ∙ c.if-is_look_of.false))
   ];
 }
 

@@ -1,8 +1,8 @@
 use Rattle.std.proofs.Common.{◌≡◌, ◌∙◌, ◌-◌, length, take, take_all, ap, sym, subst, arith}
 use Rattle.ga_grid.specs.Chip.{record_at}
 use Rattle.ga_lab.specs.Machine.{State, chip_of}
-use Rattle.ga_lab.specs.Holding.{Holds}
-use Rattle.ga_event.specs.Told.{steps_of}
+use Rattle.ga_lab.specs.Holding.{HoldsValue}
+use Rattle.ga_event.specs.Told.{count_steps}
 use Rattle.ga_scheduler.proofs.edges.before.Goals as goal
 
 whole : (s : State) → take (length s.kept) s.kept ≡ s.kept
@@ -19,5 +19,5 @@ returns-in-None c =
     let s = c.args.lab.now in
     c.in-None.ensures.left (length s.kept - 1) (length s.kept) c.args.behind
     (omega (arith, c.requires.newest, c.steps.ensures.steps))
-    (ap (steps_of c.args.node.number) (whole s) ∙ omega (arith, c.requires.newest, c.steps.ensures.steps))
-    (subst (λ z. Holds (record_at (chip_of z) c.args.node.number) c.args.what c.args.behind) (ap (λ z. record s { kept = z }) (sym (whole s))) c.requires.held)
+    (ap (count_steps c.args.node.number) (whole s) ∙ omega (arith, c.requires.newest, c.steps.ensures.steps))
+    (subst (λ z. HoldsValue (record_at (chip_of z) c.args.node.number) c.args.what c.args.behind) (ap (λ z. record s { kept = z }) (sym (whole s))) c.requires.held)

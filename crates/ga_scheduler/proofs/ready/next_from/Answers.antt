@@ -1,12 +1,12 @@
 use Rattle.std.proofs.Common.{sym, ◌∙◌, ap}
 use Rattle.ga_scheduler.specs.inner.{has}
-use Rattle.ga_scheduler.specs.Schedules.{node_drawn}
+use Rattle.ga_scheduler.specs.Schedules.{random_node}
 use Rattle.ga_scheduler.proofs.Drawn.{drawn_chosen, first_chosen}
 use Rattle.ga_scheduler.proofs.ready.next_from.Goals as goal
 
 pub returns-then-draws-clause-chosen : goal.returns-then-draws-clause-chosen
 returns-then-draws-clause-chosen c =
-    c.draw_node.ensures.drawn ∙ ap (node_drawn (has c.args.ready.now)) c.word.ensures ∙ drawn_chosen c.args.schedule.now.order c.args.schedule.now (has c.args.ready.now) (sym c.if-draws.true ∙ c.requires.draws)
+    c.draw_node.ensures.drawn ∙ ap (random_node (has c.args.ready.now)) c.word.ensures ∙ drawn_chosen c.args.schedule.now.order c.args.schedule.now (has c.args.ready.now) (sym c.if-draws.true ∙ c.requires.draws)
 
 pub returns-else-draws-clause-chosen : goal.returns-else-draws-clause-chosen
 returns-else-draws-clause-chosen c =

@@ -2,8 +2,8 @@ use Rattle.std.proofs.Common.{◌≡◌, ◌∙◌, ◌+◌, ◌-◌, ap, sym, s
 use Rattle.std.specs.Prelude.{is_some, IsSome}
 use Rattle.ga_grid.specs.declared.node_id.NodeId.{NodeId}
 use Rattle.ga_event.specs.Apply.{replay}
-use Rattle.ga_event.specs.Told.{steps_of, made_in}
-use Rattle.ga_lab.specs.Machine.{State, NodeAtStep, earlier, outcomes_of_kept, BackwardState, backward_state, made_before}
+use Rattle.ga_event.specs.Told.{count_steps, made_event_in}
+use Rattle.ga_lab.specs.Machine.{State, NodeAtStep, earlier, outcomes_of_kept, BackwardState, backward_state, made_event_before}
 use Rattle.ga_scheduler.specs.inner.{counted, counted_by, asked_node, held_upto, is_held}
 use Rattle.ga_scheduler.proofs.Newest.{whole_earlier, fewer_before, counted_back}
 use Rattle.ga_scheduler.proofs.Backing.{told_prev, below, found, ended, steps_whole, stands_now}
@@ -15,8 +15,8 @@ loop-place-init c =
     let n : NodeId = asked_node c.args.until.now in
     let e : c.counts-place.result.kept ≡ length s.kept = c.counts-place.ensures.kept in
     let w : c.walk-walk.result.step ≡ c.steps.result = ap (λ (z : NodeAtStep). z.step) c.walk-walk.ensures in
-    let all : steps_of n.number (take c.counts-place.result.kept s.kept) ≡ steps_of n.number s.kept = steps_whole s n.number c.counts-place.result.kept e in
-    let same : steps_of c.node_of-node.result.number s.kept ≡ steps_of n.number s.kept = ap (λ (z : NodeId). steps_of z.number s.kept) c.node_of-node.ensures in
+    let all : count_steps n.number (take c.counts-place.result.kept s.kept) ≡ count_steps n.number s.kept = steps_whole s n.number c.counts-place.result.kept e in
+    let same : count_steps c.node_of-node.result.number s.kept ≡ count_steps n.number s.kept = ap (λ (z : NodeId). count_steps z.number s.kept) c.node_of-node.ensures in
     record {
       within = omega (arith, e);
       events = c.backward-events.ensures ∙ ap (backward_state s) (sym e);
@@ -36,22 +36,22 @@ loop-place-preserved c =
     let e : m + 1 ≡ c.loop-place.place = omega (arith, c.loop-place-test.true) in
     let et : c.back.new.self ≡ backward_state s m = c.in-Some.ensures.left ∙ ap (λ (z : BackwardState). record z { place = z.place - 1 }) c.loop-place.invariant.events in
     let some : IsSome (replay s.load s.kept) = ap is_some c.chip.ensures.replays in
-    let told : made_in (outcomes_of_kept s) m ≡ Some c.in-Some.made =
-    told_prev s c.loop-place.place c.in-Some.made (omega (arith, c.loop-place-test.true)) (subst (λ (z : BackwardState). Some c.in-Some.made ≡ made_before z.machine z.place) c.loop-place.invariant.events c.in-Some.ensures.told) in
-    let behind : c.steps-in-loop-place.result ≡ steps_of n.number (take c.loop-place.place s.kept) =
-    c.steps-in-loop-place.ensures ∙ ap (λ (z : BackwardState). steps_of c.node_of-node.result.number (take z.place z.machine.kept)) c.loop-place.invariant.events
-    ∙ ap (λ (z : NodeId). steps_of z.number (take c.loop-place.place s.kept)) c.node_of-node.ensures in
-    let step : c.back_to.new.self.step ≡ c.steps-in-loop-place.result = ap (λ (z : NodeAtStep). z.step) c.back_to.ensures in
+    let told : made_event_in (outcomes_of_kept s) m ≡ Some c.in-Some.made =
+    told_prev s c.loop-place.place c.in-Some.made (omega (arith, c.loop-place-test.true)) (subst (λ (z : BackwardState). Some c.in-Some.made ≡ made_event_before z.machine z.place) c.loop-place.invariant.events c.in-Some.ensures.told) in
+    let behind : c.steps-in-loop-place.result ≡ count_steps n.number (take c.loop-place.place s.kept) =
+    c.steps-in-loop-place.ensures ∙ ap (λ (z : BackwardState). count_steps c.node_of-node.result.number (take z.place z.machine.kept)) c.loop-place.invariant.events
+    ∙ ap (λ (z : NodeId). count_steps z.number (take c.loop-place.place s.kept)) c.node_of-node.ensures in
+    let step : c.walk_back_to.new.self.step ≡ c.steps-in-loop-place.result = ap (λ (z : NodeAtStep). z.step) c.walk_back_to.ensures in
     let more : counted u (earlier s (m + 1)) ≡ counted u (earlier s m) + counted_by u c.in-Some.made = counted_back u s m c.in-Some.made some told in
     let here : counted u (earlier s (m + 1)) ≡ c.loop-place.words = ap (λ (z : ℕ). counted u (earlier s z)) e ∙ c.loop-place.invariant.words in
     let held : is_held u c.args.only s m ≡ c.is_held.result = sym (c.is_held.ensures ∙ ap (λ (z : BackwardState). is_held u c.args.only z.machine z.place) et) in
     let few = fewer_before s n.number m c.in-Some.made some told in
-    let same_steps : steps_of n.number (take (m + 1) s.kept) ≡ steps_of n.number (take c.loop-place.place s.kept) = ap (λ (z : ℕ). steps_of n.number (take z s.kept)) e in
+    let same_steps : count_steps n.number (take (m + 1) s.kept) ≡ count_steps n.number (take c.loop-place.place s.kept) = ap (λ (z : ℕ). count_steps n.number (take z s.kept)) e in
     record {
       within = omega (arith, c.loop-place.invariant.within);
       events = et;
-      machine = ap (λ (z : NodeAtStep). z.machine) c.back_to.ensures ∙ c.loop-place.invariant.machine;
-      node = ap (λ (z : NodeAtStep). z.node) c.back_to.ensures ∙ c.loop-place.invariant.node;
+      machine = ap (λ (z : NodeAtStep). z.machine) c.walk_back_to.ensures ∙ c.loop-place.invariant.machine;
+      node = ap (λ (z : NodeAtStep). z.node) c.walk_back_to.ensures ∙ c.loop-place.invariant.node;
       steps = omega (arith, behind, step, few, same_steps);
       words = omega (arith, more, here, c.count_back-words.ensures);
       same = below u c.args.only s c.args.least c.loop-place.place m (held_upto u c.args.only s (length s.kept)) e (held ∙ c.if-is_held.false) c.loop-place.invariant.same;
@@ -66,8 +66,8 @@ is_held-requires-clause-replays c =
     let e : m + 1 ≡ c.loop-place.place = omega (arith, c.loop-place-test.true) in
     let et : c.back.new.self ≡ backward_state s m = c.in-Some.ensures.left ∙ ap (λ (z : BackwardState). record z { place = z.place - 1 }) c.loop-place.invariant.events in
     let some : IsSome (replay s.load s.kept) = ap is_some c.chip.ensures.replays in
-    let told : made_in (outcomes_of_kept s) m ≡ Some c.in-Some.made =
-    told_prev s c.loop-place.place c.in-Some.made (omega (arith, c.loop-place-test.true)) (subst (λ (z : BackwardState). Some c.in-Some.made ≡ made_before z.machine z.place) c.loop-place.invariant.events c.in-Some.ensures.told) in
+    let told : made_event_in (outcomes_of_kept s) m ≡ Some c.in-Some.made =
+    told_prev s c.loop-place.place c.in-Some.made (omega (arith, c.loop-place-test.true)) (subst (λ (z : BackwardState). Some c.in-Some.made ≡ made_event_before z.machine z.place) c.loop-place.invariant.events c.in-Some.ensures.told) in
     subst (λ (z : BackwardState). IsSome (replay z.machine.load z.machine.kept)) (sym et) some
 
 pub is_held-requires-clause-told : goal.is_held-requires-clause-told
@@ -79,9 +79,9 @@ is_held-requires-clause-told c =
     let e : m + 1 ≡ c.loop-place.place = omega (arith, c.loop-place-test.true) in
     let et : c.back.new.self ≡ backward_state s m = c.in-Some.ensures.left ∙ ap (λ (z : BackwardState). record z { place = z.place - 1 }) c.loop-place.invariant.events in
     let some : IsSome (replay s.load s.kept) = ap is_some c.chip.ensures.replays in
-    let told : made_in (outcomes_of_kept s) m ≡ Some c.in-Some.made =
-    told_prev s c.loop-place.place c.in-Some.made (omega (arith, c.loop-place-test.true)) (subst (λ (z : BackwardState). Some c.in-Some.made ≡ made_before z.machine z.place) c.loop-place.invariant.events c.in-Some.ensures.told) in
-    subst (λ (z : BackwardState). made_in (outcomes_of_kept z.machine) z.place ≡ Some c.in-Some.made) (sym et) told
+    let told : made_event_in (outcomes_of_kept s) m ≡ Some c.in-Some.made =
+    told_prev s c.loop-place.place c.in-Some.made (omega (arith, c.loop-place-test.true)) (subst (λ (z : BackwardState). Some c.in-Some.made ≡ made_event_before z.machine z.place) c.loop-place.invariant.events c.in-Some.ensures.told) in
+    subst (λ (z : BackwardState). made_event_in (outcomes_of_kept z.machine) z.place ≡ Some c.in-Some.made) (sym et) told
 
 pub is_held-requires-clause-stands : goal.is_held-requires-clause-stands
 is_held-requires-clause-stands c =
@@ -92,14 +92,14 @@ is_held-requires-clause-stands c =
     let e : m + 1 ≡ c.loop-place.place = omega (arith, c.loop-place-test.true) in
     let et : c.back.new.self ≡ backward_state s m = c.in-Some.ensures.left ∙ ap (λ (z : BackwardState). record z { place = z.place - 1 }) c.loop-place.invariant.events in
     let some : IsSome (replay s.load s.kept) = ap is_some c.chip.ensures.replays in
-    let told : made_in (outcomes_of_kept s) m ≡ Some c.in-Some.made =
-    told_prev s c.loop-place.place c.in-Some.made (omega (arith, c.loop-place-test.true)) (subst (λ (z : BackwardState). Some c.in-Some.made ≡ made_before z.machine z.place) c.loop-place.invariant.events c.in-Some.ensures.told) in
-    let behind : c.steps-in-loop-place.result ≡ steps_of n.number (take c.loop-place.place s.kept) =
-    c.steps-in-loop-place.ensures ∙ ap (λ (z : BackwardState). steps_of c.node_of-node.result.number (take z.place z.machine.kept)) c.loop-place.invariant.events
-    ∙ ap (λ (z : NodeId). steps_of z.number (take c.loop-place.place s.kept)) c.node_of-node.ensures in
-    let step : c.back_to.new.self.step ≡ c.steps-in-loop-place.result = ap (λ (z : NodeAtStep). z.step) c.back_to.ensures in
-    stands_now c.back_to.new.self c.back.new.self s n c.steps-in-loop-place.result c.loop-place.place m
-    (ap (λ (z : NodeAtStep). z.machine) c.back_to.ensures ∙ c.loop-place.invariant.machine) (ap (λ (z : NodeAtStep). z.node) c.back_to.ensures ∙ c.loop-place.invariant.node)
+    let told : made_event_in (outcomes_of_kept s) m ≡ Some c.in-Some.made =
+    told_prev s c.loop-place.place c.in-Some.made (omega (arith, c.loop-place-test.true)) (subst (λ (z : BackwardState). Some c.in-Some.made ≡ made_event_before z.machine z.place) c.loop-place.invariant.events c.in-Some.ensures.told) in
+    let behind : c.steps-in-loop-place.result ≡ count_steps n.number (take c.loop-place.place s.kept) =
+    c.steps-in-loop-place.ensures ∙ ap (λ (z : BackwardState). count_steps c.node_of-node.result.number (take z.place z.machine.kept)) c.loop-place.invariant.events
+    ∙ ap (λ (z : NodeId). count_steps z.number (take c.loop-place.place s.kept)) c.node_of-node.ensures in
+    let step : c.walk_back_to.new.self.step ≡ c.steps-in-loop-place.result = ap (λ (z : NodeAtStep). z.step) c.walk_back_to.ensures in
+    stands_now c.walk_back_to.new.self c.back.new.self s n c.steps-in-loop-place.result c.loop-place.place m
+    (ap (λ (z : NodeAtStep). z.machine) c.walk_back_to.ensures ∙ c.loop-place.invariant.machine) (ap (λ (z : NodeAtStep). z.node) c.walk_back_to.ensures ∙ c.loop-place.invariant.node)
     step behind et e
 
 pub is_held-requires-clause-counted : goal.is_held-requires-clause-counted
@@ -111,17 +111,17 @@ is_held-requires-clause-counted c =
     let e : m + 1 ≡ c.loop-place.place = omega (arith, c.loop-place-test.true) in
     let et : c.back.new.self ≡ backward_state s m = c.in-Some.ensures.left ∙ ap (λ (z : BackwardState). record z { place = z.place - 1 }) c.loop-place.invariant.events in
     let some : IsSome (replay s.load s.kept) = ap is_some c.chip.ensures.replays in
-    let told : made_in (outcomes_of_kept s) m ≡ Some c.in-Some.made =
-    told_prev s c.loop-place.place c.in-Some.made (omega (arith, c.loop-place-test.true)) (subst (λ (z : BackwardState). Some c.in-Some.made ≡ made_before z.machine z.place) c.loop-place.invariant.events c.in-Some.ensures.told) in
+    let told : made_event_in (outcomes_of_kept s) m ≡ Some c.in-Some.made =
+    told_prev s c.loop-place.place c.in-Some.made (omega (arith, c.loop-place-test.true)) (subst (λ (z : BackwardState). Some c.in-Some.made ≡ made_event_before z.machine z.place) c.loop-place.invariant.events c.in-Some.ensures.told) in
     subst (λ (z : BackwardState). counted u (earlier z.machine (z.place + 1)) ≡ c.loop-place.words) (sym et) (ap (λ (z : ℕ). counted u (earlier s z)) e ∙ c.loop-place.invariant.words)
 
-pub back_to-requires : goal.back_to-requires
-back_to-requires c =
+pub walk_back_to-requires : goal.walk_back_to-requires
+walk_back_to-requires c =
     let s : State = c.args.lab.now in
     let n : NodeId = asked_node c.args.until.now in
-    let behind : c.steps-in-loop-place.result ≡ steps_of n.number (take c.loop-place.place s.kept) =
-    c.steps-in-loop-place.ensures ∙ ap (λ (z : BackwardState). steps_of c.node_of-node.result.number (take z.place z.machine.kept)) c.loop-place.invariant.events
-    ∙ ap (λ (z : NodeId). steps_of z.number (take c.loop-place.place s.kept)) c.node_of-node.ensures in
+    let behind : c.steps-in-loop-place.result ≡ count_steps n.number (take c.loop-place.place s.kept) =
+    c.steps-in-loop-place.ensures ∙ ap (λ (z : BackwardState). count_steps c.node_of-node.result.number (take z.place z.machine.kept)) c.loop-place.invariant.events
+    ∙ ap (λ (z : NodeId). count_steps z.number (take c.loop-place.place s.kept)) c.node_of-node.ensures in
     omega (arith, behind, c.loop-place.invariant.steps)
 
 pub count_back-words-requires : goal.count_back-words-requires
@@ -133,8 +133,8 @@ count_back-words-requires c =
     let e : m + 1 ≡ c.loop-place.place = omega (arith, c.loop-place-test.true) in
     let et : c.back.new.self ≡ backward_state s m = c.in-Some.ensures.left ∙ ap (λ (z : BackwardState). record z { place = z.place - 1 }) c.loop-place.invariant.events in
     let some : IsSome (replay s.load s.kept) = ap is_some c.chip.ensures.replays in
-    let told : made_in (outcomes_of_kept s) m ≡ Some c.in-Some.made =
-    told_prev s c.loop-place.place c.in-Some.made (omega (arith, c.loop-place-test.true)) (subst (λ (z : BackwardState). Some c.in-Some.made ≡ made_before z.machine z.place) c.loop-place.invariant.events c.in-Some.ensures.told) in
+    let told : made_event_in (outcomes_of_kept s) m ≡ Some c.in-Some.made =
+    told_prev s c.loop-place.place c.in-Some.made (omega (arith, c.loop-place-test.true)) (subst (λ (z : BackwardState). Some c.in-Some.made ≡ made_event_before z.machine z.place) c.loop-place.invariant.events c.in-Some.ensures.told) in
     let more : counted u (earlier s (m + 1)) ≡ counted u (earlier s m) + counted_by u c.in-Some.made = counted_back u s m c.in-Some.made some told in
     let here : counted u (earlier s (m + 1)) ≡ c.loop-place.words = ap (λ (z : ℕ). counted u (earlier s z)) e ∙ c.loop-place.invariant.words in
     omega (arith, more, here)
@@ -148,8 +148,8 @@ returns-then-is_held-clause-value c =
     let e : m + 1 ≡ c.loop-place.place = omega (arith, c.loop-place-test.true) in
     let et : c.back.new.self ≡ backward_state s m = c.in-Some.ensures.left ∙ ap (λ (z : BackwardState). record z { place = z.place - 1 }) c.loop-place.invariant.events in
     let some : IsSome (replay s.load s.kept) = ap is_some c.chip.ensures.replays in
-    let told : made_in (outcomes_of_kept s) m ≡ Some c.in-Some.made =
-    told_prev s c.loop-place.place c.in-Some.made (omega (arith, c.loop-place-test.true)) (subst (λ (z : BackwardState). Some c.in-Some.made ≡ made_before z.machine z.place) c.loop-place.invariant.events c.in-Some.ensures.told) in
+    let told : made_event_in (outcomes_of_kept s) m ≡ Some c.in-Some.made =
+    told_prev s c.loop-place.place c.in-Some.made (omega (arith, c.loop-place-test.true)) (subst (λ (z : BackwardState). Some c.in-Some.made ≡ made_event_before z.machine z.place) c.loop-place.invariant.events c.in-Some.ensures.told) in
     let held : is_held u c.args.only s m ≡ c.is_held.result = sym (c.is_held.ensures ∙ ap (λ (z : BackwardState). is_held u c.args.only z.machine z.place) et) in
     found u c.args.only s c.args.least c.loop-place.place m (held_upto u c.args.only s (length s.kept)) e c.loop-place-test.true (held ∙ c.if-is_held.true) c.loop-place.invariant.same
 

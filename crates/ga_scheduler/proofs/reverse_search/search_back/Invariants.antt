@@ -1,5 +1,5 @@
 use Rattle.std.proofs.Common.{◌≡◌, ◌≤◌, max, take, length}
-use Rattle.ga_event.specs.Told.{steps_of}
+use Rattle.ga_event.specs.Told.{count_steps}
 use Rattle.ga_lab.specs.Machine.{earlier, backward_state}
 use Rattle.ga_scheduler.specs.inner.{counted, asked_node, held_upto}
 use Rattle.ga_scheduler.proofs.reverse_search.search_back.Given as goal
@@ -10,7 +10,7 @@ invariant-loop-place l = record {
   events : l.events ≡ backward_state l.lab l.place;
   machine : l.walk.machine ≡ l.lab;
   node : l.walk.node ≡ asked_node l.until;
-  steps : steps_of (asked_node l.until).number (take l.place l.lab.kept) ≤ l.walk.step;
+  steps : count_steps (asked_node l.until).number (take l.place l.lab.kept) ≤ l.walk.step;
   words : counted l.until (earlier l.lab l.place) ≡ l.words;
   same : max l.least (held_upto l.until l.only l.lab l.place) ≡ max l.least (held_upto l.until l.only l.lab (length l.lab.kept));
 }

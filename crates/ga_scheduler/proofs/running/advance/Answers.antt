@@ -1,7 +1,7 @@
 use Rattle.std.proofs.Common.{◌≡◌, ◌∙◌, Some, None, refl, sym, ap}
 use Rattle.std.specs.Prelude.{is_some}
 use Rattle.ga_lab.specs.Machine.{chip_of}
-use Rattle.ga_scheduler.specs.Running.{Running, running, node_to_run, next_made, run_moved}
+use Rattle.ga_scheduler.specs.Running.{Running, running, node_to_run, next_run_event, run_after_next}
 use Rattle.ga_scheduler.proofs.WordCounts.{all_counted_on}
 use Rattle.ga_scheduler.proofs.Stepping.{choice_is, nothing_past, quiet_is}
 use Rattle.ga_scheduler.proofs.Events.{told_is, moved_is, held_is, stayed}
@@ -10,18 +10,18 @@ use Rattle.ga_scheduler.proofs.running.advance.Goals as goal
 pub next_from-requires-clause-past : goal.next_from-requires-clause-past
 next_from-requires-clause-past c = nothing_past (chip_of c.args.lab.now) c.args.ready.now c.requires.ready
 
-pub first_held-requires-clause-counted : goal.first_held-requires-clause-counted
-first_held-requires-clause-counted c = all_counted_on c.args.until.now c.args.lab.now c.make.new.lab c.in-Ok.made c.args.words.now c.in-Ok.ensures.words c.requires.counted
+pub first_holding_condition-requires-clause-counted : goal.first_holding_condition-requires-clause-counted
+first_holding_condition-requires-clause-counted c = all_counted_on c.args.until.now c.args.lab.now c.make.new.lab c.in-Ok.made c.args.words.now c.in-Ok.ensures.words c.requires.counted
 
-pub returns-in-Some-first_held-clause-over : goal.returns-in-Some-first_held-clause-over
-returns-in-Some-first_held-clause-over c =
+pub returns-in-Some-first_holding_condition-clause-over : goal.returns-in-Some-first_holding_condition-clause-over
+returns-in-Some-first_holding_condition-clause-over c =
     let who : node_to_run (running c.args.lab.now c.args.schedule.now) ≡ Some c.in-Some.node =
     sym (choice_is (chip_of c.args.lab.now) c.args.ready.now c.args.schedule.now c.requires.ready) ∙ sym c.in-Some.ensures.chosen in
     let here : Running = running c.args.lab.now c.args.schedule.now in
     let next : Running = running c.make.new.lab c.make.new.schedule in
-    let is : next_made here ≡ Some c.in-Ok.made = told_is c.args.lab.now c.args.schedule.now c.in-Some.node c.in-Ok.made who c.in-Ok.ensures.ok in
-    let on : next ≡ run_moved here = moved_is c.args.lab.now c.make.new.lab c.args.schedule.now c.make.new.schedule c.in-Some.node who c.in-Ok.ensures.state c.in-Ok.ensures.schedule in
-    (is, held_is c.args.until.now here next c.in-Ok.made (Some c.in-Some-first_held.which) is on c.in-Some-first_held.ensures.first, on)
+    let is : next_run_event here ≡ Some c.in-Ok.made = told_is c.args.lab.now c.args.schedule.now c.in-Some.node c.in-Ok.made who c.in-Ok.ensures.ok in
+    let on : next ≡ run_after_next here = moved_is c.args.lab.now c.make.new.lab c.args.schedule.now c.make.new.schedule c.in-Some.node who c.in-Ok.ensures.state c.in-Ok.ensures.schedule in
+    (is, held_is c.args.until.now here next c.in-Ok.made (Some c.in-Some-first_holding_condition.which) is on c.in-Some-first_holding_condition.ensures.first, on)
 
 pub returns-in_default-clause-made : goal.returns-in_default-clause-made
 returns-in_default-clause-made c =
@@ -35,8 +35,8 @@ returns-in_default-clause-unmet c =
     sym (choice_is (chip_of c.args.lab.now) c.args.ready.now c.args.schedule.now c.requires.ready) ∙ sym c.in-Some.ensures.chosen in
     let here : Running = running c.args.lab.now c.args.schedule.now in
     let next : Running = running c.make.new.lab c.make.new.schedule in
-    let is : next_made here ≡ Some c.in-Ok.made = told_is c.args.lab.now c.args.schedule.now c.in-Some.node c.in-Ok.made who c.in-Ok.ensures.ok in
-    let on : next ≡ run_moved here = moved_is c.args.lab.now c.make.new.lab c.args.schedule.now c.make.new.schedule c.in-Some.node who c.in-Ok.ensures.state c.in-Ok.ensures.schedule in
+    let is : next_run_event here ≡ Some c.in-Ok.made = told_is c.args.lab.now c.args.schedule.now c.in-Some.node c.in-Ok.made who c.in-Ok.ensures.ok in
+    let on : next ≡ run_after_next here = moved_is c.args.lab.now c.make.new.lab c.args.schedule.now c.make.new.schedule c.in-Some.node who c.in-Ok.ensures.state c.in-Ok.ensures.schedule in
     held_is c.args.until.now here next c.in-Ok.made None is on c.in_default.ensures.first
 
 pub returns-in_default-clause-moved : goal.returns-in_default-clause-moved
@@ -51,37 +51,37 @@ returns-in-Err-clause-over c =
     sym (choice_is (chip_of c.args.lab.now) c.args.ready.now c.args.schedule.now c.requires.ready) ∙ sym c.in-Some.ensures.chosen in
     ((c.in-Some.node, who, c.in-Err.ensures.refused), stayed c.args.lab.now c.make.new.lab c.args.schedule.now c.make.new.schedule c.in-Err.ensures.same c.in-Err.ensures.stays)
 
-pub first_held-requires-in-Ok-make-clause-counted : goal.first_held-requires-in-Ok-make-clause-counted
-first_held-requires-in-Ok-make-clause-counted c = all_counted_on c.args.until.now c.args.lab.now c.make-else-is_none.new.lab c.in-Ok-make.made c.args.words.now c.in-Ok-make.ensures.words c.requires.counted
+pub first_holding_condition-requires-in-Ok-make-clause-counted : goal.first_holding_condition-requires-in-Ok-make-clause-counted
+first_holding_condition-requires-in-Ok-make-clause-counted c = all_counted_on c.args.until.now c.args.lab.now c.make-else-is_none.new.lab c.in-Ok-make.made c.args.words.now c.in-Ok-make.ensures.words c.requires.counted
 
-pub returns-in-Some-first_held-2-clause-over : goal.returns-in-Some-first_held-2-clause-over
-returns-in-Some-first_held-2-clause-over c =
+pub returns-in-Some-first_holding_condition-2-clause-over : goal.returns-in-Some-first_holding_condition-2-clause-over
+returns-in-Some-first_holding_condition-2-clause-over c =
     let who : node_to_run (running c.args.lab.now c.args.schedule.now) ≡ Some c.in-Some.node =
     sym (choice_is (chip_of c.args.lab.now) c.args.ready.now c.args.schedule.now c.requires.ready) ∙ sym c.in-Some.ensures.chosen in
     let here : Running = running c.args.lab.now c.args.schedule.now in
     let next : Running = running c.make-else-is_none.new.lab c.make-else-is_none.new.schedule in
-    let is : next_made here ≡ Some c.in-Ok-make.made = told_is c.args.lab.now c.args.schedule.now c.in-Some.node c.in-Ok-make.made who c.in-Ok-make.ensures.ok in
-    let on : next ≡ run_moved here = moved_is c.args.lab.now c.make-else-is_none.new.lab c.args.schedule.now c.make-else-is_none.new.schedule c.in-Some.node who c.in-Ok-make.ensures.state c.in-Ok-make.ensures.schedule in
-    (is, held_is c.args.until.now here next c.in-Ok-make.made (Some c.in-Some-first_held-2.which) is on c.in-Some-first_held-2.ensures.first, on)
+    let is : next_run_event here ≡ Some c.in-Ok-make.made = told_is c.args.lab.now c.args.schedule.now c.in-Some.node c.in-Ok-make.made who c.in-Ok-make.ensures.ok in
+    let on : next ≡ run_after_next here = moved_is c.args.lab.now c.make-else-is_none.new.lab c.args.schedule.now c.make-else-is_none.new.schedule c.in-Some.node who c.in-Ok-make.ensures.state c.in-Ok-make.ensures.schedule in
+    (is, held_is c.args.until.now here next c.in-Ok-make.made (Some c.in-Some-first_holding_condition-2.which) is on c.in-Some-first_holding_condition-2.ensures.first, on)
 
-pub returns-in_default-first_held-clause-made : goal.returns-in_default-first_held-clause-made
-returns-in_default-first_held-clause-made c =
+pub returns-in_default-first_holding_condition-clause-made : goal.returns-in_default-first_holding_condition-clause-made
+returns-in_default-first_holding_condition-clause-made c =
     let who : node_to_run (running c.args.lab.now c.args.schedule.now) ≡ Some c.in-Some.node =
     sym (choice_is (chip_of c.args.lab.now) c.args.ready.now c.args.schedule.now c.requires.ready) ∙ sym c.in-Some.ensures.chosen in
     ap is_some (told_is c.args.lab.now c.args.schedule.now c.in-Some.node c.in-Ok-make.made who c.in-Ok-make.ensures.ok)
 
-pub returns-in_default-first_held-clause-unmet : goal.returns-in_default-first_held-clause-unmet
-returns-in_default-first_held-clause-unmet c =
+pub returns-in_default-first_holding_condition-clause-unmet : goal.returns-in_default-first_holding_condition-clause-unmet
+returns-in_default-first_holding_condition-clause-unmet c =
     let who : node_to_run (running c.args.lab.now c.args.schedule.now) ≡ Some c.in-Some.node =
     sym (choice_is (chip_of c.args.lab.now) c.args.ready.now c.args.schedule.now c.requires.ready) ∙ sym c.in-Some.ensures.chosen in
     let here : Running = running c.args.lab.now c.args.schedule.now in
     let next : Running = running c.make-else-is_none.new.lab c.make-else-is_none.new.schedule in
-    let is : next_made here ≡ Some c.in-Ok-make.made = told_is c.args.lab.now c.args.schedule.now c.in-Some.node c.in-Ok-make.made who c.in-Ok-make.ensures.ok in
-    let on : next ≡ run_moved here = moved_is c.args.lab.now c.make-else-is_none.new.lab c.args.schedule.now c.make-else-is_none.new.schedule c.in-Some.node who c.in-Ok-make.ensures.state c.in-Ok-make.ensures.schedule in
-    held_is c.args.until.now here next c.in-Ok-make.made None is on c.in_default-first_held.ensures.first
+    let is : next_run_event here ≡ Some c.in-Ok-make.made = told_is c.args.lab.now c.args.schedule.now c.in-Some.node c.in-Ok-make.made who c.in-Ok-make.ensures.ok in
+    let on : next ≡ run_after_next here = moved_is c.args.lab.now c.make-else-is_none.new.lab c.args.schedule.now c.make-else-is_none.new.schedule c.in-Some.node who c.in-Ok-make.ensures.state c.in-Ok-make.ensures.schedule in
+    held_is c.args.until.now here next c.in-Ok-make.made None is on c.in_default-first_holding_condition.ensures.first
 
-pub returns-in_default-first_held-clause-moved : goal.returns-in_default-first_held-clause-moved
-returns-in_default-first_held-clause-moved c =
+pub returns-in_default-first_holding_condition-clause-moved : goal.returns-in_default-first_holding_condition-clause-moved
+returns-in_default-first_holding_condition-clause-moved c =
     let who : node_to_run (running c.args.lab.now c.args.schedule.now) ≡ Some c.in-Some.node =
     sym (choice_is (chip_of c.args.lab.now) c.args.ready.now c.args.schedule.now c.requires.ready) ∙ sym c.in-Some.ensures.chosen in
     moved_is c.args.lab.now c.make-else-is_none.new.lab c.args.schedule.now c.make-else-is_none.new.schedule c.in-Some.node who c.in-Ok-make.ensures.state c.in-Ok-make.ensures.schedule

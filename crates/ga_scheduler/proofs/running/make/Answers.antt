@@ -1,9 +1,9 @@
 use Rattle.std.proofs.Common.{◌≡◌, ◌∙◌, ℕ, ◌+◌, ap, sym, subst}
 use Rattle.std.specs.Prelude.{is_some}
 use Rattle.ga_grid.specs.Chip.{records_of}
-use Rattle.ga_lab.specs.Machine.{chip_of, stepped, step_answer}
+use Rattle.ga_lab.specs.Machine.{chip_of, state_after_step, step_answer}
 use Rattle.ga_scheduler.specs.inner.{HoldsReady, StaysRight, IsRefreshed, newest_told}
-use Rattle.ga_scheduler.specs.Words.{one_over, word_count}
+use Rattle.ga_scheduler.specs.Words.{transfer_count_of_event, link_transfer_count}
 use Rattle.ga_scheduler.proofs.WordCounts.{counted_step}
 use Rattle.ga_scheduler.proofs.Newest.{newest_step}
 use Rattle.ga_scheduler.proofs.Stepping.{stepped_ready, answered_ok, answered_err}
@@ -14,7 +14,7 @@ returns-in-Ok-clause-ok c = answered_ok (step_answer c.args.lab.now c.args.node)
 
 pub returns-in-Ok-clause-ready : goal.returns-in-Ok-clause-ready
 returns-in-Ok-clause-ready c =
-    let here : records_of c.chip.result.now ≡ chip_of (stepped c.args.lab.now c.args.node) = c.chip.ensures.value ∙ ap chip_of c.in-Ok.ensures.ok in
+    let here : records_of c.chip.result.now ≡ chip_of (state_after_step c.args.lab.now c.args.node) = c.chip.ensures.value ∙ ap chip_of c.in-Ok.ensures.ok in
     subst (λ z. HoldsReady (chip_of z) c.refresh.new.ready) (sym c.in-Ok.ensures.ok)
     (stepped_ready c.args.lab.now c.args.node c.in-Ok.made c.args.ready.now c.refresh.new.ready c.requires.replays
     (answered_ok (step_answer c.args.lab.now c.args.node) c.in-Ok.made c.in-Ok.ensures.answer) c.requires.ready
@@ -29,7 +29,7 @@ returns-in-Err-clause-refused c = answered_err (step_answer c.args.lab.now c.arg
 
 pub returns-in-Ok-clause-words : goal.returns-in-Ok-clause-words
 returns-in-Ok-clause-words c =
-    subst (λ z. (writer reader : ℕ) → word_count z writer reader ≡ word_count c.args.lab.now writer reader + one_over writer reader c.in-Ok.made) (sym c.in-Ok.ensures.ok)
+    subst (λ z. (writer reader : ℕ) → link_transfer_count z writer reader ≡ link_transfer_count c.args.lab.now writer reader + transfer_count_of_event writer reader c.in-Ok.made) (sym c.in-Ok.ensures.ok)
     (counted_step c.args.lab.now c.args.node c.in-Ok.made c.requires.replays
     (answered_ok (step_answer c.args.lab.now c.args.node) c.in-Ok.made c.in-Ok.ensures.answer))
 

@@ -1,7 +1,7 @@
 use Rattle.std.proofs.Common.{◌∙◌, refl, sym, ap, arith, subst}
 use Rattle.std.specs.Prelude.{is_some}
 use Rattle.ga_scheduler.specs.inner.{HoldsReady}
-use Rattle.ga_scheduler.specs.Running.{Running, running, after_events, AreMade, HasEnded}
+use Rattle.ga_scheduler.specs.Running.{Running, running, run_after_events, HasNextEvents, HasRunEnded}
 use Rattle.ga_scheduler.proofs.Drawn.{nothing_known}
 use Rattle.ga_scheduler.proofs.Events.{gone_on, never_more, made_one, over_state, over_made, over_end, over_most}
 use Rattle.ga_scheduler.proofs.running.run_schedule.Goals as goal
@@ -44,11 +44,11 @@ pub returns-in-Err-clause-state : goal.returns-in-Err-clause-state
 returns-in-Err-clause-state c =
     over_state c.args.until.now (running c.args.lab.now c.args.schedule) (running c.loop-events.lab c.loop-events.schedule) (running c.advance.new.lab c.advance.new.schedule) c.loop-events.events c.advance.new.end
     c.loop-events.invariant.at c.in-Err.ensures.over
-    ∙ ap (after_events (running c.args.lab.now c.args.schedule)) (sym c.events_at-events.ensures)
+    ∙ ap (run_after_events (running c.args.lab.now c.args.schedule)) (sym c.events_at-events.ensures)
 
 pub returns-in-Err-clause-made : goal.returns-in-Err-clause-made
 returns-in-Err-clause-made c =
-    subst (AreMade (running c.args.lab.now c.args.schedule)) (sym c.events_at-events.ensures)
+    subst (HasNextEvents (running c.args.lab.now c.args.schedule)) (sym c.events_at-events.ensures)
     (over_made c.args.until.now (running c.args.lab.now c.args.schedule) (running c.loop-events.lab c.loop-events.schedule) (running c.advance.new.lab c.advance.new.schedule) c.loop-events.events c.advance.new.end
     c.loop-events.invariant.at c.in-Err.ensures.over c.loop-events.invariant.made)
 
@@ -57,7 +57,7 @@ returns-in-Err-clause-most c = omega (arith, c.events_at-events.ensures, over_mo
 
 pub returns-in-Err-clause-end : goal.returns-in-Err-clause-end
 returns-in-Err-clause-end c =
-    subst (λ z. HasEnded (running c.args.lab.now c.args.schedule) c.args.most c.args.until.now z c.advance.new.end) (sym c.events_at-events.ensures)
+    subst (λ z. HasRunEnded (running c.args.lab.now c.args.schedule) c.args.most c.args.until.now z c.advance.new.end) (sym c.events_at-events.ensures)
     (over_end c.args.until.now (running c.args.lab.now c.args.schedule) (running c.loop-events.lab c.loop-events.schedule) (running c.advance.new.lab c.advance.new.schedule) c.args.most c.loop-events.events c.advance.new.end
     c.loop-events.invariant.at c.loop-events-test.true c.in-Err.ensures.over c.loop-events.invariant.never)
 

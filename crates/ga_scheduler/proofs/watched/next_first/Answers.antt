@@ -3,7 +3,7 @@ use Rattle.ga_grid.specs.declared.node_id.NodeId.{NodeId}
 use Rattle.ga_lab.specs.Machine.{chip_of}
 use Rattle.ga_races.specs.Orders.{has_event}
 use Rattle.ga_scheduler.specs.Running.{Running, running}
-use Rattle.ga_scheduler.specs.Watched.{chosen_first}
+use Rattle.ga_scheduler.specs.Watched.{precedence_node}
 use Rattle.ga_scheduler.proofs.Stepping.{choice_is, nothing_past}
 use Rattle.ga_scheduler.proofs.Events.{chosen_ready, chosen_other}
 use Rattle.ga_scheduler.proofs.watched.next_first.Goals as goal
@@ -17,7 +17,7 @@ returns-then-has-clause-chosen c =
     let node : NodeId = c.in-Some.node in
     let can : has_event (chip_of c.args.lab.now) node.number ≡ true =
     sym (c.requires.ready node.number (let l = node.in_range in omega arith)) ∙ sym c.has.ensures ∙ c.if-has.true in
-    sym (ap (λ (f : Option NodeId). chosen_first f r) c.in-Some.is ∙ chosen_ready node r can)
+    sym (ap (λ (f : Option NodeId). precedence_node f r) c.in-Some.is ∙ chosen_ready node r can)
 
 pub returns-else-has-clause-chosen : goal.returns-else-has-clause-chosen
 returns-else-has-clause-chosen c =
@@ -27,11 +27,11 @@ returns-else-has-clause-chosen c =
     sym (c.requires.ready node.number (let l = node.in_range in omega arith)) ∙ sym c.has.ensures ∙ c.if-has.false in
     c.next_from.ensures.chosen
     ∙ choice_is (chip_of c.args.lab.now) c.args.ready.now c.args.schedule.now c.requires.ready
-    ∙ sym (ap (λ (f : Option NodeId). chosen_first f r) c.in-Some.is ∙ chosen_other node r can)
+    ∙ sym (ap (λ (f : Option NodeId). precedence_node f r) c.in-Some.is ∙ chosen_other node r can)
 
 pub returns-in-None-clause-chosen : goal.returns-in-None-clause-chosen
 returns-in-None-clause-chosen c =
     let r : Running = running c.args.lab.now c.args.schedule.now in
     c.next_from-in-None.ensures.chosen
     ∙ choice_is (chip_of c.args.lab.now) c.args.ready.now c.args.schedule.now c.requires.ready
-    ∙ sym (ap (λ (f : Option NodeId). chosen_first f r) c.in-None.is)
+    ∙ sym (ap (λ (f : Option NodeId). precedence_node f r) c.in-None.is)

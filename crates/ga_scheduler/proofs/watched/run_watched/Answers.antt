@@ -2,7 +2,7 @@ use Rattle.std.proofs.Common.{◌≡◌, ◌∙◌, true, false, refl, ap, arith
 use Rattle.std.specs.Prelude.{is_some}
 use Rattle.ga_scheduler.specs.inner.{HoldsReady}
 use Rattle.ga_scheduler.specs.Running.{Running, running}
-use Rattle.ga_scheduler.specs.Watched.{watching, ends_behind}
+use Rattle.ga_scheduler.specs.Watched.{watching, watch_ends_after}
 use Rattle.ga_scheduler.proofs.Drawn.{nothing_known}
 use Rattle.ga_scheduler.proofs.Events.{gone_on_first, made_more_first, seen_more, ends_is, never_more_first, ended_seen, ended_halted_first}
 use Rattle.ga_scheduler.proofs.watched.run_watched.Goals as goal
@@ -14,7 +14,7 @@ loop-events-preserved g c =
     let start : Running = running c.args.lab.now c.args.schedule in
     let here : Running = running c.loop-events.lab c.loop-events.schedule in
     let next : Running = running c.go.new.lab c.go.new.schedule in
-    let unmet : ends_behind by c.args.watch.now start c.loop-events.events ≡ false =
+    let unmet : watch_ends_after by c.args.watch.now start c.loop-events.events ≡ false =
     ends_is by c.args.watch.now c.loop-events.watch start here next c.loop-events.events c.in-Ok.made c.sees.result i.watch i.at c.in-Ok.ensures.told c.in-Ok.ensures.moved c.sees.ensures.answer
     ∙ c.if-sees.false in
     record {
@@ -65,7 +65,7 @@ returns-then-sees-clause-end g c =
     let start : Running = running c.args.lab.now c.args.schedule in
     let here : Running = running c.loop-events.lab c.loop-events.schedule in
     let next : Running = running c.go.new.lab c.go.new.schedule in
-    let met : ends_behind by c.args.watch.now start c.loop-events.events ≡ true =
+    let met : watch_ends_after by c.args.watch.now start c.loop-events.events ≡ true =
     ends_is by c.args.watch.now c.loop-events.watch start here next c.loop-events.events c.in-Ok.made c.sees.result i.watch i.at c.in-Ok.ensures.told c.in-Ok.ensures.moved c.sees.ensures.answer
     ∙ c.if-sees.true in
     ended_seen by c.args.watch.now start here c.args.most c.loop-events.events c.in-Ok.made i.at i.never c.in-Ok.ensures.told met

@@ -1,7 +1,7 @@
 use Rattle.std.proofs.Common.{rules, refl, ◌≡◌, ◌<◌, ◌≤◌, length, slice_index_or, subst}
 use Rattle.std.specs.Prelude.{Err}
-use Rattle.ga_source.specs.declared.group.Group.{Group}
-use Rattle.ga_source.specs.Cells.{KeepsElsewhere}
+use Rattle.ga_source.specs.declared.group.CellGroup.{CellGroup}
+use Rattle.ga_source.specs.Cells.{KeepsOtherCells}
 use Rattle.ga_source.specs.inner.{takes_group, IsLoadedGroup}
 use Rattle.ga_source.proofs.CellGroups.{all_open, open_more, never_twice}
 use Rattle.ga_source.proofs.Held.{rest_both, elsewhere_more, loaded_more, all_read}
@@ -17,15 +17,15 @@ loop-group-preserved c =
     record {
       rest = rest_both c.args.node.now c.loop-group.node c.write_group.new.node c.loop-group.invariant.rest c.in_ok-write_group.ensures.rest;
       elsewhere = elsewhere_more c.args.node.now c.loop-group.node c.write_group.new.node groups i group l c.loop-group.invariant.elsewhere
-          (subst (λ (g : Group). KeepsElsewhere (λ cell. takes_group cell g) c.loop-group.node c.write_group.new.node) is_group c.in_ok-write_group.ensures.elsewhere);
+          (subst (λ (g : CellGroup). KeepsOtherCells (λ cell. takes_group cell g) c.loop-group.node c.write_group.new.node) is_group c.in_ok-write_group.ensures.elsewhere);
       loaded = loaded_more c.loop-group.node c.write_group.new.node c.loop-group.given c.write_group.new.given c.as_slice-labels.result.now groups i group l c.in_ok-write_group.ensures.kept c.loop-group.invariant.loaded
-          (subst (λ (g : Group). IsLoadedGroup c.write_group.new.node c.as_slice-labels.result.now c.write_group.new.given g) is_group c.in_ok-write_group.ensures.loaded);
+          (subst (λ (g : CellGroup). IsLoadedGroup c.write_group.new.node c.as_slice-labels.result.now c.write_group.new.given g) is_group c.in_ok-write_group.ensures.loaded);
       size = search rules;
       free = λ cells are free. open_more c.loop-group.given c.write_group.new.given cells groups i group are free l is_group c.in_ok-write_group.ensures.given (c.loop-group.invariant.free cells are free);
     }
 
-pub returns-clause-follows : goal.returns-clause-follows
-returns-clause-follows c =
+pub returns-clause-cells_match_requests : goal.returns-clause-cells_match_requests
+returns-clause-cells_match_requests c =
     let done : length c.args.packed.now.groups.items ≤ c.loop-group.group-index = search rules in
     c.requires.read c.loop-group.node
     (all_read c.loop-group.node c.args.packed.now.labels.items c.loop-group.given c.args.packed.now.groups.items c.loop-group.group-index done (search rules))

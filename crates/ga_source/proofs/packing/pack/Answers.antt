@@ -9,7 +9,7 @@ use Rattle.ga_source.proofs.Grouped.{grouped_none, grouped}
 use Rattle.ga_source.proofs.packing.pack.Goals as goal
 
 pub loop-one-init : goal.loop-one-init
-loop-one-init c = record { cell = record { slot = search rules; size = search rules }; walked = walked_none _ (search rules) (search rules) (search rules); grouped = grouped_none _ (search rules) (search rules) (search rules) refl; packed = λ plain. none_packed _ c.new-2.ensures refl c.begin_at.ensures c.new.ensures.items }
+loop-one-init c = record { cell = record { slot = search rules; size = search rules }; walked = walked_none _ (search rules) (search rules) (search rules); grouped = grouped_none _ (search rules) (search rules) (search rules) refl; packed = λ plain. none_packed _ c.new-2.ensures refl c.first_spot_of_cell.ensures c.new.ensures.items }
 
 pub loop-one-preserved : goal.loop-one-preserved
 loop-one-preserved c =

@@ -1,7 +1,7 @@
 use Rattle.std.proofs.Common.{rules, arith, ◌≡◌, ◌∙◌, sym, Some, ◌<◌, ◌++◌, ◌∷◌, [], false, length, slice_index_or, ap, subst}
 use Rattle.ga_grid.specs.declared.node_id.NodeId.{NodeId}
 use Rattle.std.specs.Prelude.{Err}
-use Rattle.ga_grid.specs.Grid.{number_where_any}
+use Rattle.ga_grid.specs.Grid.{optional_number}
 use Rattle.ga_parser.specs.declared.fault.SourceCause.TheVariants.{Memory}
 use Rattle.ga_source.specs.Programs.{HasProgram}
 use Rattle.ga_source.proofs.Loaded.{one_more_at}
@@ -26,20 +26,20 @@ pub returns-clause-read : goal.returns-clause-read
 returns-clause-read c = λ all first.
     one_more_read c.args.words.now c.split_at.result.1.now c.split_at-2.result.0.now _ c.in_ok-word.field-0.now c.in_ok-word-2.field-0.now c.body_length-count.result
     c.in_ok-program.program c.args.programs.now.items c.push.new.self.items all
-    (omega arith) c.in_ok-word.ensures.told (sym c.is_node.ensures ∙ c.if-not-is_node.false) c.in_ok-word-2.ensures.told
+    (omega arith) c.in_ok-word.ensures.told (sym c.is_node_keyword.ensures ∙ c.if-not-is_node_keyword.false) c.in_ok-word-2.ensures.told
     (sym c.in-Some.ensures ∙ ap (λ (id : NodeId). Some id.number) (sym c.in_ok-program.ensures.node)) (search rules) c.split_at.ensures.back c.split_at-2.ensures.front
     c.body_length-count.ensures.front c.body_length-count.ensures.behind c.in_ok-program.ensures.asks c.in_ok-program.ensures.names first
 
-pub returns-then-not-is_node-clause-refused : goal.returns-then-not-is_node-clause-refused
-returns-then-not-is_node-clause-refused c = λ sound.
-    absurd (not_node c.args.begun.now c.args.words.now _ c.in_ok-word.field-0.now c.requires.many c.in_ok-word.ensures.told (sym c.is_node.ensures ∙ c.if-not-is_node.true) sound)
+pub returns-then-not-is_node_keyword-clause-refused : goal.returns-then-not-is_node_keyword-clause-refused
+returns-then-not-is_node_keyword-clause-refused c = λ sound.
+    absurd (not_node c.args.begun.now c.args.words.now _ c.in_ok-word.field-0.now c.requires.many c.in_ok-word.ensures.told (sym c.is_node_keyword.ensures ∙ c.if-not-is_node_keyword.true) sound)
 
 pub returns-then-words-lt2-clause-refused : goal.returns-then-words-lt2-clause-refused
 returns-then-words-lt2-clause-refused c = λ sound. absurd (too_few c.args.begun.now c.args.words.now c.requires.many (omega arith) sound)
 
 pub returns-in_default-clause-refused : goal.returns-in_default-clause-refused
 returns-in_default-clause-refused c = λ sound.
-    absurd (no_such c.args.begun.now c.args.words.now _ c.in_ok-word-2.field-0.now c.requires.many c.in_ok-word-2.ensures.told (sym c.node_named.ensures ∙ ap number_where_any c.in_default.is) sound)
+    absurd (no_such c.args.begun.now c.args.words.now _ c.in_ok-word-2.field-0.now c.requires.many c.in_ok-word-2.ensures.told (sym c.node_named.ensures ∙ ap optional_number c.in_default.is) sound)
 
 pub returns-then-begun-index-clause-refused : goal.returns-then-begun-index-clause-refused
 returns-then-begun-index-clause-refused c = λ sound.
@@ -63,6 +63,6 @@ pub returns-clause-asked : goal.returns-clause-asked
 returns-clause-asked c = λ all first.
     one_more_asked c.args.words.now c.split_at.result.1.now c.split_at-2.result.0.now _ c.in_ok-word.field-0.now c.in_ok-word-2.field-0.now c.body_length-count.result
     c.in_ok-program.program c.args.programs.now.items c.push.new.self.items all
-    (omega arith) c.in_ok-word.ensures.told (sym c.is_node.ensures ∙ c.if-not-is_node.false) c.in_ok-word-2.ensures.told
+    (omega arith) c.in_ok-word.ensures.told (sym c.is_node_keyword.ensures ∙ c.if-not-is_node_keyword.false) c.in_ok-word-2.ensures.told
     (sym c.in-Some.ensures ∙ ap (λ (id : NodeId). Some id.number) (sym c.in_ok-program.ensures.node)) (search rules) c.split_at.ensures.back c.split_at-2.ensures.front
     c.body_length-count.ensures.said c.body_length-count.ensures.said_behind c.in_ok-program.ensures.asked first

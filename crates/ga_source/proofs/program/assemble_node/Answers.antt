@@ -1,10 +1,10 @@
 use Rattle.std.specs.Prelude.{Err}
 use Rattle.std.proofs.Common.{inl, inr, refl, rules, ◌≡◌, ◌∙◌, sym, ap, subst, List}
 use Rattle.ga_parser.specs.declared.item.LocatedRequest.{LocatedRequest}
-use Rattle.ga_parser.specs.declared.item.Request.{Request}
-use Rattle.ga_parser.specs.declared.item.Registers.{Registers}
+use Rattle.ga_parser.specs.declared.item.AssemblyRequest.{AssemblyRequest}
+use Rattle.ga_parser.specs.declared.item.InitialRegisters.{InitialRegisters}
 use Rattle.ga_parser.specs.Plain.{Plain, value_in}
-use Rattle.ga_source.specs.Made.{cells_from, AreDistinctCells}
+use Rattle.ga_source.specs.Made.{requested_cells, AreDistinctCells}
 use Rattle.ga_parser.specs.inner.Drafting.{texts_of}
 use Rattle.ga_source.specs.inner.{requests_of, ArePlain, AreNumbers}
 use Rattle.ga_source.proofs.CellGroups.{plain_words}
@@ -44,7 +44,7 @@ pub returns-in_err-set_registers-clause-refused : goal.returns-in_err-set_regist
 returns-in_err-set_registers-clause-refused c =
     let e : c.from_residual-in_err-set_registers.result ≡ Err c.in_err-set_registers.field-0.0 = search rules in
     rw e (λ plain kinds is free.
-    absurd (c.in_err-set_registers.ensures.refused (subst (λ (r : Registers). AreNumbers (value_in r.p) (value_in r.a) (value_in r.b)) (sym c.registers_of-registers.ensures)
+    absurd (c.in_err-set_registers.ensures.refused (subst (λ (r : InitialRegisters). AreNumbers (value_in r.p) (value_in r.a) (value_in r.b)) (sym c.registers_of-registers.ensures)
     (plain_registers (texts_of c.args.tokens.now) plain c.in_ok-asked.field-0.asked.items c.in_ok-asked.field-0.registers c.as_slice-2.result.now c.has_cells.result is (plain_told c.args.line c.args.tokens.now plain is c.in_ok-asked.field-0 c.in_ok-asked.ensures.asked).0
     (c.as_slice-2.ensures.value ∙ (plain_told c.args.line c.args.tokens.now plain is c.in_ok-asked.field-0 c.in_ok-asked.ensures.asked).1)))))
 
@@ -56,5 +56,5 @@ returns-in_err-load-clause-refused c =
     let same : plain.requests ≡ requests_of c.as_slice.result.now = ap (λ (p : Plain). p.requests) (sym asks) ∙ ap requests_of (sym c.as_slice.ensures.value) in
     let are : ArePlain (requests_of c.as_slice.result.now) = subst (λ (list : List LocatedRequest). ArePlain (requests_of list)) (sym c.as_slice.ensures.value)
     (plain_requests (texts_of c.args.tokens.now) plain c.in_ok-asked.field-0.asked.items c.in_ok-asked.field-0.registers is asks) in
-    absurd (c.in_err-load.ensures.refused (cells_from 0 (requests_of c.as_slice.result.now)) (c.in_ok-packed.ensures.cells are)
-    (plain_words 0 (requests_of c.as_slice.result.now) are) (subst (λ (list : List Request). AreDistinctCells (cells_from 0 list)) same free)))
+    absurd (c.in_err-load.ensures.refused (requested_cells 0 (requests_of c.as_slice.result.now)) (c.in_ok-packed.ensures.cells are)
+    (plain_words 0 (requests_of c.as_slice.result.now) are) (subst (λ (list : List AssemblyRequest). AreDistinctCells (requested_cells 0 list)) same free)))

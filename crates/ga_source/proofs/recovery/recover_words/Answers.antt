@@ -1,8 +1,8 @@
 use Rattle.std.proofs.Common.{rules, ◌≡◌, ◌∙◌, List, ap, subst}
 use Rattle.std.proofs.lemmas.List.Sorted.{IsNonDecreasingBy-from_sort_by_key}
-use Rattle.ga_parser.specs.declared.fault.Fault.{Fault}
+use Rattle.ga_parser.specs.declared.fault.SourceFault.{SourceFault}
 use Rattle.ga_parser.specs.Saying.{TokenContent, token_contents}
-use Rattle.ga_source.specs.Recovery.{with_numbers, no_node, AreFaultsOfNodes}
+use Rattle.ga_source.specs.Recovery.{with_numbers, no_nodes_begun, AreFaultsOfNodes}
 use Rattle.ga_source.proofs.Recovering.{all_found}
 use Rattle.ga_source.proofs.recovery.recover_words.Goals as goal
 
@@ -12,7 +12,7 @@ returns-clause-faults c =
     let is : token_contents c.as_slice-all.result.now ≡ token_contents (with_numbers 1 c.args.words.now) = ap token_contents (c.as_slice-all.ensures.value ∙ c.in_ok-numbered.ensures) in
     record {
       found = c.loop-start.faults.items;
-      nodes = subst (λ (l : List TokenContent). AreFaultsOfNodes no_node l c.loop-start.faults.items) is found;
+      nodes = subst (λ (l : List TokenContent). AreFaultsOfNodes no_nodes_begun l c.loop-start.faults.items) is found;
       same = c.sort_by_key.ensures.permutation;
-      order = IsNonDecreasingBy-from_sort_by_key (λ (fault : Fault). fault.line) _ c.in_ok-sort_by_key.ensures.sorted (λ a r q k. search rules);
+      order = IsNonDecreasingBy-from_sort_by_key (λ (fault : SourceFault). fault.line) _ c.in_ok-sort_by_key.ensures.sorted (λ a r q k. search rules);
     }

@@ -19,8 +19,8 @@ loop-asked-preserved c =
     ∙ (ap (λ (list : List LocatedRequest). c.loop-asked.stores.items ++ stores_from program (code_lines program) known (drop i list)) c.deref-asked-items.ensures.value
     ∙ c.loop-asked.invariant) in
     let after : c.add_store.new.stores.items ++ stores_from program code behind (drop (i + 1) items) ≡ stores_of_program program =
-    store_step program code known behind items i _ c.loop-asked.stores.items c.add_store.new.stores.items (stores_of_program program) c.store_of.result c.loop-asked-test.true
-    c.store_of.ensures c.in_ok-add_store.ensures c.behind-known.ensures before in
+    store_step program code known behind items i _ c.loop-asked.stores.items c.add_store.new.stores.items (stores_of_program program) c.code_store_of_request.result c.loop-asked-test.true
+    c.code_store_of_request.ensures c.in_ok-add_store.ensures c.behind-known.ensures before in
     ap (λ (list : List LocatedRequest). c.add_store.new.stores.items ++ stores_from program (code_lines program) behind (drop (i + 1) list)) (sym c.deref-asked-items.ensures.value)
     ∙ (ap (λ (lines : List ℕ). c.add_store.new.stores.items ++ stores_from program lines behind (drop (i + 1) items)) (sym c.code_lines-code.ensures.lines)
     ∙ after)

@@ -3,16 +3,16 @@ use Rattle.ga_text.proofs.Taking.{where_err}
 use Rattle.std.proofs.lemmas.Bool.{false≢true}
 use Rattle.ga_text.specs.Lines.{ended}
 use Rattle.ga_text.specs.inner.{TakesPart, with_feed}
-use Rattle.ga_text.specs.Input.{Unread}
+use Rattle.ga_text.specs.Input.{UnreadInput}
 use Rattle.ga_text.specs.Image.{end_line}
 use Rattle.ga_text.proofs.TextLemmas.{Body, body_more, body_line, line_range, no_end, over_piece, over_all, ended_piece}
 use Rattle.ga_text.proofs.image.read_image.Goals as goal
 
 -- what was taken, at a known value of the flag
-Taken : Unread → List ℕ → Unread → List ℕ → Bool → Type 0
+Taken : UnreadInput → List ℕ → UnreadInput → List ℕ → Bool → Type 0
 Taken old text new more fed = (part : List ℕ) × TakesPart old part new fed × (more ≡ text ++ with_feed part fed)
 
-took : (old : Unread) (text : List ℕ) (new : Unread) (more : List ℕ) (fed value : Bool) → fed ≡ value
+took : (old : UnreadInput) (text : List ℕ) (new : UnreadInput) (more : List ℕ) (fed value : Bool) → fed ≡ value
     → ((part : List ℕ) × TakesPart old part new fed × (more ≡ text ++ with_feed part fed))
     → ((part : List ℕ) × TakesPart old part new value × (more ≡ text ++ with_feed part value))
 unfolding Taken

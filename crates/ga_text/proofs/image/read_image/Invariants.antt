@@ -1,11 +1,11 @@
 use Rattle.std.proofs.Common.{◌≡◌, ℕ, ◌+◌, ◌-◌, ◌*◌, List, ◌++◌, length, Some}
-use Rattle.ga_text.specs.Input.{IsWithin}
+use Rattle.ga_text.specs.Input.{IsWithinInputLimit}
 use Rattle.ga_text.proofs.TextLemmas.{Body}
 use Rattle.ga_text.proofs.image.read_image.Given as goal
 
 abbrev pub invariant-parts : goal.invariant-parts
 invariant-parts g l = record {
-  within : IsWithin l.input;
+  within : IsWithinInputLimit l.input;
   body : Body l.text.items l.start;
   counts : l.input.taken ≡ l.fn.input.taken + length l.text.items;
   known : (left : List ℕ) → g.R.Read.remaining l.fn.reader ≡ Some left →

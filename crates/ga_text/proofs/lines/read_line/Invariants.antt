@@ -1,16 +1,16 @@
 use Rattle.std.proofs.Common.{◌≡◌, ℕ, ◌+◌, ◌-◌, ◌≤◌, List, ◌++◌, length, Some}
-use Rattle.ga_text.specs.Input.{IsWithin, IsLine}
+use Rattle.ga_text.specs.Input.{IsWithinInputLimit, IsBoundedLine}
 use Rattle.ga_text.specs.Output.{IsWritten}
 use Rattle.ga_text.proofs.lines.read_line.Given as goal
 
 -- what was taken so far holds no line feed
 abbrev pub invariant-parts : goal.invariant-parts
 invariant-parts g l = record {
-  within : IsWithin l.input;
+  within : IsWithinInputLimit l.input;
   goes_on : l.fn.input.taken ≤ l.input.taken;
   part : (left : List ℕ) → g.R.Read.remaining l.fn.reader ≡ Some left →
       (part : List ℕ) × (rest : List ℕ) × (g.R.Read.remaining l.reader ≡ Some rest)
-      × IsLine (l.fn.input.bytes ++ left) l.line.items part (l.input.bytes ++ rest)
+      × IsBoundedLine (l.fn.input.bytes ++ left) l.line.items part (l.input.bytes ++ rest)
       × (l.input.taken ≡ l.fn.input.taken + length part);
   same : l.writer.stream.ghost_name ≡ l.fn.writer.stream.ghost_name;
   said : (before said : List ℕ) → IsWritten (g.W.Write.contents l.fn.writer.stream.now) before said l.fn.writer.pending.items

@@ -1,6 +1,6 @@
 use Rattle.std.proofs.Common.{◌≡◌, ◌∙◌, ◌+◌, ◌++◌, ◌∷◌, ℕ, List, Some, ap, sym, drop, get_or}
 use Rattle.ga_source.specs.Recovery.{fault_at_line}
-use Rattle.ga_asm_text.specs.Source.{fault_before, listed_fault}
+use Rattle.ga_asm_text.specs.Source.{fault_line_text, listed_fault_text}
 use Rattle.ga_asm_text.specs.inner.{lines_of, lines_left}
 use Rattle.ga_asm_text.proofs.FaultListing.{tells_skipped, tells_one, left_repeated, left_listed}
 use Rattle.ga_asm_text.proofs.fault_lines.FaultLines.push_next.Goals as goal
@@ -17,7 +17,7 @@ returns-clause-told c =
     let l = c.args.self.now in
     let fault = c.fault_on_line-fault.result in
     let left = drop (l.told + 1) l.faults.items in
-    tells_one c.args.text.now.items c.push_listed.new.text.items (listed_fault l.lines fault) _ _
-    (c.in_ok-push_listed.ensures ∙ ap (λ (line : List ℕ). c.args.text.now.items ++ fault_before fault line) c.line.ensures.line)
+    tells_one c.args.text.now.items c.push_listed.new.text.items (listed_fault_text l.lines fault) _ _
+    (c.in_ok-push_listed.ensures ∙ ap (λ (line : List ℕ). c.args.text.now.items ++ fault_line_text fault line) c.line.ensures.line)
     (left_listed l.lines l.words.now l.last l.faults.items l.told c.index.result.now fault c.requires (c.fault_on_line-fault.ensures ∙ ap (fault_at_line l.words.now) c.index.ensures) (sym c.is_repeated.ensures ∙ c.if-is_repeated.false)
-    ∙ ap (λ (source : List ℕ). listed_fault l.lines fault ∷ lines_of source l.words.now (Some fault) left) (sym c.line.ensures.same))
+    ∙ ap (λ (source : List ℕ). listed_fault_text l.lines fault ∷ lines_of source l.words.now (Some fault) left) (sym c.line.ensures.same))

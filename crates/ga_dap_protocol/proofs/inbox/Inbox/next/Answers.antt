@@ -1,5 +1,5 @@
 use Rattle.std.proofs.Common.{Ok, ap, ◌∙◌, ◌++◌, sym, subst}
-use Rattle.ga_dap_protocol.specs.Framing.{BeginsOne}
+use Rattle.ga_dap_protocol.specs.Framing.{IsMessagePrefix}
 use Rattle.ga_dap_protocol.proofs.Wholes.{took, refused, closed}
 use Rattle.ga_dap_protocol.proofs.inbox.Inbox.next.Goals as goal
 
@@ -23,7 +23,7 @@ returns-in-Wrong-clause-next g c = λ left known.
     )
 
 pub ended-requires : goal.ended-requires
-ended-requires g c = subst BeginsOne (c.as_slice.ensures.value ∙ c.self.view_is ∙ sym (c.in_ok-fill-in-Part.ensures.same (ap Ok c.in-End.is))) c.in-Part.ensures
+ended-requires g c = subst IsMessagePrefix (c.as_slice.ensures.value ∙ c.self.view_is ∙ sym (c.in_ok-fill-in-Part.ensures.same (ap Ok c.in-End.is))) c.in-Part.ensures
 
 pub returns-in-End-clause-next : goal.returns-in-End-clause-next
 returns-in-End-clause-next g c = λ left known.

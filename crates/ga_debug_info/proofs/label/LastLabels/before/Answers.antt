@@ -1,5 +1,5 @@
 use Rattle.std.proofs.Common.{◌≡◌, ◌∙◌, ◌+◌, not, arith, ap}
-use Rattle.ga_debug_info.specs.Source.{nearest_found}
+use Rattle.ga_debug_info.specs.Source.{nearest_result}
 use Rattle.ga_debug_info.specs.inner.{label_at}
 use Rattle.ga_debug_info.proofs.Adding.{none_is, nearest_less, nearest_here, nearest_last, found_before}
 use Rattle.ga_debug_info.proofs.label.LastLabels.before.Goals as goal
@@ -18,7 +18,7 @@ returns c = λ program marked.
     let labels = c.args.self.now.labels in
     let first = c.from-first.result in
     let behind = c.loop-behind.behind in
-    let here : label_at labels (first + behind) ≡ nearest_found (label_at labels) first behind = elim c.loop-behind-test.branch [
+    let here : label_at labels (first + behind) ≡ nearest_result (label_at labels) first behind = elim c.loop-behind-test.branch [
       | then-loop-behind-test+else-is_none w ↦ nearest_here (label_at labels) first behind (w.is_none.ensures ∙ ap not w.if-is_none.false)
       | else-loop-behind-test w ↦ nearest_last (label_at labels) first behind w.loop-behind-test.false
     ] in

@@ -1,5 +1,5 @@
 use Rattle.std.proofs.Common.{◌≡◌, ◌≤◌, ◌*◌, ◌/◌, ◌%◌}
-use Rattle.ga_debug_info.specs.Source.{nearest_found}
+use Rattle.ga_debug_info.specs.Source.{nearest_result}
 use Rattle.ga_debug_info.specs.inner.{label_at}
 use Rattle.ga_debug_info.proofs.label.LastLabels.before.Given as goal
 
@@ -7,7 +7,7 @@ abbrev pub invariant-loop-behind : goal.invariant-loop-behind
 invariant-loop-behind l = record {
   first : l.first ≡ l.cell / 64 * 64;
   low : l.behind ≤ l.cell % 64;
-  same : nearest_found (label_at l.self.labels) l.first l.behind ≡ nearest_found (label_at l.self.labels) l.first (l.cell % 64);
+  same : nearest_result (label_at l.self.labels) l.first l.behind ≡ nearest_result (label_at l.self.labels) l.first (l.cell % 64);
 }
 
 abbrev pub decreases-loop-behind : goal.decreases-loop-behind

@@ -5,5 +5,5 @@ use Rattle.ga_event.proofs.flow.flows.own_flow.Goals as goal
 
 pub returns-clause-value : goal.returns-clause-value
 returns-clause-value c =
-    c.flow_where.ensures.value
-    ∙ own_found c.due_in-due.result c.choice_of.result (record_of c.args.node.now) c.args.part c.due_in-due.ensures c.choice_of.ensures.value
+    c.flow_by_choice.ensures.value
+    ∙ own_found c.next_action_in-due.result c.choice_of.result (record_of c.args.node.now) c.args.part c.next_action_in-due.ensures c.choice_of.ensures.value

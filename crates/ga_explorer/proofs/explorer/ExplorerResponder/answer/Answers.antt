@@ -1,6 +1,6 @@
 use Rattle.std.proofs.Common.{rules, subst}
-use Rattle.ga_console.specs.Session.{Turns}
-use Rattle.ga_explorer.specs.Answers.{Explores}
+use Rattle.ga_console.specs.Session.{AnswersOrQuits}
+use Rattle.ga_explorer.specs.Answers.{AnswersExplorerLine}
 use Rattle.ga_explorer.specs.Opening.{ExplorerState}
 use Rattle.ga_explorer.specs.inner.{explorer_state}
 use Rattle.ga_explorer.proofs.explorer.ExplorerResponder.answer.Goals as goal
@@ -12,7 +12,7 @@ returns g c = (
       let new = explorer_state c.answer_line.new.lab c.self.inside.notes in
       let done = c.answer_line.ensures.1 before said h in (
         done.0,
-        subst (λ (s : ExplorerState). Turns Explores s c.args.line.now new c.answer_line.result done.0) c.self.view_is done.1,
+        subst (λ (s : ExplorerState). AnswersOrQuits AnswersExplorerLine s c.args.line.now new c.answer_line.result done.0) c.self.view_is done.1,
         done.2,
       ),
 )

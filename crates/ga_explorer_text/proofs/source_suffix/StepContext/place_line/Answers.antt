@@ -1,7 +1,7 @@
 use Rattle.std.proofs.Common.{◌≤◌, ℕ, ◌-◌, ap, ◌∙◌, arith}
 use Rattle.std.specs.List.{slice_get}
 use Rattle.ga_node.specs.Record.{NodeRecord, record_of}
-use Rattle.ga_event.specs.Told.{steps_of}
+use Rattle.ga_event.specs.Told.{count_steps}
 use Rattle.ga_lab.specs.Machine.{history_of}
 use Rattle.ga_provenance.specs.Origins.{node_after}
 use Rattle.ga_provenance.proofs.Made.{then_of}
@@ -14,7 +14,7 @@ returns-in-Some c =
     let node = c.args.self.now.node in
     let near = c.args.self.now.near in
     let k : ℕ = c.step-step.result in
-    let within : near.step ≤ steps_of near.node.number near.machine.kept = omega (arith, c.step-step.ensures.value, c.step-step.ensures.within) in
+    let within : near.step ≤ count_steps near.node.number near.machine.kept = omega (arith, c.step-step.ensures.value, c.step-step.ensures.within) in
     let behind = then_of s node near (record_of c.node.result.now) c.args.self.now.stands within c.node.ensures in
     c.step_registers_line.ensures
     ∙ ap (λ o. step_registers_text node k o (record_of c.node.result.now)) c.in-Some.ensures

@@ -1,6 +1,6 @@
 use Rattle.std.proofs.Common.{rules, ◌++◌, refl, inl, inr}
 use Rattle.ga_text.proofs.WriteLemmas.{truncated_here, truncated_within}
-use Rattle.ga_explorer_text.specs.Trees.{more_text}
+use Rattle.ga_explorer_text.specs.Trees.{more_rows_text}
 use Rattle.ga_explorer_text.proofs.Saying.{joined_written, tree_told}
 use Rattle.ga_explorer_text.proofs.source_suffix.StepContext.say_asked.Goals as goal
 
@@ -10,7 +10,7 @@ returns-in_err-say_rows-in-Ok g c = (
   λ before said h.
       let done = c.in_err-say_rows-in-Ok.ensures.1 before said h in
       let listing = c.in-Ok.listing in
-      let last = more_text listing.is_whole in (
+      let last = more_rows_text listing.is_whole in (
         done.0 ++ last,
         inr (tree_told c.args.self.now.notes.now c.args.self.now.lab.now c.args.self.now.node c.args.self.now.near.step c.args.value listing.rows.items c.as_slice.result.now listing.is_whole done.0 last c.in-Ok.ensures.rows c.in-Ok.ensures.most c.in-Ok.ensures.cut
             c.as_slice.ensures.value done.1 refl),
@@ -34,4 +34,4 @@ returns-in_ok-say_rows-in-Ok g c = (
 )
 
 pub returns-in-Err : goal.returns-in-Err
-returns-in-Err g c = (search rules, λ before said h. (c.advised_text.result.now, inl c.advised_text.ensures.text, c.write_text.ensures.1 before said h))
+returns-in-Err g c = (search rules, λ before said h. (c.advised_refusal_text.result.now, inl c.advised_refusal_text.ensures.text, c.write_text.ensures.1 before said h))

@@ -1,6 +1,6 @@
 use Rattle.std.proofs.Common.{rules, ◌-◌, ℕ, List, ◌++◌, [], refl, sym, ap, ◌∙◌, arith}
 use Rattle.ga_lab.specs.Machine.{NodeAtStep, node_at_step}
-use Rattle.ga_provenance.specs.Deciding.{newest_decided}
+use Rattle.ga_provenance.specs.Deciding.{newest_decision}
 use Rattle.ga_text.proofs.WriteLemmas.{truncated_here, written_pending}
 use Rattle.ga_explorer_text.specs.Because.{decision_text, decisions_text}
 use Rattle.ga_explorer_text.proofs.Saying.{line_written, line_truncated, all_said}
@@ -31,7 +31,7 @@ returns-in_default g c = (
         refl,
         all_said _ before said whole _ _
             (none_left notes s node c.telling.left at (omega (arith, c.telling-test.true))
-            (sym c.in_default.is ∙ c.next.ensures.value ∙ ap (λ (w : NodeAtStep). newest_decided w.machine w.node at) c.telling.invariant.decisions))
+            (sym c.in_default.is ∙ c.next.ensures.value ∙ ap (λ (w : NodeAtStep). newest_decision w.machine w.node at) c.telling.invariant.decisions))
             (c.telling.invariant.said before said h),
       ),
 )
@@ -48,7 +48,7 @@ returns-in_err-say_decision g c = (
       let whole : List ℕ = decisions_text notes s node c.args.most c.args.decisions.now.step in
       let done = c.telling.invariant.said before said h in
       let more = next_decision notes s node c.telling.left (c.telling.left - 1) at c.next.new.self.step decision (omega (arith, c.telling-test.true)) refl
-      (c.in-Some.ensures.value ∙ ap (λ (w : NodeAtStep). newest_decided w.machine w.node at) c.telling.invariant.decisions) c.in-Some.ensures.step in (
+      (c.in-Some.ensures.value ∙ ap (λ (w : NodeAtStep). newest_decision w.machine w.node at) c.telling.invariant.decisions) c.in-Some.ensures.step in (
         whole,
         refl,
         truncated_here c.from_residual.result _ before (said ++ whole) _ c.from_residual.ensures.0
@@ -69,7 +69,7 @@ telling-preserved g c = record {
       let whole : List ℕ = decisions_text notes s node c.args.most c.args.decisions.now.step in
       let done = c.telling.invariant.said before said h in
       let more = next_decision notes s node c.telling.left (c.telling.left - 1) at c.next.new.self.step decision (omega (arith, c.telling-test.true)) refl
-      (c.in-Some.ensures.value ∙ ap (λ (w : NodeAtStep). newest_decided w.machine w.node at) c.telling.invariant.decisions) c.in-Some.ensures.step in
+      (c.in-Some.ensures.value ∙ ap (λ (w : NodeAtStep). newest_decision w.machine w.node at) c.telling.invariant.decisions) c.in-Some.ensures.step in
       line_written _ before said whole _ (decision_text notes s node decision) _ done.front _ more done.splits (c.in_ok-say_decision.ensures.1 before (said ++ done.front) done.is_said);
 }
 

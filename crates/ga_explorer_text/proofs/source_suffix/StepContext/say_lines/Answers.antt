@@ -8,8 +8,8 @@ use Rattle.ga_explorer_text.proofs.source_suffix.StepContext.say_lines.Goals as 
 pub rows-init : goal.rows-init
 rows-init g c = (search rules, λ before said h. record { front = []; splits = refl; is_said = written_pending _ before said _ h })
 
-pub returns-in_err-say_row : goal.returns-in_err-say_row
-returns-in_err-say_row g c = (
+pub returns-in_err-write_tree_row : goal.returns-in_err-write_tree_row
+returns-in_err-write_tree_row g c = (
   search rules,
   λ before said h.
       let rows = c.args.rows.now in
@@ -22,7 +22,7 @@ returns-in_err-say_row g c = (
         whole,
         refl,
         truncated_here c.from_residual.result _ before (said ++ whole) _ c.from_residual.ensures.0
-            (line_truncated _ before said whole _ text _ done.front more done.splits (c.in_err-say_row.ensures.1 before (said ++ done.front) done.is_said)),
+            (line_truncated _ before said whole _ text _ done.front more done.splits (c.in_err-write_tree_row.ensures.1 before (said ++ done.front) done.is_said)),
       ),
 )
 
@@ -37,7 +37,7 @@ rows-preserved g c = (
       let text = line c.row-item.result in
       let more = rest_lines line rows i c.row-item.result text (omega arith) (ap line c.row-item.is) in
       line_written _ before said (flat_map line rows) _ text _ done.front _ more done.splits
-      (c.in_ok-say_row.ensures.1 before (said ++ done.front) done.is_said),
+      (c.in_ok-write_tree_row.ensures.1 before (said ++ done.front) done.is_said),
 )
 
 pub returns : goal.returns

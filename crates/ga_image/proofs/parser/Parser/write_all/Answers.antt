@@ -1,5 +1,5 @@
 use Rattle.std.proofs.Common.{◌≡◌, ℕ, ◌-◌, false, length, sym, ◌∙◌, ap, get_or, arith}
-use Rattle.ga_image.specs.Fields.{goes_past, is_too_great}
+use Rattle.ga_image.specs.Fields.{exceeds_field, has_too_great_word}
 use Rattle.ga_image.specs.inner.{progress_of, stage_of}
 use Rattle.ga_image.specs.Reading.{node_of_stage}
 use Rattle.ga_image.proofs.LineCauses.{next_fits, next_greatest, repeats_here, repeated_field, repeats_later, written_later, next_codes}
@@ -8,8 +8,8 @@ use Rattle.ga_image.proofs.parser.Parser.write_all.Goals as goal
 pub returns-then-self-number-clause-fault : goal.returns-then-self-number-clause-fault
 returns-then-self-number-clause-fault c =
     let given = ap (λ (n : ℕ). get_or c.loop-word.self.given n false) (sym c.number-number.ensures.value) ∙ c.if-self-number.true in
-    let fits : goes_past c.args.field _ ≡ false = sym c.goes_past.ensures ∙ c.if-goes_past.false in
-    let small : is_too_great c.args.field c.args.words.now ≡ false = sym c.is_exceeded_by.ensures ∙ c.if-is_exceeded_by.false in
+    let fits : exceeds_field c.args.field _ ≡ false = sym c.exceeds_field.ensures ∙ c.if-exceeds_field.false in
+    let small : has_too_great_word c.args.field c.args.words.now ≡ false = sym c.is_exceeded_by.ensures ∙ c.if-is_exceeded_by.false in
     sym (repeated_field (progress_of c.args.self.now) c.args.field c.args.words.now fits small
     (sym c.loop-word.invariant.faults ∙ repeats_here c.loop-word.self.given c.loop-word.at c.args.words.now c.loop-word.word-index c.loop-word-test.true given))
 

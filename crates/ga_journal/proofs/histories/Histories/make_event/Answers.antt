@@ -1,10 +1,10 @@
 use Rattle.std.proofs.Common.{◌≡◌, Bool, true, false, None, refl, sym, ◌∙◌, ap}
 use Rattle.ga_node.specs.Table.{refusal}
 use Rattle.ga_grid.proofs.Chips.{record_at-records_of}
-use Rattle.ga_event.specs.Apply.{unmatched}
+use Rattle.ga_event.specs.Apply.{unmatched_unless}
 use Rattle.ga_journal.proofs.histories.Histories.make_event.Goals as goal
 
-matched : (b : Bool) → unmatched b ≡ None → b ≡ true
+matched : (b : Bool) → unmatched_unless b ≡ None → b ≡ true
 matched true e = refl
 matched false e = cc
 

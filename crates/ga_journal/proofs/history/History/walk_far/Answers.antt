@@ -2,13 +2,13 @@ use Rattle.std.proofs.Common.{◌≡◌, ℕ, ◌+◌, ◌-◌, ◌∙◌, Some,
 use Rattle.std.specs.Prelude.{slice_get}
 use Rattle.std.proofs.lemmas.List.{drop_all, take_all}
 use Rattle.ga_node.specs.Record.{NodeState}
-use Rattle.ga_node.specs.State.{restored, AreFit, IsApart}
+use Rattle.ga_node.specs.State.{with_restored_values, AreValuesInRange, HasAtMostOneStatus}
 use Rattle.ga_event.specs.Undo.{CanRestore}
 use Rattle.ga_journal.specs.declared.entry.Entry.{Entry}
 use Rattle.ga_journal.specs.Histories.{EntryRecord}
 use Rattle.ga_journal.specs.inner.Histories.{Held}
 use Rattle.ga_journal.specs.inner.Stored.{past_in}
-use Rattle.ga_journal.specs.Walked.{walked_back}
+use Rattle.ga_journal.specs.Walked.{node_before_entries}
 use Rattle.ga_journal.proofs.Storing.{slice_length, longer, left_before, read_last_left}
 use Rattle.ga_journal.proofs.Walks.{walked_one, can_one, can_later, walked_apart}
 use Rattle.ga_journal.proofs.history.History.walk_far.Goals.{After-into_iter-entry-iterator, In-Some, In-None}
@@ -29,13 +29,13 @@ found c =
     (sym (ap (λ (held : Held). held.items) c.self.view_is)) c.requires.order c.requires.within (slice_is (goal.at.In-Some c).After-into_iter-entry-iterator) c.loop-entry.invariant.rest c.in-Some.ensures.steps
 
 pub loop-entry-init : goal.loop-entry-init
-unfolding restored AreFit
+unfolding with_restored_values AreValuesInRange
 loop-entry-init c =
     let slice : List Entry = c.into_iter-entry-iterator.result.iter.rest.now in
     let some : length slice ≡ c.args.from - c.args.to = slice_length c.self.inside.passes.items c.self.inside.entries.items slice c.args.self.now.items c.args.from c.args.to (sym (ap (λ (held : Held). held.items) c.self.view_is)) c.requires.within (slice_is c) in
     record {
       rest = sym (take_all (length slice) slice (omega arith));
-      back = λ n. ap (restored n) c.new-gathered.ensures ∙ sym (ap (walked_back n) (drop_all (c.args.to + length slice) (take c.args.from c.args.self.now.items) (let long = length-take c.args.from c.args.self.now.items in omega (arith, long, some, c.requires.order))));
+      back = λ n. ap (with_restored_values n) c.new-gathered.ensures ∙ sym (ap (node_before_entries n) (drop_all (c.args.to + length slice) (take c.args.from c.args.self.now.items) (let long = length-take c.args.from c.args.self.now.items in omega (arith, long, some, c.requires.order))));
       fit = rw c.new-gathered.ensures tt;
     }
 
@@ -50,10 +50,10 @@ loop-entry-preserved c =
     let long : length left ≡ length rest + 1 = longer left rest c.in-Some.entry.now c.in-Some.ensures.steps in
     let one = found (goal.at.loop-entry-preserved c).In-Some in
     let next : c.args.to + length left ≡ at + 1 = omega (arith, long) in
-    let can : CanRestore (walked_back c.args.node.now (drop (at + 1) h)) e.saved = can_one c.args.node.now h at e one (can_later c.args.node.now h c.args.to at (omega arith) c.requires.can) in
+    let can : CanRestore (node_before_entries c.args.node.now (drop (at + 1) h)) e.saved = can_one c.args.node.now h at e one (can_later c.args.node.now h c.args.to at (omega arith) c.requires.can) in
     record {
       rest = left_before slice left rest c.in-Some.entry.now c.loop-entry.invariant.rest c.in-Some.ensures.steps;
-      back = λ n. c.add.ensures.back n ∙ ap (λ (z : NodeState). restored z e.saved) (c.loop-entry.invariant.back n ∙ ap (λ k. walked_back n (drop k h)) next) ∙ sym (walked_one n h at e one);
+      back = λ n. c.add.ensures.back n ∙ ap (λ (z : NodeState). with_restored_values z e.saved) (c.loop-entry.invariant.back n ∙ ap (λ k. node_before_entries n (drop k h)) next) ∙ sym (walked_one n h at e one);
       fit = c.add.ensures.fit c.loop-entry.invariant.fit can.fit;
     }
 
@@ -62,7 +62,7 @@ resume_status-requires-clause-apart c =
     let none = c.in-None.ensures.steps.0 in
     let h = take c.args.from c.args.self.now.items in
     let end : c.args.to + length c.loop-entry.entry-iterator.iter.rest.now ≡ c.args.to = omega (arith, none) in
-    subst IsApart (sym (c.write_back.ensures.back
-    ∙ ap (λ (n : NodeState). restored n c.loop-entry.gathered) c.suspend_status-aside.ensures.same
-    ∙ c.loop-entry.invariant.back c.args.node.now ∙ ap (λ k. walked_back c.args.node.now (drop k h)) end))
+    subst HasAtMostOneStatus (sym (c.write_back.ensures.back
+    ∙ ap (λ (n : NodeState). with_restored_values n c.loop-entry.gathered) c.suspend_status-aside.ensures.same
+    ∙ c.loop-entry.invariant.back c.args.node.now ∙ ap (λ k. node_before_entries c.args.node.now (drop k h)) end))
     (walked_apart c.args.node.now (drop c.args.to h) c.suspend_status-aside.ensures.apart c.requires.can)

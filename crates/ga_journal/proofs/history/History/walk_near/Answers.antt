@@ -2,13 +2,13 @@ use Rattle.std.proofs.Common.{◌≡◌, ℕ, ◌+◌, ◌-◌, ◌∙◌, Some,
 use Rattle.std.specs.Prelude.{slice_get}
 use Rattle.std.proofs.lemmas.List.{drop_all, take_all}
 use Rattle.ga_node.specs.Record.{NodeState}
-use Rattle.ga_node.specs.State.{restored, with_aside, IsApart}
+use Rattle.ga_node.specs.State.{with_restored_values, with_suspended_status, HasAtMostOneStatus}
 use Rattle.ga_event.specs.Undo.{CanRestore}
 use Rattle.ga_journal.specs.declared.entry.Entry.{Entry}
 use Rattle.ga_journal.specs.Histories.{EntryRecord}
 use Rattle.ga_journal.specs.inner.Histories.{Held}
 use Rattle.ga_journal.specs.inner.Stored.{past_in}
-use Rattle.ga_journal.specs.Walked.{walked_back}
+use Rattle.ga_journal.specs.Walked.{node_before_entries}
 use Rattle.ga_journal.proofs.Storing.{slice_length, longer, left_before, read_last_left}
 use Rattle.ga_journal.proofs.Walks.{walked_one, can_one, can_later, walked_apart}
 use Rattle.ga_journal.proofs.history.History.walk_near.Goals.{After-into_iter-entry-iterator, In-Some, In-None}
@@ -34,7 +34,7 @@ loop-entry-init c =
     let some : length slice ≡ c.args.from - c.args.to = slice_length c.self.inside.passes.items c.self.inside.entries.items slice c.args.self.now.items c.args.from c.args.to (sym (ap (λ (held : Held). held.items) c.self.view_is)) c.requires.within (slice_is c) in
     record {
       rest = sym (take_all (length slice) slice (omega arith));
-      back = c.suspend_status-aside.ensures.same ∙ sym (ap (walked_back c.args.node.now) (drop_all (c.args.to + length slice) (take c.args.from c.args.self.now.items) (let long = length-take c.args.from c.args.self.now.items in omega (arith, long, some, c.requires.order))));
+      back = c.suspend_status-aside.ensures.same ∙ sym (ap (node_before_entries c.args.node.now) (drop_all (c.args.to + length slice) (take c.args.from c.args.self.now.items) (let long = length-take c.args.from c.args.self.now.items in omega (arith, long, some, c.requires.order))));
       cleared = c.suspend_status-aside.ensures.cleared;
       in_range = c.suspend_status-aside.ensures.in_range;
     }
@@ -44,7 +44,7 @@ write_back-requires-clause-fit c =
     let h = take c.args.from c.args.self.now.items in
     let at : ℕ = c.args.to + length c.next.new.self.iter.rest.now in
     let e : EntryRecord = past_in c.self.inside.passes.items c.in-Some.entry.now in
-    let can : CanRestore (walked_back c.args.node.now (drop (at + 1) h)) e.saved = can_one c.args.node.now h at e (found (goal.at.write_back-requires-clause-fit c).In-Some) (can_later c.args.node.now h c.args.to at (omega arith) c.requires.can) in
+    let can : CanRestore (node_before_entries c.args.node.now (drop (at + 1) h)) e.saved = can_one c.args.node.now h at e (found (goal.at.write_back-requires-clause-fit c).In-Some) (can_later c.args.node.now h c.args.to at (omega arith) c.requires.can) in
     can.fit
 
 pub loop-entry-preserved : goal.loop-entry-preserved
@@ -56,27 +56,27 @@ loop-entry-preserved c =
     let at : ℕ = c.args.to + length rest in
     let e : EntryRecord = past_in c.self.inside.passes.items c.in-Some.entry.now in
     let long : length left ≡ length rest + 1 = longer left rest c.in-Some.entry.now c.in-Some.ensures.steps in
-    let here : with_aside c.loop-entry.node c.loop-entry.aside ≡ walked_back c.args.node.now (drop (at + 1) h) = c.loop-entry.invariant.back ∙ ap (λ k. walked_back c.args.node.now (drop k h)) (let q : c.args.to + length left ≡ at + 1 = omega (arith, long) in q) in
+    let here : with_suspended_status c.loop-entry.node c.loop-entry.aside ≡ node_before_entries c.args.node.now (drop (at + 1) h) = c.loop-entry.invariant.back ∙ ap (λ k. node_before_entries c.args.node.now (drop k h)) (let q : c.args.to + length left ≡ at + 1 = omega (arith, long) in q) in
     record {
       rest = left_before slice left rest c.in-Some.entry.now c.loop-entry.invariant.rest c.in-Some.ensures.steps;
       back =
           c.write_back.ensures.back
-          ∙ ap (λ (z : NodeState). restored z e.saved) here
+          ∙ ap (λ (z : NodeState). with_restored_values z e.saved) here
           ∙ sym (walked_one c.args.node.now h at e (found (goal.at.loop-entry-preserved c).In-Some));
       cleared = c.write_back.ensures.cleared;
       in_range = c.write_back.ensures.in_range;
     }
 
 -- the walk has come down to its end
-at_end : (c : In-None) → with_aside c.loop-entry.node c.loop-entry.aside ≡ walked_back c.args.node.now (drop c.args.to (take c.args.from c.args.self.now.items))
+at_end : (c : In-None) → with_suspended_status c.loop-entry.node c.loop-entry.aside ≡ node_before_entries c.args.node.now (drop c.args.to (take c.args.from c.args.self.now.items))
 at_end c =
     let none = c.in-None.ensures.steps.0 in
     c.loop-entry.invariant.back
-    ∙ ap (λ k. walked_back c.args.node.now (drop k (take c.args.from c.args.self.now.items))) (let q : c.args.to + length c.loop-entry.entry-iterator.iter.rest.now ≡ c.args.to = omega (arith, none) in q)
+    ∙ ap (λ k. node_before_entries c.args.node.now (drop k (take c.args.from c.args.self.now.items))) (let q : c.args.to + length c.loop-entry.entry-iterator.iter.rest.now ≡ c.args.to = omega (arith, none) in q)
 
 pub resume_status-requires-clause-apart : goal.resume_status-requires-clause-apart
 resume_status-requires-clause-apart c =
-    subst IsApart (sym (at_end (goal.at.resume_status-requires-clause-apart c).In-None))
+    subst HasAtMostOneStatus (sym (at_end (goal.at.resume_status-requires-clause-apart c).In-None))
     (walked_apart c.args.node.now (drop c.args.to (take c.args.from c.args.self.now.items)) c.suspend_status-aside.ensures.apart c.requires.can)
 
 pub returns : goal.returns

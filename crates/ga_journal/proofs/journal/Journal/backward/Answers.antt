@@ -1,7 +1,7 @@
 use Rattle.std.proofs.Common.{◌≡◌, ◌∙◌, length, sym, ap, subst}
 use Rattle.ga_journal.specs.Histories.{JournalState}
 use Rattle.ga_journal.specs.inner.Histories.{lists_of, Keeps}
-use Rattle.ga_journal.specs.Events.{kept_of}
+use Rattle.ga_journal.specs.Events.{kept_outcomes}
 use Rattle.ga_journal.proofs.Keeping.{fits}
 use Rattle.ga_journal.proofs.Down.{none_told}
 use Rattle.ga_journal.proofs.journal.Journal.backward.Goals as goal
@@ -13,7 +13,7 @@ pub invariant_of-result : goal.invariant_of-result
 invariant_of-result c =
     let vecs = c.self.inside.histories in
     let is : lists_of vecs ≡ c.args.self.now.histories = ap (λ (b : JournalState). b.histories) c.self.view_is in
-    let many : c.self.inside.kept ≡ length (kept_of c.args.self.now) = c.self.invariant.keeps.count ∙ ap (λ (b : JournalState). length (kept_of b)) c.self.view_is in
+    let many : c.self.inside.kept ≡ length (kept_outcomes c.args.self.now) = c.self.invariant.keeps.count ∙ ap (λ (b : JournalState). length (kept_outcomes b)) c.self.view_is in
     none_told vecs c.lengths_of.result c.self.inside.top c.self.inside.kept c.args.self.now (sym is) many
     (subst (λ (b : JournalState). Keeps vecs c.self.inside.top b.made c.self.inside.kept b.limit) c.self.view_is c.self.invariant.keeps) c.requires
     c.lengths_of.ensures.nodes c.lengths_of.ensures.all c.lengths_of.ensures.lengths

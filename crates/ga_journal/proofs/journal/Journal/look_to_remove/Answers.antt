@@ -1,7 +1,7 @@
 use Rattle.std.proofs.Common.{◌∙◌, length, refl, ap, subst}
 use Rattle.ga_journal.specs.Histories.{JournalState, history}
 use Rattle.ga_journal.specs.inner.Histories.{lists_of, room_of}
-use Rattle.ga_journal.specs.Marks.{mark_of, ticked_in_vain}
+use Rattle.ga_journal.specs.Marks.{mark_of, failed_search_counted}
 use Rattle.ga_journal.specs.Looks.{HasLook, HasNoLook, HasNoLookAfter, Never, Once}
 use Rattle.ga_journal.proofs.Looking.{none_after}
 use Rattle.ga_journal.proofs.journal.Journal.look_to_remove.Goals as goal
@@ -24,5 +24,5 @@ returns-in-None-clause-none c =
       subst (λ (b : JournalState). HasNoLookAfter (history b.histories looker) (mark_of now looker) (history b.histories node) (mark_of now node)) c.self.view_is
           (subst (λ z. HasNoLookAfter (history hs looker) z (history hs node) (mark_of now node)) c.mark_of-stay.ensures.value
           (subst (λ z. HasNoLookAfter (history hs looker) c.mark_of-stay.result (history hs node) z) c.mark_of-gone.ensures.value c.in-None.ensures.none)),
-      Once some (ap (λ z. let b : JournalState = record { histories = hs; limit = c.self.inside.limit; made = c.self.inside.made; ready = room_of c.self.inside.histories; going = c.self.inside.going; waiting = c.self.inside.waiting; ticks = z } in b) c.raise_in_vain.ensures ∙ ap ticked_in_vain c.self.view_is),
+      Once some (ap (λ z. let b : JournalState = record { histories = hs; limit = c.self.inside.limit; made = c.self.inside.made; ready = room_of c.self.inside.histories; going = c.self.inside.going; waiting = c.self.inside.waiting; ticks = z } in b) c.raise_in_vain.ensures ∙ ap failed_search_counted c.self.view_is),
     )

@@ -2,8 +2,8 @@ use Rattle.std.proofs.Common.{◌≡◌, ◌<◌, ◌∙◌, length, sym, subst,
 use Rattle.std.proofs.lemmas.List.{length-map}
 use Rattle.ga_journal.specs.Histories.{JournalState}
 use Rattle.ga_journal.specs.inner.Histories.{lists_of, pasts_of}
-use Rattle.ga_journal.specs.Logs.{IsWhole}
-use Rattle.ga_journal.specs.Events.{kept_of}
+use Rattle.ga_journal.specs.Logs.{AreConsistentHistories}
+use Rattle.ga_journal.specs.Events.{kept_outcomes}
 use Rattle.ga_journal.proofs.Keeping.{count_within, append_keeps, whole_more, back_more}
 use Rattle.ga_journal.proofs.Marking.{append_within, append_matched}
 use Rattle.ga_journal.proofs.Logs.{is_made}
@@ -11,15 +11,15 @@ use Rattle.ga_journal.proofs.journal.Journal.make.Goals as goal
 
 pub make_event-made-requires-clause-fits : goal.make_event-made-requires-clause-fits
 make_event-made-requires-clause-fits c n =
-    let room : length (kept_of c.args.self.now) < c.args.self.now.limit = c.requires.ready.unfilled in
-    let unfilled = subst (λ (b : JournalState). length (kept_of b) < b.limit) (sym c.self.view_is) room in
+    let room : length (kept_outcomes c.args.self.now) < c.args.self.now.limit = c.requires.ready.unfilled in
+    let unfilled = subst (λ (b : JournalState). length (kept_outcomes b) < b.limit) (sym c.self.view_is) room in
     let q = count_within (lists_of c.self.inside.histories) c.self.inside.top c.self.inside.made n c.self.invariant.keeps.rise c.self.invariant.keeps.below in
     omega (arith, q, unfilled, c.self.invariant.keeps.fits)
 
 pub invariant_of-self : goal.invariant_of-self
 invariant_of-self c =
-    let room : length (kept_of c.args.self.now) < c.args.self.now.limit = c.requires.ready.unfilled in
-    let unfilled = subst (λ (b : JournalState). length (kept_of b) < b.limit) (sym c.self.view_is) room in
+    let room : length (kept_outcomes c.args.self.now) < c.args.self.now.limit = c.requires.ready.unfilled in
+    let unfilled = subst (λ (b : JournalState). length (kept_outcomes b) < b.limit) (sym c.self.view_is) room in
     let size : length (lists_of c.self.inside.histories) ≡ 144 = length-map c.self.inside.histories pasts_of ∙ c.self.invariant.keeps.size in
     let added = c.make_event-made.ensures.added in
     record {
@@ -29,7 +29,7 @@ invariant_of-self c =
       going_size = c.self.invariant.going_size;
       waiting_size = c.self.invariant.waiting_size;
       matched = append_matched (lists_of c.self.inside.histories) (lists_of c.make_event-made.new.self) c.self.inside.made c.args.event added.effect
-          (subst (λ (b : JournalState). IsWhole b.histories b.made) (sym c.self.view_is) c.requires.whole) added.histories added.applied.of_kind;
+          (subst (λ (b : JournalState). AreConsistentHistories b.histories b.made) (sym c.self.view_is) c.requires.whole) added.histories added.applied.of_kind;
     }
 
 pub returns-clause-made : goal.returns-clause-made
@@ -39,10 +39,10 @@ pub returns-clause-whole : goal.returns-clause-whole
 returns-clause-whole c =
     let added = c.make_event-made.ensures.added in
     whole_more (lists_of c.self.inside.histories) (lists_of c.make_event-made.new.self) c.self.inside.made c.args.event added.effect
-    (subst (λ (b : JournalState). IsWhole b.histories b.made) (sym c.self.view_is) c.requires.whole) added.applied.of_kind added.histories
+    (subst (λ (b : JournalState). AreConsistentHistories b.histories b.made) (sym c.self.view_is) c.requires.whole) added.applied.of_kind added.histories
 
 pub returns-clause-back : goal.returns-clause-back
 returns-clause-back c =
     let added = c.make_event-made.ensures.added in
     back_more (lists_of c.self.inside.histories) (lists_of c.make_event-made.new.self) c.make_event-made.new.chip c.self.inside.made c.args.event added.effect
-    (subst (λ (b : JournalState). IsWhole b.histories b.made) (sym c.self.view_is) c.requires.whole) added.applied.of_kind added.histories added.applied.ready
+    (subst (λ (b : JournalState). AreConsistentHistories b.histories b.made) (sym c.self.view_is) c.requires.whole) added.applied.of_kind added.histories added.applied.ready

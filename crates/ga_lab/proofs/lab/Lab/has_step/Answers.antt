@@ -7,8 +7,8 @@ use Rattle.ga_lab.proofs.lab.Lab.has_step.Goals as goal
 
 pub returns-then-step-ge1-clause-value : goal.returns-then-step-ge1-clause-value
 returns-then-step-ge1-clause-value c =
-    stands_read c.self.inside.chip c.self.inside.chronicle.journal c.args.step.0.number c.args.step.1 c.steps_of.result c.if-step-ge1.true
-    (c.steps_of.ensures.steps (whole_of c.self.inside.chip c.self.inside.chronicle.journal c.self.invariant.tied))
+    stands_read c.self.inside.chip c.self.inside.chronicle.journal c.args.step.0.number c.args.step.1 c.count_steps.result c.if-step-ge1.true
+    (c.count_steps.ensures.steps (whole_of c.self.inside.chip c.self.inside.chronicle.journal c.self.invariant.tied))
     ∙ ap (λ (s : State). has_step s c.args.step.0.number c.args.step.1) c.self.view_is
 
 pub returns-then-step-ge1-clause-caused : goal.returns-then-step-ge1-clause-caused

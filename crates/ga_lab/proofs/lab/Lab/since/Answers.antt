@@ -1,5 +1,5 @@
 use Rattle.std.proofs.Common.{sym, ◌∙◌, ap, subst}
-use Rattle.ga_journal.specs.Logs.{IsSince}
+use Rattle.ga_journal.specs.Logs.{AreEventsSince}
 use Rattle.ga_lab.specs.Machine.{State, has_step, causes_of}
 use Rattle.ga_lab.proofs.Explaining.{stands_counted, stands_kept}
 use Rattle.ga_lab.proofs.Replays.{causes_tied}
@@ -15,5 +15,5 @@ causes_since-requires-clause-stands c =
 
 pub returns-in-Ok-clause-ok : goal.returns-in-Ok-clause-ok
 returns-in-Ok-clause-ok c =
-    subst (λ z. IsSince z c.args.from.0.number c.args.from.1 c.args.other.number c.in-Ok.since.causes.items c.in-Ok.since.before c.in-Ok.since.steps)
+    subst (λ z. AreEventsSince z c.args.from.0.number c.args.from.1 c.args.other.number c.in-Ok.since.causes.items c.in-Ok.since.before c.in-Ok.since.steps)
     (sym (causes_tied c.self.inside.chip c.self.inside.chronicle.journal c.self.invariant.tied) ∙ ap causes_of c.self.view_is) c.in-Ok.ensures.ok

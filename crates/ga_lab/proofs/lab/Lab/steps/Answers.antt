@@ -1,5 +1,5 @@
 use Rattle.std.proofs.Common.{◌≡◌, length, sym, ◌∙◌, ap}
-use Rattle.ga_event.specs.Told.{steps_of, mades_of}
+use Rattle.ga_event.specs.Told.{count_steps, made_events_of}
 use Rattle.ga_journal.specs.Histories.{history}
 use Rattle.ga_journal.proofs.Telling.{mades_log, entries_long}
 use Rattle.ga_lab.specs.Machine.{State, history_of}
@@ -10,15 +10,15 @@ use Rattle.ga_lab.proofs.lab.Lab.steps.Goals as goal
 
 pub returns-clause-steps : goal.returns-clause-steps
 returns-clause-steps c =
-    let many : c.steps_of.result ≡ steps_of c.args.node.number (state_of c.self.inside.chip c.self.inside.chronicle.journal).kept =
-    c.steps_of.ensures.steps (whole_of c.self.inside.chip c.self.inside.chronicle.journal c.self.invariant.tied) ∙ kept_steps c.self.inside.chip c.self.inside.chronicle.journal c.args.node.number in
-    many ∙ ap (λ (s : State). steps_of c.args.node.number s.kept) c.self.view_is
+    let many : c.count_steps.result ≡ count_steps c.args.node.number (state_of c.self.inside.chip c.self.inside.chronicle.journal).kept =
+    c.count_steps.ensures.steps (whole_of c.self.inside.chip c.self.inside.chronicle.journal c.self.invariant.tied) ∙ kept_steps c.self.inside.chip c.self.inside.chronicle.journal c.args.node.number in
+    many ∙ ap (λ (s : State). count_steps c.args.node.number s.kept) c.self.view_is
 
 pub returns-clause-told : goal.returns-clause-told
 returns-clause-told c =
     let chip = c.self.inside.chip in
     let book = c.self.inside.chronicle.journal in
-    c.steps_of.ensures.value
+    c.count_steps.ensures.value
     ∙ sym (entries_long c.args.node 0 (history book.histories c.args.node.number))
-    ∙ ap length (mades_log book c.args.node (whole_of chip book c.self.invariant.tied) ∙ ap (λ z. mades_of z c.args.node.number) (sym (told_tied chip book c.self.invariant.tied)))
+    ∙ ap length (mades_log book c.args.node (whole_of chip book c.self.invariant.tied) ∙ ap (λ z. made_events_of z c.args.node.number) (sym (told_tied chip book c.self.invariant.tied)))
     ∙ ap (λ (s : State). length (history_of s c.args.node.number)) c.self.view_is

@@ -1,6 +1,6 @@
 use Rattle.std.proofs.Common.{◌≡◌, ℕ, ◌-◌, ◌+◌, ◌≤◌, ◌∙◌, ap, sym, length, arith}
 use Rattle.ga_node.specs.Record.{NodeState}
-use Rattle.ga_node.specs.State.{restored, with_value}
+use Rattle.ga_node.specs.State.{with_restored_values, with_value}
 use Rattle.ga_node.specs.inner.Packed.{unpacked}
 use Rattle.ga_node.proofs.Restoring.{restored_past, restored_one, fit_at}
 use Rattle.ga_node.proofs.gathered.OverwrittenValues.add.Goals as goal
@@ -9,7 +9,7 @@ pub loop-k-init : goal.loop-k-init
 loop-k-init c =
     let past : length c.args.saved.now ≤ c.len-count.result - 0 = omega (arith, c.len-count.ensures.value) in
     record {
-      back = λ node. sym (restored_past (restored node c.args.self.now) c.args.saved.now (c.len-count.result - 0) past);
+      back = λ node. sym (restored_past (with_restored_values node c.args.self.now) c.args.saved.now (c.len-count.result - 0) past);
       fit = λ fit more. fit;
     }
 
@@ -22,6 +22,6 @@ loop-k-preserved c =
     record {
       back = λ (node : NodeState). rw here (c.put.ensures.back node
           ∙ ap (λ (m : NodeState). with_value m (unpacked c.word.result).0 (unpacked c.word.result).1) (rw after at (c.loop-k.invariant.back node))
-          ∙ sym (restored_one (restored node c.args.self.now) saved i (unpacked c.word.result) c.word.ensures.pair));
+          ∙ sym (restored_one (with_restored_values node c.args.self.now) saved i (unpacked c.word.result) c.word.ensures.pair));
       fit = λ fit more. c.put.ensures.fit (c.loop-k.invariant.fit fit more) (fit_at saved i (unpacked c.word.result) more c.word.ensures.pair);
     }

@@ -1,5 +1,5 @@
 use Rattle.std.proofs.Common.{◌∙◌, ◌/◌, ◌+◌, ap, sym, subst, length-set, slice_set, arith}
-use Rattle.ga_node.specs.State.{with_value, restored, AreFit}
+use Rattle.ga_node.specs.State.{with_value, with_restored_values, AreValuesInRange}
 use Rattle.ga_node.specs.inner.Packed.{unpacked, pairs_of, AreAt}
 use Rattle.ga_node.proofs.Restoring.{put_last, at_put, fit_put}
 use Rattle.ga_node.proofs.gathered.OverwrittenValues.put.Goals as goal
@@ -14,11 +14,11 @@ pub returns-clause-back : goal.returns-clause-back
 returns-clause-back c node =
     let small = c.requires.0 in
     let long = c.self.invariant.0 in
-    ap (λ w. restored node (pairs_of (slice_set c.self.inside.words (c.args.word / 16777216) w))) (omega arith)
+    ap (λ w. with_restored_values node (pairs_of (slice_set c.self.inside.words (c.args.word / 16777216) w))) (omega arith)
     ∙ put_last node 0 (c.args.word / 16777216) c.args.word c.self.inside.words c.self.invariant.1 c.requires (omega arith) (omega (arith, small, long))
-    ∙ ap (λ pairs. with_value (restored node pairs) (unpacked c.args.word).0 (unpacked c.args.word).1) c.self.view_is
+    ∙ ap (λ pairs. with_value (with_restored_values node pairs) (unpacked c.args.word).0 (unpacked c.args.word).1) c.self.view_is
 
 pub returns-clause-fit : goal.returns-clause-fit
 returns-clause-fit c fit here =
-    subst (λ w. AreFit (pairs_of (slice_set c.self.inside.words (c.args.word / 16777216) w))) (omega arith)
-    (fit_put (c.args.word / 16777216) c.args.word c.self.inside.words (subst AreFit (sym c.self.view_is) fit) here)
+    subst (λ w. AreValuesInRange (pairs_of (slice_set c.self.inside.words (c.args.word / 16777216) w))) (omega arith)
+    (fit_put (c.args.word / 16777216) c.args.word c.self.inside.words (subst AreValuesInRange (sym c.self.view_is) fit) here)

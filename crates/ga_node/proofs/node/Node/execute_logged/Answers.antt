@@ -1,8 +1,8 @@
 use Rattle.std.proofs.Common.{◌∙◌, sym}
 use Rattle.ga_node.specs.Record.{record_of}
-use Rattle.ga_node.specs.Table.{fetched, effect}
+use Rattle.ga_node.specs.Table.{fetch_result, effect}
 use Rattle.ga_node.specs.declared.due.NextAction.TheVariants as due
-use Rattle.ga_node.specs.declared.kind.Kind.TheVariants as kind
+use Rattle.ga_node.specs.declared.kind.OwnEventKind.TheVariants as kind
 use Rattle.ga_node.proofs.Saving.{own_done, is_named, event_is, event_saves}
 use Rattle.ga_node.proofs.node.Node.execute_logged.Goals as goal
 
@@ -10,12 +10,12 @@ use Rattle.ga_node.proofs.node.Node.execute_logged.Goals as goal
 pub returns-in-Fetch-clause-event : goal.returns-in-Fetch-clause-event
 returns-in-Fetch-clause-event c =
     let is = own_done due.Fetch c.args.seen (record_of c.args.self.now) (sym c.in-Fetch.is ∙ c.requires.due) in
-    event_is _ _ _ _ _ _ is (rw (← c.named.ensures) at (is_named kind.Fetch (fetched c.args.seen (record_of c.args.self.now)) c.fetch-done.result _ _ _ c.fetch-done.ensures.done c.fetch-done.ensures.ended))
+    event_is _ _ _ _ _ _ is (rw (← c.named.ensures) at (is_named kind.Fetch (fetch_result c.args.seen (record_of c.args.self.now)) c.fetch-done.result _ _ _ c.fetch-done.ensures.done c.fetch-done.ensures.ended))
 
 pub returns-in-Fetch-clause-saves : goal.returns-in-Fetch-clause-saves
 returns-in-Fetch-clause-saves c =
     let is = own_done due.Fetch c.args.seen (record_of c.args.self.now) (sym c.in-Fetch.is ∙ c.requires.due) in
-    event_saves _ _ _ _ _ _ is (is_named kind.Fetch (fetched c.args.seen (record_of c.args.self.now)) c.fetch-done.result _ _ _ c.fetch-done.ensures.done c.fetch-done.ensures.ended)
+    event_saves _ _ _ _ _ _ is (is_named kind.Fetch (fetch_result c.args.seen (record_of c.args.self.now)) c.fetch-done.result _ _ _ c.fetch-done.ensures.done c.fetch-done.ensures.ended)
 
 pub returns-in-Run-clause-event : goal.returns-in-Run-clause-event
 returns-in-Run-clause-event c =

@@ -7,4 +7,4 @@ use Rattle.ga_node.proofs.node.Node.pop_data.Goals as goal
 
 pub returns-clause-saves : goal.returns-clause-saves
 returns-clause-saves c =
-    saves_data _ _ _ _ _ (λ (ring : Ring). Pointer ∷ Second ∷ Top ∷ []) _ _ c.save_data.ensures (ap (λ (n : NodeState). n.data_stack) c.self.view_is) c.pop.ensures.overwritten refl (rw c.pop.ensures.undone c.self.view_is) c.pop.ensures.fit
+    saves_data _ _ _ _ _ (λ (ring : Ring). Pointer ∷ Second ∷ Top ∷ []) _ _ c.save_data.ensures (ap (λ (n : NodeState). n.data_stack) c.self.view_is) c.pop.ensures.overwritten refl (rw c.pop.ensures.state_after_undo c.self.view_is) c.pop.ensures.fit

@@ -7,4 +7,4 @@ use Rattle.ga_node.proofs.node.Node.push_return.Goals as goal
 
 pub returns-clause-saves : goal.returns-clause-saves
 returns-clause-saves c =
-    saves_return _ _ _ _ _ (λ (ring : Ring). Pointer ∷ Cell ((ring.pointer + 7) % 8) ∷ Top ∷ []) _ _ c.save_return.ensures (ap (λ (n : NodeState). n.return_stack) c.self.view_is) c.push.ensures.overwritten refl (rw c.push.ensures.undone c.self.view_is) c.push.ensures.fit
+    saves_return _ _ _ _ _ (λ (ring : Ring). Pointer ∷ Cell ((ring.pointer + 7) % 8) ∷ Top ∷ []) _ _ c.save_return.ensures (ap (λ (n : NodeState). n.return_stack) c.self.view_is) c.push.ensures.overwritten refl (rw c.push.ensures.state_after_undo c.self.view_is) c.push.ensures.fit

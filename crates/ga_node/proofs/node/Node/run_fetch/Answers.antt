@@ -3,7 +3,7 @@ use Rattle.ga_node.specs.Record.{record_of}
 use Rattle.ga_node.specs.Table.{effect}
 use Rattle.ga_node.specs.inner.Saving.{IsEnded}
 use Rattle.ga_slots.specs.declared.op.Op.TheVariants.{Fetch}
-use Rattle.ga_node.specs.State.{restored}
+use Rattle.ga_node.specs.State.{with_restored_values}
 use Rattle.ga_node.proofs.Saving.{made, saves_then, saves_from, ended_followed, done_followed}
 use Rattle.ga_node.proofs.node.Node.run_fetch.Goals as goal
 
@@ -14,7 +14,7 @@ returns-in_err-word-clause-ended c =
     search (rules, ended)
 
 pub returns-clause-done : goal.returns-clause-done
-unfolding restored
+unfolding with_restored_values
 returns-clause-done c =
     done_followed _ _ _ _ _ _ (rw (c.get.ensures.value, c.a-a.ensures) at c.in_ok-word.ensures.word)
     (made c.in_ok-word.ensures.unsaved (saves_then (saves_from c.in_ok-word.ensures.same c.push_data.ensures.saves) c.go_on.ensures.saves (λ n m. refl)) refl (search rules)

@@ -3,7 +3,7 @@ use Rattle.ga_node.specs.Record.{record_of}
 use Rattle.ga_node.specs.Table.{opcode_effect}
 use Rattle.ga_node.specs.inner.Saving.{IsEndedBy}
 use Rattle.ga_slots.specs.declared.op.Op.TheVariants.{StorePlus}
-use Rattle.ga_node.specs.State.{restored}
+use Rattle.ga_node.specs.State.{with_restored_values}
 use Rattle.ga_node.proofs.Saving.{saves_as, saves_then, ended_followed, done_stored}
 use Rattle.ga_node.proofs.node.Node.run_store_plus.Goals as goal
 
@@ -14,7 +14,7 @@ returns-in_err-write-clause-ended c =
     search (rules, ended)
 
 pub returns-clause-done : goal.returns-clause-done
-unfolding restored
+unfolding with_restored_values
 returns-clause-done c =
     done_stored _ _ _ _ _ _ _ _ (rw (c.get.ensures.value, c.a-a.ensures) at c.in_ok-write.ensures.done)
     (saves_as refl (saves_then (saves_then c.pop_data.ensures.saves c.set_a.ensures.saves (λ n m. refl)) c.go_on.ensures.saves (λ n m. refl)))

@@ -1,5 +1,5 @@
 use Rattle.std.proofs.Common.{refl, rules}
-use Rattle.ga_node.specs.State.{restored}
+use Rattle.ga_node.specs.State.{with_restored_values}
 use Rattle.ga_node.specs.Table.{sent}
 use Rattle.ga_node.proofs.Saving.{overwrites, saves_then}
 use Rattle.ga_node.proofs.node.Node.send_half_into.Goals as goal
@@ -9,5 +9,5 @@ unfolding sent
 returns-clause-sent c = rw (c.go_on.ensures.change, c.pop_data.ensures.change, c.end_wait.ensures.change) refl
 
 pub returns-clause-saves : goal.returns-clause-saves
-unfolding restored
+unfolding with_restored_values
 returns-clause-saves c = overwrites c.requires.empty (saves_then (saves_then c.end_wait.ensures.saves c.pop_data.ensures.saves (λ n m. refl)) c.go_on.ensures.saves (λ n m. refl)) refl (search rules)

@@ -10,4 +10,4 @@ returns-in-Some c =
     let first : c.in-Some.open.now ≡ get_or c.args.self.now.open.items 0 c.in-Some.open.now =
     subst (λ (l : List Open). c.in-Some.open.now ≡ get_or l 0 c.in-Some.open.now) c.deref.ensures.value c.in-Some.ensures.item.1 in
     inr (rw (c.fault_at-in-Some.ensures.line, c.fault_at-in-Some.ensures.cause, c.line.ensures)
-    (open_refused (asking_of c.args.self.now) c.args.line c.args.self.now.open.items c.in-Some.open.now refl (sym c.is_waiting.ensures ∙ c.if-is_waiting.false) there first))
+    (open_refused (asking_of c.args.self.now) c.args.line c.args.self.now.open.items c.in-Some.open.now refl (sym c.expects_operand.ensures ∙ c.if-expects_operand.false) there first))

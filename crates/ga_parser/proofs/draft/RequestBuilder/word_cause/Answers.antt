@@ -1,6 +1,6 @@
 use Rattle.std.proofs.Common.{rules, ◌≡◌, false, codes, Some, None}
 use Rattle.std.specs.Prelude.{bytes_eq}
-use Rattle.ga_parser.specs.Recovery.{passed_over}
+use Rattle.ga_parser.specs.Recovery.{with_skipped_word}
 use Rattle.ga_parser.specs.Vocabulary.{directive_in, opcode_in, control_in}
 use Rattle.ga_parser.specs.inner.Drafting.{asking_of}
 use Rattle.ga_parser.proofs.Causes.{control_word_refused, other_word_refused}
@@ -12,7 +12,7 @@ returns-in-Some-control_named c = λ line.
     let none : directive_in c.args.text.now ≡ None = search rules in
     let other : opcode_in c.args.text.now ≡ None = search rules in
     let is : control_in c.args.text.now ≡ Some c.in-Some-control_named.control = search rules in
-    control_word_refused (passed_over (asking_of c.args.self.now)) line c.args.text.now c.args.next.now c.in-Some-control_named.control c.control_cause.result comma none other is c.control_cause.ensures
+    control_word_refused (with_skipped_word (asking_of c.args.self.now)) line c.args.text.now c.args.next.now c.in-Some-control_named.control c.control_cause.result comma none other is c.control_cause.ensures
 
 pub returns-in-None-control_named : goal.returns-in-None-control_named
 returns-in-None-control_named c = λ line.
@@ -20,5 +20,5 @@ returns-in-None-control_named c = λ line.
     let none : directive_in c.args.text.now ≡ None = search rules in
     let other : opcode_in c.args.text.now ≡ None = search rules in
     let is : control_in c.args.text.now ≡ None = search rules in
-    other_word_refused (passed_over (asking_of c.args.self.now)) line c.args.text.now c.args.next.now c.literal_cause.result comma none other is
-    (c.literal_cause.ensures (passed_over (asking_of c.args.self.now)) line c.args.next.now)
+    other_word_refused (with_skipped_word (asking_of c.args.self.now)) line c.args.text.now c.args.next.now c.literal_cause.result comma none other is
+    (c.literal_cause.ensures (with_skipped_word (asking_of c.args.self.now)) line c.args.next.now)

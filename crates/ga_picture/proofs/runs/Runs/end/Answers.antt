@@ -12,7 +12,7 @@ pub nodes-preserved : goal.nodes-preserved
 nodes-preserved c =
     let e = c.args.item.now.cause in
     let seen : observes e c.nodes.number ≡ c.has.result =
-    sym (c.has.ensures ∙ ap (is_marked c.add_seen.new.self) c.new.ensures ∙ c.add_seen.ensures c.nodes.number ∙ ap (λ b. b || observes e c.nodes.number) (c.none-seen.ensures c.nodes.number)) in
+    sym (c.has.ensures ∙ ap (is_marked c.add_observed.new.self) c.new.ensures ∙ c.add_observed.ensures c.nodes.number ∙ ap (λ b. b || observes e c.nodes.number) (c.none-seen.ensures c.nodes.number)) in
     elim c.if-has.branch [
       | then-has w ↦ ended_one c.args.self.now c.nodes.self c.if-has.self e c.nodes.number (omega arith) c.nodes.invariant (seen ∙ w.if-has.true) (ap (λ z. z.counts) w.self-is)
           (ap (λ z. z.shades) w.self-is)

@@ -1,9 +1,9 @@
 use Rattle.std.proofs.Common.{◌≡◌, [], Some, Ok, true≢false, ap, sym, subst}
 use Rattle.ga_explorer.specs.Opening.{ExplorerState}
-use Rattle.ga_console.specs.Session.{Turns}
+use Rattle.ga_console.specs.Session.{AnswersOrQuits}
 use Rattle.ga_console.specs.declared.responder.LineAction.TheVariants.{Answered}
 use Rattle.ga_console.proofs.RunLemmas.{written_fresh}
-use Rattle.ga_explorer.specs.Answers.{Explores}
+use Rattle.ga_explorer.specs.Answers.{AnswersExplorerLine}
 use Rattle.ga_picture.proofs.Following.{quiet_notes}
 use Rattle.ga_picture.proofs.silent.SilentSession.hear.Goals as goal
 
@@ -14,7 +14,7 @@ returns-in-Ok-Answered-clause-heard c =
     let begun : c.new-said.result.stream.now.items ≡ [] = cc in
     let heard = rw c.in-Ok-Answered.field-0-is at c.in-Ok-Answered.ensures in
     let done = heard.1 [] [] (written_fresh _ [] [] _ (ap Some begun) c.new-said.ensures.nothing) in
-    let P : ExplorerState → Type 0 = λ s. Turns Explores c.args.self.now.explorer c.args.line.now s (Ok Answered) done.0 in
+    let P : ExplorerState → Type 0 = λ s. AnswersOrQuits AnswersExplorerLine c.args.self.now.explorer c.args.line.now s (Ok Answered) done.0 in
     (done.0, subst P (sym c.note.ensures.same) done.1, c.note.ensures.noted done.0 done.2)
 
 pub returns-in-Ok-Quit-clause-heard : goal.returns-in-Ok-Quit-clause-heard

@@ -2,7 +2,7 @@ use Rattle.std.proofs.Common.{◌≡◌, [], Some, true≢false, ap, sym, subst}
 use Rattle.ga_explorer.specs.Opening.{ExplorerState}
 use Rattle.ga_console.specs.inner.Run.{AnswersCommand}
 use Rattle.ga_console.proofs.RunLemmas.{written_fresh}
-use Rattle.ga_explorer.specs.Answers.{Explores}
+use Rattle.ga_explorer.specs.Answers.{AnswersExplorerLine}
 use Rattle.ga_picture.proofs.silent.SilentSession.hear_command.Goals as goal
 
 pub returns-in-Ok : goal.returns-in-Ok
@@ -11,7 +11,7 @@ returns-in-Ok c =
     let empty = c.new-answer.ensures.items in
     let begun : c.new-said.result.stream.now.items ≡ [] = cc in
     let done = c.in-Ok.ensures.1 [] [] (written_fresh _ [] [] _ (ap Some begun) c.new-said.ensures.nothing) in
-    let P : ExplorerState → Type 0 = λ s. AnswersCommand Explores c.args.self.now.explorer c.args.command s done.0 in
+    let P : ExplorerState → Type 0 = λ s. AnswersCommand AnswersExplorerLine c.args.self.now.explorer c.args.command s done.0 in
     (done.0, subst P (sym c.note.ensures.same) done.1, c.note.ensures.noted done.0 done.2)
 
 pub returns : goal.returns

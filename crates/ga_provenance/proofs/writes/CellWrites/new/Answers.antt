@@ -1,7 +1,7 @@
 use Rattle.std.proofs.Common.{◌≡◌, ◌≤◌, ℕ, sym, ap, subst, ◌∙◌, arith}
 use Rattle.std.specs.Prelude.{slice_index}
 use Rattle.ga_node.specs.Record.{NodeRecord, record_of}
-use Rattle.ga_event.specs.Told.{steps_of}
+use Rattle.ga_event.specs.Told.{count_steps}
 use Rattle.ga_lab.specs.Machine.{NodeAtStep}
 use Rattle.ga_provenance.specs.inner.{AreHeld}
 use Rattle.ga_provenance.proofs.Made.{has_step_so, stood_of}
@@ -12,7 +12,7 @@ invariant_of-result c =
     let s = c.args.lab.now in
     let node = c.args.node in
     let step = c.steps-step.result in
-    let within : step ≤ steps_of node.number s.kept = omega (arith, c.steps-step.ensures.steps) in
+    let within : step ≤ count_steps node.number s.kept = omega (arith, c.steps-step.ensures.steps) in
     let same : c.new.result.step ≡ step = ap (λ (z : NodeAtStep). z.step) (c.new.ensures.walk ∙ c.walk-walk.ensures) in
     record {
       of_ram = c.requires;

@@ -1,5 +1,5 @@
 use Rattle.std.proofs.Common.{◌≡◌, ℕ, suc, sym, ap, ◌∙◌, arith}
-use Rattle.ga_provenance.specs.Writes.{Search, search, written_at, newest_written}
+use Rattle.ga_provenance.specs.Writes.{CellWriteSearch, search, cell_write_at, newest_cell_write}
 use Rattle.ga_provenance.proofs.Keeping.{wrote_last, wrote_before}
 use Rattle.ga_provenance.proofs.writes.CellWrites.next.Goals as goal
 
@@ -9,7 +9,7 @@ returns-in-Some-clause-value c =
     let k : ℕ = c.back.new.self.step in
     let is : suc k ≡ c.going.self.step = omega (arith, c.back.ensures.step) in
     wrote_last begun.machine begun.node.number begun.cell c.going.self.step k c.in-Some.written is
-    (c.in-Some.ensures.value ∙ ap (λ (w : Search). written_at w.machine w.node.number w.cell k) c.going.invariant.same)
+    (c.in-Some.ensures.value ∙ ap (λ (w : CellWriteSearch). cell_write_at w.machine w.node.number w.cell k) c.going.invariant.same)
     ∙ c.going.invariant.newest
 
 pub going-preserved : goal.going-preserved
@@ -17,12 +17,12 @@ going-preserved c =
     let begun = c.args.self.now in
     let k : ℕ = c.back.new.self.step in
     let is : suc k ≡ c.going.self.step = omega (arith, c.back.ensures.step) in
-    let back_same = c.back.ensures.same ∙ ap (λ (w : Search). search w.machine w.node w.cell k) c.going.invariant.same in
+    let back_same = c.back.ensures.same ∙ ap (λ (w : CellWriteSearch). search w.machine w.node w.cell k) c.going.invariant.same in
     record {
-      same = c.seek-in-going.ensures.same ∙ ap (λ (w : Search). search w.machine w.node w.cell c.seek-in-going.new.self.step) back_same;
-      newest = sym (ap (λ (w : Search). newest_written w.machine w.node.number w.cell c.seek-in-going.new.self.step) back_same) ∙ c.seek-in-going.ensures.newest
-          ∙ ap (λ (w : Search). newest_written w.machine w.node.number w.cell k) back_same
+      same = c.seek-in-going.ensures.same ∙ ap (λ (w : CellWriteSearch). search w.machine w.node w.cell c.seek-in-going.new.self.step) back_same;
+      newest = sym (ap (λ (w : CellWriteSearch). newest_cell_write w.machine w.node.number w.cell c.seek-in-going.new.self.step) back_same) ∙ c.seek-in-going.ensures.newest
+          ∙ ap (λ (w : CellWriteSearch). newest_cell_write w.machine w.node.number w.cell k) back_same
           ∙ wrote_before begun.machine begun.node.number begun.cell c.going.self.step k is
-          (sym c.in_default.is ∙ c.back.ensures.value ∙ ap (λ (w : Search). written_at w.machine w.node.number w.cell k) c.going.invariant.same)
+          (sym c.in_default.is ∙ c.back.ensures.value ∙ ap (λ (w : CellWriteSearch). cell_write_at w.machine w.node.number w.cell k) c.going.invariant.same)
           ∙ c.going.invariant.newest;
     }

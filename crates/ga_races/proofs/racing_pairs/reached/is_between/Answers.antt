@@ -1,7 +1,7 @@
 use Rattle.std.proofs.Common.{false, refl, sym, ◌∙◌, arith}
 use Rattle.std.proofs.lemmas.Bool.{both_ways}
 use Rattle.ga_causal.specs.Dependence.{is_marked}
-use Rattle.ga_races.specs.Acts.{actions_in}
+use Rattle.ga_races.specs.Acts.{actions_of_accesses}
 use Rattle.ga_races.proofs.Reaching.{first_reached, found, next_reached, none_between}
 use Rattle.ga_races.proofs.racing_pairs.reached.is_between.Goals as goal
 
@@ -26,4 +26,4 @@ between-preserved c =
 
 pub returns-clause-none : goal.returns-clause-none
 returns-clause-none c = λ q m h k. both_ways false refl
-    (none_between (actions_in c.args.acts.now) c.args.first c.args.later (λ i l g. c.between.invariant.none i (omega (arith, l, c.between-test.false)) g) m h k)
+    (none_between (actions_of_accesses c.args.acts.now) c.args.first c.args.later (λ i l g. c.between.invariant.none i (omega (arith, l, c.between-test.false)) g) m h k)

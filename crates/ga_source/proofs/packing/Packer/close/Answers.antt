@@ -1,7 +1,7 @@
 use Rattle.std.specs.Prelude.{not, is_some}
 use Rattle.std.proofs.Common.{rules, ◌≡◌, ◌∙◌, [], ap, sym, refl, length}
 use Rattle.std.proofs.lemmas.Bool.{true≢false, eq-eqb}
-use Rattle.ga_source.specs.declared.group.Group.{Group}
+use Rattle.ga_source.specs.declared.group.CellGroup.{CellGroup}
 use Rattle.ga_source.specs.declared.packing.Packer.{Packer}
 use Rattle.ga_source.proofs.CellGroups.{one_group}
 use Rattle.ga_source.proofs.Walking.{closed_nothing, closed_group, nil_of, none_of}
@@ -18,7 +18,7 @@ pub returns-clause-closed : goal.returns-clause-closed
 returns-clause-closed c =
     let before = c.args.self.now in
     let after : Packer = record { groups = c.push.new.self; labels = before.labels; filling = c.replace.new.dest; lines = c.replace-2.new.dest; broken = c.replace-3.new.dest; spot = before.spot } in
-    let group : Group = record { address = before.spot.at; items = c.replace.result; lines = c.replace-2.result; broken = c.replace-3.result } in
+    let group : CellGroup = record { address = before.spot.at; items = c.replace.result; lines = c.replace-2.result; broken = c.replace-3.result } in
     let items : c.replace.result.items ≡ before.filling.items = search rules in
     let empty : c.replace.new.dest.items ≡ [] = search rules in
     closed_group before after group c.in_ok-push.ensures.items refl items c.replace-3.ensures.value refl refl empty c.replace-3.ensures.after
@@ -26,7 +26,7 @@ returns-clause-closed c =
 pub returns-clause-cell : goal.returns-clause-cell
 returns-clause-cell c = λ n cells is whole all.
     let before = c.args.self.now in
-    let group : Group = record { address = before.spot.at; items = c.replace.result; lines = c.replace-2.result; broken = c.replace-3.result } in
+    let group : CellGroup = record { address = before.spot.at; items = c.replace.result; lines = c.replace-2.result; broken = c.replace-3.result } in
     let items : c.replace.result.items ≡ before.filling.items = search rules in
     rw c.in_ok-push.ensures.items
     (one_group cells before.groups.items (before.spot.at, n) group all (record { address = refl; items = items ∙ is; whole = c.replace-3.ensures.value ∙ whole }))
@@ -40,7 +40,7 @@ pub returns-clause-gathered : goal.returns-clause-gathered
 returns-clause-gathered c =
     let before = c.args.self.now in
     let after : Packer = record { groups = c.push.new.self; labels = before.labels; filling = c.replace.new.dest; lines = c.replace-2.new.dest; broken = c.replace-3.new.dest; spot = before.spot } in
-    let group : Group = record { address = before.spot.at; items = c.replace.result; lines = c.replace-2.result; broken = c.replace-3.result } in
+    let group : CellGroup = record { address = before.spot.at; items = c.replace.result; lines = c.replace-2.result; broken = c.replace-3.result } in
     let items : c.replace.result.items ≡ before.filling.items = search rules in
     let lines : c.replace-2.result.items ≡ before.lines.items = search rules in
     let none : c.replace-2.new.dest.items ≡ [] = search rules in

@@ -1,7 +1,7 @@
 use Rattle.std.proofs.Common.{rules, ◌++◌, ◌∷◌, [], sym, subst}
 use Rattle.std.proofs.lemmas.Bool.{both_ways}
 use Rattle.ga_parser.specs.declared.item.LocatedRequest.{LocatedRequest}
-use Rattle.ga_parser.specs.declared.item.Request.TheVariants.{Put}
+use Rattle.ga_parser.specs.declared.item.AssemblyRequest.TheVariants.{Put}
 use Rattle.ga_source.specs.inner.{IsKnown, IsWalked, IsGrouped, IsPackedPlain}
 use Rattle.ga_source.proofs.CellGroups.{cell_fits}
 use Rattle.ga_source.proofs.Marking.{of_request}

@@ -1,6 +1,6 @@
 use Rattle.std.proofs.Common.{◌++◌, ◌∷◌, [], sym, subst, refl}
 use Rattle.ga_parser.specs.declared.item.LocatedRequest.{LocatedRequest}
-use Rattle.ga_parser.specs.declared.item.Request.TheVariants.{Unext}
+use Rattle.ga_parser.specs.declared.item.AssemblyRequest.TheVariants.{Unext}
 use Rattle.ga_source.specs.declared.packing.Packer.{Packer}
 use Rattle.ga_source.specs.inner.{IsWalked, IsGrouped}
 use Rattle.ga_source.proofs.Marking.{of_request, pending_unext}

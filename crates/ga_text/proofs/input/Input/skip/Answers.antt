@@ -1,10 +1,10 @@
 use Rattle.std.proofs.Common.{◌≡◌, ◌+◌, ◌-◌, ℕ, List, length, drop, ap, ◌∙◌, arith, length-take}
 use Rattle.std.specs.Prelude.{slice_range}
-use Rattle.ga_text.specs.Input.{Unread}
+use Rattle.ga_text.specs.Input.{UnreadInput}
 use Rattle.ga_text.proofs.Taking.{range_behind}
 use Rattle.ga_text.proofs.input.Input.skip.Goals as goal
 
-bytes_of : Unread → List ℕ
+bytes_of : UnreadInput → List ℕ
 bytes_of u = u.bytes
 
 pub returns-clause-bytes : goal.returns-clause-bytes

@@ -1,13 +1,13 @@
 use Rattle.std.proofs.Common.{◌≡◌, ℕ, List, ◌++◌, take, sym, ap, ◌∙◌, arith, length-take}
 use Rattle.std.specs.Prelude.{slice_range}
-use Rattle.ga_text.specs.Input.{Unread}
+use Rattle.ga_text.specs.Input.{UnreadInput}
 use Rattle.ga_text.proofs.Taking.{range_at_feed, take_feed}
 use Rattle.ga_text.proofs.input.Input.take_text.Goals as goal
 
-bytes_of : Unread → List ℕ
+bytes_of : UnreadInput → List ℕ
 bytes_of u = u.bytes
 
-taken_of : Unread → ℕ
+taken_of : UnreadInput → ℕ
 taken_of u = u.taken
 
 pub returns-in_ok-extend_from_slice-in-Some-clause-takes : goal.returns-in_ok-extend_from_slice-in-Some-clause-takes

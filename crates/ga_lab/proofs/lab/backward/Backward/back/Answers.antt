@@ -1,7 +1,7 @@
 use Rattle.std.proofs.Common.{◌≡◌, ◌-◌, ◌↔◌, sym, ◌∙◌, ap, subst}
 use Rattle.std.specs.Prelude.{IsNone}
 use Rattle.ga_journal.specs.Histories.{BackwardModel}
-use Rattle.ga_lab.specs.Machine.{BackwardState, made_before}
+use Rattle.ga_lab.specs.Machine.{BackwardState, made_event_before}
 use Rattle.ga_lab.specs.inner.LabInvariant.{IsLab}
 use Rattle.ga_lab.specs.inner.Walking.{telling_of}
 use Rattle.ga_lab.proofs.Replays.{told_is}
@@ -13,7 +13,7 @@ invariant_of-self c = subst (λ (w : BackwardModel). IsLab c.self.inside.chip.no
 pub returns-clause-told : goal.returns-clause-told
 returns-clause-told c =
     told_is c.self.inside.chip.now c.self.inside.walk.book c.self.inside.walk.place c.back.result c.self.invariant.tied c.back.ensures.some c.back.ensures.none
-    ∙ ap (λ (t : BackwardState). made_before t.machine t.place) c.self.view_is
+    ∙ ap (λ (t : BackwardState). made_event_before t.machine t.place) c.self.view_is
 
 pub returns-clause-none : goal.returns-clause-none
 returns-clause-none c = subst (λ (t : BackwardState). IsNone c.back.result ↔ (t.place ≡ 0)) c.self.view_is c.back.ensures.none

@@ -1,4 +1,0 @@
-use Rattle.ga_bench.proofs.shared.calls_of_one.Given as goal
-
-abbrev pub ghosts-opened : goal.ghosts-opened
-ghosts-opened g a = record { name = a.blank.name; parts = a.blank.parts }

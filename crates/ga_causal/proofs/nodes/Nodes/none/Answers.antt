@@ -1,5 +1,0 @@
-use Rattle.ga_causal.proofs.Oldest.{none_marked}
-use Rattle.ga_causal.proofs.nodes.Nodes.none.Goals as goal
-
-pub returns : goal.returns
-returns c n = none_marked 144 n

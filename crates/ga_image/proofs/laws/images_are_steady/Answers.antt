@@ -1,5 +1,0 @@
-use Rattle.ga_image.proofs.ReadSteady.{images_steady}
-use Rattle.ga_image.proofs.laws.images_are_steady.Goals as goal
-
-pub returns : goal.returns
-returns c = λ texts chip image. images_steady texts chip image

@@ -1,0 +1,51 @@
+//! What an event overwrote, by its entry in a node's history.
+
+ghost use Rattle.std.specs.Prelude.{◌≡◌, None};
+ghost use Rattle.ga_journal.specs.Walked.{old_value_or, among};
+
+use super::History;
+use ga_node::{Place, Saved};
+
+/// The old value of a place, if this is the wanted place `what`.
+fn over(what: Place, place: Place, old: u32) -> Option<u32>
+    ensures { result ≡ old_value_or what place old None }
+{
+    match (what, place) {
+        (Place::P, Place::P) => Some(old),
+        (Place::A, Place::A) => Some(old),
+        (Place::B, Place::B) => Some(old),
+        (Place::Wait, Place::Wait) => Some(old),
+        (Place::Ram(cell), Place::Ram(other)) => { if cell == other { Some(old) } else { None } }
+        _ => None,
+    }
+}
+
+/// The old value of the wanted place among the old values of an entry.
+fn among(what: Place, saved: &Saved) -> Option<u32>
+    ensures { result ≡ among what saved.now }
+{
+    for k in 0..saved.len() {
+        let (place, old) = saved.at(k);
+        if let Some(value) = over(what, place, old) {
+            return Some(value);
+        }
+    }
+    None
+}
+
+impl History {
+    ghost use Rattle.std.specs.Prelude.{◌≡◌, ◌<◌, length};
+    ghost use Rattle.ga_journal.specs.Walked.{overwritten_value};
+
+    /// What a place held before the event of the entry at a position; none where the event left it, or past the entries.
+    #[tactic(auto, using(std::proofs::lemmas::Option::slice_get_past, crate::proofs::Storing::pasts_at))]
+    pub fn overwritten_value(&self, at: usize, what: Place) -> Option<u32>
+        ensures { result ≡ overwritten_value self.now.items at what }
+    {
+        if at >= self.entries.len() {
+            return None;
+        }
+        let entry = &self.entries[at];
+        among(what, &entry.saved)
+    }
+}

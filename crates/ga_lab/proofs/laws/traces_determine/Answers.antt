@@ -1,5 +1,0 @@
-use Rattle.ga_lab.proofs.Traces as Traces
-use Rattle.ga_lab.proofs.laws.traces_determine.Goals as goal
-
-pub returns : goal.returns
-returns c = Traces.traces_determine

@@ -1,6 +1,0 @@
-use Rattle.std.proofs.Common.{◌≡◌, ◌++◌, take, drop}
-use Rattle.ga_parser.specs.Saying.{token_contents, up_to_fault}
-use Rattle.ga_parser.proofs.scan.up_to_fault.Given as goal
-
-abbrev pub invariant-loop-i : goal.invariant-loop-i
-invariant-loop-i l = token_contents (take l.i l.words) ++ up_to_fault (token_contents (drop l.i l.words)) ≡ up_to_fault (token_contents l.words)
