@@ -12,18 +12,25 @@ use Rattle.ga_event.specs.declared.event.Event.{Event}
 use Rattle.ga_event.specs.declared.event.Event.TheVariants.{Own, Pass}
 use Rattle.ga_event.specs.Touches.{event_nodes, touches}
 use Rattle.ga_event.specs.Apply.{waits_to_write_side, waits_to_read_side, after, replay}
-use Rattle.ga_races.specs.Orders.{IsEnabled, IsTerminal, AreReorderings, same, HasNoRace, IsRace, AreConflicting}
+use Rattle.ga_races.specs.Orders.{IsEnabled, IsTerminal, AreReorderings, same, swapped, later, joined, HasNoRace, IsRace, AreConflicting}
 use Rattle.ga_races.specs.HappensBefore.{Action, actions, action_at, is_look_changed_by, are_dependent, HappensBefore, chip_at, event_at_place, IsRacingPair, IsContendedPass}
-use Rattle.ga_races.proofs.Independence.{first_of, touches_reader, any_at}
+use Rattle.ga_races.proofs.Independence.{first_of, touches_reader, any_at, free-sym}
 use Rattle.ga_races.proofs.Orders.{order_replay, order_read, steps_read}
 use Rattle.ga_races.proofs.Conflicts.{one_side, one_way, no_writer, wait_at, at_node, at_two, Open, open_of, number_of}
 use Rattle.ga_races.proofs.Exact.{replay_into, Entry}
-use Rattle.ga_races.proofs.Exploring.{order-sym}
 use Rattle.ga_races.proofs.Moves.{tally, Moves, moves_of, before_within, tally_grows}
 use Rattle.ga_races.proofs.Before.{actions_length}
 use Rattle.ga_races.proofs.Sweeps.{near_races, writer_apart, contended_races, action_there, chip_there}
 use Rattle.ga_races.proofs.Nearest.{IsRivalled, IsTold, near, rivalled, told_head, told_behind, round_trip, happens_moved, near_moved}
 use Rattle.ga_races.proofs.Tallies.{tally_total, record_same, tally_up, between, below}
+
+-- ---- reorderings, from the other list to the one
+
+order-sym : (c : List NodeRecord) (xs ys : List Event) → AreReorderings c xs ys → AreReorderings c ys xs
+order-sym c xs ys same = same
+order-sym c xs ys (swapped {e} {f} {xs = zs} cane canf h) = swapped canf cane (free-sym c e f h)
+order-sym c xs ys (later {e} {xs = us} {ys = vs} can h) = later can (order-sym (after c e).0 us vs h)
+order-sym c xs ys (joined {ys = zs} h k) = joined (order-sym c zs ys k) (order-sym c xs zs h)
 
 -- ---- a pass that another writer could have taken the place of
 

@@ -3,7 +3,6 @@ pub mod Orders
 pub mod Conflicts
 pub mod Exact
 pub mod Blind
-pub mod Exploring
 pub mod Kahn
 pub mod Bound
 pub mod Moves

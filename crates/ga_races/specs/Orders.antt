@@ -1,7 +1,7 @@
 -- Other orders of the same steps, and steps that race: which the order in which nodes happened to run decided (after Netzer and
 -- Miller, "Optimal tracing and replay for debugging message-passing parallel programs", 1992, who speak of messages; that a
 -- look races too is this project's own, as looks are).
-use Rattle.std.specs.Prelude.{ℕ, zero, suc, ◌+◌, ◌%◌, nat_lt, Bool, ◌&&◌, if◌then◌else◌, List, Option, Some, None, is_ok, ◌≡◌, ◌≢◌, true, false, ◌∷◌, ◌++◌, ◌⊎◌, [], IsSome}
+use Rattle.std.specs.Prelude.{ℕ, zero, suc, ◌+◌, ◌%◌, nat_lt, Bool, ◌&&◌, if◌then◌else◌, List, Option, Some, None, is_ok, ◌≡◌, ◌≢◌, true, false, ◌∷◌, ◌++◌}
 use Rattle.ga_node.specs.Record.{NodeRecord}
 use Rattle.ga_grid.specs.declared.node_id.NodeId.{NodeId}
 use Rattle.ga_grid.specs.Grid.{node_id}
@@ -75,25 +75,3 @@ pub record AreConflicting (e f : Event) : Type 0 where
   pub two : f ≡ Pass second reader other
   pub writers : first.number ≢ second.number
   pub sides : side ≢ other
-
--- ---- sets of lists that meet every order in which the nodes of a chip can run (after Flanagan and Godefroid, "Dynamic partial-order reduction for model checking software", 2005, and Abdulla and others, "Optimal dynamic partial order reduction", 2014: source sets).
-
--- the event comes first in an order of the list
-abbrev pub IsFirstInReordering : List NodeRecord → List Event → Event → Type 0
-IsFirstInReordering chip events event = (others : List Event) × AreReorderings chip events (event ∷ others)
-
--- The set has lists that can be made, the empty one among them. It continues each list after which some event is enabled, by
--- some event. And it reverses races. Suppose that it continued with an event, that an order of the list from there on has some
--- steps before this event, and that another event, dependent with it, is enabled after these steps. Then the set also continues
--- with an event that comes first in an order of these steps and the other event. This is required only if the other event comes
--- directly after in that order, or both are passes to one reader, of which the list may never make the other.
-pub record IsCompleteExploration (chip : List NodeRecord) (has : List Event → Type 0) : Type 0 where
-  pub made : (events : List Event) → has events → IsSome (replay chip events)
-  pub begun : has []
-  pub onward : (events : List Event) (now : List NodeRecord) (event : Event) → has events → replay chip events ≡ Some now → IsEnabled now event
-      → (next : Event) × IsEnabled now next × has (events ++ next ∷ [])
-  pub turned : (events behind before later : List Event) (now there : List NodeRecord) (event other : Event)
-      → has (events ++ event ∷ behind) → replay chip events ≡ Some now → AreReorderings now (event ∷ behind) (before ++ event ∷ later)
-      → replay now before ≡ Some there → IsEnabled there other → event ≢ other → (AreIndependentOn there event other → ⊥)
-      → AreConflicting event other ⊎ ((more : List Event) × (later ≡ other ∷ more))
-      → (next : Event) × IsFirstInReordering now (before ++ other ∷ []) next × has (events ++ next ∷ [])

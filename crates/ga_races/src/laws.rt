@@ -13,7 +13,7 @@ ghost use Rattle.ga_event.specs.Told.{count_steps, events_of_causes};
 ghost use Rattle.ga_causal.specs.Dependence.{events_after_rewind, HasNoLooks};
 ghost use Rattle.ga_causal.specs.Equivalence.{AreEquivalent};
 ghost use Rattle.ga_causal.specs.Words.{local_history_with_reads};
-ghost use Rattle.ga_races.specs.Orders.{IsCompleteExploration, IsEnabled, IsTerminal, AreReorderings, AreIndependentOn, IsRace, HasNoRace, AreConflicting};
+ghost use Rattle.ga_races.specs.Orders.{IsEnabled, IsTerminal, AreReorderings, AreIndependentOn, IsRace, HasNoRace, AreConflicting};
 ghost use Rattle.ga_races.specs.HappensBefore.{Action, action_at, IsDirectlyBefore, IsClock, merged_clock, action_of, actions, causes_of_actions, are_dependent, HappensBefore, IsStepOf, IsEarlierIn, event_at_place, IsRacingPair, IsContendedPass, IsMarkedOrBeside};
 ghost use Rattle.ga_races.specs.Kahn.{HasOneWriter};
 ghost use Rattle.ga_races.specs.Rounds.{events_without, IsPollingRound, HasNoPollingRound};
@@ -98,20 +98,6 @@ pub fn equivalent_lists_are_reorderings()
         replay chip events ≡ replay chip others }
     ensures words { (chip : List NodeRecord) (events others : List Event) (n : ℕ) → AreReorderings chip events others →
         local_history_with_reads n chip events ≡ local_history_with_reads n chip others }
-{}
-
-/// If no list that can be made from a chip is longer than some number, a set that continues each of its lists and reverses each
-/// race covers every order: each list that can be made is, in another order, a prefix of a list of the set, and each that ends
-/// without an enabled event is a list of the set in another order. The set is therefore enough to know how all of them end.
-pub fn exploration_is_complete()
-    ensures all { (chip : List NodeRecord) (has : List Event → Bool) (most : ℕ) → IsCompleteExploration chip (λ events. has events ≡ true) →
-        ((events : List Event) → IsSome (replay chip events) → length events ≤ most) →
-        (others : List Event) → IsSome (replay chip others) →
-        (met : List Event) × (more : List Event) × (has met ≡ true) × AreReorderings chip met (others ++ more) }
-    ensures ends { (chip last : List NodeRecord) (has : List Event → Bool) (most : ℕ) → IsCompleteExploration chip (λ events. has events ≡ true) →
-        ((events : List Event) → IsSome (replay chip events) → length events ≤ most) →
-        (others : List Event) → replay chip others ≡ Some last → IsTerminal last →
-        (met : List Event) × (has met ≡ true) × AreReorderings chip met others }
 {}
 
 /// Happens-before (Lamport) in a list is what every order of the list keeps: the past of an event can be read from the one list
