@@ -15,9 +15,9 @@ CRATES = f"{TOP}/crates"
 # The interfaces whose definitions a reader may want to read in full: the files, and the names of types or functions with the clauses, or None
 # for all that other crates see.
 INTERFACES = {
-    "Lab": [(f"ga_lab/src/{it}.rt", {"Lab", "Walk", "Backward"}) for it in ("lab", "lab/backward", "lab/explaining", "lab/listing", "lab/steps", "lab/walking")],
+    "Lab": [(f"ga_lab/src/{it}.rt", {"Lab", "NodeWalk", "Backward"}) for it in ("lab", "lab/backward", "lab/explaining", "lab/listing", "lab/steps", "lab/walking")],
     "session": [("ga_console/src/run.rt", {"session"})],
-    "Shared": [(f"ga_shared/src/{it}.rt", None) for it in ("shared", "locked", "workers", "racing", "closing")],
+    "SharedChip": [(f"ga_shared/src/{it}.rt", None) for it in ("shared", "locked", "workers", "racing", "closing")],
     "race": [("ga_console/src/race.rt", None)],
 }
 NAME = r"[^\W\d]['\w-]*"

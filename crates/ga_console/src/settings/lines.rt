@@ -37,7 +37,7 @@ Further commands (NNN and MMM are nodes, K is a step, HH two and X six hexadecim
   run greedy ..          each node as long as it has an event
   run random SEED ..     nodes drawn by a generator with this seed
   back until COND        undo the newest event after which COND held, and all later ones
-  back NNN until COND    roll back the newest such step of NNN, with its dependent_flags
+  back NNN until COND    roll back the newest such step of NNN, with its dependents
 {commands}
 
 COND is one of:
