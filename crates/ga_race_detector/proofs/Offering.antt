@@ -42,7 +42,7 @@ stands_of : (load : List NodeRecord) (s : State) → s.load ≡ load → IsSome 
 stands_of load s is some = record { same = is; led = subst (λ (z : List NodeRecord). replay z s.kept ≡ Some (chip_of s)) is (leads (replay s.load s.kept) some) }
 
 stands : (load : List NodeRecord) (limit : ℕ) (calls : List MachineCall) → Stands load (after_calls (initial_state load limit) calls)
-stands load limit calls = let r = Called.reached load limit calls in stands_of load (after_calls (initial_state load limit) calls) r.0 r.1
+stands load limit calls = let r = Called.history_is_replayable load limit calls in stands_of load (after_calls (initial_state load limit) calls) r.0 r.1
 
 some_led : (load last : List NodeRecord) (es : List Event) → replay load es ≡ Some last → IsSome (replay load es)
 some_led load last es h = subst (λ (o : Option (List NodeRecord)). IsSome o) (sym h) refl
