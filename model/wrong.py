@@ -436,6 +436,8 @@ WRONG = (
     (ENDS, "            if number in leaving:\n                continue\n", ""),
     (ENDS, "if reader is not None and self.at(chip, reader).waits(READS, side):", 'if reader is not None and self.at(chip, reader).waits(("read",), side):'),
     (ENDS, "return 5 if any(", "return 5 if all("),
+    (ENDS, "if chip in self.kind_at and not self.kind_at[chip][1]}", "if chip in self.kind_at}"),
+    (ENDS, "            last = place\n", "            last = last or place\n"),
 )
 
 

@@ -5,9 +5,9 @@ use Rattle.ga_lab.specs.Machine.{State, chip_of}
 use Rattle.ga_explorer_text.specs.Saved.{saved_text}
 use Rattle.ga_console.specs.declared.run.Status.TheVariants.{ImageRefused}
 use Rattle.ga_state_search.specs.declared.fault.SearchFault.{SearchFault}
-use Rattle.ga_state_ends.specs.Ends.{EndSearchResult, AreEndsOfChip}
+use Rattle.ga_state_ends.specs.Ends.{EndSearchResult, AreEndsOfChip, is_unclean}
 use Rattle.ga_check_report.specs.EndTexts.{ends_text, is_fully_explored}
-use Rattle.ga_check_report.specs.Checking.{is_unclean, HasReachedEndKind, WritesEndsReport}
+use Rattle.ga_check_report.specs.Checking.{HasReachedEndKind, WritesEndsReport}
 use Rattle.ga_check_report.specs.Checking.WritesEndsReport.{all, none, led, no_memory, too_long}
 use Rattle.ga_check_report.specs.declared.ends_text.CheckBounds.{CheckBounds}
 use Rattle.ga_check_report.specs.declared.report.Verdict.TheVariants.{Clean, Unclean, Unknown, Saved, Ended}

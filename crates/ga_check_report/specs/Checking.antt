@@ -13,7 +13,7 @@ use Rattle.ga_console.specs.declared.run.Status.{Status}
 use Rattle.ga_console.specs.declared.run.Status.TheVariants.{ImageRefused, StreamFault}
 use Rattle.ga_explorer_text.specs.Saved.{saved_text}
 use Rattle.ga_explorer.specs.Opening.{OpensExplorer, IsLeadingText, IsUnopenedSession, ExplorerState}
-use Rattle.ga_state_ends.specs.Ends.{EndSearchResult, AreEndsOfChip}
+use Rattle.ga_state_ends.specs.Ends.{EndSearchResult, AreEndsOfChip, is_unclean}
 use Rattle.ga_state_ends.specs.declared.end_kind.EndKind.{EndKind}
 use Rattle.ga_check_report.specs.declared.ends_text.CheckBounds.{CheckBounds}
 use Rattle.ga_check_report.specs.declared.report.Verdict.{Verdict}
@@ -22,13 +22,6 @@ use Rattle.ga_check_report.specs.EndTexts.{ends_text, missing_kind_text, is_full
 use Rattle.ga_check_report.specs.Settled.{check_start}
 
 -- ---- the verdict
-
--- some node makes no further step and doesn't rest cleanly
-abbrev pub is_flag_set : Bool → Bool
-is_flag_set mark = mark
-
-abbrev pub is_unclean : EndKind → Bool
-is_unclean kind = list_any is_flag_set kind.unclean
 
 -- an end that isn't clean was found; or there is none; or there may be others
 abbrev pub verdict_of : EndSearchResult → Verdict

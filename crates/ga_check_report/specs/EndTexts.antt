@@ -6,9 +6,11 @@ use Rattle.ga_explorer_text.specs.Waiting.{name_text_of_node, texts_of_nodes}
 use Rattle.ga_state_search.specs.declared.fault.SearchFault.{SearchFault}
 use Rattle.ga_state_search.specs.declared.fault.SearchFault.TheVariants as fault
 use Rattle.ga_state_ends.specs.Ends.{EndSearchResult}
+use Rattle.ga_state_ends.specs.Decisions.{Decision}
 use Rattle.ga_state_ends.specs.declared.end_kind.EndKind.{EndKind}
 use Rattle.ga_state_ends.specs.declared.end_kind.NodeEnd.{NodeEnd}
 use Rattle.ga_check_report.specs.declared.ends_text.CheckBounds.{CheckBounds}
+use Rattle.ga_check_report.specs.DecisionTexts.{decision_text}
 use Rattle.ga_check_report.specs.declared.end_nodes.EndPart.{EndPart}
 use Rattle.ga_check_report.specs.declared.end_nodes.EndPart.TheVariants.{Continuing, Reading, Writing}
 use Rattle.ga_state_ends.specs.declared.end_kind.NodeEnd.TheVariants.{KeepsRunning, Idle, Reads, Writes, Stopped}
@@ -118,10 +120,15 @@ unclean_line nodes = enclosed_text (codes "  not clean:") (codes "\n") nodes
 abbrev pub end_kind_text : ℕ → EndKind → Text
 end_kind_text number kind = end_kind_line number (node_ends_text kind.nodes) kind.ends ++ unclean_line (unclean_names_text kind.unclean)
 
--- the lines of these kinds, numbered from this number on
-abbrev pub kinds_text : ℕ → List EndKind → Text
-kinds_text number [] = []
-kinds_text number (kind ∷ kinds) = end_kind_text number kind ++ kinds_text (number + 1) kinds
+-- the lines of a kind of end, and the line of what decides that it isn't clean
+abbrev pub decided_kind_text : ℕ → EndKind → Option Decision → Text
+decided_kind_text number kind decision = end_kind_text number kind ++ decision_text decision
+
+-- the lines of the kinds from this place on, and of each what decides; the kinds are numbered from 1 on
+abbrev pub kinds_text : List (Option Decision) → ℕ → List EndKind → Text
+kinds_text decisions place [] = []
+kinds_text decisions place (kind ∷ kinds) =
+    decided_kind_text (place + 1) kind (slice_index_or decisions place None) ++ kinds_text decisions (place + 1) kinds
 
 -- ---- the whole answer
 
@@ -165,7 +172,7 @@ final_line_text bounds (Some fault) before cycle = search_stop_text bounds fault
 -- the head, the lines of these kinds, and the last line
 abbrev pub ends_report_text : CheckBounds → EndSearchResult → List EndKind → Text
 ends_report_text bounds found kinds =
-    ends_header (is_fully_explored found.fault) (length found.searched.chips) (length kinds) ++ kinds_text 1 kinds
+    ends_header (is_fully_explored found.fault) (length found.searched.chips) (length kinds) ++ kinds_text found.decisions 0 kinds
     ++ final_line_text bounds found.fault found.has_cycle_before found.has_cycle
 
 abbrev pub ends_text : CheckBounds → EndSearchResult → Text

@@ -1,3 +1,4 @@
+pub mod DecisionTexts
 pub mod EndTexts
 pub mod Settled
 pub mod Checking

@@ -4,11 +4,12 @@ ghost use Rattle.std.specs.Prelude.{◌≡◌, ◌≤◌, ◌+◌, ◌++◌, len
 ghost use Rattle.arrayvec.specs.ArrayVec.{array_vec_len};
 ghost use Rattle.ga_text.specs.Output.{WritesExactly};
 ghost use Rattle.ga_check_report.specs.declared.end_nodes.EndPart.TheVariants.{Reading, Writing};
-ghost use Rattle.ga_check_report.specs.EndTexts.{stopped_nodes_text, part_names_text, unclean_names_text, enclosed_text, halted_nodes_text, quiet_end_text, endless_end_text, end_text, node_ends_text, end_count_text, end_kind_line, unclean_line, end_kind_text, kinds_text, counted_noun_text, at_least_text, is_fully_explored, ends_header, search_stop_text, termination_text, final_line_text, ends_text, missing_kind_text};
+ghost use Rattle.ga_check_report.specs.EndTexts.{stopped_nodes_text, part_names_text, unclean_names_text, enclosed_text, halted_nodes_text, quiet_end_text, endless_end_text, end_text, node_ends_text, end_count_text, end_kind_line, unclean_line, end_kind_text, decided_kind_text, kinds_text, counted_noun_text, at_least_text, is_fully_explored, ends_header, search_stop_text, termination_text, final_line_text, ends_text, missing_kind_text};
 
+use crate::decision_text::decision_line;
 use crate::end_nodes::{EndPart, NAMES_ROOM, STOPS_ROOM, nodes_of, stops_among, unclean_among};
 use arrayvec::ArrayVec;
-use ga_state_ends::{EndKind, FoundEnds, NodeEnd};
+use ga_state_ends::{Decision, EndKind, FoundEnds, NodeEnd};
 use ga_state_search::SearchFault;
 use ga_text::{MAX_NUMBER_DIGITS, TextBuffer, WriteResult, Writer, push_number, push_text};
 use std::io::Write;
@@ -66,7 +67,7 @@ pub(crate) fn write_ends<W: Write>(
     ensures { WritesExactly result (ends_text bounds found.now) W.contents writer.old writer.new }
 {
     write_head(found, writer)?;
-    write_kinds(found.kinds(), writer)?;
+    write_kinds(found.kinds(), found, writer)?;
     write_last(bounds, found, writer)
 }
 
@@ -211,14 +212,36 @@ fn stopped_line(bounds: CheckBounds, fault: SearchFault) -> TextBuffer
     out
 }
 
-/// Writes these kinds of end, numbered from 1 on.
-fn write_kinds<W: Write>(kinds: &[EndKind], writer: &mut Writer<'_, W>) -> WriteResult
-    ensures { WritesExactly result (kinds_text 1 kinds.now) W.contents writer.old writer.new }
+/// Writes these kinds of end, numbered from 1 on, and what decides of each, as was found.
+fn write_kinds<W: Write>(
+    kinds: &[EndKind],
+    found: &FoundEnds,
+    writer: &mut Writer<'_, W>,
+) -> WriteResult
+    ensures { WritesExactly result (kinds_text found.now.decisions 0 kinds.now) W.contents writer.old writer.new }
 {
     'kinds: for place in 0..kinds.len() {
-        write_kind(place as u64 + 1, &kinds[place], writer)?;
+        write_decided_kind(
+            place as u64 + 1,
+            &kinds[place],
+            found.decision(place),
+            writer,
+        )?;
     }
     Ok(())
+}
+
+/// Writes a kind of end, which has this number, and what decides that it isn't clean.
+fn write_decided_kind<W: Write>(
+    number: u64,
+    kind: &EndKind,
+    decision: Option<Decision>,
+    writer: &mut Writer<'_, W>,
+) -> WriteResult
+    ensures { WritesExactly result (decided_kind_text number kind.now decision) W.contents writer.old writer.new }
+{
+    write_kind(number, kind, writer)?;
+    writer.write_blocks(decision_line(decision).as_slice())
 }
 
 /// Writes a kind of end, which has this number, and the nodes that don't rest cleanly there.

@@ -7,10 +7,10 @@ ghost use Rattle.ga_event.specs.declared.event.Event.{Event};
 ghost use Rattle.ga_event.specs.Apply.{replay};
 ghost use Rattle.ga_lab.specs.Machine.{State, chip_of};
 ghost use Rattle.ga_explorer_text.specs.Saved.{saved_text};
-ghost use Rattle.ga_state_ends.specs.Ends.{EndSearchResult, AreEndsOfChip};
+ghost use Rattle.ga_state_ends.specs.Ends.{EndSearchResult, AreEndsOfChip, is_unclean};
 ghost use Rattle.ga_check_report.specs.Settled.{settled};
 ghost use Rattle.ga_check_report.specs.EndTexts.{ends_text};
-ghost use Rattle.ga_check_report.specs.Checking.{WritesEndsReport, HasAppendedEvents, HasReachedEndKind, is_unclean};
+ghost use Rattle.ga_check_report.specs.Checking.{WritesEndsReport, HasAppendedEvents, HasReachedEndKind};
 ghost use Rattle.ga_check_report.specs.declared.ends_text.CheckBounds.{CheckBounds};
 ghost use Rattle.ga_check_report.specs.declared.report.Verdict.TheVariants.{Clean, Unclean, Saved};
 

@@ -2,6 +2,7 @@
 //! may rely on.
 #![tactic(auto)]
 
+mod decision_text;
 mod end_nodes;
 mod ends_text;
 pub mod laws;

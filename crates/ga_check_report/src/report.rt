@@ -8,12 +8,12 @@ ghost use Rattle.ga_lab.specs.Machine.{chip_of};
 ghost use Rattle.ga_display.specs.Texts.{refusal_text};
 ghost use Rattle.ga_explorer_text.specs.Saved.{saved_text};
 ghost use Rattle.ga_console.specs.declared.run.Status.TheVariants.{ImageRefused};
-ghost use Rattle.ga_state_ends.specs.Ends.{AreEndsOfChip};
+ghost use Rattle.ga_state_ends.specs.Ends.{AreEndsOfChip, is_unclean};
 ghost use Rattle.ga_lab.specs.declared.fault.LabFault.TheVariants.{Memory, Full};
 ghost use Rattle.ga_check_report.specs.declared.ends_text.CheckBounds.{CheckBounds};
 ghost use Rattle.ga_check_report.specs.Settled.{check_start};
 ghost use Rattle.ga_check_report.specs.EndTexts.{ends_text, missing_kind_text};
-ghost use Rattle.ga_check_report.specs.Checking.{WritesEndsReport, IsCheckOutcome, IsReportOutput, HasReachedEndKind, is_flag_set, is_unclean, verdict_of, missing_kind_verdict};
+ghost use Rattle.ga_check_report.specs.Checking.{WritesEndsReport, IsCheckOutcome, IsReportOutput, HasReachedEndKind, verdict_of, missing_kind_verdict};
 ghost use Rattle.ga_check_report.specs.declared.report.Verdict.TheVariants.{Saved, Ended};
 
 use crate::ends_text::{CheckBounds, is_fully_explored, write_ends, write_no_kind};
@@ -254,20 +254,7 @@ fn verdict_of(found: &FoundEnds) -> Verdict
 fn has_unclean(kinds: &[EndKind]) -> bool
     ensures { result ≡ list_any is_unclean kinds.now }
 {
-    kinds.iter().any(|kind| is_unclean(kind))
-}
-
-/// Whether some node doesn't rest cleanly at an end of this kind.
-fn is_unclean(kind: &EndKind) -> bool
-    ensures { result ≡ is_unclean kind.now }
-{
-    kind.unclean.iter().any(|mark| is_flag_set(*mark))
-}
-
-fn is_flag_set(mark: bool) -> bool
-    ensures { result ≡ is_flag_set mark }
-{
-    mark
+    kinds.iter().any(|kind| kind.is_unclean())
 }
 
 /// The verdict where no kind of end has the number that is asked for.

@@ -9,32 +9,35 @@ use Rattle.ga_check_report.proofs.ends_text.write_kinds.Goals as goal
 pub kinds-init : goal.kinds-init
 kinds-init g c = (search rules, λ before said h. record { front = []; splits = refl; is_said = written_pending _ before said _ h })
 
-pub returns-in_err-write_kind : goal.returns-in_err-write_kind
-returns-in_err-write_kind g c = (
+pub returns-in_err-write_decided_kind : goal.returns-in_err-write_decided_kind
+returns-in_err-write_decided_kind g c = (
   search rules,
   λ before said h.
+      let found = c.args.found.now in
       let kinds = c.args.kinds.now in
-      let whole : List ℕ = kinds_text 1 kinds in
+      let whole : List ℕ = kinds_text found.decisions 0 kinds in
       let done = c.kinds.invariant.1 before said h in
       truncated_here c.from_residual.result _ before (said ++ whole) _ c.from_residual.ensures.0
-      (line_truncated _ before said whole _ _ _ done.front (next_kind kinds c.kinds.place _ (omega arith)) done.splits
-      (c.in_err-write_kind.ensures.1 before (said ++ done.front) done.is_said)),
+      (line_truncated _ before said whole _ _ _ done.front (next_kind found.decisions kinds c.kinds.place _ c.decision.result (omega arith) c.decision.ensures) done.splits
+      (c.in_err-write_decided_kind.ensures.1 before (said ++ done.front) done.is_said)),
 )
 
 pub kinds-preserved : goal.kinds-preserved
 kinds-preserved g c = (
   search rules,
   λ before said h.
+      let found = c.args.found.now in
       let kinds = c.args.kinds.now in
       let done = c.kinds.invariant.1 before said h in
-      line_written _ before said (kinds_text 1 kinds) _ _ _ done.front _ (next_kind kinds c.kinds.place _ (omega arith)) done.splits
-      (c.in_ok-write_kind.ensures.1 before (said ++ done.front) done.is_said),
+      line_written _ before said (kinds_text found.decisions 0 kinds) _ _ _ done.front _ (next_kind found.decisions kinds c.kinds.place _ c.decision.result (omega arith) c.decision.ensures) done.splits
+      (c.in_ok-write_decided_kind.ensures.1 before (said ++ done.front) done.is_said),
 )
 
 pub returns : goal.returns
 returns g c = (
   search rules,
   λ before said h.
+      let found = c.args.found.now in
       let kinds = c.args.kinds.now in
-      all_said _ before said (kinds_text 1 kinds) _ _ (ap (kinds_text (c.kinds.place + 1)) (drop_all c.kinds.place kinds (omega arith))) (c.kinds.invariant.1 before said h),
+      all_said _ before said (kinds_text found.decisions 0 kinds) _ _ (ap (kinds_text found.decisions c.kinds.place) (drop_all c.kinds.place kinds (omega arith))) (c.kinds.invariant.1 before said h),
 )

@@ -1,4 +1,4 @@
-use Rattle.std.proofs.Common.{◌≡◌, ℕ, ◌+◌, List, drop}
+use Rattle.std.proofs.Common.{◌≡◌, ℕ, List, drop}
 use Rattle.ga_text.specs.Output.{IsWritten}
 use Rattle.ga_check_report.specs.EndTexts.{kinds_text}
 use Rattle.ga_explorer_text.proofs.Saying.{IsWrittenUpTo}
@@ -7,4 +7,4 @@ use Rattle.ga_check_report.proofs.ends_text.write_kinds.Given as goal
 abbrev pub invariant-kinds : goal.invariant-kinds
 invariant-kinds g l = (l.writer.stream.ghost_name ≡ l.fn.writer.stream.ghost_name)
     × ((before said : List ℕ) → IsWritten (g.W.Write.contents l.fn.writer.stream.now) before said l.fn.writer.pending.items
-    → IsWrittenUpTo (g.W.Write.contents l.writer.stream.now) before said (kinds_text 1 l.kinds) (kinds_text (l.place + 1) (drop l.place l.kinds)) l.writer.pending.items)
+    → IsWrittenUpTo (g.W.Write.contents l.writer.stream.now) before said (kinds_text l.found.decisions 0 l.kinds) (kinds_text l.found.decisions l.place (drop l.place l.kinds)) l.writer.pending.items)
