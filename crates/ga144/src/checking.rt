@@ -17,7 +17,7 @@ const TICK: u64 = 20;
 /// The number of looks between two progress lines.
 const TICKS: u64 = 50;
 
-/// How far to search, whether the idle nodes come to rest first, the number of the kind of end whose session is asked for, if it isn't 0, and
+/// How far to search, whether the idle nodes come to rest first, the number of the kind of end whose session is wanted, if it isn't 0, and
 /// whether the progress is reported.
 #[derive(Clone, Copy)]
 pub struct CheckOptions {

@@ -186,7 +186,7 @@ fn is_at_terminal(rt: &HostRuntime) -> bool {
     rt.stdin().is_terminal() && rt.stdout().is_terminal()
 }
 
-/// Reads a file, if one is named, or standard input, and tells the ends of its program.
+/// Reads a file, if one is named, or standard input, and prints the ends of its program.
 fn checked<T: Threads + Sync>(
     threads: &T,
     rt: &HostRuntime,

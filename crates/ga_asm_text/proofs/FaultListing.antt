@@ -65,7 +65,7 @@ tells_both a b c l m n first second = record {
 pub tells_one : (old new part : List ℕ) (before left : List (List ℕ)) → new ≡ old ++ part → before ≡ part ∷ left → Tells old new before left
 tells_one old new part before left pushed is = record { added = part; lines = part ∷ []; text = pushed; told = is; among = one_among part }
 
--- all lines were told
+-- all lines are written
 pub all_told : (text : List ℕ) (before : List (List ℕ)) → Tells [] text before [] → HasPartsInOrder before text
 all_told text before tells =
     subst (λ (l : List (List ℕ)). HasPartsInOrder l text) (sym (tells.told ∙ append-nil tells.lines)) (subst (HasPartsInOrder tells.lines) (sym tells.text) tells.among)

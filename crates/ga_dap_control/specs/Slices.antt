@@ -121,7 +121,7 @@ abbrev pub IsFirstNewlyDeadlocked : (ℕ → Bool) → (ℕ → Bool) → Debugg
 IsFirstNewlyDeadlocked known now p None = (n : ℕ) → n < 144 → is_newly_deadlocked known now p n ≡ false
 IsFirstNewlyDeadlocked known now p (Some node) = (is_newly_deadlocked known now p node.number ≡ true) × ((n : ℕ) → n < node.number → is_newly_deadlocked known now p n ≡ false)
 
--- the client is told only if the filter is on
+-- a message is sent only if the filter is on
 abbrev pub filtered_deadlock : Bool → Option NodeId → Option NodeId
 filtered_deadlock true stuck = stuck
 filtered_deadlock false stuck = None

@@ -30,7 +30,7 @@ abbrev pub no_race_line : Bool → Text
 no_race_line true = codes "every order ends on this chip\n"
 no_race_line false = codes "no other order, as long as no node makes more steps\n"
 
--- the last line if no node looks: about one node nothing is said of the whole; listed steps suffice
+-- the last line if no node looks: about one node it claims nothing of the whole; listed steps suffice
 abbrev pub other_orders_line : Option NodeId → List Race → Bool → Text
 other_orders_line None [] quiet = no_race_line quiet
 other_orders_line None (race ∷ races) quiet = []

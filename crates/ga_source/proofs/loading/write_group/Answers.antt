@@ -22,13 +22,13 @@ loop-i-init c =
 pub spot_after_item-spot-requires : goal.spot_after_item-spot-requires
 spot_after_item-spot-requires c =
     let l : c.loop-i.i < length c.args.group.now.items.items = search rules in
-    let few = subst (λ (list : List Item). length list ≤ 4) c.as_slice-items.ensures.value c.as_slice-items.ensures.item_fits in
+    let few = subst (λ (list : List Item). length list ≤ 4) c.as_slice-items.ensures.value c.as_slice-items.ensures.fits in
     slot_there c.args.node.now c.loop-i.node c.args.given.now c.loop-i.given c.args.labels.now c.args.group.now c.loop-i.spot c.loop-i.i c.loop-i.invariant.writing l few c.requires
 
 pub loop-i-preserved : goal.loop-i-preserved
 loop-i-preserved c =
     let l : c.loop-i.i < length c.args.group.now.items.items = search rules in
-    let few = subst (λ (list : List Item). length list ≤ 4) c.as_slice-items.ensures.value c.as_slice-items.ensures.item_fits in
+    let few = subst (λ (list : List Item). length list ≤ 4) c.as_slice-items.ensures.value c.as_slice-items.ensures.fits in
     let done = c.in_ok-write_item.ensures in
     record {
       writing = written_step c.args.node.now c.loop-i.node c.write_item.new.node c.args.given.now c.loop-i.given c.write_item.new.given c.args.labels.now c.args.group.now c.loop-i.spot c.spot_after_item-spot.result c.loop-i.i
@@ -52,6 +52,6 @@ pub returns-clause-loaded : goal.returns-clause-loaded
 returns-clause-loaded c =
     let all : length c.args.group.now.items.items ≤ c.loop-i.i = search rules in
     let some : 0 < length c.args.group.now.items.items = search rules in
-    let few = subst (λ (list : List Item). length list ≤ 4) c.as_slice-items.ensures.value c.as_slice-items.ensures.item_fits in
+    let few = subst (λ (list : List Item). length list ≤ 4) c.as_slice-items.ensures.value c.as_slice-items.ensures.fits in
     let whole : c.args.group.now.broken ≡ None = search rules in
     written_last c.args.node.now c.loop-i.node c.args.given.now c.loop-i.given c.args.labels.now c.args.group.now c.loop-i.spot c.loop-i.i c.loop-i.invariant.writing all some few c.requires whole
