@@ -6,7 +6,7 @@ use Rattle.ga_text.specs.Digits.{step_text}
 use Rattle.ga_event.specs.declared.made.Made.{Made}
 use Rattle.ga_event.specs.declared.made.Made.TheVariants.{Own, Pass}
 use Rattle.ga_display.specs.Texts.{kind_text}
-use Rattle.ga_state_ends.specs.Decisions.{Decision}
+use Rattle.ga_state_ends.specs.Decisions.{EndDecision}
 
 -- an event as an answer spells it, without the end of the line
 abbrev pub made_text : Made → Text
@@ -15,6 +15,6 @@ made_text (Pass writer writer_step reader reader_step word) =
     codes "pass " ++ step_text writer writer_step ++ codes " " ++ step_text reader reader_step ++ codes " " ++ hex6_of word
 
 -- the event that decides and the other, if there are such; else nothing
-abbrev pub decision_text : Option Decision → Text
-decision_text None = []
-decision_text (Some decision) = codes "  decided by " ++ made_text decision.0 ++ codes ", not " ++ made_text decision.1 ++ codes "\n"
+abbrev pub end_decision_text : Option EndDecision → Text
+end_decision_text None = []
+end_decision_text (Some decision) = codes "  decided by " ++ made_text decision.0 ++ codes ", not " ++ made_text decision.1 ++ codes "\n"

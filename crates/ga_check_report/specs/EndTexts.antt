@@ -6,11 +6,11 @@ use Rattle.ga_explorer_text.specs.Waiting.{name_text_of_node, texts_of_nodes}
 use Rattle.ga_state_search.specs.declared.fault.SearchFault.{SearchFault}
 use Rattle.ga_state_search.specs.declared.fault.SearchFault.TheVariants as fault
 use Rattle.ga_state_ends.specs.Ends.{EndSearchResult}
-use Rattle.ga_state_ends.specs.Decisions.{Decision}
+use Rattle.ga_state_ends.specs.Decisions.{EndDecision}
 use Rattle.ga_state_ends.specs.declared.end_kind.EndKind.{EndKind}
 use Rattle.ga_state_ends.specs.declared.end_kind.NodeEnd.{NodeEnd}
 use Rattle.ga_check_report.specs.declared.ends_text.CheckBounds.{CheckBounds}
-use Rattle.ga_check_report.specs.DecisionTexts.{decision_text}
+use Rattle.ga_check_report.specs.DecisionTexts.{end_decision_text}
 use Rattle.ga_check_report.specs.declared.end_nodes.EndPart.{EndPart}
 use Rattle.ga_check_report.specs.declared.end_nodes.EndPart.TheVariants.{Continuing, Reading, Writing}
 use Rattle.ga_state_ends.specs.declared.end_kind.NodeEnd.TheVariants.{KeepsRunning, Idle, Reads, Writes, Stopped}
@@ -121,11 +121,11 @@ abbrev pub end_kind_text : ℕ → EndKind → Text
 end_kind_text number kind = end_kind_line number (node_ends_text kind.nodes) kind.ends ++ unclean_line (unclean_names_text kind.unclean)
 
 -- the lines of a kind of end, and the line of what decides that it isn't clean
-abbrev pub decided_kind_text : ℕ → EndKind → Option Decision → Text
-decided_kind_text number kind decision = end_kind_text number kind ++ decision_text decision
+abbrev pub decided_kind_text : ℕ → EndKind → Option EndDecision → Text
+decided_kind_text number kind decision = end_kind_text number kind ++ end_decision_text decision
 
 -- the lines of the kinds from this place on, and of each what decides; the kinds are numbered from 1 on
-abbrev pub kinds_text : List (Option Decision) → ℕ → List EndKind → Text
+abbrev pub kinds_text : List (Option EndDecision) → ℕ → List EndKind → Text
 kinds_text decisions place [] = []
 kinds_text decisions place (kind ∷ kinds) =
     decided_kind_text (place + 1) kind (slice_index_or decisions place None) ++ kinds_text decisions (place + 1) kinds

@@ -4,13 +4,13 @@ ghost use Rattle.std.specs.Prelude.{◌≡◌, ◌≤◌, ◌+◌, ◌++◌};
 ghost use Rattle.arrayvec.specs.ArrayVec.{array_vec_len};
 ghost use Rattle.ga_event.specs.declared.made.Made.TheVariants.{Pass};
 ghost use Rattle.ga_display.specs.Texts.{kind_text};
-ghost use Rattle.ga_check_report.specs.DecisionTexts.{made_text, decision_text};
+ghost use Rattle.ga_check_report.specs.DecisionTexts.{made_text, end_decision_text};
 
 use arrayvec::ArrayVec;
 use ga_event::Made;
 use ga_grid::NodeId;
 use ga_node::OwnEventKind;
-use ga_state_ends::Decision;
+use ga_state_ends::EndDecision;
 use ga_text::{
     MAX_NUMBER_DIGITS, MAX_STEP_BYTES, TextBuffer, hex2, push_number, push_spaced_word, push_step,
     push_text,
@@ -25,8 +25,8 @@ const MADE_ROOM: usize =
     b"pass ".len() + MAX_STEP_BYTES + b" ".len() + MAX_STEP_BYTES + b" 03ffff".len();
 
 /// The line of what decides, if something does.
-pub(crate) fn decision_line(decision: Option<Decision>) -> TextBuffer
-    ensures { result.items ≡ decision_text decision }
+pub(crate) fn decision_line(decision: Option<EndDecision>) -> TextBuffer
+    ensures { result.items ≡ end_decision_text decision }
 {
     let mut out = ArrayVec::new();
     if let Some((taken, other)) = decision {

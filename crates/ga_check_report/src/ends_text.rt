@@ -9,7 +9,7 @@ ghost use Rattle.ga_check_report.specs.EndTexts.{stopped_nodes_text, part_names_
 use crate::decision_text::decision_line;
 use crate::end_nodes::{EndPart, NAMES_ROOM, STOPS_ROOM, nodes_of, stops_among, unclean_among};
 use arrayvec::ArrayVec;
-use ga_state_ends::{Decision, EndKind, FoundEnds, NodeEnd};
+use ga_state_ends::{EndDecision, EndKind, FoundEnds, NodeEnd};
 use ga_state_search::SearchFault;
 use ga_text::{MAX_NUMBER_DIGITS, TextBuffer, WriteResult, Writer, push_number, push_text};
 use std::io::Write;
@@ -235,7 +235,7 @@ fn write_kinds<W: Write>(
 fn write_decided_kind<W: Write>(
     number: u64,
     kind: &EndKind,
-    decision: Option<Decision>,
+    decision: Option<EndDecision>,
     writer: &mut Writer<'_, W>,
 ) -> WriteResult
     ensures { WritesExactly result (decided_kind_text number kind.now decision) W.contents writer.old writer.new }
