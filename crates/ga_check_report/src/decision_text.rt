@@ -21,8 +21,11 @@ use ga_word::Word18;
 const KIND_ROOM: usize = b" stop ".len() + MAX_NUMBER_DIGITS;
 
 /// The maximum number of bytes of an event.
-const MADE_ROOM: usize =
-    b"pass ".len() + MAX_STEP_BYTES + b" ".len() + MAX_STEP_BYTES + b" 03ffff".len();
+const MADE_ROOM: usize = b"pass ".len()
+    + MAX_STEP_BYTES
+    + b" ".len()
+    + MAX_STEP_BYTES
+    + b" 03ffff".len();
 
 /// The line of what decides, if something does.
 pub(crate) fn decision_line(decision: Option<EndDecision>) -> TextBuffer
@@ -61,12 +64,7 @@ fn push_made(out: &mut TextBuffer, made: Made)
 }
 
 /// Adds a pass, by both of its steps and the word.
-fn push_pass(
-    out: &mut TextBuffer,
-    writer: (NodeId, u32),
-    reader: (NodeId, u32),
-    word: Word18,
-)
+fn push_pass(out: &mut TextBuffer, writer: (NodeId, u32), reader: (NodeId, u32), word: Word18)
     requires { array_vec_len out.old + MADE_ROOM ≤ 256 }
     ensures text { out.new.items ≡ out.old.items ++ made_text (Pass writer.0 writer.1 reader.0 reader.1 word) }
     ensures len { array_vec_len out.new ≤ array_vec_len out.old + MADE_ROOM }
