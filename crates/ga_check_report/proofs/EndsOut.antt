@@ -1,4 +1,4 @@
--- What was told of ends, under other names and one kind more.
+-- The text about ends, under other names and one kind more.
 use Rattle.std.proofs.Common.{◌≡◌, ℕ, ◌+◌, ◌<◌, List, ◌++◌, length, get_or, drop, Option, None, sym, ◌∙◌, ap, subst}
 use Rattle.std.proofs.lemmas.List.{drop_more}
 use Rattle.ga_state_ends.specs.Decisions.{EndDecision}

@@ -1,4 +1,4 @@
--- What `ga144 check` may write, and how it may end (docs/REFERENCE.md, "Every order"; this project's own). What is told are the ends of all
+-- What `ga144 check` may write, and how it may end (docs/REFERENCE.md, "Every order"; this project's own). The text has the ends of all
 -- interleavings of the nodes, found by a selective search of states (Godefroid, "Partial-Order Methods for the Verification of Concurrent
 -- Systems", 1996).
 use Rattle.std.specs.Prelude.{◌≡◌, ℕ, ◌-◌, ◌<◌, ◌⊎◌, Bool, if◌then◌else◌, List, ◌++◌, length, slice_get, Some, None}
@@ -50,13 +50,13 @@ pub record HasReachedEndKind (found : EndSearchResult) (asked : ℕ) (old new : 
   pub made : HasAppendedEvents old events new
   pub there : slice_get found.searched.chips kind.state ≡ Some (chip_of new)
 
--- ---- what is told
+-- ---- the text
 
 -- a text was written whole, or that failed
 abbrev pub IsReportOutput : Text → Verdict → Text → Verdict → Type 0
 IsReportOutput whole verdict text end = ((text ≡ whole) × (end ≡ verdict)) ⊎ (TextHasPrefix whole text × (end ≡ Ended StreamFault))
 
--- What is told of a machine: the kinds of its ends; or the session of one that is asked for by its number; or that there is no such kind; or
+-- The text about a machine: the kinds of its ends; or the session of one that is named by its number; or that there is no such kind; or
 -- that there was no memory; or that the machine keeps fewer events than the session has.
 pub data WritesEndsReport (bounds : CheckBounds) (asked : ℕ) (s : State) (text : Text) (verdict : Verdict) : Type 0 where
   all : (found : EndSearchResult) → AreEndsOfChip (chip_of s) found → asked ≡ 0 → IsReportOutput (ends_text bounds found) (verdict_of found) text verdict
@@ -68,7 +68,7 @@ pub data WritesEndsReport (bounds : CheckBounds) (asked : ℕ) (s : State) (text
   no_memory : IsReportOutput (refusal_text fault.Memory) (Ended ImageRefused) text verdict → WritesEndsReport bounds asked s text verdict
   too_long : 0 < asked → IsReportOutput (refusal_text fault.Full) (Ended ImageRefused) text verdict → WritesEndsReport bounds asked s text verdict
 
--- An image or source was accepted, and the ends of its machine were told, from where it had come to rest if it was to. Nothing is done with
+-- An image or source was accepted, and the ends of its machine were written, from where its idle nodes waited if they were to. Nothing is done with
 -- what was read after it.
 pub record IsCheckOfProgram (bounds : CheckBounds) (limit : ℕ) (settles : Bool) (asked : ℕ) (read rest : Bytes) (written : Text) (verdict : Verdict) : Type 0 where
   pub text : Text

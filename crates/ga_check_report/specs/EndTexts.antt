@@ -132,7 +132,7 @@ kinds_text decisions place (kind ∷ kinds) =
 
 -- ---- the whole answer
 
--- so many of a thing
+-- a number of things
 abbrev pub counted_noun_text : ℕ → Text → Text
 counted_noun_text n thing = decimal n ++ thing ++ (if n == 1 then [] else codes "s")
 
@@ -178,7 +178,7 @@ ends_report_text bounds found kinds =
 abbrev pub ends_text : CheckBounds → EndSearchResult → Text
 ends_text bounds found = ends_report_text bounds found found.kinds
 
--- there is no kind of end of this number: there are so many, or at least as many
+-- there is no kind of end of this number: there are as many as were found, or at least as many
 abbrev pub missing_kind_text : ℕ → EndSearchResult → Text
 missing_kind_text asked found =
     codes "no kind " ++ decimal asked ++ codes ": there are " ++ at_least_text (is_fully_explored found.fault) ++ decimal (length found.kinds) ++ codes "\n"

@@ -35,6 +35,6 @@ settled_below s (suc n) = settled_at_node (settled_below s n) (node_id n)
 unfoldable pub settled : State → State
 settled s = settled_below s 144
 
--- the machine from which orders are told, by whether it is to come to rest first
+-- the machine from which the search begins, by whether its idle nodes wait first
 abbrev pub check_start : Bool → State → State
 check_start settles s = if settles then settled s else s

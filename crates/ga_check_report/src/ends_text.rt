@@ -19,7 +19,7 @@ use std::io::Write;
 pub struct CheckBounds {
     /// The maximum number of states.
     pub most: u32,
-    /// The maximum number of seconds, if the search is to be stopped then. The caller stops it; the text tells it.
+    /// The maximum number of seconds, if the search is to be stopped then. The caller stops it; the text names it.
     pub seconds: u32,
 }
 

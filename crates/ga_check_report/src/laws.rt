@@ -14,25 +14,25 @@ ghost use Rattle.ga_check_report.specs.Checking.{WritesEndsReport, HasAppendedEv
 ghost use Rattle.ga_check_report.specs.declared.ends_text.CheckBounds.{CheckBounds};
 ghost use Rattle.ga_check_report.specs.declared.report.Verdict.TheVariants.{Clean, Unclean, Saved};
 
-/// Where the verdict is `Clean`, each state was explored, each kind of end is told, and each is clean.
+/// Where the verdict is `Clean`, each state was explored, each kind of end is written, and each is clean.
 pub fn clean_verdict_sound()
     ensures { (bounds : CheckBounds) (asked : ℕ) (s : State) (text : Text) → WritesEndsReport bounds asked s text Clean →
         (found : EndSearchResult) × AreEndsOfChip (chip_of s) found × (found.fault ≡ None) × (list_any is_unclean found.kinds ≡ false) × (text ≡ ends_text bounds found) }
 {}
 
-/// Where the verdict is `Unclean`, an end that isn't clean is told.
+/// Where the verdict is `Unclean`, an end that isn't clean is written.
 pub fn unclean_verdict_sound()
     ensures { (bounds : CheckBounds) (asked : ℕ) (s : State) (text : Text) → WritesEndsReport bounds asked s text Unclean →
         (found : EndSearchResult) × AreEndsOfChip (chip_of s) found × (list_any is_unclean found.kinds ≡ true) × (text ≡ ends_text bounds found) }
 {}
 
-/// Where the verdict is `Saved`, the session that is told leads to an end of the kind that was asked for.
+/// Where the verdict is `Saved`, the session that is written leads to an end of the kind that was asked for.
 pub fn session_leads_to_end()
     ensures { (bounds : CheckBounds) (asked : ℕ) (s : State) (text : Text) → WritesEndsReport bounds asked s text Saved →
         (found : EndSearchResult) × (last : State) × AreEndsOfChip (chip_of s) found × HasReachedEndKind found asked s last × (text ≡ saved_text last) }
 {}
 
-/// A machine that has come to rest keeps some events more, and else is as it was. So what is told from there is told of the program: a list of
+/// A machine that has come to rest keeps some events more, and else is as it was. So what holds from there holds of the program: a list of
 /// events from there is one, after those, from the machine before.
 pub fn settling_appends_events()
     ensures { (s : State) → replay s.load s.kept ≡ Some (chip_of s) → (waits : List Event) × HasAppendedEvents s waits (settled s)

@@ -1,4 +1,4 @@
-//! The ends of a program, and what is told of them.
+//! The ends of a program, and the text about them.
 
 ghost use Rattle.std.specs.Prelude.{◌≡◌, ◌≤◌, ◌<◌, ◌⊎◌, ◌++◌, true, false, Some, length, OnOk, IfErr};
 ghost use Rattle.std.specs.List.{list_any};
@@ -41,12 +41,12 @@ pub enum Verdict {
     Unknown,
     /// The session of a kind of end was written.
     Saved,
-    /// No ends were told, or a write failed.
+    /// No ends were written, or a write failed.
     Ended(Status),
 }
 
 /// Reads an image or source, as `explore` does, and nothing after its line `end`. Writes the kinds of its ends, whatever the order in which its
-/// nodes run; or, if a kind is asked for by its number, from 1 on, the lines `step NNN` that lead to the first of its ends. Stores at most
+/// nodes run; or, if a kind is named by its number, from 1 on, the lines `step NNN` that lead to the first of its ends. Stores at most
 /// `bounds.most` states; a session has at most `limit` events. With `settles` each node whose first event is to wait for code makes it
 /// before all else, in the order of their numbers, as on a real chip; a session has these steps first. The fault of a source is written to
 /// `errors`, a refused image and want of memory to `writer`. While it searches, `watch` has the number of states, and stops it.
@@ -212,7 +212,7 @@ fn tell_saved<W: Write>(lab: &Lab, writer: &mut W) -> Verdict
     sent(said, Verdict::Saved, &mut out)
 }
 
-/// Tells why nothing else is told.
+/// Writes why no ends are written.
 fn tell_refused<W: Write>(fault: LabFault, writer: &mut W) -> Verdict
     ensures { WritesText (λ text. IsReportOutput (refusal_text fault) (Ended ImageRefused) text result)
         (W.contents writer.old) (W.contents writer.new) }
@@ -257,7 +257,7 @@ fn has_unclean(kinds: &[EndKind]) -> bool
     kinds.iter().any(|kind| kind.is_unclean())
 }
 
-/// The verdict where no kind of end has the number that is asked for.
+/// The verdict where no kind of end has the number in question.
 fn missing_kind_verdict(found: &FoundEnds) -> Verdict
     ensures { result ≡ missing_kind_verdict found.now }
 {

@@ -1,4 +1,4 @@
--- A text that is said part by part.
+-- A text that is written part by part.
 use Rattle.std.proofs.Common.{◌≡◌, [], ◌++◌, Option, Result, Ok, Err, subst, ap, sym, ◌∙◌, append_assoc, refl}
 use Rattle.std.specs.Prelude.{IsErr}
 use Rattle.std.proofs.lemmas.List.{append-nil}
