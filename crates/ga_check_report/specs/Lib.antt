@@ -1,3 +1,5 @@
 pub mod EndTexts
 pub mod Settled
 pub mod Checking
+pub mod NeverTexts
+pub mod Never

@@ -1,0 +1,5 @@
+pub mod Between
+pub mod Local
+pub mod First
+pub mod Finding
+pub mod Whole

@@ -1,0 +1,115 @@
+//! What is looked for in the states of a program, as text.
+
+ghost use Rattle.std.specs.Prelude.{◌≡◌, ◌≤◌, ◌+◌, length, codes, Ok};
+ghost use Rattle.std.specs.Result.{map_ok};
+ghost use Rattle.arrayvec.specs.ArrayVec.{array_vec_len};
+ghost use Rattle.ga_state_conditions.specs.Asked.{uncounting_condition, stuck_condition, state_condition_in, state_conditions_within, state_conditions_in};
+ghost use Rattle.ga_state_conditions.specs.inner.{AddsConditions};
+
+use crate::condition::{StateCondition, counts_steps, counts_words};
+use arrayvec::ArrayVec;
+use ga_conditions::{parse_run_condition, split_first_condition};
+use ga_debug_info::DebugInfo;
+use ga_grid::NodeId;
+use ga_scheduler::{Condition, MAX_CONDITIONS};
+use ga_text::{parse_node, split_at_space};
+
+/// Why a text gives no conditions.
+#[derive(Clone, Copy, PartialEq, Eq, Debug)]
+pub enum ConditionFault {
+    /// It has another form.
+    Syntax,
+    /// A condition depends on how many steps a node made, which a state doesn't have.
+    CountsSteps,
+    /// A condition depends on how many words were transferred over a link.
+    CountsWords,
+    /// There are more than [`MAX_CONDITIONS`].
+    TooMany,
+}
+
+/// Some conditions.
+pub type StateConditions = ArrayVec<StateCondition, MAX_CONDITIONS>;
+
+/// A condition of a run, unless it counts.
+fn uncounting_condition(condition: Option<Condition>) -> Result<StateCondition, ConditionFault>
+    ensures { result ≡ uncounting_condition condition }
+{
+    match condition {
+        Some(condition) => {
+            if counts_steps(&condition) {
+                Err(ConditionFault::CountsSteps)
+            } else if counts_words(&condition) {
+                Err(ConditionFault::CountsWords)
+            } else {
+                Ok(StateCondition::After(condition))
+            }
+        }
+        None => Err(ConditionFault::Syntax),
+    }
+}
+
+/// The node that is to be stuck.
+fn stuck_condition(node: Option<NodeId>) -> Result<StateCondition, ConditionFault>
+    ensures { result ≡ stuck_condition node }
+{
+    match node {
+        Some(node) => Ok(StateCondition::Stuck(node)),
+        None => Err(ConditionFault::Syntax),
+    }
+}
+
+/// The condition that a text spells.
+fn parse_state_condition(
+    notes: &Option<DebugInfo>,
+    text: &[u8],
+) -> Result<StateCondition, ConditionFault>
+    ensures { result ≡ state_condition_in notes.now text.now }
+{
+    match split_at_space(text) {
+        Some((name, rest)) => {
+            if name == b"stuck".as_slice() {
+                stuck_condition(parse_node(rest))
+            } else {
+                uncounting_condition(parse_run_condition(notes, text))
+            }
+        }
+        None => uncounting_condition(parse_run_condition(notes, text)),
+    }
+}
+
+/// Adds the conditions that a text spells, at most this number.
+fn add_conditions(
+    notes: &Option<DebugInfo>,
+    text: &[u8],
+    most: u32,
+    conditions: &mut StateConditions,
+) -> Result<(), ConditionFault>
+    requires room { array_vec_len conditions.old + most ≤ 8 }
+    ensures { AddsConditions (state_conditions_within notes.now most text.now) conditions.old.items conditions.new.items result }
+{
+    if most == 0 {
+        return Err(ConditionFault::TooMany);
+    }
+    let (first, others) = split_first_condition(text);
+    conditions.push(parse_state_condition(notes, first)?);
+    match others {
+        None => Ok(()),
+        Some(others) => add_conditions(notes, others, most - 1, conditions),
+    }
+}
+
+/// The conditions that a text spells, with ` or ` between them.
+///
+/// # Errors
+/// The first fault.
+pub fn parse_state_conditions(
+    notes: &Option<DebugInfo>,
+    text: &[u8],
+) -> Result<StateConditions, ConditionFault>
+    ensures conditions { map_ok (λ (parsed : ArrayVec StateCondition). parsed.items) result ≡ state_conditions_in notes.now text.now }
+    ensures few { IfOk result (λ parsed. length parsed.items ≤ 8) }
+{
+    let mut conditions = ArrayVec::new();
+    add_conditions(notes, text, MAX_CONDITIONS as u32, &mut conditions)?;
+    Ok(conditions)
+}
