@@ -2,14 +2,13 @@
 
 // Events in the order of their depth: 1 behind the deepest of the events before it on its nodes. For drawing alone.
 function placed(events) {
-  const depth = {}, xs = new Uint32Array(events.length);
+  const depth = new Uint32Array(NODES.length), xs = new Uint32Array(events.length);
   let deepest = 0;
-  events.forEach((event, at) => {
-    let x = 0;
-    for (const [n] of event.ends) x = Math.max(x, depth[n] || 0);
-    for (const [n] of event.ends) depth[n] = x + 1;
-    xs[at] = x + 1;
-    deepest = Math.max(deepest, x + 1);
+  events.forEach(({ one, other, pass }, at) => {
+    const x = 1 + (pass ? Math.max(depth[one], depth[other]) : depth[one]);
+    depth[one] = xs[at] = x;
+    if (pass) depth[other] = x;
+    if (x > deepest) deepest = x;
   });
   // In one walk, since all depths are small numbers.
   const starts = new Uint32Array(deepest + 2), order = new Uint32Array(events.length);
@@ -22,6 +21,13 @@ function placed(events) {
 // A column from afar, in points; and a number in four letters at most.
 const COLUMN = 44;
 function brief(count) { return count < 10000 ? `${count}` : count < 1e6 ? `${Math.round(count / 1000)}k` : `${Math.round(count / 1e6)}M`; }
+
+// An empty canvas of a size. A new size is a new bitmap.
+function sized(canvas, width, height) {
+  const g = canvas.getContext("2d");
+  if (canvas.width === width && canvas.height === height) g.reset(); else { canvas.width = width; canvas.height = height; }
+  return g;
+}
 
 class Picture {
   constructor(canvas) { this.canvas = canvas; this.from = 0; this.wide = 60; this.set([], []); }
@@ -47,8 +53,8 @@ class Picture {
   draw(marks, chosen, selected, races = []) {
     const { canvas } = this, ratio = window.devicePixelRatio || 1, width = canvas.clientWidth, many = this.names.length;
     const height = Math.max(canvas.parentElement.clientHeight || 120, 16 + many * (many > 30 ? 9 : 16));
-    canvas.style.height = height + "px"; canvas.width = width * ratio; canvas.height = height * ratio;
-    const g = canvas.getContext("2d"), style = getComputedStyle(document.documentElement), colour = name => style.getPropertyValue("--" + name).trim();
+    canvas.style.height = height + "px";
+    const g = sized(canvas, Math.floor(width * ratio), Math.floor(height * ratio)), style = getComputedStyle(document.documentElement), colour = name => style.getPropertyValue("--" + name).trim();
     g.scale(ratio, ratio); g.textBaseline = "middle"; g.font = "10px DejaVu Sans Mono, monospace";
     const left = 34, row = Math.min(40, (height - 12) / Math.max(1, many)), unit = (width - left) / this.wide;
     const colours = [colour("dim"), colour("past"), colour("goes")], back = this.back = colour("card"), text = colour("text"), pick = colour("pick");
@@ -131,18 +137,25 @@ class Picture {
     g.textAlign = "left";
   }
 
-  // What draw_far tells, of the events of a part of the order.
+  // What draw_far tells, of the events of a part of the order: column by column, since the order is by depth.
   summed(marks, from, upto, line, unit) {
-    const nodes = new Map(), links = new Map(), at = (map, key, make) => { let it = map.get(key); if (!it) map.set(key, it = make()); return it; };
+    const nodes = [], links = [], drawn = NAMES.map(n => n in line);
+    let column = -1, told = null;
     for (let i = from; i < upto; i++) {
-      const place = this.order[i], { ends, pass, label } = this.events[place], kind = marks ? marks[place] : 0, column = Math.floor(Math.max(0, this.xs[place] - this.from) * unit / COLUMN);
-      if (!(ends[0][0] in line)) continue;
-      const [[one], [other] = []] = ends, it = pass ? at(links, `${column} ${one} ${other}`, () => ({ column, one, other, count: 0, kind: 0, shift: NUMBER[one] + 2 * (one > other) }))
-        : at(nodes, `${column} ${one}`, () => ({ column, name: one, own: 0, waits: 0, stop: 0, kind: 0 }));
-      it.kind = Math.max(it.kind, kind);
+      const place = this.order[i], event = this.events[place], { one, other, pass, label } = event, kind = marks ? marks[place] : 0, now = Math.floor(Math.max(0, this.xs[place] - this.from) * unit / COLUMN);
+      if (!drawn[one]) continue;
+      if (now !== column) { column = now; told = new Map(); }
+      const key = one * 256 + other;
+      let it = told.get(key);
+      if (!it) {
+        if (pass) links.push(it = { column, one: NAMES[one], other: NAMES[other], count: 0, kind: 0, shift: one + 2 * (one > other) });
+        else nodes.push(it = { column, name: NAMES[one], own: 0, waits: 0, stop: 0, kind: 0 });
+        told.set(key, it);
+      }
+      if (kind > it.kind) it.kind = kind;
       if (pass) it.count++; else if (label === "wait") it.waits++; else if (label.startsWith("stop")) it.stop++; else it.own++;
     }
-    return { nodes: [...nodes.values()], links: [...links.values()] };
+    return { nodes, links };
   }
 
   draw_pick(g, chosen, line, left, unit, pick) {
