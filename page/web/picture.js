@@ -35,12 +35,14 @@ class Picture {
   set(events, names) { this.was_whole = this.from === 0 && this.wide >= this.deepest; this.events = events; this.names = names; Object.assign(this, placed(events)); }
   show(x) { if (x < this.from + 2 || x > this.from + this.wide - 2) this.from = Math.max(0, x - this.wide * .8); }
   zoom(by, around = .5) {
-    const wide = Math.max(8, Math.min(this.wide * by, Math.max(30, this.deepest + 4)));
+    const wide = Math.max(8, Math.min(this.wide * by, this.whole(30)));
     this.from = Math.max(0, this.from + (this.wide - wide) * around); this.wide = wide;
   }
   // The beginning, so that its events can be told apart; and all of it.
   begin() { this.from = 0; this.wide = Math.max(this.events.length ? 16 : 30, Math.min(this.deepest + 4, this.canvas.clientWidth / 9)); }
-  fit() { this.from = 0; this.wide = Math.max(16, this.deepest + 4); }
+  fit() { this.from = 0; this.wide = this.whole(16); }
+  // All events, and room for the frame round the last.
+  whole(least) { return Math.max(least, this.deepest * 1.02 + 4); }
   move(part) { this.from = Math.max(0, Math.min(this.from + part * this.wide, this.deepest - this.wide / 2)); }
 
   // The first place in the order whose depth is at least x.
