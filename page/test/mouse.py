@@ -38,6 +38,8 @@ def to_the_cause(browser, ready, check):
     for at in clicks:
         browser.click(at)
     check(browser.run(NOW) == cause and len(clicks) <= 4, f"the cause of fault.f18: {browser.run(NOW)} after {len(clicks)} clicks")
+    note = browser.run("return find('chipnote').textContent")
+    check(note == "as it would be: 12 events of 2 nodes gone, from 000 7, 001 5", f"what a rollback of the cause would remove: {note}")
     pasted = "\\ A program of one's own.\n" + FAULT.replace("001", "003").replace("000", "002").replace("200", "202")
     browser.run(f"const text = new DataTransfer(); text.setData('text', {json.dumps(pasted)}); document.body.dispatchEvent(new ClipboardEvent('paste', {{ clipboardData: text, bubbles: true }}))")
     clicks = [button("reach"), LAST_STEP, button("whence"), link("002 7")]
