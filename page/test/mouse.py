@@ -7,7 +7,7 @@ TOP = os.path.dirname(os.path.dirname(os.path.dirname(os.path.abspath(__file__))
 with open(f"{TOP}/examples/fault.f18") as it:
     FAULT = it.read()
 MOST_MS, MOST_RUNS = 400, 12
-MOST_MS_EACH, MOST_RUNS_EACH = 1500, 60
+MOST_MS_EACH, MOST_RUNS_EACH = 3000, 100
 
 LAST_STEP = "[...document.querySelectorAll('#trace .step')].at(-1)"
 NOW = "return [page.chosen, (document.querySelector('#source .picked') || { textContent: '' }).textContent, find('take').textContent]"
