@@ -18,7 +18,7 @@ function placed(events) {
   return { xs, order, deepest: Math.max(1, deepest) };
 }
 
-// A column from afar, in points; and a number in four letters at most.
+// A column from afar is as many points wide or some more, so that the last is whole; and a number in four letters at most.
 const COLUMN = 44;
 function brief(count) { return count < 10000 ? `${count}` : count < 1e6 ? `${Math.round(count / 1000)}k` : `${Math.round(count / 1e6)}M`; }
 
@@ -42,7 +42,7 @@ class Picture {
   begin() { this.from = 0; this.wide = Math.max(this.events.length ? 16 : 30, Math.min(this.deepest + 4, this.canvas.clientWidth / 9)); }
   fit() { this.from = 0; this.wide = this.whole(16); }
   // All events, and room for the frame round the last.
-  whole(least) { return Math.max(least, this.deepest * 1.02 + 4); }
+  whole(least) { return Math.max(least, this.deepest * (1 + 12 / Math.max(100, this.canvas.clientWidth - 34)) + 4); }
   move(part) { this.from = Math.max(0, Math.min(this.from + part * this.wide, this.deepest - this.wide / 2)); }
 
   // The first place in the order whose depth is at least x.
@@ -65,7 +65,7 @@ class Picture {
       g.strokeStyle = colour("line"); g.lineWidth = 1; g.beginPath(); g.moveTo(left, line[n]); g.lineTo(width, line[n]); g.stroke();
       if (row > 8) { g.fillStyle = n === selected ? pick : colours[0]; g.fillText(n, 6, line[n]); }
     }
-    this.spots = []; this.turns = [];
+    this.spots = []; this.turns = []; this.column = (width - left) / Math.max(1, Math.floor((width - left) / COLUMN));
     const from = this.first_at(this.from), upto = this.first_at(this.from + this.wide + 1), labels = [], dots = [];
     const over = () => { this.draw_races(g, races, line, left, width, unit, colour("race"), pick); if (chosen) this.draw_pick(g, chosen, line, left, unit, pick); };
     this.far = unit < 2;
@@ -119,10 +119,10 @@ class Picture {
   // From afar the picture is cut into columns, and each tells what is in it: of a node how many steps of its own, whether it came to
   // wait, and a stop; of two nodes how many words went from one to the other. What has most weight gives the colour.
   draw_far(g, marks, from, upto, line, left, unit, colours) {
-    const { nodes, links } = this.summed(marks, from, upto, line, unit), across = column => left + column * COLUMN, busy = this.names.length && Math.abs(line[this.names[0]] - line[this.names[1] || this.names[0]]) || 22;
+    const { nodes, links } = this.summed(marks, from, upto, line, unit), { column: wide } = this, across = column => left + column * wide, busy = this.names.length && Math.abs(line[this.names[0]] - line[this.names[1] || this.names[0]]) || 22;
     g.textAlign = "center"; g.font = "9px DejaVu Sans Mono, monospace";
     for (const { column, one, other, count, kind, shift } of links) {
-      const x = across(column) + COLUMN * (.25 + .18 * (shift % 4)), way = Math.sign(line[other] - line[one]);
+      const x = across(column) + wide * (.25 + .18 * (shift % 4)), way = Math.sign(line[other] - line[one]);
       g.strokeStyle = g.fillStyle = colours[kind]; g.lineWidth = kind ? 2 : 1; g.beginPath();
       g.moveTo(x, line[one] + 5 * way); g.lineTo(x, line[other] - 5 * way); g.stroke();
       g.beginPath(); g.moveTo(x, line[other] - 4 * way); g.lineTo(x - 3, line[other] - 9 * way); g.lineTo(x + 3, line[other] - 9 * way); g.fill();
@@ -131,10 +131,10 @@ class Picture {
     for (const { column, name, own, waits, stop, kind } of nodes) {
       const x = across(column), y = line[name];
       g.strokeStyle = g.fillStyle = colours[kind]; g.lineWidth = 1;
-      if (own) g.fillRect(x + 1, y - 1, COLUMN - 2, 2);
-      if (own && busy > 11) lettered(g, brief(own), x + COLUMN / 2 - 4, y, colours[kind], this.back);
-      if (waits) { g.fillStyle = this.back; g.fillRect(x + COLUMN - 10, y - 3, 8, 6); g.strokeStyle = colours[kind]; shape(g, 0, x + COLUMN - 6, y, 4, true); g.fillStyle = colours[kind]; }
-      if (stop) g.fillRect(x + COLUMN - 7, y - 4, 8, 8);
+      if (own) g.fillRect(x + 1, y - 1, wide - 2, 2);
+      if (own && busy > 11) lettered(g, brief(own), x + wide / 2 - 4, y, colours[kind], this.back);
+      if (waits) { g.fillStyle = this.back; g.fillRect(x + wide - 10, y - 3, 8, 6); g.strokeStyle = colours[kind]; shape(g, 0, x + wide - 6, y, 4, true); g.fillStyle = colours[kind]; }
+      if (stop) g.fillRect(x + wide - 7, y - 4, 8, 8);
     }
     g.textAlign = "left";
   }
@@ -144,7 +144,7 @@ class Picture {
     const nodes = [], links = [], drawn = NAMES.map(n => n in line);
     let column = -1, told = null;
     for (let i = from; i < upto; i++) {
-      const place = this.order[i], event = this.events[place], { one, other, pass, label } = event, kind = marks ? marks[place] : 0, now = Math.floor(Math.max(0, this.xs[place] - this.from) * unit / COLUMN);
+      const place = this.order[i], event = this.events[place], { one, other, pass, label } = event, kind = marks ? marks[place] : 0, now = Math.floor(Math.max(0, this.xs[place] - this.from) * unit / this.column);
       if (!drawn[one]) continue;
       if (now !== column) { column = now; told = new Map(); }
       const key = one * 256 + other;
