@@ -7,6 +7,7 @@ TOP = os.path.dirname(os.path.dirname(os.path.dirname(os.path.abspath(__file__))
 with open(f"{TOP}/examples/fault.f18") as it:
     FAULT = it.read()
 MOST_MS, MOST_RUNS = 400, 12
+MOST_MS_EACH, MOST_RUNS_EACH = 3000, 100
 
 LAST_STEP = "[...document.querySelectorAll('#trace .step')].at(-1)"
 NOW = "return [page.chosen, (document.querySelector('#source .picked') || { textContent: '' }).textContent, find('take').textContent]"
@@ -37,6 +38,8 @@ def to_the_cause(browser, ready, check):
     for at in clicks:
         browser.click(at)
     check(browser.run(NOW) == cause and len(clicks) <= 4, f"the cause of fault.f18: {browser.run(NOW)} after {len(clicks)} clicks")
+    note = browser.run("return find('chipnote').textContent")
+    check(note == "as it would be: 12 events of 2 nodes gone, from 000 7, 001 5", f"what a rollback of the cause would remove: {note}")
     pasted = "\\ A program of one's own.\n" + FAULT.replace("001", "003").replace("000", "002").replace("200", "202")
     browser.run(f"const text = new DataTransfer(); text.setData('text', {json.dumps(pasted)}); document.body.dispatchEvent(new ClipboardEvent('paste', {{ clipboardData: text, bubbles: true }}))")
     clicks = [button("reach"), LAST_STEP, button("whence"), link("002 7")]
@@ -76,9 +79,24 @@ def image(browser, ready, check):
     check(browser.run(NOW)[:2] == [["000", 7], "2*"], f"a slot of an image: {browser.run(NOW)}")
 
 
+# Follows each link of the log, and compares what is chosen, selected or marked then with the link's text.
+EACH_LINK = """
+const wrong = [], links = [...document.querySelectorAll("#log a")];
+for (const it of links) {
+  const { step, node, line } = JSON.parse(it.dataset.go), text = it.textContent, before = page.session.text;
+  page.forget(); page.draw();
+  it.click();
+  const row = document.querySelector("#source .marked, #source .picked"), marked = row && +row.closest(".line").querySelector(".number").textContent;
+  const right = step ? text === step.join(" ") && page.chosen.join(" ") === text && page.selected === step[0] : node ? text === node && page.selected === node : marked === line && text.split(/[ :]/).includes(String(line));
+  if (!right || page.session.text !== before) wrong.push([text, page.chosen, page.selected, marked]);
+}
+return [links.length, wrong];
+"""
+
+
 def links(browser, ready, check):
     ready()
-    browser.run("page.command('why 000 7 001 10'); page.command('who'); page.command('effects 000 7'); page.command('words 000 001'); page.command('at 001 5 1')")
+    browser.run("page.command('why 000 7 001 10'); page.command('who'); page.command('effects 000 7'); page.command('words 000 001'); page.command('at 001 5 1'); page.command('because 001 10 5'); page.command('writes 001 00'); page.command('whence 001 10')")
     parts = browser.run("return [...document.querySelectorAll('#log a')].map(it => it.dataset.go)")
     wanted = {'{"step":["000",9]}', '{"step":["001",5]}', '{"node":"000"}', '{"node":"001"}', '{"line":6,"column":0}', '{"step":["000",7]}'}
     check(wanted <= set(parts), f"links: {parts}")
@@ -89,6 +107,8 @@ def links(browser, ready, check):
     check(browser.run(NOW) == [["000", 9], "!b", "take back 000 9: 10 events"], f"a link to a step, twice: {browser.run(NOW)}")
     browser.click(link("000 main 6"))
     check(browser.run("return (document.querySelector('#source .marked') || {}).textContent") == "6: main right b! @b a! 7 !", "a link to a line")
+    led = browser.run(EACH_LINK)
+    check(led[0] > 30 and not led[1], f"links that lead elsewhere: {led}")
     # Numbers in the first line of an answer are no steps.
     heads = browser.run("return ['kept 107 made 115 limit 1000000', 'removed 12 kept 103', 'idle 117', 'chain 100', 'made 101', 'mem 001 10 000000'].map(it => parts_of('x', it).filter(it => it.step).length)")
     check(heads == [0] * 6, f"numbers that are no steps: {heads}")
@@ -134,6 +154,22 @@ def queries(browser, ready, check):
     browser.click(button("races"))
     check(browser.run("return [...find('racing').children].map(it => it.textContent).join() === page.session.ask(['races'])[0].slice(1).join()"), "the races by button")
     browser.click(button("races"))
+
+
+def ends(browser, ready, check):
+    """The button `check` shows each kind of end; its session is a link, and `redo` leads back."""
+    with open(f"{TOP}/examples/first_come.f18") as it:
+        browser.run(f"page.open({json.dumps(it.read())}); page.command('run 9')")
+    browser.click(button("check"))
+    shown, wanted, kinds = browser.run("const it = page.core.check(page.session.load, 100000, page.session.limit, 0); return [find('log').lastChild.textContent, '> check\\n' + it, it.match(/--session \\d+/g) || []]")
+    check(shown == wanted and kinds, f"the button check: {shown} instead of {wanted}")
+    for kind in kinds:
+        browser.click(link(kind))
+        made, asked = browser.run(f"return [page.session.ask(['save'])[0], page.core.check(page.session.load, 100000, page.session.limit, {kind.split()[1]}).trimEnd().split('\\n')]")
+        check(made == asked and len(made) > 9, f"the link {kind}: {made} instead of {asked}")
+    for _ in kinds:
+        browser.click(button("redo"))
+    check(browser.run("return page.session.events.length") == 9, "redo after the sessions of ends")
 
 
 def helped(browser, ready, check):
@@ -183,28 +219,50 @@ def stays(browser, ready, check, width, height):
 
 
 def many_events(browser, check):
-    """With 10^5 events, a click that chooses a step, a node or a word is fast, and the row doesn't move. The fastest of three tries counts. The
-    bound is larger if a run of the session takes long, since the machine may be loaded."""
+    """With 10^5 events, a click that chooses a step, a node or a word is fast, and the row doesn't move. Each click has a bound, and the fastest of
+    three tries a lower one. The bounds are larger if a run of the session takes long, since the machine may be loaded. Returns the milliseconds of
+    each click with what was clicked, and the slowest of the fastest."""
     browser.run(f"page.open({json.dumps(EIGHTEEN)}); page.command('run 100000')")
     clicks = ["find('n007')", "find('n000')", step(6930), step(6928), word(3, "dup"), word(3, "dup"), step(6), step(12)]
-    durations, run = [[] for _ in clicks], []
+    durations, run, each = [[] for _ in clicks], [], []
     for _ in range(3):
         browser.run("page.forget(); page.session.places.forget(); page.draw()")
         run.append(browser.run("const then = performance.now(); page.core.answer(page.session.text, 1000000); return performance.now() - then"))
         for at, times in zip(clicks, durations):
             before = browser.run(PLACES)[0]
             times.append(browser.click(at))
+            each.append((times[-1], at))
             after = browser.run(PLACES)[0]
             moved = [it for it in before if it in after and before[it] != after[it]] if "#trace" in at else []
             check(not moved, f"elements that move at 10^5 events: {moved[:4]}")
     check(browser.run("return page.chosen") == ["000", 12], f"the chosen step of many: {browser.run('return page.chosen')}")
+    each += buttons_of_many(browser, check)
     fastest = [min(it) for it in durations]
     check(max(fastest) < max(MOST_MS, MOST_RUNS * min(run)), f"clicks at 10^5 events: {[round(it) for it in fastest]} ms, where a run takes {min(run):.0f}")
-    return max(fastest)
+    check(max(each)[0] < max(MOST_MS_EACH, MOST_RUNS_EACH * min(run)), f"the slowest clicks at 10^5 events: {sorted(each)[-4:]} ms, where a run takes {min(run):.0f}")
+    return sorted(each), max(fastest)
+
+
+def buttons_of_many(browser, check):
+    """The buttons and links at 10^5 events, and a word that is tapped: without a mouse over it before, after the history changed. The step that
+    is chosen is removed, made again, and removed once more."""
+    counts, each = [], []
+    for name in ("whence", "because", "effects", "who", "take", "redo", "take", "redo", "back", "redo", "step", "round", "fit", "in", "out", "earlier", "later", "theme", "theme"):
+        each.append((browser.click(button(name)), name))
+        counts.append(browser.run("return page.session.events.length"))
+        if name == "whence":
+            each.append((browser.click("[...document.querySelectorAll('#log a')].at(-1)"), "a link"))
+            browser.run("page.show(['000', 12])")
+    made, left = counts[3], counts[4]
+    check(left < made and counts[4:12] == [left, made, left, made, made - 1, made, made + 1, counts[11]] and counts[11] > made + 9, f"events after take back, redo and others of many: {counts}")
+    tap = "const then = performance.now(); {}.click(); await new Promise(requestAnimationFrame); return performance.now() - then"
+    each.append((browser.run(tap.format(word(3, "dup"))), "a word, tapped"))
+    check(browser.run("return find('wordnote').textContent").startswith("dup: "), "a word that is tapped")
+    return each
 
 
 def run_all(browser, ready, check):
-    for it in (to_the_cause, marks, image, links, redo, queries, helped):
+    for it in (to_the_cause, marks, image, links, redo, queries, ends, helped):
         it(browser, ready, check)
     _, seen = words(browser, ready, check)
     wanted = [[2, "dup: 1 of 10 steps", "dup"], [9, "dup: 2 of 10 steps", "dup"], [3, "dup: 1 of 10 steps", "dup"], [4, "drop: 1 of 10 steps", "drop"], [7, "main: 1 of 10 steps", "jump"], [7, ":: no step", "jump"]]

@@ -329,10 +329,10 @@ def main():
         exceptions(browser)
     # in a new browser, as for a visitor
     with Browser(size=(1280, 720)) as browser:
-        slowest = mouse.run_all(browser, lambda: ready(browser, PAGE), check)
+        each, slowest = mouse.run_all(browser, lambda: ready(browser, PAGE), check)
         exceptions(browser)
     check(os.path.getsize(f"{TOP}/page/out/ga144.html") < 900000, "the page has 900 KB or more")
-    print(f"page: ready after {began:.2f} s; {compared} sessions and {assembled} sources agree; {taken} rollbacks; out of memory at {made} events; the slowest click at 10^5 events {slowest:.0f} ms; {len(faults)} faults")
+    print(f"page: ready after {began:.2f} s; {compared} sessions and {assembled} sources agree; {taken} rollbacks; out of memory at {made} events; {len(each)} clicks at 10^5 events: half below {each[len(each) // 2][0]:.0f} ms, the slowest {each[-1][0]:.0f} ({each[-1][1]}), at best of three {slowest:.0f}; {len(faults)} faults")
     sys.exit(bool(faults))
 
 

@@ -75,11 +75,11 @@ class NodePane {
     const slots = node.slot === 4 ? "fetch is due" : decode(parseInt(node.i, 16)).names.map((it, i) => i === node.slot ? `<span class="due">${safe(it)}</span>` : safe(it)).join(" ");
     const then = page.then && page.then[NUMBER[name]], here = this.source_at(pointer), value = (title, text) => `<span><span class="dim">${title}</span>${text}</span>`;
     const words = list => `<span>${list.slice(0, 4).join(" ")}</span><span></span><span>${list.slice(4).join(" ")}</span>`;
-    find("node").innerHTML = `<h2>Node ${name} <span class="state">${safe(told_doing(node))}</span><span class="count">${steps} step${steps === 1 ? "" : "s"}</span></h2>
+    this.draw_memory(name, cells, loaded, pointer);
+    set_html(find("node"), `<h2>Node ${name} <span class="state">${safe(told_doing(node))}</span><span class="count">${steps} step${steps === 1 ? "" : "s"}</span></h2>
       <div class="registers">${value("P", node.p)}${value("A", node.a)}${value("B", node.b)}${value("io", node.io)}${value("T", `<b>${node.d[0]}</b>`)}${value("S", node.d[1])}${value("R", node.r[0])}${value("I", node.i)}</div>
       <div class="stacks"><span class="dim">slots</span><span>${slots}<span class="dim">${node.carry === "0" ? "" : " carry"}</span></span><span class="dim">source</span><span class="source">${here ? `<b>${safe(here.label)}</b> ${safe(here.line)}` : "none"}</span>
-      <span class="dim">data</span>${words(node.d.slice(2))}<span class="dim">return</span>${words(node.r.slice(1))}<span class="dim">then</span><span class="then">${then ? `${safe(doing(then))} P ${then.p} T ${then.d[0]} S ${then.d[1]} R ${then.r[0]}` : ""}</span></div>`;
-    this.draw_memory(name, cells, loaded, pointer);
+      <span class="dim">data</span>${words(node.d.slice(2))}<span class="dim">return</span>${words(node.r.slice(1))}<span class="dim">then</span><span class="then">${then ? `${safe(doing(then))} P ${then.p} T ${then.d[0]} S ${then.d[1]} R ${then.r[0]}` : ""}</span></div>`);
   }
 
   draw_memory(name, cells, loaded, pointer) {
@@ -90,8 +90,9 @@ class NodePane {
       const kind = [at === here && "here", word !== loaded[at] && "changed"].filter(it => it).join(" ");
       return `<div class="${kind}" data-at="${hex(at, 2)}" title="${safe(told ? told.line : "").replace(/"/g, "&quot;")}&#10;a click: the steps that wrote it"><span class="at">${hex(at, 2)}</span><span>${hex(word, 6)}</span><span>${is_literal ? "literal " + word : word ? safe(names.join(" ")) : ""}</span><span class="source">${told && told.first ? safe(told.first) : ""}</span></div>`;
     });
-    box.innerHTML = rows.join("");
+    if (!box.firstChild) set_html(box, rows.join(""));
     if (this.shown !== name && here >= 0) box.scrollTop = Math.max(0, (here - 2) * ROW);
     this.shown = name;
+    set_html(box, rows.join(""));
   }
 }

@@ -65,7 +65,7 @@ class Page {
     }
     const before = /^(back|rewind)\b/.test(line) ? this.session.now() : null, { chosen } = this;
     const shown = [`at ${this.selected} last 40`, ...this.session.questions(this.selected)];
-    const { answers, more } = STEPS_ALONE.test(line) ? this.session.step([line], shown) : { answers: this.session.obey([line]), more: null };
+    const { answers, more } = STEPS_ALONE.test(line) ? this.session.step([line], shown) : line.startsWith("rewind") ? this.session.rewind(line, shown) : { answers: this.session.obey([line]), more: null };
     this.say(line, answers[0]);
     if (!is_refused(answers[0][0])) this.undone = removed_by(answers[0][0]) ? [...this.undone.slice(1 - MOST_UNDONE), { before, chosen, selected: this.selected, count: removed_by(answers[0][0]) }] : made_by(answers[0][0]) || event_of(answers[0][0]) ? [] : this.undone;
     const reached = line.startsWith("run") && event_reached(answers[0][0]);
@@ -74,11 +74,14 @@ class Page {
     return answers[0];
   }
 
-  after(seen = null) {
+  // Draws the history and the chip as they are now, with a step that is chosen.
+  after(seen = null, chosen = null) {
     this.arrange(seen);
     if (this.picture.was_whole) this.picture.begin();
     this.picture.show(this.picture.deepest);
-    this.draw();
+    if (!chosen || !this.session.event_at(chosen)) return this.draw();
+    this.trace.set(this.selected, this.session.steps[this.selected] || 0, 0);
+    this.show(chosen);
   }
 
   arrange(seen = null) {
@@ -189,7 +192,7 @@ class Page {
   // Goes where a part of an answer leads.
   follow({ step, node, line, column, kind }) {
     if (kind) return this.lead_to(kind);
-    if (line) return find("editor").hidden ? this.source.mark(column ? `${line}:${column}` : null, "picked", column ? 0 : line) : this.select_line(line);
+    if (line) return find("editor").hidden ? this.mark_place(line, column) : this.select_line(line);
     if (node) return this.select(node);
     if (!this.session.event_at(step)) { this.select(step[0]); return this.note(`${step[0]} has ${this.session.steps[step[0]] || 0} steps now`); }
     if (!this.is_chosen(step)) this.show(step);
@@ -209,9 +212,10 @@ class Page {
 
   mark(marks) {
     const { first, second } = this.session.numbers, touched = [0, 1, 2].map(() => new Uint8Array(NODES.length + 1));
-    marks.forEach((mark, at) => { touched[mark][first[at]] = touched[mark][second[at]] = 1; if (mark === GOES) this.goes++; });
+    let goes = 0;
+    for (let at = 0; at < marks.length; at++) { const it = touched[marks[at]]; it[first[at]] = it[second[at]] = 1; if (marks[at] === GOES) goes++; }
     this.touched = touched.map(it => new Set(NAMES.filter((_, n) => it[n])));
-    this.marks = marks;
+    Object.assign(this, { marks, goes });
   }
 
   // Takes the chosen step back, or makes the other outcome of a race; either can be undone by `redo`.
@@ -229,8 +233,7 @@ class Page {
     this.session.restore(last.before);
     this.selected = last.selected;
     this.say("redo", [`made ${last.count} again`]);
-    this.after();
-    if (last.chosen) this.show(last.chosen);
+    this.after(null, last.chosen);
     return [];
   }
 
@@ -254,25 +257,37 @@ class Page {
     if (answers) this.session.places.learn(answers.slice(0, lines.length));
   }
 
+  // What is drawn. Sizes and places are read before anything is written: reading one after that lays the page out once more.
   draw() {
     const name = this.selected, chosen = this.chosen && this.chosen[0] === name ? this.chosen[1] : 0;
     this.trace.set(name, this.session.steps[name] || 0, chosen);
     if (!this.seen || this.seen.name !== name) this.seen = this.session.look(name, null, this.trace.seen()) || this.seen;
     if (!this.seen) { this.note(NO_MEMORY); return; }
-    this.chip.draw(this.then || this.seen.nodes);
-    this.node.draw();
-    this.trace.draw();
-    this.draw_word(name, chosen);
+    this.ask_rows(this.trace.seen());
+    this.mark_word(name, chosen);
+    const steps = this.trace.list.seen(), lines = this.source.list.seen();
     this.draw_picture();
+    this.node.draw();
+    this.chip.draw(this.then || this.seen.nodes);
+    this.trace.draw(steps);
+    this.source.draw(lines);
     this.draw_buttons();
     this.note(this.seen.count);
-    if (find("editor").hidden) find("text").value = this.session.text.length < SHOWN ? this.session.text : "";
+    if (find("editor").hidden) set_text(find("text"), this.session.text.length < SHOWN ? this.session.text : "");
+    this.source.reveal_word();
   }
 
   // Marks the word of the chosen step, or of the newest one of the selected node.
-  draw_word(name, chosen) {
+  mark_word(name, chosen) {
     const told = this.session.places.row(name, chosen || this.session.steps[name] || 0);
     this.source.mark(told && told.key || null, chosen ? "picked" : "last", chosen && told && !told.key && told.place ? told.place.line : 0);
+  }
+
+  // Marks a place of the source, or a line.
+  mark_place(line, column) {
+    this.source.mark(column ? `${line}:${column}` : null, "picked", column ? 0 : line);
+    this.source.draw();
+    this.source.reveal_word();
   }
 
   draw_buttons() {

@@ -15,14 +15,13 @@ class SourcePane {
     find("source").scrollTop = 0; find("source").scrollLeft = 0;
     this.list.set(this.text.count);
   }
-  // Marks the word of a step, or a whole line; and shows it.
+  // Marks the word of a step, or a whole line; and scrolls to it.
   mark(key, kind, line = 0) {
     this.marked = key && this.text.shown(key); this.kind = kind; this.line = line;
     const row = key ? this.text.row_of(key) : line - 1;
     if (row >= 0 && row < this.text.count) this.list.reveal(row);
-    this.list.draw();
-    this.reveal_word();
   }
+  draw(rows) { this.list.draw(rows); }
   // Scrolls to the right if the marked word isn't seen.
   reveal_word() {
     const box = this.list.box, it = box.querySelector(".picked, .last");
@@ -55,16 +54,15 @@ class TracePane {
   }
   // Shows the steps of a node; another node's, or more of them, from the end, unless a step is chosen.
   set(name, steps, chosen) {
-    const shown = `${name} ${steps}`;
-    this.name = name;
-    find("trace").style.setProperty("--digits", `${String(steps).length}ch`);
+    const shown = `${name} ${steps}`, is_other = shown !== this.shown;
+    Object.assign(this, { name, shown });
+    if (is_other) find("trace").style.setProperty("--digits", `${String(steps).length}ch`);
     this.list.set(steps);
-    if (chosen) this.list.reveal(chosen - 1); else if (shown !== this.shown) this.list.end();
-    this.shown = shown;
+    if (chosen) this.list.reveal(chosen - 1); else if (is_other) this.list.end();
   }
   // The steps that are seen.
   seen() { const [from, upto] = this.list.seen(); return [this.name, from + 1, upto]; }
-  draw() { this.list.draw(); }
+  draw(rows) { this.list.draw(rows); }
   row(at) {
     const { page } = this, { session } = page, k = at + 1, event = session.event_at([this.name, k]), told = session.places.row(this.name, k);
     const mark = page.marks ? page.marks[event.place] : 0, picked = page.chosen && page.chosen[0] === this.name && page.chosen[1] === k;

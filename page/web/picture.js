@@ -2,14 +2,13 @@
 
 // Events in the order of their depth: 1 behind the deepest of the events before it on its nodes. For drawing alone.
 function placed(events) {
-  const depth = {}, xs = new Uint32Array(events.length);
+  const depth = new Uint32Array(NODES.length), xs = new Uint32Array(events.length);
   let deepest = 0;
-  events.forEach((event, at) => {
-    let x = 0;
-    for (const [n] of event.ends) x = Math.max(x, depth[n] || 0);
-    for (const [n] of event.ends) depth[n] = x + 1;
-    xs[at] = x + 1;
-    deepest = Math.max(deepest, x + 1);
+  events.forEach(({ one, other, pass }, at) => {
+    const x = 1 + (pass ? Math.max(depth[one], depth[other]) : depth[one]);
+    depth[one] = xs[at] = x;
+    if (pass) depth[other] = x;
+    if (x > deepest) deepest = x;
   });
   // In one walk, since all depths are small numbers.
   const starts = new Uint32Array(deepest + 2), order = new Uint32Array(events.length);
@@ -19,9 +18,16 @@ function placed(events) {
   return { xs, order, deepest: Math.max(1, deepest) };
 }
 
-// A column from afar, in points; and a number in four letters at most.
+// A column from afar is as many points wide or some more, so that the last is whole; and a number in four letters at most.
 const COLUMN = 44;
 function brief(count) { return count < 10000 ? `${count}` : count < 1e6 ? `${Math.round(count / 1000)}k` : `${Math.round(count / 1e6)}M`; }
+
+// An empty canvas of a size. A new size is a new bitmap.
+function sized(canvas, width, height) {
+  const g = canvas.getContext("2d");
+  if (canvas.width === width && canvas.height === height) g.reset(); else { canvas.width = width; canvas.height = height; }
+  return g;
+}
 
 class Picture {
   constructor(canvas) { this.canvas = canvas; this.from = 0; this.wide = 60; this.set([], []); }
@@ -29,12 +35,14 @@ class Picture {
   set(events, names) { this.was_whole = this.from === 0 && this.wide >= this.deepest; this.events = events; this.names = names; Object.assign(this, placed(events)); }
   show(x) { if (x < this.from + 2 || x > this.from + this.wide - 2) this.from = Math.max(0, x - this.wide * .8); }
   zoom(by, around = .5) {
-    const wide = Math.max(8, Math.min(this.wide * by, Math.max(30, this.deepest + 4)));
+    const wide = Math.max(8, Math.min(this.wide * by, this.whole(30)));
     this.from = Math.max(0, this.from + (this.wide - wide) * around); this.wide = wide;
   }
   // The beginning, so that its events can be told apart; and all of it.
   begin() { this.from = 0; this.wide = Math.max(this.events.length ? 16 : 30, Math.min(this.deepest + 4, this.canvas.clientWidth / 9)); }
-  fit() { this.from = 0; this.wide = Math.max(16, this.deepest + 4); }
+  fit() { this.from = 0; this.wide = this.whole(16); }
+  // All events, and room for the frame round the last.
+  whole(least) { return Math.max(least, this.deepest * (1 + 12 / Math.max(100, this.canvas.clientWidth - 34)) + 4); }
   move(part) { this.from = Math.max(0, Math.min(this.from + part * this.wide, this.deepest - this.wide / 2)); }
 
   // The first place in the order whose depth is at least x.
@@ -47,8 +55,8 @@ class Picture {
   draw(marks, chosen, selected, races = []) {
     const { canvas } = this, ratio = window.devicePixelRatio || 1, width = canvas.clientWidth, many = this.names.length;
     const height = Math.max(canvas.parentElement.clientHeight || 120, 16 + many * (many > 30 ? 9 : 16));
-    canvas.style.height = height + "px"; canvas.width = width * ratio; canvas.height = height * ratio;
-    const g = canvas.getContext("2d"), style = getComputedStyle(document.documentElement), colour = name => style.getPropertyValue("--" + name).trim();
+    canvas.style.height = height + "px";
+    const g = sized(canvas, Math.floor(width * ratio), Math.floor(height * ratio)), style = getComputedStyle(document.documentElement), colour = name => style.getPropertyValue("--" + name).trim();
     g.scale(ratio, ratio); g.textBaseline = "middle"; g.font = "10px DejaVu Sans Mono, monospace";
     const left = 34, row = Math.min(40, (height - 12) / Math.max(1, many)), unit = (width - left) / this.wide;
     const colours = [colour("dim"), colour("past"), colour("goes")], back = this.back = colour("card"), text = colour("text"), pick = colour("pick");
@@ -57,7 +65,7 @@ class Picture {
       g.strokeStyle = colour("line"); g.lineWidth = 1; g.beginPath(); g.moveTo(left, line[n]); g.lineTo(width, line[n]); g.stroke();
       if (row > 8) { g.fillStyle = n === selected ? pick : colours[0]; g.fillText(n, 6, line[n]); }
     }
-    this.spots = []; this.turns = [];
+    this.spots = []; this.turns = []; this.column = (width - left) / Math.max(1, Math.floor((width - left) / COLUMN));
     const from = this.first_at(this.from), upto = this.first_at(this.from + this.wide + 1), labels = [], dots = [];
     const over = () => { this.draw_races(g, races, line, left, width, unit, colour("race"), pick); if (chosen) this.draw_pick(g, chosen, line, left, unit, pick); };
     this.far = unit < 2;
@@ -111,10 +119,10 @@ class Picture {
   // From afar the picture is cut into columns, and each tells what is in it: of a node how many steps of its own, whether it came to
   // wait, and a stop; of two nodes how many words went from one to the other. What has most weight gives the colour.
   draw_far(g, marks, from, upto, line, left, unit, colours) {
-    const { nodes, links } = this.summed(marks, from, upto, line, unit), across = column => left + column * COLUMN, busy = this.names.length && Math.abs(line[this.names[0]] - line[this.names[1] || this.names[0]]) || 22;
+    const { nodes, links } = this.summed(marks, from, upto, line, unit), { column: wide } = this, across = column => left + column * wide, busy = this.names.length && Math.abs(line[this.names[0]] - line[this.names[1] || this.names[0]]) || 22;
     g.textAlign = "center"; g.font = "9px DejaVu Sans Mono, monospace";
     for (const { column, one, other, count, kind, shift } of links) {
-      const x = across(column) + COLUMN * (.25 + .18 * (shift % 4)), way = Math.sign(line[other] - line[one]);
+      const x = across(column) + wide * (.25 + .18 * (shift % 4)), way = Math.sign(line[other] - line[one]);
       g.strokeStyle = g.fillStyle = colours[kind]; g.lineWidth = kind ? 2 : 1; g.beginPath();
       g.moveTo(x, line[one] + 5 * way); g.lineTo(x, line[other] - 5 * way); g.stroke();
       g.beginPath(); g.moveTo(x, line[other] - 4 * way); g.lineTo(x - 3, line[other] - 9 * way); g.lineTo(x + 3, line[other] - 9 * way); g.fill();
@@ -123,26 +131,33 @@ class Picture {
     for (const { column, name, own, waits, stop, kind } of nodes) {
       const x = across(column), y = line[name];
       g.strokeStyle = g.fillStyle = colours[kind]; g.lineWidth = 1;
-      if (own) g.fillRect(x + 1, y - 1, COLUMN - 2, 2);
-      if (own && busy > 11) lettered(g, brief(own), x + COLUMN / 2 - 4, y, colours[kind], this.back);
-      if (waits) { g.fillStyle = this.back; g.fillRect(x + COLUMN - 10, y - 3, 8, 6); g.strokeStyle = colours[kind]; shape(g, 0, x + COLUMN - 6, y, 4, true); g.fillStyle = colours[kind]; }
-      if (stop) g.fillRect(x + COLUMN - 7, y - 4, 8, 8);
+      if (own) g.fillRect(x + 1, y - 1, wide - 2, 2);
+      if (own && busy > 11) lettered(g, brief(own), x + wide / 2 - 4, y, colours[kind], this.back);
+      if (waits) { g.fillStyle = this.back; g.fillRect(x + wide - 10, y - 3, 8, 6); g.strokeStyle = colours[kind]; shape(g, 0, x + wide - 6, y, 4, true); g.fillStyle = colours[kind]; }
+      if (stop) g.fillRect(x + wide - 7, y - 4, 8, 8);
     }
     g.textAlign = "left";
   }
 
-  // What draw_far tells, of the events of a part of the order.
+  // What draw_far tells, of the events of a part of the order: column by column, since the order is by depth.
   summed(marks, from, upto, line, unit) {
-    const nodes = new Map(), links = new Map(), at = (map, key, make) => { let it = map.get(key); if (!it) map.set(key, it = make()); return it; };
+    const nodes = [], links = [], drawn = NAMES.map(n => n in line);
+    let column = -1, told = null;
     for (let i = from; i < upto; i++) {
-      const place = this.order[i], { ends, pass, label } = this.events[place], kind = marks ? marks[place] : 0, column = Math.floor(Math.max(0, this.xs[place] - this.from) * unit / COLUMN);
-      if (!(ends[0][0] in line)) continue;
-      const [[one], [other] = []] = ends, it = pass ? at(links, `${column} ${one} ${other}`, () => ({ column, one, other, count: 0, kind: 0, shift: NUMBER[one] + 2 * (one > other) }))
-        : at(nodes, `${column} ${one}`, () => ({ column, name: one, own: 0, waits: 0, stop: 0, kind: 0 }));
-      it.kind = Math.max(it.kind, kind);
+      const place = this.order[i], event = this.events[place], { one, other, pass, label } = event, kind = marks ? marks[place] : 0, now = Math.floor(Math.max(0, this.xs[place] - this.from) * unit / this.column);
+      if (!drawn[one]) continue;
+      if (now !== column) { column = now; told = new Map(); }
+      const key = one * 256 + other;
+      let it = told.get(key);
+      if (!it) {
+        if (pass) links.push(it = { column, one: NAMES[one], other: NAMES[other], count: 0, kind: 0, shift: one + 2 * (one > other) });
+        else nodes.push(it = { column, name: NAMES[one], own: 0, waits: 0, stop: 0, kind: 0 });
+        told.set(key, it);
+      }
+      if (kind > it.kind) it.kind = kind;
       if (pass) it.count++; else if (label === "wait") it.waits++; else if (label.startsWith("stop")) it.stop++; else it.own++;
     }
-    return { nodes: [...nodes.values()], links: [...links.values()] };
+    return { nodes, links };
   }
 
   draw_pick(g, chosen, line, left, unit, pick) {

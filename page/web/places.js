@@ -1,6 +1,19 @@
 // Which word of the program each step came from. `at` names it for steps that are shown; for all steps of a node the cells are asked
 // that it fetched from, and of each slot of a cell the word once. A word's key is that of the program's text (source.js).
 
+// The image and the kept events, step by step, with a question before each of these: lines of one length, as bytes, since a text of so
+// many lines would be garbage at each click.
+function stepped({ image, numbers: { first } }, question, places) {
+  const front = bytes_of(image), lines = STEPS.map(bytes_of), wide = lines[0].length, asked = bytes_of(question), text = new Uint8Array(front.length + wide * (places.length + (places.at(-1) || 0)));
+  let at = front.length, made = 0;
+  text.set(front);
+  for (const place of places) {
+    for (; made < place; made++) { const line = lines[first[made]]; for (let i = 0; i < wide; i++) text[at++] = line[i]; }
+    text.set(asked, at); at += wide;
+  }
+  return text;
+}
+
 class Places {
   constructor(session) { this.session = session; this.forget(); }
   // The history has changed.
@@ -43,17 +56,13 @@ class Places {
   // before the fetch or the wait for one, and its slot, -1 for the fetch itself. No cell is -1. The machine is asked at each place
   // where it isn't plain: at a fetch, a wait, a stop and after `unext`.
   fetched(name, from, upto) {
-    const { session } = this, trace = session.traces[name] || [], start = Math.max(1, from - 40), end = Math.min(upto, trace.length), asked = [], texts = [];
-    const is_asked = (k, { label }) => k === start || label === "fetch" || label === "wait" || label.startsWith("stop") || trace[k - 2].label === "unext";
-    const wide = STEPS[0].length;
-    let steps = "", made = 0;
-    if (end >= start) for (const n of session.numbers.first.subarray(0, trace[end - 1].place)) steps += STEPS[n];
-    for (let k = start; k <= end; k++) if (is_asked(k, trace[k - 1])) {
-      const { place } = trace[k - 1];
-      texts.push(steps.slice(made * wide, place * wide), `node ${name}\n`);
-      asked.push(k); made = place;
+    const { session } = this, trace = session.traces[name] || [], start = Math.max(1, from - 40), end = Math.min(upto, trace.length), asked = [];
+    for (let k = start; k <= end; k++) {
+      const { label } = trace[k - 1];
+      if (k === start || label === "fetch" || label === "wait" || label.startsWith("stop") || trace[k - 2].label === "unext") asked.push(k);
     }
-    return this.walked(trace, start, end, asked, nexts_of(session.core.answer(session.image + texts.join(""), session.limit) || ""));
+    const text = stepped(session, `node ${name}\n`, asked.map(k => trace[k - 1].place));
+    return this.walked(trace, start, end, asked, nexts_of(session.core.answer(text, session.limit) || ""));
   }
 
   walked(trace, start, end, asked, nexts) {

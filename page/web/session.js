@@ -56,7 +56,7 @@ class Session {
     for (const line of [...lines, null]) {
       if (line && STEPS_ALONE.test(line)) { steps.push(line); continue; }
       if (steps.length) { answers = answers.concat(this.step(steps, this.questions("000")).answers); steps = []; }
-      if (line) answers.push(line.startsWith("run") ? this.run(line) : line.startsWith("back") ? this.back_until(line) : this.rewind(line));
+      if (line) answers.push(line.startsWith("run") ? this.run(line) : line.startsWith("back") ? this.back_until(line) : this.rewind(line).answers[0]);
     }
     return answers;
   }
@@ -90,10 +90,13 @@ class Session {
     return ended ? [told, NO_MEMORY] : [told];
   }
 
-  // A rollback. `effects` names what it removes.
-  rewind(line) {
-    const all = this.ask([line.replace("rewind", "effects"), line]), [told = NO_MEMORY] = all ? all[1] : [], firsts = firsts_of(all ? all[0] : []);
-    return this.leave(line, told, ({ ends: [[name, step]] }) => !(step >= firsts[name]));
+  // A rollback. `effects` names what it removes. What is asked after it is answered in `more`, where there is memory for that.
+  rewind(line, questions = []) {
+    const all = this.ask([line.replace("rewind", "effects"), line, ...questions], this.named);
+    if (!all && questions.length) return this.rewind(line);
+    const [told = NO_MEMORY] = all ? all[1] : [], firsts = firsts_of(all ? all[0] : []), first = NAMES.map(n => firsts[n]);
+    const answer = this.leave(line, told, ({ one, ends }) => !(ends[0][1] >= first[one]));
+    return { answers: [answer], more: questions.length && removed_by(answer[0]) ? all.slice(2) : null };
   }
 
   // `back until`, of all nodes or of one. `save` names what is left: of each node the first of the events that it makes.
@@ -115,13 +118,21 @@ class Session {
   }
 
   record(lines, said) { if (lines.length) this.places.forget(); this.commands += lines_of(lines); this.said += lines_of(said); }
+  // An event is kept with its place and the numbers of its nodes: of the one that makes it, and of the other of a pass, else NODES.length.
   keep(event) {
-    event.place = this.events.length;
+    const [[one], [other] = []] = event.ends;
+    event.place = this.events.length; event.one = NUMBER[one]; event.other = other ? NUMBER[other] : NODES.length;
     this.events.push(event);
     this.numbered = null;
     for (const [n, k] of event.ends) { this.steps[n] = k; (this.traces[n] = this.traces[n] || []).push(event); }
   }
-  keep_all(events) { Object.assign(this, { events: [], steps: {}, traces: {}, numbered: null }); for (const it of events) this.keep(it); }
+  // Keeps these of the events that were kept, and no others.
+  keep_all(events) {
+    const traces = NAMES.map(() => []), steps = {};
+    events.forEach((event, at) => { event.place = at; traces[event.one].push(event); if (event.pass) traces[event.other].push(event); });
+    NAMES.forEach((n, i) => { steps[n] = traces[i].length; });
+    Object.assign(this, { events, steps, traces: Object.fromEntries(NAMES.map((n, i) => [n, traces[i]])), numbered: null });
+  }
   drop() { this.numbered = null; for (const [n, k] of this.events.pop().ends) { this.steps[n] = k - 1; this.traces[n].pop(); } }
 
   // The session as it is now, and back to that: its text is what it was, so its history and its chip are too.
@@ -132,8 +143,8 @@ class Session {
   // are kept until the history changes.
   get numbers() {
     if (!this.numbered) {
-      const { length } = this.events, first = new Uint8Array(length), second = new Uint8Array(length).fill(NODES.length);
-      this.events.forEach(({ ends: [[one], other] }, at) => { first[at] = NUMBER[one]; if (other) second[at] = NUMBER[other[0]]; });
+      const { length } = this.events, first = new Uint8Array(length), second = new Uint8Array(length);
+      this.events.forEach(({ one, other }, at) => { first[at] = one; second[at] = other; });
       this.numbered = { first, second };
     }
     return this.numbered;

@@ -6,6 +6,11 @@ const hex = (number, digits) => number.toString(16).padStart(digits, "0");
 const when_idle = window.requestIdleCallback ? it => requestIdleCallback(it) : it => setTimeout(it, 50);
 function element(tag, kind, text) { const it = document.createElement(tag); if (kind) it.className = kind; if (text !== undefined) it.textContent = text; return it; }
 
+// What an element has already isn't made anew.
+const html_of = new Map();
+function set_html(it, text) { if (html_of.get(it) !== text) { html_of.set(it, text); it.innerHTML = text; } }
+function set_text(box, text) { if (box.value !== text) box.value = text; }
+
 // Which way a side of a node leads: its row and column say.
 function compass(name, side) {
   const y = +name[0], x = +name.slice(1);
@@ -43,16 +48,17 @@ function lettered(g, text, x, y, colour, back) {
 // A list of rows of one height, of which only those are in the page that are seen. It keeps its place whatever its rows become.
 const ROW = 17;
 class List {
-  constructor(box, row_of, ready = () => {}) { this.box = box; this.row_of = row_of; this.ready = ready; this.count = 0; this.all = element("div", "all"); this.part = element("div", "part"); this.all.append(this.part); }
+  // Before it draws rows that a person scrolled to, it calls `ready`.
+  constructor(box, row_of, ready = () => {}) { this.box = box; this.row_of = row_of; this.ready = ready; this.count = -1; this.all = element("div", "all"); this.part = element("div", "part"); this.all.append(this.part); }
   // The rows that are seen, from one on and before another.
   seen() {
     const top = this.box.scrollTop, from = Math.max(0, Math.floor(top / ROW) - 2);
     return [from, Math.min(this.count, Math.ceil((top + (this.box.clientHeight || 400)) / ROW) + 2)];
   }
   set(count) {
-    if (this.all.parentNode !== this.box) this.box.replaceChildren(this.all);
-    this.count = count; this.all.style.height = count * ROW + "px";
-    this.box.onscroll = () => this.draw();
+    if (this.all.parentNode !== this.box) { this.box.replaceChildren(this.all); this.box.onscroll = () => { this.ready(); this.draw(); }; }
+    if (this.count !== count) this.all.style.height = count * ROW + "px";
+    this.count = count;
   }
   // Scrolls if the row isn't wholly seen.
   reveal(row) {
@@ -60,9 +66,8 @@ class List {
     if (top < scrollTop || top + ROW > scrollTop + clientHeight) this.box.scrollTop = Math.max(0, top - clientHeight / 2 + ROW);
   }
   end() { this.box.scrollTop = this.count * ROW; }
-  draw() {
-    this.ready();
-    const [from, upto] = this.seen(), rows = [];
+  draw([from, upto] = this.seen()) {
+    const rows = [];
     for (let at = from; at < upto; at++) rows.push(this.row_of(at));
     this.part.style.transform = `translateY(${from * ROW}px)`;
     this.part.replaceChildren(...rows);

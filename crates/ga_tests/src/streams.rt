@@ -339,3 +339,19 @@ fn a_write_or_the_flush_fails(rt: HostRuntime) {
         same(&rt, &(writer.calls, writer.taken, is_written), &wanted);
     }
 }
+
+// The flush comes after a text of any length.
+#[test]
+fn a_long_text_is_flushed(rt: HostRuntime) -> Result<(), Fail> {
+    let mut text = Vec::new(rt.alloc());
+    text.resize(100_000, b'x')?;
+    let mut writer = Narrow {
+        taken: 0,
+        calls: 0,
+        fails_at: 0,
+    };
+    let is_written = write_all(&mut writer, &text).is_ok();
+    let wanted = (20_001, 100_000, true);
+    same(&rt, &(writer.calls, writer.taken, is_written), &wanted);
+    Ok(())
+}
