@@ -14,7 +14,7 @@ ghost use Rattle.ga_explorer_text.specs.inner.{is_first};
 use crate::deed_text::{MAX_ACTION_BYTES, push_action};
 use crate::part_text::{MAX_NAMED_WORD_BYTES, push_named_word, push_part, push_part_suffix};
 use crate::source_suffix::StepContext;
-use crate::value_words::ValueWords;
+use crate::value_words::{MULTIPLY_STEP, ValueWords};
 use arrayvec::ArrayVec;
 use ga_debug_info::DebugInfo;
 use ga_display::{advised_refusal_text, refusal_text};
@@ -33,9 +33,6 @@ use std::io::Write;
 
 /// How many lines a tree has at most.
 const MOST_ROWS: u32 = 100;
-
-/// The code of `+*`.
-const MULTIPLY_STEP: u8 = 16;
 
 /// The most bytes of a word and of A.
 const TWO_WORDS: usize = 1 + WORD_DIGITS + MAX_NAMED_WORD_BYTES;
@@ -259,10 +256,11 @@ fn push_beside_transfer(out: &mut TextBuffer, part: NodePart, word: Word18)
 }
 
 impl<'l> StepContext<'l> {
-    ghost use Rattle.std.specs.Prelude.{◌≡◌, Some, flat_map};
+    ghost use Rattle.std.specs.Prelude.{◌≡◌, Some, All, flat_map};
     ghost use Rattle.ga_event.specs.Flow.{IsNodePart};
     ghost use Rattle.ga_text.specs.Output.{WritesSome, WritesExactly};
     ghost use Rattle.ga_explorer_text.specs.Trees.{tree_row_text, tree_rows_by_root, queried_step_text, queried_step_line, IsStepOrTreeAnswer};
+    ghost use Rattle.ga_provenance.specs.Rows.{IsMovedRow};
     ghost use Rattle.ga_explorer_text.specs.inner.{is_first};
 
     /// Writes the tree of a value for the step to which its node is walked back.
@@ -292,6 +290,7 @@ impl<'l> StepContext<'l> {
         rows: &[ProvenanceRow],
         writer: &mut Writer<'_, W>,
     ) -> WriteResult
+        requires { All (IsMovedRow self.now.lab.now) rows.now }
         ensures { WritesSome result (λ text. text ≡ tree_rows_by_root self.now.notes.now self.now.lab.now self.now.node self.now.near.step value (is_first self.now.near.step rows.now) rows.now)
             W.contents writer.old writer.new }
     {
@@ -322,18 +321,25 @@ impl<'l> StepContext<'l> {
         self.write_own_suffix(writer)
     }
 
-    /// Says the lines of some rows, each so much deeper, with words that are read from the first of them on.
+    /// Says the lines of some rows, each so much deeper: the first from here, the others from the step of its value.
     fn say_tree<W: Write>(
         &self,
         deeper: u8,
         rows: &[ProvenanceRow],
         writer: &mut Writer<'_, W>,
     ) -> WriteResult
+        requires { All (IsMovedRow self.now.lab.now) rows.now }
         ensures { WritesSome result (λ text. text ≡ flat_map (tree_row_text self.now.notes.now self.now.lab.now deeper) rows.now)
             W.contents writer.old writer.new }
     {
-        let root = self.root(rows);
-        root.say_lines(deeper, rows, writer)
+        match rows {
+            [] => Ok(()),
+            [first] => self.write_tree_row(deeper, *first, writer),
+            [first, others @ ..] => {
+                self.write_tree_row(deeper, *first, writer)?;
+                self.context_of_row(*first).say_lines(deeper, others, writer)
+            }
+        }
     }
 
     /// Says the lines of some rows, each so much deeper.
@@ -343,11 +349,14 @@ impl<'l> StepContext<'l> {
         rows: &[ProvenanceRow],
         writer: &mut Writer<'_, W>,
     ) -> WriteResult
+        requires { All (IsMovedRow self.now.lab.now) rows.now }
         ensures { WritesSome result (λ text. text ≡ flat_map (tree_row_text self.now.notes.now self.now.lab.now deeper) rows.now)
             W.contents writer.old writer.new }
     {
+        let mut here = self.copy();
         'rows: for row in rows {
-            self.write_tree_row(deeper, *row, writer)?;
+            here = self.context_of_use(here, *row);
+            here.write_tree_row(deeper, *row, writer)?;
         }
         Ok(())
     }
@@ -359,10 +368,11 @@ impl<'l> StepContext<'l> {
         row: ProvenanceRow,
         writer: &mut Writer<'_, W>,
     ) -> WriteResult
+        requires { IsMovedRow self.now.lab.now row }
         ensures { WritesExactly result (tree_row_text self.now.notes.now self.now.lab.now deeper row) W.contents writer.old writer.new }
     {
         say_blanks(u64::from(row.depth) + u64::from(deeper), writer)?;
-        let words = self.words_of(row.value);
+        let words = self.words_of_row(row);
         writer.write_blocks(value_line(self.lab, row.value, words).as_slice())?;
         self.write_value_suffix(row.value, writer)
     }

@@ -228,7 +228,7 @@ earlier s asked value other node less named = go other.step refl named
     go (suc k) is (inr cause) = inr (earlier_step s asked value other k is node less cause)
 
 -- where a value was made
-made_before : (s : State) (node : NodeId) (k : ℕ) (at : NodePart) → ((origin_after_steps s node k at).node ≡ node) × ((origin_after_steps s node k at).step ≤ k)
+pub made_before : (s : State) (node : NodeId) (k : ℕ) (at : NodePart) → ((origin_after_steps s node k at).node ≡ node) × ((origin_after_steps s node k at).step ≤ k)
 made_before s node zero at = (refl, omega arith)
 made_before s node (suc k) at = go (moved_source_part_at s node.number k at) (made_before s node k)
   where

@@ -6,3 +6,5 @@ pub mod Keeping
 pub mod Moves
 pub mod Resting
 pub mod Decided
+pub mod Parts
+pub mod Words

@@ -14,7 +14,7 @@ use Rattle.ga_event.specs.Flow.{Flow, Same, From, IsNodePart, top, part_kind, pa
 use Rattle.ga_provenance.specs.declared.value.Value.{Value}
 use Rattle.ga_provenance.specs.declared.listing.ProvenanceRow.{ProvenanceRow}
 use Rattle.ga_provenance.specs.Origins.{flow_at, value_of_step, origin_of}
-use Rattle.ga_provenance.specs.Rows.{sent_value, source_values, value_sources_after, row_at_depth, below, has_value, origin_row, AreProvenanceRows, all, again, next, cut, is_same_value, value_sources, IsInTree}
+use Rattle.ga_provenance.specs.Rows.{sent_value, source_values, value_sources_after, row_at_depth, below, has_value, origin_row, AreProvenanceRows, all, again, next, cut, is_same_value, value_sources, IsInTree, IsMovedRow}
 use Rattle.ga_provenance.specs.inner.{IsOpen}
 use Rattle.std.proofs.lemmas.Bool.{eq-eqb}
 use Rattle.std.proofs.lemmas.List.Folds.{list_any-append}
@@ -117,15 +117,25 @@ pub told_again : (s : State) (first : ProvenanceRow) (named todo left : List Pro
 told_again s first named todo left row value is e named_is tells later whole rows =
     subst (Tells s first named) (top_first todo left row is) tells later whole (again row (ap (has_value named) (sym e) ∙ named_is) rows)
 
+-- the row of a value that was used where another row has it
+abbrev pub used_row : ProvenanceRow → Value → ProvenanceRow
+used_row row value = record { depth = row.depth; value = value; used = row.value }
+
 pub told_on : (s : State) (first : ProvenanceRow) (named grown todo left more : List ProvenanceRow) (row : ProvenanceRow) (value : Value) → todo ≡ left ++ row ∷ [] → value ≡ origin_of s row.value → has_value named value ≡ false
-    → grown ≡ named ++ row_at_depth row.depth value ∷ [] → reverse more ≡ below s (row_at_depth row.depth value) ++ reverse left
+    → grown ≡ named ++ used_row row value ∷ [] → reverse more ≡ below s (used_row row value) ++ reverse left
     → Tells s first named (reverse todo) → Tells s first grown (reverse more)
 told_on s first named grown todo left more row value is e named_is rows below_is tells =
     let tells_top : Tells s first named (row ∷ reverse left) = subst (Tells s first named) (top_first todo left row is) tells in
     let on : Tells s first (named ++ origin_row s row ∷ []) (below s (origin_row s row) ++ reverse left) = told_next s first named (reverse left) row (ap (has_value named) (sym e) ∙ named_is) tells_top in
-    let here : Tells s first (named ++ row_at_depth row.depth value ∷ []) (below s (row_at_depth row.depth value) ++ reverse left) =
-    subst (λ (z : Value). Tells s first (named ++ row_at_depth row.depth z ∷ []) (below s (row_at_depth row.depth z) ++ reverse left)) (sym e) on in
-    subst (λ z. Tells s first z (reverse more)) (sym rows) (subst (Tells s first (named ++ row_at_depth row.depth value ∷ [])) (sym below_is) here)
+    let here : Tells s first (named ++ used_row row value ∷ []) (below s (used_row row value) ++ reverse left) =
+    subst (λ (z : Value). Tells s first (named ++ used_row row z ∷ []) (below s (used_row row z) ++ reverse left)) (sym e) on in
+    subst (λ z. Tells s first z (reverse more)) (sym rows) (subst (Tells s first (named ++ used_row row value ∷ [])) (sym below_is) here)
+
+-- a row that was moved, after others that were
+pub used_on : (s : State) (named grown : List ProvenanceRow) (row : ProvenanceRow) (value : Value) → grown ≡ named ++ used_row row value ∷ [] → origin_of s row.value ≡ value → IsNodePart row.value.part
+    → All (IsMovedRow s) named → All (IsMovedRow s) grown
+used_on s named grown row value is made part moved =
+    subst (All (IsMovedRow s)) (sym is) (All-append (IsMovedRow s) named (used_row row value ∷ []) moved (All-cons (IsMovedRow s) (used_row row value) [] (made, part) (All-nil (IsMovedRow s))))
 
 pub told_cut : (s : State) (first : ProvenanceRow) (named todo left : List ProvenanceRow) (row : ProvenanceRow) (value : Value) → todo ≡ left ++ row ∷ [] → value ≡ origin_of s row.value → has_value named value ≡ false
     → Tells s first named (reverse todo) → AreProvenanceRows s [] (first ∷ []) named false

@@ -9,7 +9,7 @@ use Rattle.std.specs.List.{list_any, slice_get}
 use Rattle.ga_grid.specs.declared.node_id.NodeId.{NodeId}
 use Rattle.ga_event.specs.declared.made.Made.{Made}
 use Rattle.ga_event.specs.declared.flow.part.NodePart.{NodePart}
-use Rattle.ga_event.specs.Flow.{Flow, Same, From, top, is_equal_to}
+use Rattle.ga_event.specs.Flow.{Flow, Same, From, IsNodePart, top, is_equal_to}
 use Rattle.ga_provenance.specs.declared.listing.ProvenanceRow.{ProvenanceRow}
 use Rattle.ga_provenance.specs.Origins.{value_of_step, flow_at, origin_of}
 
@@ -56,12 +56,16 @@ value_sources_after s node (suc k) at = source_values node k (slice_get (history
 abbrev pub value_sources : State → Value → List Value
 value_sources s value = value_sources_after s value.node value.step value.part
 
--- the row of a value at a depth, and a row by the step that made its value
+-- the row of a value at a depth, and a row by the step that made its value, which was used where the row had it
 abbrev pub row_at_depth : ℕ → Value → ProvenanceRow
-row_at_depth depth value = record { depth = depth; value = value }
+row_at_depth depth value = record { depth = depth; value = value; used = value }
 
 abbrev pub origin_row : State → ProvenanceRow → ProvenanceRow
-origin_row s row = row_at_depth row.depth (origin_of s row.value)
+origin_row s row = record { depth = row.depth; value = origin_of s row.value; used = row.value }
+
+-- the value of a row was only moved between the step that made it and its use
+abbrev pub IsMovedRow : State → ProvenanceRow → Type 0
+IsMovedRow s row = (origin_of s row.used ≡ row.value) × IsNodePart row.used.part
 
 abbrev pub below : State → ProvenanceRow → List ProvenanceRow
 below s row = map (row_at_depth (row.depth + 1)) (value_sources s row.value)

@@ -1,13 +1,15 @@
 //! Laws of the definitions, each the contract of a function that does nothing.
 
-ghost use Rattle.std.specs.Prelude.{◌≡◌, ◌<◌, ℕ, List, [], ◌∷◌, Bool, true, All, Some};
+ghost use Rattle.std.specs.Prelude.{◌≡◌, ◌<◌, ◌≤◌, ◌-◌, ℕ, List, [], ◌∷◌, Bool, true, false, All, Some, length};
+ghost use Rattle.std.specs.List.{slice_get};
+ghost use Rattle.ga_node.specs.Record.{HasSizes};
 ghost use Rattle.ga_causal.specs.Dependence.{position_of_step};
 ghost use Rattle.ga_grid.specs.declared.node_id.NodeId.{NodeId};
-ghost use Rattle.ga_lab.specs.Machine.{State, causes_of};
-ghost use Rattle.ga_event.specs.Flow.{top};
+ghost use Rattle.ga_lab.specs.Machine.{State, causes_of, history_of};
+ghost use Rattle.ga_event.specs.Flow.{top, IsNodePart, part_value};
 ghost use Rattle.ga_provenance.specs.declared.value.Value.{Value};
 ghost use Rattle.ga_provenance.specs.declared.listing.ProvenanceRow.{ProvenanceRow};
-ghost use Rattle.ga_provenance.specs.Origins.{value_of_step};
+ghost use Rattle.ga_provenance.specs.Origins.{value_of_step, node_after, is_made_with_t, origin_of};
 ghost use Rattle.ga_provenance.specs.Asked.{queried_value};
 ghost use Rattle.ga_provenance.specs.Rows.{row_at_depth, value_sources, IsInTree, AreProvenanceRows, IsCause, IsLoadedOrCause};
 ghost use Rattle.ga_provenance.specs.declared.deciding.Decision.{Decision};
@@ -47,4 +49,13 @@ pub fn deciding_steps_are_causes()
     ensures source { (s : State) (node : NodeId) (step k place : ℕ) (decision : Decision) →
         position_of_step (causes_of s) node.number step ≡ Some place → k < step → decision_at s node k ≡ Some decision →
         IsLoadedOrCause s (value_of_step node step top) decision.source }
+{}
+
+/// A value that was only moved since a step made it has the same word as then, unless that step made T with it, as which it is listed.
+pub fn moved_values_keep_their_words()
+    ensures { (s : State) (value : Value) →
+        length s.load ≡ 144 → value.step ≤ length (history_of s value.node.number) → IsNodePart value.part → HasSizes (node_after s value.node.number value.step) →
+        ((origin_of s value).part ≡ top → is_made_with_t (slice_get (history_of s value.node.number) ((origin_of s value).step - 1)) ≡ false) →
+        part_value 0 (node_after s value.node.number value.step) value.part
+            ≡ part_value 0 (node_after s value.node.number (origin_of s value).step) (origin_of s value).part }
 {}

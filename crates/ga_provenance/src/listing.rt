@@ -5,7 +5,7 @@ ghost use Rattle.ga_event.specs.Told.{count_steps};
 ghost use Rattle.ga_lab.specs.Machine.{node_at_step};
 ghost use Rattle.ga_event.specs.Flow.{IsNodePart, Same};
 ghost use Rattle.ga_provenance.specs.Origins.{value_of_step};
-ghost use Rattle.ga_provenance.specs.Rows.{has_value, row_at_depth, sent_value, source_values, below, AreProvenanceRows};
+ghost use Rattle.ga_provenance.specs.Rows.{has_value, row_at_depth, sent_value, source_values, below, IsMovedRow, AreProvenanceRows};
 ghost use Rattle.ga_provenance.specs.inner.{IsOpen};
 
 use crate::origin::{Origin, flow_by_trail, origin_at};
@@ -24,6 +24,8 @@ pub struct ProvenanceRow {
     pub depth: u32,
     /// The value, right after the step that made it.
     pub value: Value,
+    /// The same value where it was used: since that step its node only moved it from part to part.
+    pub used: Value,
 }
 
 /// The steps whose values went into a value, as a tree, of which each step is listed once.
@@ -89,7 +91,7 @@ fn push_some(
 {
     match value {
         Some(value) => {
-            todo.push(ProvenanceRow { depth, value })?;
+            todo.push(ProvenanceRow { depth, value, used: value })?;
             Ok(())
         }
         None => Ok(()),
@@ -113,7 +115,7 @@ fn push_parts(
     let mut left = parts;
     'pushing: while let Some(part) = left.pop() {
         let value = Value { node, step, part };
-        todo.push(ProvenanceRow { depth, value })?;
+        todo.push(ProvenanceRow { depth, value, used: value })?;
     }
     Ok(())
 }
@@ -171,10 +173,15 @@ pub fn find_provenance_at<'l>(
     ensures rows { IfOk result (λ listing. AreProvenanceRows lab.now [] (row_at_depth 0 value ∷ []) listing.rows.items listing.is_whole) }
     ensures most { IfOk result (λ listing. length listing.rows.items ≤ most) }
     ensures cut { IfOk result (λ listing. listing.is_whole ≡ false → length listing.rows.items ≡ most) }
+    ensures used { IfOk result (λ listing. All (IsMovedRow lab.now) listing.rows.items) }
 {
     let mut rows: Vec<ProvenanceRow> = Vec::new(alloc);
     let mut todo: Vec<ProvenanceRow> = Vec::new(alloc);
-    todo.push(ProvenanceRow { depth: 0, value })?;
+    todo.push(ProvenanceRow {
+        depth: 0,
+        value,
+        used: value,
+    })?;
     let mut last = Origin {
         value: Value { node: at, ..value },
         trail: CachedWalk::new(lab, at, near.copy()),
@@ -193,6 +200,7 @@ pub fn find_provenance_at<'l>(
         let row = ProvenanceRow {
             depth: next.depth,
             value: last.value,
+            used: next.value,
         };
         push_below(&mut todo, lab, &mut last.trail, row)?;
         rows.push(row)?;
@@ -217,6 +225,7 @@ pub fn find_provenance(
     ensures rows { IfOk result (λ listing. AreProvenanceRows lab.now [] (row_at_depth 0 value ∷ []) listing.rows.items listing.is_whole) }
     ensures most { IfOk result (λ listing. length listing.rows.items ≤ most) }
     ensures cut { IfOk result (λ listing. listing.is_whole ≡ false → length listing.rows.items ≡ most) }
+    ensures used { IfOk result (λ listing. All (IsMovedRow lab.now) listing.rows.items) }
     ensures err { IfErr result (λ why. (why ≡ LabFault.NoStep) ⊎ (why ≡ LabFault.Memory)) }
     ensures refused { (result ≡ Err LabFault.NoStep) ↔ (count_steps value.node.number lab.now.kept < value.step) }
 {

@@ -1,6 +1,6 @@
 use Rattle.std.proofs.Common.{◌≡◌, ◌≤◌, ◌+◌, true, false, [], length, vec_len, sym, ap, ◌∙◌, arith}
 use Rattle.ga_provenance.specs.Rows.{has_value, row_at_depth, below}
-use Rattle.ga_provenance.proofs.Rows.{told_again, told_on, told_cut, told_all, no_items, grown_by, open_top, open_left, open_on}
+use Rattle.ga_provenance.proofs.Rows.{told_again, told_on, told_cut, told_all, no_items, grown_by, open_top, open_left, open_on, used_row, used_on}
 use Rattle.ga_provenance.proofs.listing.find_provenance_at.Goals as goal
 
 pub origin_at-last-requires-clause-part : goal.origin_at-last-requires-clause-part
@@ -22,6 +22,7 @@ telling-preserved-then-is_named c =
       tells = told_again c.args.lab.now (row_at_depth 0 c.args.value) c.telling.rows.items c.telling.todo.items c.pop.new.self.items c.in-Some.next c.origin_at-last.result.value c.in-Some.ensures.items c.origin_at-last.ensures.value named c.telling.invariant.tells;
       ready = open_left (length c.telling.rows.items) c.telling.todo.items c.pop.new.self.items c.in-Some.next c.in-Some.ensures.items c.telling.invariant.ready;
       most = c.telling.invariant.most;
+      used = c.telling.invariant.used;
       last = c.origin_at-last.ensures.stands;
     }
 
@@ -35,7 +36,7 @@ pub telling-preserved : goal.telling-preserved
 telling-preserved c =
     let named : has_value c.telling.rows.items c.origin_at-last.result.value ≡ false =
     sym (ap (λ z. has_value z c.origin_at-last.result.value) c.deref.ensures.value) ∙ sym c.is_named.ensures ∙ c.if-is_named.false in
-    let row = row_at_depth c.in-Some.next.depth c.origin_at-last.result.value in
+    let row = used_row c.in-Some.next c.origin_at-last.result.value in
     let grown : length c.push-in-Some.new.self.items ≡ length c.telling.rows.items + 1 = grown_by c.telling.rows.items c.push-in-Some.new.self.items row c.in_ok-push-2.ensures.items in
     let top = open_top (length c.telling.rows.items) c.telling.todo.items c.pop.new.self.items c.in-Some.next c.in-Some.ensures.items c.telling.invariant.ready in
     let less : length c.telling.rows.items ≤ length c.push-in-Some.new.self.items = omega (arith, grown) in
@@ -49,6 +50,7 @@ telling-preserved c =
       ready = open_on (length c.telling.rows.items) (length c.push-in-Some.new.self.items) (c.in-Some.next.depth + 1) c.telling.todo.items c.pop.new.self.items c.push_below.new.todo.items (below c.args.lab.now row) c.in-Some.next
           c.in-Some.ensures.items less deep c.telling.invariant.ready c.in_ok-push_below.ensures.ready c.in_ok-push_below.ensures.ok;
       most = most;
+      used = used_on c.args.lab.now c.telling.rows.items c.push-in-Some.new.self.items c.in-Some.next c.origin_at-last.result.value c.in_ok-push-2.ensures.items (sym c.origin_at-last.ensures.value) top.0 c.telling.invariant.used;
       last = c.in_ok-push_below.ensures.trail;
     }
 

@@ -1,8 +1,13 @@
-use Rattle.std.proofs.Common.{rules, ◌++◌, refl, inl, inr}
+use Rattle.std.proofs.Common.{rules, ◌++◌, refl, sym, subst, inl, inr}
+use Rattle.std.specs.List.{All}
+use Rattle.ga_provenance.specs.Rows.{IsMovedRow}
 use Rattle.ga_text.proofs.WriteLemmas.{truncated_here, truncated_within}
 use Rattle.ga_explorer_text.specs.Trees.{more_rows_text}
 use Rattle.ga_explorer_text.proofs.Saying.{joined_written, tree_told}
 use Rattle.ga_explorer_text.proofs.source_suffix.StepContext.say_asked.Goals as goal
+
+pub say_rows-requires : goal.say_rows-requires
+say_rows-requires g c = subst (All (IsMovedRow c.args.self.now.lab.now)) (sym c.as_slice.ensures.value) c.in-Ok.ensures.used
 
 pub returns-in_err-say_rows-in-Ok : goal.returns-in_err-say_rows-in-Ok
 returns-in_err-say_rows-in-Ok g c = (
