@@ -1,6 +1,6 @@
 -- The texts of `whence`: the steps whose values went into what a step made, as a tree (docs/REFERENCE.md, "Exploring"; this project's
 -- own).
-use Rattle.std.specs.Prelude.{◌≡◌, ◌≤◌, ℕ, zero, suc, ◌+◌, ◌-◌, ◌%◌, ◌==◌, ◌&&◌, ◌⊎◌, min, Bool, true, false, if◌then◌else◌, List, [], ◌∷◌, ◌++◌, length, flat_map, codes, decimal, Option, Some, None}
+use Rattle.std.specs.Prelude.{◌≡◌, ◌≤◌, ℕ, zero, suc, ◌+◌, ◌-◌, ◌%◌, ◌==◌, ◌&&◌, ◌⊎◌, min, Bool, true, false, nat_lt, not, ◌||◌, if◌then◌else◌, List, [], ◌∷◌, ◌++◌, length, drop, codes, decimal, Option, Some, None}
 use Rattle.std.specs.List.{slice_get}
 use Rattle.ga_text.specs.Lines.{Text}
 use Rattle.ga_text.specs.Digits.{hex2_of, name_of_node, step_text}
@@ -18,17 +18,18 @@ use Rattle.ga_event.specs.declared.flow.part.NodePart.{NodePart}
 use Rattle.ga_event.specs.declared.flow.part.NodePart.TheVariants as part
 use Rattle.ga_provenance.specs.declared.value.Value.{Value}
 use Rattle.ga_provenance.specs.declared.listing.ProvenanceRow.{ProvenanceRow}
+use Rattle.ga_provenance.specs.declared.lines.ProvenanceLine.{ProvenanceLine}
 use Rattle.ga_provenance.specs.Origins.{value_of_step, node_after, origin_of}
-use Rattle.ga_provenance.specs.Rows.{row_at_depth, AreProvenanceRows}
+use Rattle.ga_provenance.specs.Lines.{AreLinesOf}
 use Rattle.ga_provenance.specs.Asked.{queried_value}
 use Rattle.ga_display.specs.Texts.{register_text, refusal_text, advised_refusal_text}
 use Rattle.ga_debug_info.specs.declared.notes.DebugInfo.{DebugInfo}
 use Rattle.ga_explorer_text.specs.Deeds.{action_text}
 use Rattle.ga_explorer_text.specs.SourceSuffix.{step_suffix_text, value_suffix_text}
 
--- how many lines a tree has at most
-abbrev pub max_tree_rows : ℕ
-max_tree_rows = 100
+-- how many lines of values an answer has at most
+abbrev pub max_lines : ℕ
+max_lines = 100
 
 -- the name of a part: of a cell its address; T, S and R have letters of their own
 abbrev pub data_name : ℕ → Text
@@ -125,49 +126,76 @@ blanks (suc level) = codes "  " ++ blanks level
 abbrev pub tree_row_text : Option DebugInfo → State → ℕ → ProvenanceRow → Text
 tree_row_text notes s deeper row = blanks (row.depth + deeper) ++ (value_text s row.value ++ value_suffix_text notes s row.value)
 
--- the step of the query alone, and with the queried value
+-- the number of a line, and that of the line that used its value
+abbrev pub user_text : Option ℕ → Text
+user_text None = []
+user_text (Some user) = codes ">" ++ decimal user
+
+abbrev pub line_number_text : ℕ → Option ℕ → Text
+line_number_text number user = decimal number ++ user_text user ++ codes " "
+
+-- how many values a run has, if more than one
+abbrev pub run_count_text : ℕ → Text
+run_count_text count = if nat_lt 1 count then codes " x" ++ decimal count else []
+
+-- the step of the query alone, and as line 0 with the queried value
 abbrev pub queried_step_text : Option DebugInfo → State → NodeId → ℕ → Text
 queried_step_text notes s node step = step_action_text s node step ++ step_suffix_text notes s node step
 
 abbrev pub step_with_queried_value : State → NodeId → ℕ → Value → Text
-step_with_queried_value s node step value = step_action_text s node step ++ queried_value_text (slice_get (history_of s node.number) (step - 1)) step value (word_of_value s value)
+step_with_queried_value s node step value = line_number_text 0 None ++ step_action_text s node step ++ queried_value_text (slice_get (history_of s node.number) (step - 1)) step value (word_of_value s value)
 
 abbrev pub queried_step_line : Option DebugInfo → State → NodeId → ℕ → Value → Text
 queried_step_line notes s node step value = step_with_queried_value s node step value ++ step_suffix_text notes s node step
 
--- The step of the query is the first row if it made the value. Otherwise it comes before the rows, which are one level deeper.
-abbrev pub tree_rows_by_root : Option DebugInfo → State → NodeId → ℕ → Value → Bool → List ProvenanceRow → Text
-tree_rows_by_root notes s node step value made rows =
-    if made then flat_map (tree_row_text notes s 0) rows else queried_step_line notes s node step value ++ flat_map (tree_row_text notes s 1) rows
+-- a line of a value, by its number
+abbrev pub value_line_text : Option DebugInfo → State → ℕ → Option ℕ → ProvenanceLine → Text
+value_line_text notes s number user line =
+    ((line_number_text number user ++ value_text s line.value) ++ run_count_text line.count) ++ value_suffix_text notes s line.value
 
-abbrev pub tree_rows_text : Option DebugInfo → State → NodeId → ℕ → Value → List ProvenanceRow → Text
-tree_rows_text notes s node step value rows = tree_rows_by_root notes s node step value ((origin_of s value).step == step) rows
+-- The first line has a user, line 0, if another step than that of the query made the value.
+abbrev pub user_of_line : Bool → ℕ → ℕ → Option ℕ
+user_of_line moved number user = if moved || nat_lt 1 number then Some user else None
 
--- the line after the rows of a tree, if these are not all
-abbrev pub more_rows_text : Bool → Text
-more_rows_text true = []
-more_rows_text false = codes "more\n"
+-- some lines, of which `k` come before
+abbrev pub lines_text : Option DebugInfo → State → Bool → ℕ → List ProvenanceLine → Text
+lines_text notes s moved k [] = []
+lines_text notes s moved k (line ∷ rest) = value_line_text notes s (k + 1) (user_of_line moved (k + 1) line.user) line ++ lines_text notes s moved (k + 1) rest
 
--- The rows of the value are written, all or as many as allowed; or an allocation failed.
-pub record IsTreeAnswer (notes : Option DebugInfo) (s : State) (node : NodeId) (step : ℕ) (value : Value) (answer : Text) : Type 0 where
-  pub rows : List ProvenanceRow
+-- Line 0 is the step of the query, if another step made the value.
+abbrev pub head_text : Option DebugInfo → State → NodeId → ℕ → Value → Bool → ℕ → Text
+head_text notes s node step value moved first = if moved && (first == 1) then queried_step_line notes s node step value else []
+
+-- the line after the lines: from where to go on, if these are not all, or that there are none
+abbrev pub more_lines_text : ℕ → ℕ → Bool → Text
+more_lines_text lines first true = if nat_lt lines first then codes "none\n" else []
+more_lines_text lines first false = codes "more from " ++ decimal (lines + 1) ++ codes "\n"
+
+abbrev pub whence_lines_text : Option DebugInfo → State → NodeId → ℕ → ℕ → Value → List ProvenanceLine → Text
+whence_lines_text notes s node step first value lines =
+    let moved = not ((origin_of s value).step == step) in
+    head_text notes s node step value moved first ++ lines_text notes s moved (first - 1) (drop (first - 1) lines)
+
+-- The lines of the value are written from one on, all or as many as allowed; or an allocation failed.
+pub record IsLinesAnswer (notes : Option DebugInfo) (s : State) (node : NodeId) (step first : ℕ) (value : Value) (answer : Text) : Type 0 where
+  pub lines : List ProvenanceLine
   pub is_whole : Bool
-  pub told : AreProvenanceRows s [] (row_at_depth 0 value ∷ []) rows is_whole
-  pub most : length rows ≤ max_tree_rows
-  pub cut : is_whole ≡ false → length rows ≡ max_tree_rows
-  pub text : answer ≡ tree_rows_text notes s node step value rows ++ more_rows_text is_whole
+  pub told : AreLinesOf s value lines is_whole
+  pub most : length lines ≤ (first - 1) + max_lines
+  pub cut : is_whole ≡ false → length lines ≡ (first - 1) + max_lines
+  pub text : answer ≡ whence_lines_text notes s node step first value lines ++ more_lines_text (length lines) first is_whole
 
 -- the text about a step for which this value is queried; the step alone if it made none
-abbrev pub IsStepOrTreeAnswer : Option DebugInfo → State → NodeId → ℕ → Option Value → Text → Type 0
-IsStepOrTreeAnswer notes s node step None answer = answer ≡ queried_step_text notes s node step
-IsStepOrTreeAnswer notes s node step (Some value) answer = (answer ≡ advised_refusal_text Memory) ⊎ IsTreeAnswer notes s node step value answer
+abbrev pub IsStepOrLinesAnswer : Option DebugInfo → State → NodeId → ℕ → ℕ → Option Value → Text → Type 0
+IsStepOrLinesAnswer notes s node step first None answer = answer ≡ queried_step_text notes s node step
+IsStepOrLinesAnswer notes s node step first (Some value) answer = (answer ≡ advised_refusal_text Memory) ⊎ IsLinesAnswer notes s node step first value answer
 
 -- the value of a part after a step, or the one that the step selects where no part is named
 abbrev pub selected_value : State → NodeId → ℕ → Option NodePart → Option Value
 selected_value s node step None = queried_value s node step
 selected_value s node step (Some at) = Some (value_of_step node step at)
 
-abbrev pub IsWhenceAnswer : Option DebugInfo → State → NodeId → ℕ → Option NodePart → Text → Type 0
-IsWhenceAnswer notes s node step at answer =
+abbrev pub IsWhenceAnswer : Option DebugInfo → State → NodeId → ℕ → Option NodePart → ℕ → Text → Type 0
+IsWhenceAnswer notes s node step at first answer =
     ((has_step s node.number step ≡ false) × (answer ≡ refusal_text NoStep))
-    ⊎ ((has_step s node.number step ≡ true) × IsStepOrTreeAnswer notes s node step (selected_value s node step at) answer)
+    ⊎ ((has_step s node.number step ≡ true) × IsStepOrLinesAnswer notes s node step first (selected_value s node step at) answer)

@@ -15,6 +15,7 @@ use Rattle.ga_event.specs.declared.made.Made.{Made}
 use Rattle.ga_event.specs.declared.made.Made.TheVariants.{Own, Pass}
 use Rattle.ga_explorer_text.specs.Saved.{saved_line, with_feed}
 use Rattle.ga_provenance.specs.declared.listing.ProvenanceRow.{ProvenanceRow}
+use Rattle.ga_provenance.specs.declared.lines.ProvenanceLine.{ProvenanceLine}
 
 -- ---- what private contracts cite
 
@@ -36,11 +37,11 @@ cause_line cause = with_feed (saved_line cause.event)
 abbrev pub ended_but : List Bool → ℕ → Bool
 ended_but live n = not (is_marked live n)
 
--- ---- which step the first of some rows is of
+-- ---- which step the first of some lines is of
 
-abbrev pub is_first : ℕ → List ProvenanceRow → Bool
+abbrev pub is_first : ℕ → List ProvenanceLine → Bool
 is_first step [] = false
-is_first step (row ∷ rows) = row.value.step == step
+is_first step (line ∷ lines) = line.value.step == step
 
 -- ---- the words of rows
 

@@ -157,12 +157,12 @@ impl<'l> StepContext<'l> {
     ghost use Rattle.ga_explorer_text.specs.Trees.{word_of_value, a_of_value, value_with_word_text, value_text};
     ghost use Rattle.ga_provenance.specs.Rows.{IsMovedRow};
 
-    /// The context of the step of a row's value: no row below it is of a later step of the value's node.
-    pub fn context_of_row(&self, row: ProvenanceRow) -> StepContext<'l>
+    /// The context of the step of a value.
+    pub fn context_of_value(&self, value: Value) -> StepContext<'l>
         ensures lab { result.lab.now ≡ self.now.lab.now }
         ensures notes { result.notes.now ≡ self.now.notes.now }
     {
-        self.context_of(row.value.node, row.value.step)
+        self.context_of(value.node, value.step)
     }
 
     /// The context of a step of a node, or of its last one.

@@ -22,26 +22,32 @@ use ga_event::NodePart;
 use ga_grid::NodeId;
 use ga_lab::{Lab, LabFault, Made, NodeWalk};
 use ga_node::OwnEventKind;
-use ga_provenance::{ProvenanceRow, Value, find_provenance_at, queried_value_at};
+use ga_provenance::{ProvenanceLine, ProvenanceRow, Value, find_lines_at, queried_value_at};
 use ga_text::{
-    MAX_STEP_BYTES, TextBuffer, WORD_DIGITS, WriteResult, Writer, push_node, push_spaced_word,
-    push_step, push_text,
+    MAX_NUMBER_DIGITS, MAX_STEP_BYTES, TextBuffer, WORD_DIGITS, WriteResult, Writer, push_node,
+    push_number, push_spaced_word, push_step, push_text,
 };
 use ga_word::Word18;
 use std::alloc::Global;
 use std::io::Write;
 
-/// How many lines a tree has at most.
-const MOST_ROWS: u32 = 100;
+/// How many lines of values an answer has at most.
+const MAX_LINES: u32 = 100;
 
 /// The most bytes of a word and of A.
 const TWO_WORDS: usize = 1 + WORD_DIGITS + MAX_NAMED_WORD_BYTES;
 
+/// The most bytes of the numbers of a line.
+const MAX_LINE_NUMBER_BYTES: usize = 2 * MAX_NUMBER_DIGITS + 2;
+
+/// The most bytes of a value with its step.
+const MAX_VALUE_BYTES: usize = DID_ROOM + MAX_NAMED_WORD_BYTES + TWO_WORDS;
+
 /// The most bytes of a step with what it did.
 const DID_ROOM: usize = MAX_STEP_BYTES + 1 + MAX_ACTION_BYTES;
 
-/// `whence NNN K [VALUE]`: writes the steps whose values went into what a step made, or into the value of a part after it, as a
-/// tree. The node is walked back to the step once, and the rest is found from there.
+/// `whence NNN K [VALUE] [from L]`: writes the steps whose values went into what a step made, or into the value of a part after
+/// it, the nearest first, from line `first` on. The node is walked back to the step once, and the rest is found from there.
 ///
 /// # Errors
 /// A write failed.
@@ -52,17 +58,18 @@ pub fn write_whence<W: Write>(
     node: NodeId,
     step: u32,
     part: Option<NodePart>,
+    first: u32,
     writer: &mut Writer<'_, W>,
 ) -> WriteResult
     requires { IfSome part IsNodePart }
-    ensures { WritesSome result (IsWhenceAnswer notes.now lab.now node step part) W.contents writer.old writer.new }
+    ensures { WritesSome result (IsWhenceAnswer notes.now lab.now node step part first) W.contents writer.old writer.new }
 {
     if !lab.has_step((node, step)) {
         return writer.write_text(refusal_text(LabFault::NoStep));
     }
     let here = StepContext::new(lab, notes, node, step);
     match selected_value(lab, &here.near, node, part) {
-        Some(value) => here.say_asked(alloc, value, writer),
+        Some(value) => here.say_asked(alloc, value, first, writer),
         None => here.say_head(writer),
     }
 }
@@ -89,20 +96,43 @@ fn selected_value(
     }
 }
 
-/// The text after the rows, if these are not all.
-fn more(is_whole: bool) -> &'static [u8]
-    ensures { result.now ≡ more_rows_text is_whole }
+/// The text after the lines, if these are not all, or if there are none.
+fn more(lines: u32, first: u32, is_whole: bool) -> TextBuffer
+    ensures { result.items ≡ more_lines_text lines first is_whole }
 {
-    if is_whole { b"" } else { b"more\n" }
+    let mut out = ArrayVec::new();
+    if !is_whole {
+        push_text(&mut out, b"more from ");
+        push_number(&mut out, u64::from(lines) + 1);
+        push_text(&mut out, b"\n");
+    } else if lines < first {
+        push_text(&mut out, b"none\n");
+    }
+    out
 }
 
-/// Whether the first of some rows is of this step.
-fn is_first(step: u32, rows: &[ProvenanceRow]) -> bool
-    ensures { result ≡ is_first step rows.now }
+/// Adds the number of a line, and of the line that used its value, if that is another.
+fn push_line_number(out: &mut TextBuffer, number: u32, user: Option<u32>)
+    requires { array_vec_len out.old + MAX_LINE_NUMBER_BYTES ≤ 256 }
+    ensures text { out.new.items ≡ out.old.items ++ line_number_text number user }
+    ensures len { array_vec_len out.new ≤ array_vec_len out.old + MAX_LINE_NUMBER_BYTES }
 {
-    match rows {
-        [first, ..] => first.value.step == step,
-        [] => false,
+    push_number(out, u64::from(number));
+    if let Some(user) = user {
+        push_text(out, b">");
+        push_number(out, u64::from(user));
+    }
+    push_text(out, b" ");
+}
+
+/// Adds how many values a run has, if more than one.
+fn push_count(out: &mut TextBuffer, count: u32)
+    requires { array_vec_len out.old + 2 + MAX_NUMBER_DIGITS ≤ 256 }
+    ensures { out.new.items ≡ out.old.items ++ run_count_text count }
+{
+    if count > 1 {
+        push_text(out, b" x");
+        push_number(out, u64::from(count));
     }
 }
 
@@ -127,11 +157,12 @@ fn head_line(lab: &Lab, node: NodeId, step: u32) -> TextBuffer
     out
 }
 
-/// A step of a node, with what it did and the queried value.
+/// A step of a node as line 0, with what it did and the queried value.
 fn queried_line(lab: &Lab, node: NodeId, step: u32, value: Value, word: Word18) -> TextBuffer
-    ensures { result.items ≡ step_action_text lab.now node step ++ queried_value_text (slice_get (history_of lab.now node.number) (step - 1)) step value word }
+    ensures { result.items ≡ line_number_text 0 None ++ step_action_text lab.now node step ++ queried_value_text (slice_get (history_of lab.now node.number) (step - 1)) step value word }
 {
     let mut out = ArrayVec::new();
+    push_line_number(&mut out, 0, None);
     push_did(&mut out, lab, node, step);
     let made = lab.made_event_of_step(node, step.saturating_sub(1));
     push_queried(&mut out, made, step, value, word);
@@ -143,18 +174,44 @@ fn value_line(lab: &Lab, value: Value, words: ValueWords) -> TextBuffer
     ensures { result.items ≡ value_with_word_text lab.now value words.word words.a }
 {
     let mut out = ArrayVec::new();
-    if value.step == 0 {
-        push_node(&mut out, value.node);
-        push_text(&mut out, b" load ");
-        push_part(&mut out, value.part);
-        push_spaced_word(&mut out, words.word);
-    } else {
-        push_did(&mut out, lab, value.node, value.step);
-        push_part_suffix(&mut out, value.part);
-        let made = lab.made_event_of_step(value.node, value.step - 1);
-        push_left(&mut out, made, value.part, words);
-    }
+    push_value_line(&mut out, lab, value, words);
     out
+}
+
+/// A line of a value with its number, that of the line that used it, and how many values its run has.
+fn numbered_line(
+    lab: &Lab,
+    number: u32,
+    user: Option<u32>,
+    line: ProvenanceLine,
+    words: ValueWords,
+) -> TextBuffer
+    ensures { result.items ≡ (line_number_text number user ++ value_with_word_text lab.now line.value words.word words.a) ++ run_count_text line.count }
+{
+    let mut out = ArrayVec::new();
+    push_line_number(&mut out, number, user);
+    push_value_line(&mut out, lab, line.value, words);
+    push_count(&mut out, line.count);
+    out
+}
+
+/// Adds the step that made a value, or that it was loaded, with the value's word.
+fn push_value_line(out: &mut TextBuffer, lab: &Lab, value: Value, words: ValueWords)
+    requires { array_vec_len out.old + MAX_VALUE_BYTES ≤ 256 }
+    ensures text { out.new.items ≡ out.old.items ++ value_with_word_text lab.now value words.word words.a }
+    ensures len { array_vec_len out.new ≤ array_vec_len out.old + MAX_VALUE_BYTES }
+{
+    if value.step == 0 {
+        push_node(out, value.node);
+        push_text(out, b" load ");
+        push_part(out, value.part);
+        push_spaced_word(out, words.word);
+    } else {
+        push_did(out, lab, value.node, value.step);
+        push_part_suffix(out, value.part);
+        let made = lab.made_event_of_step(value.node, value.step - 1);
+        push_left(out, made, value.part, words);
+    }
 }
 
 /// Adds a step of a node, with what it did.
@@ -263,42 +320,32 @@ impl<'l> StepContext<'l> {
     ghost use Rattle.ga_provenance.specs.Rows.{IsMovedRow};
     ghost use Rattle.ga_explorer_text.specs.inner.{is_first};
 
-    /// Writes the tree of a value for the step to which its node is walked back.
+    /// Writes the lines of a value for the step to which its node is walked back.
     fn say_asked<W: Write>(
         &self,
         alloc: Global,
         value: Value,
+        first: u32,
         writer: &mut Writer<'_, W>,
     ) -> WriteResult
         requires { IsNodePart value.part }
-        ensures { WritesSome result (λ text. IsStepOrTreeAnswer self.now.notes.now self.now.lab.now self.now.node self.now.near.step (Some value) text)
+        ensures { WritesSome result (λ text. IsStepOrLinesAnswer self.now.notes.now self.now.lab.now self.now.node self.now.near.step first (Some value) text)
             W.contents writer.old writer.new }
     {
-        match find_provenance_at(alloc, self.lab, &self.near, self.node, value, MOST_ROWS) {
-            Ok(listing) => {
-                self.say_rows(value, listing.rows.as_slice(), writer)?;
-                writer.write_blocks(more(listing.is_whole))
+        let skipped = first.saturating_sub(1);
+        let most = skipped.saturating_add(MAX_LINES);
+        match find_lines_at(alloc, self.lab, &self.near, self.node, value, most) {
+            Ok(found) => {
+                let lines = found.lines.as_slice();
+                if first == 1 && !is_first(self.near.step(), lines) {
+                    self.say_queried(value, writer)?;
+                }
+                self.say_lines(skipped, lines, writer)?;
+                let last = more(lines.len() as u32, first, found.is_whole);
+                writer.write_blocks(last.as_slice())
             }
             Err(_) => writer.write_text(advised_refusal_text(LabFault::Memory)),
         }
-    }
-
-    /// Writes the rows, after the step of the query if this isn't the first of them.
-    fn say_rows<W: Write>(
-        &self,
-        value: Value,
-        rows: &[ProvenanceRow],
-        writer: &mut Writer<'_, W>,
-    ) -> WriteResult
-        requires { All (IsMovedRow self.now.lab.now) rows.now }
-        ensures { WritesSome result (λ text. text ≡ tree_rows_by_root self.now.notes.now self.now.lab.now self.now.node self.now.near.step value (is_first self.now.near.step rows.now) rows.now)
-            W.contents writer.old writer.new }
-    {
-        if is_first(self.near.step(), rows) {
-            return self.say_tree(0, rows, writer);
-        }
-        self.say_queried(value, writer)?;
-        self.say_tree(1, rows, writer)
     }
 
     /// Says the step asked for, to which its node is walked back, with the queried value.
@@ -321,44 +368,39 @@ impl<'l> StepContext<'l> {
         self.write_own_suffix(writer)
     }
 
-    /// Says the lines of some rows, each so much deeper: the first from here, the others from the step of its value.
-    fn say_tree<W: Write>(
-        &self,
-        deeper: u8,
-        rows: &[ProvenanceRow],
-        writer: &mut Writer<'_, W>,
-    ) -> WriteResult
-        requires { All (IsMovedRow self.now.lab.now) rows.now }
-        ensures { WritesSome result (λ text. text ≡ flat_map (tree_row_text self.now.notes.now self.now.lab.now deeper) rows.now)
-            W.contents writer.old writer.new }
-    {
-        match rows {
-            [] => Ok(()),
-            [first] => self.write_tree_row(deeper, *first, writer),
-            [first, others @ ..] => {
-                self.write_tree_row(deeper, *first, writer)?;
-                self.context_of_row(*first).say_lines(deeper, others, writer)
-            }
-        }
-    }
-
-    /// Says the lines of some rows, each so much deeper.
+    /// Says some lines but those at the beginning: the words of the first are read from here, of the others from the first one's step.
     fn say_lines<W: Write>(
         &self,
-        deeper: u8,
-        rows: &[ProvenanceRow],
+        skipped: u32,
+        lines: &[ProvenanceLine],
         writer: &mut Writer<'_, W>,
     ) -> WriteResult
-        requires { All (IsMovedRow self.now.lab.now) rows.now }
-        ensures { WritesSome result (λ text. text ≡ flat_map (tree_row_text self.now.notes.now self.now.lab.now deeper) rows.now)
-            W.contents writer.old writer.new }
     {
+        let is_moved = !is_first(self.near.step(), lines);
+        let root = self.root(lines);
         let mut here = self.copy();
-        'rows: for row in rows {
-            here = self.context_of_use(here, *row);
-            here.write_tree_row(deeper, *row, writer)?;
+        let mut number = 0;
+        'lines: for line in lines {
+            number += 1;
+            if number <= skipped {
+                continue 'lines;
+            }
+            let user = if number > 1 || is_moved { Some(line.user) } else { None };
+            let row = ProvenanceRow { depth: 0, value: line.value, used: line.used };
+            here = if number == 1 { here } else { root.context_of_use(here, row) };
+            let words = here.words_of_row(row);
+            writer.write_blocks(numbered_line(self.lab, number, user, *line, words).as_slice())?;
+            here.write_value_suffix(line.value, writer)?;
         }
         Ok(())
+    }
+
+    /// The context of the step of the first line's value, or this one where there is no line.
+    fn root(&self, lines: &[ProvenanceLine]) -> StepContext<'l> {
+        match lines {
+            [first, _, ..] => self.context_of_value(first.value),
+            _ => self.copy(),
+        }
     }
 
     /// Says the line of a row.

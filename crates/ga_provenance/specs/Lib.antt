@@ -1,6 +1,7 @@
 pub mod Asked
 pub mod Deciding
 pub mod Fetched
+pub mod Lines
 pub mod Origins
 pub mod Rows
 pub mod Writes

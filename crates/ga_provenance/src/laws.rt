@@ -1,6 +1,6 @@
 //! Laws of the definitions, each the contract of a function that does nothing.
 
-ghost use Rattle.std.specs.Prelude.{◌≡◌, ◌<◌, ◌≤◌, ◌-◌, ℕ, List, [], ◌∷◌, Bool, true, false, All, Some, length};
+ghost use Rattle.std.specs.Prelude.{◌≡◌, ◌<◌, ◌≤◌, ◌-◌, ℕ, List, [], ◌∷◌, Bool, true, false, All, Some, length, take};
 ghost use Rattle.std.specs.List.{slice_get};
 ghost use Rattle.ga_node.specs.Record.{HasSizes};
 ghost use Rattle.ga_causal.specs.Dependence.{position_of_step};
@@ -11,7 +11,9 @@ ghost use Rattle.ga_provenance.specs.declared.value.Value.{Value};
 ghost use Rattle.ga_provenance.specs.declared.listing.ProvenanceRow.{ProvenanceRow};
 ghost use Rattle.ga_provenance.specs.Origins.{value_of_step, node_after, is_made_with_t, origin_of};
 ghost use Rattle.ga_provenance.specs.Asked.{queried_value};
-ghost use Rattle.ga_provenance.specs.Rows.{row_at_depth, value_sources, IsInTree, AreProvenanceRows, IsCause, IsLoadedOrCause};
+ghost use Rattle.ga_provenance.specs.Rows.{row_at_depth, has_value, value_sources, IsInTree, AreProvenanceRows, IsCause, IsLoadedOrCause};
+ghost use Rattle.ga_provenance.specs.declared.lines.ProvenanceLine.{ProvenanceLine};
+ghost use Rattle.ga_provenance.specs.Lines.{source_origins, is_listed, AreLinesOf, IsListedAt};
 ghost use Rattle.ga_provenance.specs.declared.deciding.Decision.{Decision};
 ghost use Rattle.ga_provenance.specs.Deciding.{decision_at};
 
@@ -58,4 +60,37 @@ pub fn moved_values_keep_their_words()
         ((origin_of s value).part ≡ top → is_made_with_t (slice_get (history_of s value.node.number) ((origin_of s value).step - 1)) ≡ false) →
         part_value 0 (node_after s value.node.number value.step) value.part
             ≡ part_value 0 (node_after s value.node.number (origin_of s value).step) (origin_of s value).part }
+{}
+
+/// Each listed value was loaded, or its step is one on which the queried step depends.
+pub fn listed_values_are_causes()
+    ensures { (s : State) (value : Value) (place : ℕ) (lines : List ProvenanceLine) (whole : Bool) →
+        position_of_step (causes_of s) value.node.number value.step ≡ Some place → AreLinesOf s value lines whole →
+        (line at : ℕ) (listed : Value) → IsListedAt lines line at listed → IsLoadedOrCause s value listed }
+{}
+
+/// If all lines are listed, none is missing: the step that made the queried value is listed, and with each value of a run those that
+/// made the values from which it was made.
+pub fn whole_lines_miss_nothing()
+    ensures asked { (s : State) (value : Value) (lines : List ProvenanceLine) → AreLinesOf s value lines true → is_listed lines (origin_of s value) ≡ true }
+    ensures sources { (s : State) (value : Value) (lines : List ProvenanceLine) → AreLinesOf s value lines true →
+        (line at : ℕ) (listed : Value) → IsListedAt lines line at listed → All (λ (source : Value). is_listed lines source ≡ true) (source_origins s listed) }
+{}
+
+/// No value is listed twice.
+pub fn values_are_listed_once()
+    ensures { (s : State) (value : Value) (lines : List ProvenanceLine) (whole : Bool) → AreLinesOf s value lines whole →
+        (line other at place : ℕ) (listed : Value) → IsListedAt lines line at listed → IsListedAt lines other place listed → (line ≡ other) × (at ≡ place) }
+{}
+
+/// Fewer lines are the first of more: so the answers that continue one another join to all lines.
+pub fn lines_continue()
+    ensures { (s : State) (value : Value) (lines more : List ProvenanceLine) (whole : Bool) →
+        AreLinesOf s value lines false → AreLinesOf s value more whole → length lines ≤ length more → take (length lines) more ≡ lines }
+{}
+
+/// The runs of all lines have exactly the values of the rows of the whole tree.
+pub fn runs_unfold_to_tree()
+    ensures { (s : State) (value listed : Value) (lines : List ProvenanceLine) (rows : List ProvenanceRow) → AreLinesOf s value lines true →
+        AreProvenanceRows s [] (row_at_depth 0 value ∷ []) rows true → is_listed lines listed ≡ has_value rows listed }
 {}

@@ -6,6 +6,7 @@ mod deciding;
 mod kept;
 mod known;
 pub mod laws;
+mod lines;
 mod listing;
 mod moving;
 mod origin;
@@ -15,6 +16,7 @@ mod writes;
 
 pub use asked::{queried_value, queried_value_at};
 pub use deciding::{Decision, Decisions};
+pub use lines::{ProvenanceLine, ProvenanceLines, find_lines_at};
 pub use listing::{ProvenanceRow, ProvenanceTree, find_provenance, find_provenance_at};
 pub use origin::{fetched_cell_at, origin_of};
 pub use value::Value;

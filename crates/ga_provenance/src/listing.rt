@@ -67,7 +67,7 @@ pub(crate) fn sent_value(made: Option<Made>) -> Option<Value>
 }
 
 // The value from which one was moved or read, by its part before.
-fn source_in(node: NodeId, step: u32, told: Option<Made>, from: NodePart) -> Option<Value>
+pub(crate) fn source_in(node: NodeId, step: u32, told: Option<Made>, from: NodePart) -> Option<Value>
     ensures { option_to_list result ≡ source_values node step told (Same from) }
 {
     match from {
