@@ -8,3 +8,7 @@ pub mod Resting
 pub mod Decided
 pub mod Parts
 pub mod Words
+pub mod Finding
+pub mod Runs
+pub mod GrowingLines
+pub mod Listed

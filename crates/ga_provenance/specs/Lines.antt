@@ -1,7 +1,7 @@
--- The steps whose values went into a value, the nearest first: as lines, each of a value or of a run of values that differ only in
--- their steps.
-use Rattle.std.specs.Prelude.{ℕ, zero, suc, ◌+◌, ◌-◌, ◌*◌, ◌/◌, ◌%◌, ◌==◌, nat_lt, nat_le, Bool, true, false, not, ◌&&◌, ◌||◌, if◌then◌else◌, List, [], ◌∷◌, ◌++◌, length, map, Option, Some, None, ◌≡◌}
-use Rattle.std.specs.List.{list_any, slice_get}
+-- The provenance of a value as lines, the nearest first, each of a value or of a run of values that differ only in their steps
+-- (docs/REFERENCE.md, "Exploring").
+use Rattle.std.specs.Prelude.{◌≡◌, ℕ, zero, suc, ◌+◌, ◌-◌, ◌*◌, ◌/◌, ◌%◌, ◌<◌, ◌==◌, nat_lt, nat_le, Bool, true, false, not, ◌&&◌, ◌||◌, if◌then◌else◌, List, [], ◌∷◌, ◌++◌, length, map, Option, Some, None, option_map, option_to_list, is_none, Contains}
+use Rattle.std.specs.List.{list_any, list_all, find, slice_get}
 use Rattle.ga_node.specs.declared.kind.OwnEventKind.{OwnEventKind}
 use Rattle.ga_node.specs.declared.kind.OwnEventKind.TheVariants as kind
 use Rattle.ga_event.specs.declared.made.Made.{Made}
@@ -11,115 +11,151 @@ use Rattle.ga_lab.specs.Machine.{State, history_of}
 use Rattle.ga_provenance.specs.declared.value.Value.{Value}
 use Rattle.ga_provenance.specs.declared.lines.ProvenanceLine.{ProvenanceLine}
 use Rattle.ga_provenance.specs.declared.lines.UsedValue.{UsedValue}
-use Rattle.ga_provenance.specs.Origins.{value_of_step, origin_of}
+use Rattle.ga_provenance.specs.Origins.{value_of_step, origin_of, IsMovedValue}
 use Rattle.ga_provenance.specs.Rows.{is_same_value, value_sources}
 
--- ---- runs
+-- ---- provenance
 
--- the steps that made the values from which one was made
+-- the values from which a value was made, as the steps made them
 abbrev pub source_origins : State → Value → List Value
 source_origins s value = map (origin_of s) (value_sources s value)
 
+-- The provenance of a value: the value as a step made it, and with each value those from which it was made.
+pub data IsProvenance (s : State) (queried : Value) : Value → Type 0 where
+  origin : IsProvenance s queried (origin_of s queried)
+  source : {value : Value} → IsProvenance s queried value → (source : Value) → Contains (source_origins s value) source → IsProvenance s queried source
+
+-- ---- runs
+
+-- whether two events of a node's own ran the same opcode, or fetched
+abbrev pub is_same_action : OwnEventKind → OwnEventKind → Bool
+is_same_action kind.Fetch kind.Fetch = true
+is_same_action (kind.Run code) (kind.Run other) = code == other
+is_same_action _ _ = false
+
 -- whether two steps, as made, ran the same opcode, or fetched
-abbrev pub is_same_kind : OwnEventKind → OwnEventKind → Bool
-is_same_kind kind.Fetch kind.Fetch = true
-is_same_kind (kind.Run code) (kind.Run other) = code == other
-is_same_kind _ _ = false
+abbrev pub is_same_event : Option Made → Option Made → Bool
+is_same_event (Some (made.Own node step kind)) (Some (made.Own other place more)) = is_same_action kind more
+is_same_event _ _ = false
 
-abbrev pub is_same_deed : Option Made → Option Made → Bool
-is_same_deed (Some (made.Own node step kind)) (Some (made.Own other place more)) = is_same_kind kind more
-is_same_deed _ _ = false
+-- the step that made a value, as made
+abbrev pub making_event : State → Value → Option Made
+making_event s value = slice_get (history_of s value.node.number) (value.step - 1)
 
-abbrev pub made_at : State → Value → Option Made
-made_at s value = slice_get (history_of s value.node.number) (value.step - 1)
+-- whether two values are of one part, and were made by the same opcode, the second one earlier
+abbrev pub is_repetition : State → Value → Value → Bool
+is_repetition s value next =
+    nat_lt 0 next.step && (nat_lt next.step value.step && ((value.node.number == next.node.number) && (is_equal_to value.part next.part
+    && is_same_event (making_event s value) (making_event s next))))
 
 -- whether each value is this one or among some others
 abbrev pub are_among : Value → List Value → List Value → Bool
-are_among value others [] = true
-are_among value others (first ∷ rest) = (is_same_value first value || list_any (is_same_value first) others) && are_among value others rest
+are_among value others values = list_all (λ it. is_same_value it value || list_any (is_same_value it) others) values
 
--- whether the run of a value goes on with one of those from which it was made: the same opcode left that in the same part of the
--- node, and it was made from all the others too
+-- Whether the run of a value goes on with another: that is an earlier repetition, and was made from all the other values from which
+-- the first one was made. So with the last value of a run all those that went into its values are found.
 abbrev pub is_next_in_run : State → Value → Value → Bool
-is_next_in_run s value next =
-    nat_lt 0 next.step && ((value.node.number == next.node.number) && (is_equal_to value.part next.part
-    && (is_same_deed (made_at s value) (made_at s next) && are_among next (source_origins s next) (source_origins s value))))
+is_next_in_run s value next = is_repetition s value next && are_among next (source_origins s next) (source_origins s value)
 
-abbrev pub first_next : State → Value → List Value → Option Value
-first_next s value [] = None
-first_next s value (next ∷ rest) = if is_next_in_run s value next then Some next else first_next s value rest
-
+-- the first such among those from which it was made
 abbrev pub next_in_run : State → Value → Option Value
-next_in_run s value = first_next s value (source_origins s value)
+next_in_run s value = find (is_next_in_run s value) (source_origins s value)
 
 -- ---- lines
 
--- the value at a place of the run of a line, from 0 on, and the oldest one
+-- the value at a place of the run of a line, 0 for the newest, and the oldest one
 abbrev pub run_value : ProvenanceLine → ℕ → Value
 run_value line at = value_of_step line.value.node (line.value.step - at * line.period) line.value.part
 
 abbrev pub oldest_value : ProvenanceLine → Value
 oldest_value line = run_value line (line.count - 1)
 
+-- whether a value that is so many steps before the newest is in the run of a line: at a whole number of periods
+abbrev pub is_at_period : ProvenanceLine → ℕ → Bool
+is_at_period line back = if line.period == 0 then back == 0 else (back % line.period == 0) && nat_lt (back / line.period) line.count
+
 -- whether a value is in the run of a line, and whether it is listed
 abbrev pub is_in_run : ProvenanceLine → Value → Bool
 is_in_run line value =
     (line.value.node.number == value.node.number) && (is_equal_to line.value.part value.part && (nat_le value.step line.value.step
-    && (if line.period == 0 then line.value.step == value.step
-        else ((line.value.step - value.step) % line.period == 0) && nat_lt ((line.value.step - value.step) / line.period) line.count)))
+    && is_at_period line (line.value.step - value.step)))
 
 abbrev pub is_listed : List ProvenanceLine → Value → Bool
 is_listed lines value = list_any (λ (line : ProvenanceLine). is_in_run line value) lines
 
--- how many values follow one in a run with so many steps between two: as many as aren't listed, and at most as many as the last number
+-- the number of values that follow one in a run, each so many steps before the last and not listed: at most `most`
 abbrev pub is_follower : List ProvenanceLine → ℕ → Value → Value → Bool
 is_follower lines period value next = (value.step - next.step == period) && not (is_listed lines next)
 
-abbrev pub counted_on : (Value → Bool) → (Value → ℕ) → Option Value → ℕ
-counted_on follows rest None = 0
-counted_on follows rest (Some next) = if follows next then suc (rest next) else 0
+abbrev pub count_from : (Value → Bool) → (Value → ℕ) → Option Value → ℕ
+count_from follows count None = 0
+count_from follows count (Some next) = if follows next then suc (count next) else 0
 
-abbrev pub followers : State → List ProvenanceLine → ℕ → ℕ → Value → ℕ
-followers s lines period zero value = 0
-followers s lines period (suc more) value = counted_on (is_follower lines period value) (followers s lines period more) (next_in_run s value)
+abbrev pub count_followers : State → List ProvenanceLine → ℕ → ℕ → Value → ℕ
+count_followers s lines period zero value = 0
+count_followers s lines period (suc most) value = count_from (is_follower lines period value) (count_followers s lines period most) (next_in_run s value)
 
--- the line of a value that a line used, after those listed
-abbrev pub period_of : Value → Option Value → ℕ
-period_of value None = 0
-period_of value (Some next) = value.step - next.step
+-- the number of steps to the next value of a run
+abbrev pub steps_to : Value → Option Value → ℕ
+steps_to value None = 0
+steps_to value (Some next) = value.step - next.step
+
+-- the line of a used value after these lines: the longest run of values that these don't list
+abbrev pub line_of_run : UsedValue → Value → ℕ → ℕ → ProvenanceLine
+line_of_run usage value period followers =
+    record { user = usage.user; value = value; used = usage.used; count = suc followers; period = if followers == 0 then 0 else period }
+
+abbrev pub run_of : State → List ProvenanceLine → UsedValue → Value → ℕ → ProvenanceLine
+run_of s lines usage value period = line_of_run usage value period (count_followers s lines period value.step value)
 
 abbrev pub line_of : State → List ProvenanceLine → UsedValue → ProvenanceLine
-line_of s lines use =
-    let value = origin_of s use.used in
-    let period = period_of value (next_in_run s value) in
-    let count = suc (followers s lines period value.step value) in
-    record { user = use.user; value = value; used = use.used; count = count; period = if count == 1 then 0 else period }
+line_of s lines usage = run_of s lines usage (origin_of s usage.used) (steps_to (origin_of s usage.used) (next_in_run s (origin_of s usage.used)))
 
--- the values that the oldest of a line was made from, used by the line with this number
+-- ---- listings
+
+-- values that the line with this number used, and those that lines used from this number on: those from which the oldest value of
+-- each was made
 abbrev pub used_by : ℕ → List Value → List UsedValue
 used_by user values = map (λ (value : Value). record { user = user; used = value }) values
 
--- With these lines listed already, and the values still to be listed, the next one first, these lines come; all, or cut somewhere.
--- Each value is listed as the step that made it with its run, unless it was listed before; what the oldest of the run was made
--- from comes after all that wait.
-pub data AreProvenanceLines (s : State) : List ProvenanceLine → List UsedValue → List ProvenanceLine → Bool → Type 0 where
-  all : {listed : List ProvenanceLine} → AreProvenanceLines s listed [] [] true
-  again : {listed lines : List ProvenanceLine} {todo : List UsedValue} {whole : Bool} (use : UsedValue) → is_listed listed (origin_of s use.used) ≡ true
-      → AreProvenanceLines s listed todo lines whole → AreProvenanceLines s listed (use ∷ todo) lines whole
-  next : {listed lines : List ProvenanceLine} {todo : List UsedValue} {whole : Bool} (use : UsedValue) → is_listed listed (origin_of s use.used) ≡ false
-      → AreProvenanceLines s (listed ++ line_of s listed use ∷ []) (todo ++ used_by (length listed + 1) (value_sources s (oldest_value (line_of s listed use)))) lines whole
-      → AreProvenanceLines s listed (use ∷ todo) (line_of s listed use ∷ lines) whole
-  cut : {listed : List ProvenanceLine} {todo : List UsedValue} (use : UsedValue) → is_listed listed (origin_of s use.used) ≡ false → AreProvenanceLines s listed (use ∷ todo) [] false
+abbrev pub values_used : State → ℕ → List ProvenanceLine → List UsedValue
+values_used s user [] = []
+values_used s user (line ∷ lines) = used_by user (value_sources s (oldest_value line)) ++ values_used s (suc user) lines
+
+-- the values that a listing of a value has to list: this value, and those that its lines used
+abbrev pub values_to_list : State → Value → List ProvenanceLine → List UsedValue
+values_to_list s value lines = record { user = 0; used = value } ∷ values_used s 1 lines
+
+-- the first of them that these lines don't list
+abbrev pub is_unlisted : State → List ProvenanceLine → UsedValue → Bool
+is_unlisted s lines usage = not (is_listed lines (origin_of s usage.used))
+
+abbrev pub next_use : State → Value → List ProvenanceLine → Option UsedValue
+next_use s value lines = find (is_unlisted s lines) (values_to_list s value lines)
+
+-- So many lines of a value: each next one is the line of the first value that is used and isn't listed. So lines of values that are
+-- fewer steps of provenance away come first.
+abbrev pub with_line : State → List ProvenanceLine → Option UsedValue → List ProvenanceLine
+with_line s lines usage = lines ++ option_to_list (option_map (line_of s lines) usage)
+
+abbrev pub first_lines : State → Value → ℕ → List ProvenanceLine
+first_lines s value zero = []
+first_lines s value (suc count) = with_line s (first_lines s value count) (next_use s value (first_lines s value count))
+
+-- the first lines of a value, and whether they are all
+pub record AreLinesOf (s : State) (value : Value) (lines : List ProvenanceLine) (is_whole : Bool) : Type 0 where
+  pub first : lines ≡ first_lines s value (length lines)
+  pub whole : is_whole ≡ is_none (next_use s value lines)
+
+-- the value of a line was only moved between the step that made it and its use
+abbrev pub IsMovedLine : State → ProvenanceLine → Type 0
+IsMovedLine s line = IsMovedValue s line.value line.used
 
 -- ---- laws
-
--- the lines of a value, whole or cut
-abbrev pub AreLinesOf : State → Value → List ProvenanceLine → Bool → Type 0
-AreLinesOf s value lines whole = AreProvenanceLines s [] (record { user = 0; used = value } ∷ []) lines whole
 
 -- a value at a place of a line's run
 pub record IsListedAt (lines : List ProvenanceLine) (line at : ℕ) (value : Value) : Type 0 where
   pub found : ProvenanceLine
   pub there : slice_get lines line ≡ Some found
-  pub within : nat_lt at found.count ≡ true
+  pub within : at < found.count
   pub same : run_value found at ≡ value

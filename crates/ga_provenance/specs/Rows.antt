@@ -1,4 +1,4 @@
--- The steps whose values went into a value, as a tree whose rows are listed one after another, each before those below it.
+-- The values from which a value was made, and the steps that are causes of another.
 use Rattle.ga_event.specs.declared.made.Made.TheVariants as made
 use Rattle.ga_event.specs.declared.flow.part.NodePart.TheVariants as part
 use Rattle.std.specs.Prelude.{◌≡◌, ℕ, ◌⊎◌, Some, zero, suc, ◌+◌, ◌-◌, ◌==◌, Bool, true, false, ◌&&◌, List, [], ◌∷◌, ◌++◌, map, Option, None, option_to_list}
@@ -11,7 +11,7 @@ use Rattle.ga_event.specs.declared.made.Made.{Made}
 use Rattle.ga_event.specs.declared.flow.part.NodePart.{NodePart}
 use Rattle.ga_event.specs.Flow.{Flow, Same, From, IsNodePart, top, is_equal_to}
 use Rattle.ga_provenance.specs.declared.listing.ProvenanceRow.{ProvenanceRow}
-use Rattle.ga_provenance.specs.Origins.{value_of_step, flow_at, origin_of}
+use Rattle.ga_provenance.specs.Origins.{value_of_step, flow_at, origin_of, IsMovedValue}
 
 -- ---- values whose steps are causes of another's (Danos and Krivine, "Reversible Communicating Systems", 2004)
 
@@ -27,12 +27,9 @@ pub record IsCause (s : State) (earlier later : Value) : Type 0 where
 abbrev pub IsLoadedOrCause : State → Value → Value → Type 0
 IsLoadedOrCause s asked value = (value.step ≡ 0) ⊎ IsCause s value asked
 
--- whether two values are one, and whether a value is among the rows
+-- whether two values are one
 abbrev pub is_same_value : Value → Value → Bool
 is_same_value value other = (value.node.number == other.node.number) && ((value.step == other.step) && is_equal_to value.part other.part)
-
-abbrev pub has_value : List ProvenanceRow → Value → Bool
-has_value rows value = list_any (λ (row : ProvenanceRow). is_same_value row.value value) rows
 
 -- what a word came from that an event carried: T of the writer before
 abbrev pub sent_value : Option Made → Option Value
@@ -56,32 +53,10 @@ value_sources_after s node (suc k) at = source_values node k (slice_get (history
 abbrev pub value_sources : State → Value → List Value
 value_sources s value = value_sources_after s value.node value.step value.part
 
--- the row of a value at a depth, and a row by the step that made its value, which was used where the row had it
+-- the row of a value at a depth
 abbrev pub row_at_depth : ℕ → Value → ProvenanceRow
 row_at_depth depth value = record { depth = depth; value = value; used = value }
 
-abbrev pub origin_row : State → ProvenanceRow → ProvenanceRow
-origin_row s row = record { depth = row.depth; value = origin_of s row.value; used = row.value }
-
 -- the value of a row was only moved between the step that made it and its use
 abbrev pub IsMovedRow : State → ProvenanceRow → Type 0
-IsMovedRow s row = (origin_of s row.used ≡ row.value) × IsNodePart row.used.part
-
-abbrev pub below : State → ProvenanceRow → List ProvenanceRow
-below s row = map (row_at_depth (row.depth + 1)) (value_sources s row.value)
-
--- the step that made a value is among the rows
-abbrev pub IsInTree : State → List ProvenanceRow → Value → Type 0
-IsInTree s rows value = has_value rows (origin_of s value) ≡ true
-
--- With these rows listed already, and the values still to be listed, the next one first, these rows come; all, or cut
--- somewhere. Each value is listed as the step that made it, unless that was listed before, and then what the step read comes,
--- one deeper.
-pub data AreProvenanceRows (s : State) : List ProvenanceRow → List ProvenanceRow → List ProvenanceRow → Bool → Type 0 where
-  all : {named : List ProvenanceRow} → AreProvenanceRows s named [] [] true
-  again : {named todo rows : List ProvenanceRow} {whole : Bool} (row : ProvenanceRow) → has_value named (origin_of s row.value) ≡ true
-      → AreProvenanceRows s named todo rows whole → AreProvenanceRows s named (row ∷ todo) rows whole
-  next : {named todo rows : List ProvenanceRow} {whole : Bool} (row : ProvenanceRow) → has_value named (origin_of s row.value) ≡ false
-      → AreProvenanceRows s (named ++ origin_row s row ∷ []) (below s (origin_row s row) ++ todo) rows whole
-      → AreProvenanceRows s named (row ∷ todo) (origin_row s row ∷ rows) whole
-  cut : {named todo : List ProvenanceRow} (row : ProvenanceRow) → has_value named (origin_of s row.value) ≡ false → AreProvenanceRows s named (row ∷ todo) [] false
+IsMovedRow s row = IsMovedValue s row.value row.used

@@ -8,37 +8,28 @@ ghost use Rattle.ga_grid.specs.declared.node_id.NodeId.{NodeId};
 ghost use Rattle.ga_lab.specs.Machine.{State, causes_of, history_of};
 ghost use Rattle.ga_event.specs.Flow.{top, IsNodePart, part_value};
 ghost use Rattle.ga_provenance.specs.declared.value.Value.{Value};
-ghost use Rattle.ga_provenance.specs.declared.listing.ProvenanceRow.{ProvenanceRow};
 ghost use Rattle.ga_provenance.specs.Origins.{value_of_step, node_after, is_made_with_t, origin_of};
 ghost use Rattle.ga_provenance.specs.Asked.{queried_value};
-ghost use Rattle.ga_provenance.specs.Rows.{row_at_depth, has_value, value_sources, IsInTree, AreProvenanceRows, IsCause, IsLoadedOrCause};
+ghost use Rattle.ga_provenance.specs.Rows.{IsCause, IsLoadedOrCause};
 ghost use Rattle.ga_provenance.specs.declared.lines.ProvenanceLine.{ProvenanceLine};
-ghost use Rattle.ga_provenance.specs.Lines.{source_origins, is_listed, AreLinesOf, IsListedAt};
+ghost use Rattle.ga_provenance.specs.Lines.{source_origins, IsProvenance, is_listed, AreLinesOf, IsListedAt};
 ghost use Rattle.ga_provenance.specs.declared.deciding.Decision.{Decision};
 ghost use Rattle.ga_provenance.specs.Deciding.{decision_at};
 
-/// Each listed step is one on which the queried step depends, so that `why` leads from it there. The other listed values were
-/// loaded. The queried step must be in the history, as each of a node's is.
-pub fn listed_steps_are_causes()
-    ensures { (s : State) (value : Value) (place : ℕ) (rows : List ProvenanceRow) (whole : Bool) →
-        position_of_step (causes_of s) value.node.number value.step ≡ Some place →
-        AreProvenanceRows s [] (row_at_depth 0 value ∷ []) rows whole → All (λ (row : ProvenanceRow). IsLoadedOrCause s value row.value) rows }
+/// Each value of the provenance of the queried one was loaded, or its step is one on which the queried step depends, so that `why`
+/// leads from it there. The queried step must be in the history, as each of a node's is.
+#[tactic(auto, using(crate::proofs::Causes::provenance_caused))]
+pub fn provenance_is_loaded_or_cause()
+    ensures { (s : State) (value found : Value) (place : ℕ) →
+        position_of_step (causes_of s) value.node.number value.step ≡ Some place → IsProvenance s value found → IsLoadedOrCause s value found }
 {}
 
-/// If all rows are listed, none is missing: the step that made the queried value is listed, and with each row the steps that
-/// made the values from which its own came.
-#[tactic(auto, using(crate::proofs::Rows::asked_told, crate::proofs::Rows::sources_told))]
-pub fn complete_trees_miss_nothing()
-    ensures asked { (s : State) (value : Value) (rows : List ProvenanceRow) → AreProvenanceRows s [] (row_at_depth 0 value ∷ []) rows true → IsInTree s rows value }
-    ensures sources { (s : State) (value : Value) (rows : List ProvenanceRow) → AreProvenanceRows s [] (row_at_depth 0 value ∷ []) rows true →
-        All (λ (row : ProvenanceRow). All (IsInTree s rows) (value_sources s row.value)) rows }
-{}
-
-/// For the value that a step selects, each listed step is one on which this step depends. The other listed values were loaded.
-pub fn queried_steps_are_causes()
-    ensures { (s : State) (node : NodeId) (step place : ℕ) (value : Value) (rows : List ProvenanceRow) (whole : Bool) →
+/// For the value that a step selects, each value of its provenance was loaded, or its step is one on which this step depends.
+#[tactic(auto, using(crate::proofs::Causes::selected_caused))]
+pub fn queried_provenance_is_loaded_or_cause()
+    ensures { (s : State) (node : NodeId) (step place : ℕ) (value found : Value) →
         position_of_step (causes_of s) node.number step ≡ Some place → queried_value s node step ≡ Some value →
-        AreProvenanceRows s [] (row_at_depth 0 value ∷ []) rows whole → All (λ (row : ProvenanceRow). IsLoadedOrCause s (value_of_step node step top) row.value) rows }
+        IsProvenance s value found → IsLoadedOrCause s (value_of_step node step top) found }
 {}
 
 /// Each step that a value decided is a cause of every later step of its node, so that `why` leads from it there; and so is the step
@@ -85,12 +76,14 @@ pub fn values_are_listed_once()
 
 /// Fewer lines are the first of more: so the answers that continue one another join to all lines.
 pub fn lines_continue()
-    ensures { (s : State) (value : Value) (lines more : List ProvenanceLine) (whole : Bool) →
-        AreLinesOf s value lines false → AreLinesOf s value more whole → length lines ≤ length more → take (length lines) more ≡ lines }
+    ensures { (s : State) (value : Value) (lines more : List ProvenanceLine) (is_whole is_more_whole : Bool) →
+        AreLinesOf s value lines is_whole → AreLinesOf s value more is_more_whole → length lines ≤ length more → take (length lines) more ≡ lines }
 {}
 
-/// The runs of all lines have exactly the values of the rows of the whole tree.
-pub fn runs_unfold_to_tree()
-    ensures { (s : State) (value listed : Value) (lines : List ProvenanceLine) (rows : List ProvenanceRow) → AreLinesOf s value lines true →
-        AreProvenanceRows s [] (row_at_depth 0 value ∷ []) rows true → is_listed lines listed ≡ has_value rows listed }
+/// The runs of all lines have exactly the values of the provenance; those of the first lines have no others.
+pub fn runs_unfold_to_provenance()
+    ensures first { (s : State) (value : Value) (lines : List ProvenanceLine) (whole : Bool) → AreLinesOf s value lines whole →
+        (listed : Value) → is_listed lines listed ≡ true → IsProvenance s value listed }
+    ensures whole { (s : State) (value : Value) (lines : List ProvenanceLine) → AreLinesOf s value lines true →
+        (found : Value) → IsProvenance s value found → is_listed lines found ≡ true }
 {}

@@ -1,19 +1,18 @@
-//! The provenance of a value, the nearest steps first: as lines, each of a value or of a run of values that differ only in their steps.
+//! The provenance of a value as lines, the nearest first, each of a value or of a run of values that differ only in their steps.
 
-ghost use Rattle.std.specs.Prelude.{◌≡◌, ◌≤◌, ◌<◌, ◌∷◌, [], false, IfOk, All, length};
+ghost use Rattle.std.specs.Prelude.{◌≡◌, ◌≤◌, ◌<◌, ◌+◌, ◌++◌, false, IfOk, IfSome, OnOk, All, length, option_map};
 ghost use Rattle.ga_event.specs.Flow.{IsNodePart};
 ghost use Rattle.ga_lab.specs.Machine.{node_at_step};
-ghost use Rattle.ga_provenance.specs.Lines.{is_in_run, is_listed, is_same_kind, is_same_deed, made_at, are_among, AreLinesOf};
+ghost use Rattle.ga_provenance.specs.Origins.{origin_of};
+ghost use Rattle.ga_provenance.specs.Rows.{value_sources};
+ghost use Rattle.ga_provenance.specs.Lines.{is_in_run, is_listed, next_in_run, oldest_value, line_of, used_by, AreLinesOf, IsMovedLine};
+ghost use Rattle.ga_provenance.specs.inner.{IsOfPart, IsKept, IsTraced, traced_value, follows_in_run, following};
 
-use crate::listing::source_in;
-use crate::origin::{Origin, flow_by_trail, origin_at};
-use crate::trail::CachedWalk;
+use crate::source_search::{SourceSearch, TracedValue};
 use crate::value::Value;
 use arrayvec::ArrayVec;
-use ga_event::{Flow, Made, NodePart};
 use ga_grid::NodeId;
 use ga_lab::{Lab, NodeWalk};
-use ga_node::OwnEventKind;
 use std::alloc::{AllocError, Global};
 
 /// A line of a listing: a value that a step made, or that was loaded; or a run of values which the same opcode left in the same
@@ -32,7 +31,7 @@ pub struct ProvenanceLine {
     pub period: u32,
 }
 
-/// The steps whose values went into a value, the nearest first, each listed once.
+/// The steps whose values went into a value, the nearest first, each value once.
 #[derive(Debug, Drop)]
 pub struct ProvenanceLines {
     /// The lines, each after the one that used its value.
@@ -41,7 +40,7 @@ pub struct ProvenanceLines {
     pub is_whole: bool,
 }
 
-/// A value that is still to be listed, and the number of the line that used it.
+/// A value that was used, and the number of the line that used it.
 #[derive(Clone, Copy, PartialEq, Eq, Debug)]
 pub(crate) struct UsedValue {
     pub user: u32,
@@ -76,179 +75,102 @@ fn is_listed(lines: &[ProvenanceLine], value: Value) -> bool
     lines.iter().any(|line| line.is_in_run(value))
 }
 
-// Whether two events of a node's own ran the same opcode, or fetched.
-fn is_same_kind(kind: OwnEventKind, other: OwnEventKind) -> bool
-    ensures { result ≡ is_same_kind kind other }
+// Whether a value follows the oldest one of a run that these lines don't list.
+fn follows_in_run(lines: &[ProvenanceLine], line: ProvenanceLine, oldest: Value, next: Value) -> bool
+    requires { next.step ≤ oldest.step }
+    ensures { result ≡ follows_in_run lines.now line oldest next }
 {
-    match (kind, other) {
-        (OwnEventKind::Fetch, OwnEventKind::Fetch) => true,
-        (OwnEventKind::Run(code), OwnEventKind::Run(more)) => code == more,
-        _ => false,
-    }
+    (line.count == 1 || oldest.step - next.step == line.period) && !is_listed(lines, next)
 }
 
-// The event of the step that made a value, as made.
-fn made_at(lab: &Lab, value: Value) -> Option<Made>
-    ensures { result ≡ made_at lab.now value }
+// The value that follows the oldest one of a run.
+fn find_following<'l, 'n>(
+    search: SourceSearch<'l, 'n>,
+    lines: &[ProvenanceLine],
+    line: ProvenanceLine,
+    oldest: &TracedValue,
+) -> (SourceSearch<'l, 'n>, Option<TracedValue>)
+    requires { IsTraced search.lab.now oldest.now }
+    ensures lab { result.0.lab.now ≡ search.entry.lab.now }
+    ensures next { option_map traced_value result.1 ≡ following lines.now line oldest.now.value (next_in_run search.entry.lab.now oldest.now.value) }
+    ensures traced { IfSome result.1 (IsTraced search.entry.lab.now) }
 {
-    lab.made_event_of_step(value.node, value.step.saturating_sub(1))
-}
-
-// Whether two steps, as made, ran the same opcode, or fetched.
-fn is_same_deed(made: Option<Made>, other: Option<Made>) -> bool
-    ensures { result ≡ is_same_deed made other }
-{
-    match made {
-        Some(Made::Own { kind, .. }) => match other {
-            Some(Made::Own { kind: more, .. }) => is_same_kind(kind, more),
-            Some(Made::Pass { .. }) => false,
-            None => false,
-        },
-        Some(Made::Pass { .. }) => false,
-        None => false,
-    }
-}
-
-// Whether each value is this one or among some others.
-fn are_among(value: Value, others: &[Value], values: &[Value]) -> bool
-    ensures { result ≡ are_among value others.now values.now }
-{
-    values
-        .iter()
-        .all(|it| it.is_equal_to(value) || others.iter().any(|other| it.is_equal_to(*other)))
-}
-
-// A search of a lab, with what was found last, and a walk of a node that isn't walked on.
-struct Search<'l, 'n> {
-    lab: &'l Lab,
-    near: &'n NodeWalk<'l>,
-    at: NodeId,
-    last: Origin<'l>,
-}
-
-// The values from which one was made, where they were used and where they were made.
-struct Sources {
-    used: ArrayVec<Value, 3>,
-    origins: ArrayVec<Value, 3>,
-}
-
-impl<'l, 'n> Search<'l, 'n> {
-    // Finds the step that made a value.
-    fn find(self, value: Value) -> Self {
-        let Search { lab, near, at, last } = self;
-        Search {
-            lab,
-            near,
-            at,
-            last: origin_at(lab, near, at, last, value),
-        }
-    }
-
-    // The values from which the one found last was made, where they were used.
-    fn used(&mut self) -> ArrayVec<Value, 3> {
-        let Value { node, step, part } = self.last.value;
-        if step == 0 {
-            return ArrayVec::new();
-        }
-        let place = step - 1;
-        match flow_by_trail(self.lab, &mut self.last.trail, node, place, part) {
-            Flow::Same(from) => {
-                let told = self.lab.made_event_of_step(node, place);
-                values_of(source_in(node, place, told, from))
-            }
-            Flow::From(parts) => values_in(node, place, parts),
-        }
-    }
-
-    // Finds the sources of the value found last, and the steps that made them.
-    fn find_sources(self) -> (Self, Sources) {
-        let mut search = self;
-        let used = search.used();
-        let mut origins = ArrayVec::new();
-        'sources: for value in used.as_slice() {
-            search = search.find(*value);
-            origins.push(search.last.value);
-        }
-        (search, Sources { used, origins })
-    }
-
-    // The value with which the run of a value goes on, with its sources.
-    fn find_next(self, value: Value, sources: &Sources) -> (Self, Option<(Value, Sources)>) {
-        let mut search = self;
-        'sources: for next in sources.origins.as_slice() {
-            if !is_like(search.lab, value, *next) {
-                continue 'sources;
-            }
-            let (after, found) = search.find(*next).find_sources();
-            search = after;
-            if are_among(*next, found.origins.as_slice(), sources.origins.as_slice()) {
-                return (search, Some((*next, found)));
+    let (found, next) = search.next_in_run(oldest);
+    match next {
+        Some(next) => {
+            if follows_in_run(lines, line, oldest.value, next.value) {
+                (found, Some(next))
+            } else {
+                (found, None)
             }
         }
-        (search, None)
+        None => (found, None),
     }
+}
 
-    // The line of a value that a line used, and the sources of its oldest value.
-    fn find_line(self, lines: &[ProvenanceLine], use_: UsedValue) -> (Self, ProvenanceLine, Sources) {
-        let value = self.last.value;
-        let (mut search, mut sources) = self.find_sources();
-        let mut line = ProvenanceLine {
-            user: use_.user,
-            value,
-            used: use_.used,
-            count: 1,
-            period: 0,
-        };
-        let mut oldest = value;
-        'run: while oldest.step > 0 {
-            let (after, next) = search.find_next(oldest, &sources);
-            search = after;
-            let Some((next, found)) = next else {
-                break 'run;
-            };
-            let period = oldest.step - next.step;
-            if line.count > 1 && period != line.period || is_listed(lines, next) {
-                break 'run;
+// The line of a used value after others, and the values from which the oldest one of its run was made.
+fn find_line<'l, 'n>(
+    search: SourceSearch<'l, 'n>,
+    lines: &[ProvenanceLine],
+    usage: UsedValue,
+    value: Value,
+) -> (SourceSearch<'l, 'n>, ProvenanceLine, ArrayVec<Value, 3>)
+    requires value { value ≡ origin_of search.lab.now usage.used }
+    requires kept { IsKept search.lab.now value }
+    ensures lab { result.0.lab.now ≡ search.entry.lab.now }
+    ensures line { result.1 ≡ line_of search.entry.lab.now lines.now usage }
+    ensures used { result.2.items ≡ value_sources search.entry.lab.now (oldest_value (line_of search.entry.lab.now lines.now usage)) }
+    ensures parts { All IsOfPart result.2.items }
+{
+    let (mut search, mut oldest) = search.trace(value);
+    let mut line = ProvenanceLine {
+        user: usage.user,
+        value,
+        used: usage.used,
+        count: 1,
+        period: 0,
+    };
+    'run: loop {
+        let (found, next) = find_following(search, lines, line, &oldest);
+        search = found;
+        match next {
+            Some(next) => {
+                line.period = oldest.value.step - next.value.step;
+                line.count += 1;
+                oldest = next;
             }
-            line.count += 1;
-            line.period = period;
-            oldest = next;
-            sources = found;
+            None => {
+                let TracedValue { used, .. } = oldest;
+                return (search, line, used);
+            }
         }
-        (search, line, sources)
     }
 }
 
-// Whether the same opcode left two values in the same part of a node, the second before the first.
-fn is_like(lab: &Lab, value: Value, next: Value) -> bool {
-    next.step > 0
-        && next.step < value.step
-        && value.node.number == next.node.number
-        && value.part.is_equal_to(next.part)
-        && is_same_deed(made_at(lab, value), made_at(lab, next))
-}
-
-// A value, where there is one.
-fn values_of(value: Option<Value>) -> ArrayVec<Value, 3> {
-    let mut values = ArrayVec::new();
-    if let Some(value) = value {
-        values.push(value);
+// Adds the values that a line used.
+fn push_used(
+    uses: &mut Vec<UsedValue>,
+    user: u32,
+    values: ArrayVec<Value, 3>,
+) -> Result<(), AllocError>
+    ensures ok { OnOk result (uses.new.items ≡ uses.old.items ++ used_by user values.items) }
+    ensures few { OnOk result (length uses.new.items ≤ length uses.old.items + 3) }
+{
+    let count = values.len();
+    prove!(count <= 3);
+    'values: for used in values.as_slice() {
+        let used = *used;
+        uses.push(UsedValue { user, used })?;
     }
-    values
+    Ok(())
 }
 
-// The values of some parts of a node after a number of its steps.
-fn values_in(node: NodeId, step: u32, parts: ArrayVec<NodePart, 3>) -> ArrayVec<Value, 3> {
-    let mut values = ArrayVec::new();
-    'parts: for part in parts.as_slice() {
-        let part = *part;
-        values.push(Value { node, step, part });
-    }
-    values
-}
-
-/// The steps whose values went into a value, the nearest first, as lines, each value once: at most `most` lines. Each value is
-/// followed back as by [`crate::find_provenance_at`].
+/// The steps whose values went into a value, through stacks, memories, registers and links, down to the load: as lines, the
+/// nearest first, each value once, and at most `most` lines. Each value is followed back by the entries of its node's steps. Only
+/// where these don't determine from where a step has a value, the node is walked back to that step: from where the walk for the
+/// last value is, if that is of the same node and not earlier; else from where the walk `near` is, if the same holds of it; else
+/// from the newest step. Takes memory linear in the number of lines, and for each value of their runs time linear in the number
+/// of lines, and in the number of steps of its node between.
 ///
 /// # Errors
 /// An allocation failed.
@@ -265,37 +187,37 @@ pub fn find_lines_at<'l>(
     ensures lines { IfOk result (λ found. AreLinesOf lab.now value found.lines.items found.is_whole) }
     ensures most { IfOk result (λ found. length found.lines.items ≤ most) }
     ensures cut { IfOk result (λ found. found.is_whole ≡ false → length found.lines.items ≡ most) }
+    ensures used { IfOk result (λ found. All (IsMovedLine lab.now) found.lines.items) }
 {
     let mut lines: Vec<ProvenanceLine> = Vec::new(alloc);
-    let mut todo: Vec<UsedValue> = Vec::new(alloc);
-    todo.push(UsedValue { user: 0, used: value })?;
-    let mut search = Search {
-        lab,
-        near,
-        at,
-        last: Origin {
-            value: Value { node: at, ..value },
-            trail: CachedWalk::new(lab, at, near.copy()),
-        },
-    };
+    let mut uses: Vec<UsedValue> = Vec::new(alloc);
+    uses.push(UsedValue {
+        user: 0,
+        used: value,
+    })?;
+    let mut search = SourceSearch::new(lab, near, at);
     let mut next = 0;
-    'telling: while next < todo.len() {
-        let use_ = todo[next];
+    'listing: while next < uses.len() {
+        let usage = uses[next];
         next += 1;
-        search = search.find(use_.used);
-        if is_listed(&lines, search.last.value) {
-            continue 'telling;
+        let (found, origin) = search.origin_of(usage.used);
+        search = found;
+        if is_listed(&lines, origin) {
+            continue 'listing;
         }
-        if lines.len() == most as usize {
-            return Ok(ProvenanceLines { lines, is_whole: false });
+        if lines.as_slice().len() == most as usize {
+            return Ok(ProvenanceLines {
+                lines,
+                is_whole: false,
+            });
         }
-        let (after, line, sources) = search.find_line(&lines, use_);
+        let (after, line, used) = find_line(search, &lines, usage, origin);
         search = after;
         lines.push(line)?;
-        let user = lines.len() as u32;
-        'sources: for used in sources.used.as_slice() {
-            todo.push(UsedValue { user, used: *used })?;
-        }
+        push_used(&mut uses, lines.len() as u32, used)?;
     }
-    Ok(ProvenanceLines { lines, is_whole: true })
+    Ok(ProvenanceLines {
+        lines,
+        is_whole: true,
+    })
 }

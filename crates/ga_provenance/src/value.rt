@@ -14,6 +14,17 @@ pub struct Value {
     pub part: NodePart,
 }
 
+/// T of node 000 at load, with which room for values begins.
+impl Default for Value {
+    fn default() -> Self {
+        Value {
+            node: NodeId::new(0),
+            step: 0,
+            part: NodePart::default(),
+        }
+    }
+}
+
 impl Value {
     ghost use Rattle.std.specs.Prelude.{◌≡◌};
     ghost use Rattle.ga_provenance.specs.Rows.{is_same_value};
