@@ -12,3 +12,4 @@ pub mod Finding
 pub mod Runs
 pub mod GrowingLines
 pub mod Listed
+pub mod Whole

@@ -62,6 +62,7 @@ pub fn listed_values_are_causes()
 
 /// If all lines are listed, none is missing: the step that made the queried value is listed, and with each value of a run those that
 /// made the values from which it was made.
+#[tactic(auto, using(crate::proofs::Whole::queried_listed))]
 pub fn whole_lines_miss_nothing()
     ensures asked { (s : State) (value : Value) (lines : List ProvenanceLine) → AreLinesOf s value lines true → is_listed lines (origin_of s value) ≡ true }
     ensures sources { (s : State) (value : Value) (lines : List ProvenanceLine) → AreLinesOf s value lines true →
@@ -75,12 +76,14 @@ pub fn values_are_listed_once()
 {}
 
 /// Fewer lines are the first of more: so the answers that continue one another join to all lines.
+#[tactic(auto, using(crate::proofs::Whole::lines_join))]
 pub fn lines_continue()
     ensures { (s : State) (value : Value) (lines more : List ProvenanceLine) (is_whole is_more_whole : Bool) →
         AreLinesOf s value lines is_whole → AreLinesOf s value more is_more_whole → length lines ≤ length more → take (length lines) more ≡ lines }
 {}
 
 /// The runs of all lines have exactly the values of the provenance; those of the first lines have no others.
+#[tactic(auto, using(crate::proofs::Whole::listed_sound, crate::proofs::Whole::provenance_listed))]
 pub fn runs_unfold_to_provenance()
     ensures first { (s : State) (value : Value) (lines : List ProvenanceLine) (whole : Bool) → AreLinesOf s value lines whole →
         (listed : Value) → is_listed lines listed ≡ true → IsProvenance s value listed }
