@@ -30,7 +30,7 @@ use Rattle.ga_causal.proofs.Places.{stands_exact, older_step}
 use Rattle.ga_event.specs.declared.flow.part.NodePart.{NodePart}
 use Rattle.ga_event.specs.declared.flow.part.NodePart.TheVariants.{Data, Return, Ram, Rom, A, B, P, I, Io, Carry, Slot, Wait, Stop, Outside}
 use Rattle.ga_event.specs.Flow.{Flow, Same, From, top}
-use Rattle.ga_provenance.specs.Rows.{sent_value, source_values, value_sources_after, value_sources, IsCause, IsLoadedOrCause}
+use Rattle.ga_provenance.specs.Sources.{sent_value, source_values, value_sources_after, value_sources, IsCause, IsLoadedOrCause}
 use Rattle.ga_provenance.specs.Lines.{source_origins, IsProvenance, origin, source}
 
 -- ---- a node's step that is a pass is a step of the writer too

@@ -19,8 +19,8 @@ use Rattle.ga_event.specs.declared.flow.part.NodePart.TheVariants as part
 use Rattle.ga_event.specs.Flow.{Flow, Same, From, IsNodePart, top, part_value}
 use Rattle.ga_provenance.specs.declared.value.Value.{Value}
 use Rattle.ga_provenance.specs.declared.deciding.Decision.{Decision}
-use Rattle.ga_provenance.specs.Origins.{value_of_step, node_after, flow_at, origin_of}
-use Rattle.ga_provenance.specs.Rows.{sent_value, IsCause, IsLoadedOrCause, IsMovedRow}
+use Rattle.ga_provenance.specs.Origins.{value_of_step, node_after, flow_at, origin_of, IsMovedValue}
+use Rattle.ga_provenance.specs.Sources.{sent_value, IsCause, IsLoadedOrCause}
 use Rattle.ga_provenance.specs.Deciding.{port_code_source, is_incoming_code_at, has_port_code, tested_code_part, tested_opcode_part, tested_kind_part, tested_value_at, decision, step_decision, decision_at, newer_decision, newest_decision}
 use Rattle.ga_provenance.specs.inner.{IsOwn}
 use Rattle.ga_provenance.proofs.Causes.{earlier, earlier_step, named_origin, named_sender}
@@ -167,15 +167,15 @@ tested_part_of s node k (Pass w i r j word) value h = go (slice_get (history_of 
     go (Some (Own other j what)) e = absurd (none-some _ e)
     go (Some (Pass w i r j word)) e = subst (λ (v : Value). IsNodePart v.part) (same_Some _ _ e) (omega arith)
 
-at_moved : (s : State) (node : NodeId) (k depth : ℕ) (d : Decision) → decision_at s node k ≡ Some d → IsMovedRow s (record { depth = depth; value = d.source; used = d.tested })
-at_moved s node k depth d h =
+at_moved : (s : State) (node : NodeId) (k : ℕ) (d : Decision) → decision_at s node k ≡ Some d → IsMovedValue s d.source d.tested
+at_moved s node k d h =
     let told = told_decided s node k d h in
-    subst (λ (x : Decision). IsMovedRow s (record { depth = depth; value = x.source; used = x.tested })) told.same (refl, tested_part_of s node k told.made told.value told.tested)
+    subst (λ (x : Decision). IsMovedValue s x.source x.tested) told.same (refl, tested_part_of s node k told.made told.value told.tested)
 
-pub decision_moved : (s : State) (node : NodeId) (left depth : ℕ) (d : Decision) → newest_decision s node left ≡ Some d → IsMovedRow s (record { depth = depth; value = d.source; used = d.tested })
-decision_moved s node zero depth d h = absurd (none-some _ h)
-decision_moved s node (suc k) depth d h = go (decision_at s node k) refl (λ e. decision_moved s node k depth d e) h
+pub decision_moved : (s : State) (node : NodeId) (left : ℕ) (d : Decision) → newest_decision s node left ≡ Some d → IsMovedValue s d.source d.tested
+decision_moved s node zero d h = absurd (none-some _ h)
+decision_moved s node (suc k) d h = go (decision_at s node k) refl (λ e. decision_moved s node k d e) h
   where
-    go : (o : Option Decision) → decision_at s node k ≡ o → (newest_decision s node k ≡ Some d → IsMovedRow s (record { depth = depth; value = d.source; used = d.tested })) → newer_decision o (newest_decision s node k) ≡ Some d → IsMovedRow s (record { depth = depth; value = d.source; used = d.tested })
+    go : (o : Option Decision) → decision_at s node k ≡ o → (newest_decision s node k ≡ Some d → IsMovedValue s d.source d.tested) → newer_decision o (newest_decision s node k) ≡ Some d → IsMovedValue s d.source d.tested
     go None is before e = before e
-    go (Some other) is before e = at_moved s node k depth d (is ∙ e)
+    go (Some other) is before e = at_moved s node k d (is ∙ e)

@@ -13,8 +13,8 @@ use Rattle.ga_provenance.specs.declared.value.Value.{Value}
 use Rattle.ga_provenance.specs.declared.lines.ProvenanceLine.{ProvenanceLine}
 use Rattle.ga_provenance.specs.declared.lines.UsedValue.{UsedValue}
 use Rattle.ga_provenance.specs.Origins.{origin_of, IsMovedValue}
-use Rattle.ga_provenance.specs.Rows.{value_sources}
-use Rattle.ga_provenance.specs.Lines.{oldest_value, is_at_period, is_in_run, is_listed, line_of, used_by, values_used, values_to_list, is_unlisted, next_use, with_line, first_lines, AreLinesOf, IsMovedLine}
+use Rattle.ga_provenance.specs.Sources.{value_sources}
+use Rattle.ga_provenance.specs.Lines.{oldest_value, is_at_period, is_in_run, is_value_listed, line_of, used_by, values_used, values_to_list, is_unlisted, next_use, with_next_line, first_lines, AreLinesOf, IsMovedLine}
 use Rattle.ga_provenance.specs.inner.{IsOfPart}
 use Rattle.ga_provenance.proofs.Finding.{found_at, skipped, drop_all}
 
@@ -54,8 +54,8 @@ pub grown_lines : (s : State) (value : Value) (lines more : List ProvenanceLine)
 grown_lines s value lines more usage line first next is grown =
     grown
     ∙ ap (λ (l : ProvenanceLine). lines ++ l ∷ []) is
-    ∙ ap (with_line s lines) (sym next)
-    ∙ ap (λ (l : List ProvenanceLine). with_line s l (next_use s value l)) first
+    ∙ ap (with_next_line s lines) (sym next)
+    ∙ ap (λ (l : List ProvenanceLine). with_next_line s l (next_use s value l)) first
     ∙ ap (first_lines s value) (let a = ap length grown in let b = length-append lines (line ∷ []) in let e : suc (length lines) ≡ length more = omega (arith, a, b) in e)
 
 used_more : (s : State) (user : ℕ) (lines : List ProvenanceLine) (line : ProvenanceLine) → values_used s user (lines ++ line ∷ []) ≡ values_used s user lines ++ used_by (user + length lines) (value_sources s (oldest_value line))
@@ -79,25 +79,25 @@ grown_uses s value lines more line uses grown user sources is more_is user_is of
 
 still_listed : (s : State) (lines : List ProvenanceLine) (line : ProvenanceLine) (usage : UsedValue) → is_unlisted s lines usage ≡ false → is_unlisted s (lines ++ line ∷ []) usage ≡ false
 still_listed s lines line usage is =
-    not_from_true (is_listed (lines ++ line ∷ []) (origin_of s usage.used))
+    not_from_true (is_value_listed (lines ++ line ∷ []) (origin_of s usage.used))
     (list_any-append (λ (l : ProvenanceLine). is_in_run l (origin_of s usage.used)) lines (line ∷ [])
-    ∙ or_left (is_listed lines (origin_of s usage.used)) (is_listed (line ∷ []) (origin_of s usage.used)) (not-false (is_listed lines (origin_of s usage.used)) is))
+    ∙ or_left (is_value_listed lines (origin_of s usage.used)) (is_value_listed (line ∷ []) (origin_of s usage.used)) (not-false (is_value_listed lines (origin_of s usage.used)) is))
 
 now_listed : (s : State) (lines : List ProvenanceLine) (line : ProvenanceLine) (usage : UsedValue) → line.value ≡ origin_of s usage.used → 0 < line.count → is_unlisted s (lines ++ line ∷ []) usage ≡ false
 now_listed s lines line usage is some =
-    not_from_true (is_listed (lines ++ line ∷ []) (origin_of s usage.used))
+    not_from_true (is_value_listed (lines ++ line ∷ []) (origin_of s usage.used))
     (list_any-append (λ (l : ProvenanceLine). is_in_run l (origin_of s usage.used)) lines (line ∷ [])
-    ∙ or_right (is_listed lines (origin_of s usage.used)) (is_listed (line ∷ []) (origin_of s usage.used))
+    ∙ or_right (is_value_listed lines (origin_of s usage.used)) (is_value_listed (line ∷ []) (origin_of s usage.used))
         (or_left (is_in_run line (origin_of s usage.used)) false (ap (is_in_run line) (sym is) ∙ newest_in_run line some)))
 
 abbrev pub AreListed : State → List ProvenanceLine → List UsedValue → Type 0
 AreListed s lines uses = All (λ (usage : UsedValue). is_unlisted s lines usage ≡ false) uses
 
-pub passed_more : (s : State) (lines : List ProvenanceLine) (uses : List UsedValue) (next : ℕ) (usage : UsedValue) (value : Value) → next < length uses → usage ≡ get_or uses next usage → value ≡ origin_of s usage.used → is_listed lines value ≡ true
+pub passed_more : (s : State) (lines : List ProvenanceLine) (uses : List UsedValue) (next : ℕ) (usage : UsedValue) (value : Value) → next < length uses → usage ≡ get_or uses next usage → value ≡ origin_of s usage.used → is_value_listed lines value ≡ true
     → AreListed s lines (take next uses) → AreListed s lines (take (next + 1) uses)
 passed_more s lines uses next usage value l is made listed passed =
     All-more (λ (u : UsedValue). is_unlisted s lines u ≡ false) uses next usage l passed
-    (ap (is_unlisted s lines) (sym is) ∙ not_from_true (is_listed lines (origin_of s usage.used)) (ap (is_listed lines) (sym made) ∙ listed))
+    (ap (is_unlisted s lines) (sym is) ∙ not_from_true (is_value_listed lines (origin_of s usage.used)) (ap (is_value_listed lines) (sym made) ∙ listed))
 
 pub passed_next : (s : State) (lines more : List ProvenanceLine) (line : ProvenanceLine) (uses grown added : List UsedValue) (next : ℕ) (usage : UsedValue) → next < length uses → usage ≡ get_or uses next usage → more ≡ lines ++ line ∷ []
     → line ≡ line_of s lines usage → grown ≡ uses ++ added → AreListed s lines (take next uses) → AreListed s more (take (next + 1) grown)
@@ -112,11 +112,11 @@ passed_next s lines more line uses grown added next usage l is more_is line_is g
 -- ---- the next used value that isn't listed
 
 pub next_is_here : (s : State) (value : Value) (lines : List ProvenanceLine) (uses : List UsedValue) (next : ℕ) (usage : UsedValue) (origin : Value) → uses ≡ values_to_list s value lines → AreListed s lines (take next uses) → next < length uses → usage ≡ get_or uses next usage
-    → origin ≡ origin_of s usage.used → is_listed lines origin ≡ false → next_use s value lines ≡ Some usage
+    → origin ≡ origin_of s usage.used → is_value_listed lines origin ≡ false → next_use s value lines ≡ Some usage
 next_is_here s value lines uses next usage origin is passed l at made listed =
     ap (find (is_unlisted s lines)) (sym is)
     ∙ skipped (is_unlisted s lines) uses next passed
-    ∙ found_at (is_unlisted s lines) uses next usage l at (not_from_false (is_listed lines (origin_of s usage.used)) (ap (is_listed lines) (sym made) ∙ listed))
+    ∙ found_at (is_unlisted s lines) uses next usage l at (not_from_false (is_value_listed lines (origin_of s usage.used)) (ap (is_value_listed lines) (sym made) ∙ listed))
 
 pub none_next : (s : State) (value : Value) (lines : List ProvenanceLine) (uses : List UsedValue) (next : ℕ) → uses ≡ values_to_list s value lines → AreListed s lines (take next uses) → length uses ≤ next → next_use s value lines ≡ None
 none_next s value lines uses next is passed l =

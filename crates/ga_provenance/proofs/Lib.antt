@@ -1,5 +1,5 @@
 pub mod Made
-pub mod Rows
+pub mod Sources
 pub mod Causes
 pub mod Ran
 pub mod Keeping
@@ -13,3 +13,4 @@ pub mod Runs
 pub mod GrowingLines
 pub mod Listed
 pub mod Whole
+pub mod FirstLine

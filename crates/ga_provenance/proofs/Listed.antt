@@ -16,8 +16,8 @@ use Rattle.ga_provenance.specs.declared.value.Value.{Value}
 use Rattle.ga_provenance.specs.declared.lines.ProvenanceLine.{ProvenanceLine}
 use Rattle.ga_provenance.specs.declared.lines.UsedValue.{UsedValue}
 use Rattle.ga_provenance.specs.Origins.{value_of_step, origin_of}
-use Rattle.ga_provenance.specs.Rows.{value_sources, IsLoadedOrCause}
-use Rattle.ga_provenance.specs.Lines.{IsProvenance, origin, source, source_origins, next_in_run, run_value, oldest_value, is_at_period, is_in_run, is_listed, is_follower, count_from, count_followers, steps_to, line_of_run, line_of, used_by, values_used, values_to_list, is_unlisted, next_use, with_line, first_lines, AreLinesOf, IsListedAt}
+use Rattle.ga_provenance.specs.Sources.{value_sources, IsLoadedOrCause}
+use Rattle.ga_provenance.specs.Lines.{IsProvenance, origin, source, source_origins, next_in_run, run_value, oldest_value, is_at_period, is_in_run, is_value_listed, is_follower, count_from, count_followers, steps_to, line_of_run, line_of, used_by, values_used, values_to_list, is_unlisted, next_use, with_next_line, first_lines, AreLinesOf, IsListedAt}
 use Rattle.ga_provenance.proofs.Causes.{provenance_caused}
 use Rattle.ga_provenance.proofs.Finding.{found_in, got_old, any_at, all_at, PassesAt, some_at}
 use Rattle.ga_provenance.proofs.GrowingLines.{same_part_true}
@@ -29,7 +29,7 @@ pub record AreFollowers (s : State) (lines : List ProvenanceLine) (p : ℕ) (v :
   pub within : count * p ≤ v.step
   pub apart : 0 < count → 0 < p
   pub next : (at : ℕ) → at < count → next_in_run s (steps_before v (at * p)) ≡ Some (steps_before v (suc at * p))
-  pub new : (at : ℕ) → at < count → is_listed lines (steps_before v (suc at * p)) ≡ false
+  pub new : (at : ℕ) → at < count → is_value_listed lines (steps_before v (suc at * p)) ≡ false
 
 no_followers : (s : State) (lines : List ProvenanceLine) (p : ℕ) (v : Value) → AreFollowers s lines p v 0
 no_followers s lines p v = record { within = omega arith; apart = λ l. absurd (omega (arith, l)); next = λ at l. absurd (omega (arith, l)); new = λ at l. absurd (omega (arith, l)) }
@@ -47,8 +47,8 @@ one_follows s lines p v w count next follows rest =
     is : IsNext s v w
     is = is_next s v w next
 
-    tests : ((v.step - w.step == p) ≡ true) × (not (is_listed lines w) ≡ true)
-    tests = and_parts (v.step - w.step == p) (not (is_listed lines w)) follows
+    tests : ((v.step - w.step == p) ≡ true) × (not (is_value_listed lines w) ≡ true)
+    tests = and_parts (v.step - w.step == p) (not (is_value_listed lines w)) follows
 
     period : v.step - w.step ≡ p
     period = eqb-true (v.step - w.step) p tests.0
@@ -71,9 +71,9 @@ one_follows s lines p v w count next follows rest =
     next_at zero l = ap (next_in_run s) (sym first) ∙ next ∙ ap Some second
     next_at (suc at) l = ap (next_in_run s) (sym (moved at)) ∙ rest.next at (omega (arith, l)) ∙ ap Some (moved (suc at))
 
-    new_at : (at : ℕ) → at < suc count → is_listed lines (steps_before v (suc at * p)) ≡ false
-    new_at zero l = ap (is_listed lines) (sym second) ∙ not-true (is_listed lines w) tests.1
-    new_at (suc at) l = ap (is_listed lines) (sym (moved (suc at))) ∙ rest.new at (omega (arith, l))
+    new_at : (at : ℕ) → at < suc count → is_value_listed lines (steps_before v (suc at * p)) ≡ false
+    new_at zero l = ap (is_value_listed lines) (sym second) ∙ not-true (is_value_listed lines w) tests.1
+    new_at (suc at) l = ap (is_value_listed lines) (sym (moved (suc at))) ∙ rest.new at (omega (arith, l))
 
 are_followers : (s : State) (lines : List ProvenanceLine) (p most : ℕ) (v : Value) → AreFollowers s lines p v (count_followers s lines p most v)
 are_followers s lines p zero v = no_followers s lines p v
@@ -100,9 +100,9 @@ pub record IsRun (s : State) (line : ProvenanceLine) : Type 0 where
 -- and none of its values is listed before
 pub record IsNewRun (s : State) (before : List ProvenanceLine) (line : ProvenanceLine) : Type 0 where
   pub run : IsRun s line
-  pub new : (at : ℕ) → at < line.count → is_listed before (run_value line at) ≡ false
+  pub new : (at : ℕ) → at < line.count → is_value_listed before (run_value line at) ≡ false
 
-new_run_of : (s : State) (lines : List ProvenanceLine) (usage : UsedValue) (v : Value) (p count : ℕ) → is_listed lines v ≡ false → AreFollowers s lines p v count → IsNewRun s lines (line_of_run usage v p count)
+new_run_of : (s : State) (lines : List ProvenanceLine) (usage : UsedValue) (v : Value) (p count : ℕ) → is_value_listed lines v ≡ false → AreFollowers s lines p v count → IsNewRun s lines (line_of_run usage v p count)
 new_run_of s lines usage v p zero unlisted of =
     record {
       run = record {
@@ -112,7 +112,7 @@ new_run_of s lines usage v p zero unlisted of =
         single = λ e. refl;
         next = λ at l. absurd (omega (arith, l));
       };
-      new = λ at l. ap (is_listed lines) (same_values (run_value (line_of_run usage v p zero) at) v refl (let e : at * 0 ≡ 0 = omega arith in omega (arith, e)) refl) ∙ unlisted;
+      new = λ at l. ap (is_value_listed lines) (same_values (run_value (line_of_run usage v p zero) at) v refl (let e : at * 0 ≡ 0 = omega arith in omega (arith, e)) refl) ∙ unlisted;
     }
 new_run_of s lines usage v p (suc count) unlisted of =
     record {
@@ -132,14 +132,14 @@ new_run_of s lines usage v p (suc count) unlisted of =
     here : (at : ℕ) → run_value (line_of_run usage v p (suc count)) at ≡ steps_before v (at * p)
     here at = ap (λ (k : ℕ). steps_before v (at * k)) period
 
-    new_at : (at : ℕ) → at < suc (suc count) → is_listed lines (run_value (line_of_run usage v p (suc count)) at) ≡ false
-    new_at zero l = ap (is_listed lines) (same_values (run_value (line_of_run usage v p (suc count)) 0) v refl (omega arith) refl) ∙ unlisted
-    new_at (suc at) l = ap (is_listed lines) (here (suc at)) ∙ of.new at (omega (arith, l))
+    new_at : (at : ℕ) → at < suc (suc count) → is_value_listed lines (run_value (line_of_run usage v p (suc count)) at) ≡ false
+    new_at zero l = ap (is_value_listed lines) (same_values (run_value (line_of_run usage v p (suc count)) 0) v refl (omega arith) refl) ∙ unlisted
+    new_at (suc at) l = ap (is_value_listed lines) (here (suc at)) ∙ of.new at (omega (arith, l))
 
 pub new_run : (s : State) (value : Value) (lines : List ProvenanceLine) (usage : UsedValue) → next_use s value lines ≡ Some usage → IsNewRun s lines (line_of s lines usage)
 new_run s value lines usage next =
     let made = origin_of s usage.used in
-    let unlisted = not-true (is_listed lines made) (found_in (is_unlisted s lines) (values_to_list s value lines) usage next).1 in
+    let unlisted = not-true (is_value_listed lines made) (found_in (is_unlisted s lines) (values_to_list s value lines) usage next).1 in
     new_run_of s lines usage made (first_period s made) (all_followers s lines made) unlisted (are_followers s lines (first_period s made) made.step made)
 
 -- ---- a value is in a run where it is at a place of it
@@ -209,7 +209,7 @@ place_in s line value run is =
     let three = and_parts (nat_le value.step line.value.step) (is_at_period line (line.value.step - value.step)) two.1 in
     place_of s line value run (NodeId-same line.value.node value.node (eqb-true line.value.node.number value.node.number one.0)) (same_part line.value.part value.part two.0) (leb-true value.step line.value.step three.0) three.1
 
-pub at_listed : (s : State) (lines : List ProvenanceLine) (line at : ℕ) (value : Value) → All (IsRun s) lines → IsListedAt lines line at value → is_listed lines value ≡ true
+pub at_listed : (s : State) (lines : List ProvenanceLine) (line at : ℕ) (value : Value) → All (IsRun s) lines → IsListedAt lines line at value → is_value_listed lines value ≡ true
 at_listed s lines line at value runs is =
     any_at (λ (l : ProvenanceLine). is_in_run l value) lines is.found line is.there
     (ap (is_in_run is.found) (sym is.same) ∙ in_run s is.found at (all_at (IsRun s) lines is.found line is.there runs) is.within)
@@ -220,7 +220,7 @@ pub record IsListedSomewhere (lines : List ProvenanceLine) (value : Value) : Typ
   pub at : ℕ
   pub listed : IsListedAt lines line at value
 
-pub listed_somewhere : (s : State) (lines : List ProvenanceLine) (value : Value) → All (IsRun s) lines → is_listed lines value ≡ true → IsListedSomewhere lines value
+pub listed_somewhere : (s : State) (lines : List ProvenanceLine) (value : Value) → All (IsRun s) lines → is_value_listed lines value ≡ true → IsListedSomewhere lines value
 listed_somewhere s lines value runs is =
     let found = some_at (λ (l : ProvenanceLine). is_in_run l value) lines is in
     let place = place_in s found.item value (all_at (IsRun s) lines found.item found.place found.there runs) found.passes in
@@ -234,7 +234,7 @@ pub each_listing : (s : State) (value : Value) (P : List ProvenanceLine → Type
 each_listing s value P none more zero = none
 each_listing s value P none more (suc count) = go (next_use s value (first_lines s value count)) refl (each_listing s value P none more count)
   where
-    go : (o : Option UsedValue) → next_use s value (first_lines s value count) ≡ o → P (first_lines s value count) → P (with_line s (first_lines s value count) o)
+    go : (o : Option UsedValue) → next_use s value (first_lines s value count) ≡ o → P (first_lines s value count) → P (with_next_line s (first_lines s value count) o)
     go None e held = subst P (sym (append-nil (first_lines s value count))) held
     go (Some usage) e held = more (first_lines s value count) usage held e
 

@@ -15,8 +15,8 @@ use Rattle.ga_provenance.specs.declared.value.Value.{Value}
 use Rattle.ga_provenance.specs.declared.lines.ProvenanceLine.{ProvenanceLine}
 use Rattle.ga_provenance.specs.declared.lines.UsedValue.{UsedValue}
 use Rattle.ga_provenance.specs.Origins.{value_of_step, origin_of}
-use Rattle.ga_provenance.specs.Rows.{is_same_value, value_sources}
-use Rattle.ga_provenance.specs.Lines.{source_origins, is_same_event, making_event, is_repetition, are_among, is_next_in_run, next_in_run, run_value, oldest_value, is_listed, is_follower, count_from, count_followers, steps_to, line_of_run, line_of}
+use Rattle.ga_provenance.specs.Sources.{is_same_value, value_sources}
+use Rattle.ga_provenance.specs.Lines.{source_origins, is_same_event, making_event, is_repetition, are_among, is_next_in_run, next_in_run, run_value, oldest_value, is_value_listed, is_follower, count_from, count_followers, steps_to, line_of_run, line_of}
 use Rattle.ga_provenance.specs.inner.{follows_in_run, following}
 use Rattle.ga_provenance.proofs.Finding.{found_in}
 
@@ -190,10 +190,10 @@ pub grown : (s : State) (lines : List ProvenanceLine) (value oldest w : Value) (
 grown s lines value oldest w line g is =
     let f = follows s lines line oldest w is in
     let next = is_next s oldest w f.next in
-    let tests = and_parts ((line.count == 1) || (oldest.step - w.step == line.period)) (not (is_listed lines w)) f.test in
+    let tests = and_parts ((line.count == 1) || (oldest.step - w.step == line.period)) (not (is_value_listed lines w)) f.test in
     let test : (oldest.step - w.step == first_period s value) ≡ true = sym (follows_so s lines value oldest w line g f.next) ∙ tests.0 in
     let period : oldest.step - w.step ≡ first_period s value = eqb-true (oldest.step - w.step) (first_period s value) test in
-    let more = one_more s lines (first_period s value) oldest w f.next (and_from (oldest.step - w.step == first_period s value) (not (is_listed lines w)) test tests.1) in
+    let more = one_more s lines (first_period s value) oldest w f.next (and_from (oldest.step - w.step == first_period s value) (not (is_value_listed lines w)) test tests.1) in
     let counted = g.counted in
     let counts = g.counts in
     let within = g.within in
@@ -223,7 +223,7 @@ ended s lines value oldest line g is =
     not_follower w next =
         let same = follows_so s lines value oldest w line g next in
         let no : follows_in_run lines line oldest w ≡ false = by (follows_in_run lines line oldest w) refl (ap (following lines line oldest) (sym next) ∙ is) in
-        ap (λ (b : Bool). b && not (is_listed lines w)) (sym same) ∙ no
+        ap (λ (b : Bool). b && not (is_value_listed lines w)) (sym same) ∙ no
       where
         by : (b : Bool) → follows_in_run lines line oldest w ≡ b → cond b (Some w) None ≡ None → follows_in_run lines line oldest w ≡ false
         by true test h = absurd (none-some w (sym h))

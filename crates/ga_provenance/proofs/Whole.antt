@@ -13,8 +13,8 @@ use Rattle.ga_provenance.specs.declared.value.Value.{Value}
 use Rattle.ga_provenance.specs.declared.lines.ProvenanceLine.{ProvenanceLine}
 use Rattle.ga_provenance.specs.declared.lines.UsedValue.{UsedValue}
 use Rattle.ga_provenance.specs.Origins.{origin_of}
-use Rattle.ga_provenance.specs.Rows.{is_same_value, value_sources, IsLoadedOrCause}
-use Rattle.ga_provenance.specs.Lines.{IsProvenance, origin, source, source_origins, are_among, next_in_run, run_value, oldest_value, is_in_run, is_listed, line_of, used_by, values_used, values_to_list, is_unlisted, next_use, with_line, first_lines, AreLinesOf, IsListedAt}
+use Rattle.ga_provenance.specs.Sources.{is_same_value, value_sources, IsLoadedOrCause}
+use Rattle.ga_provenance.specs.Lines.{IsProvenance, origin, source, source_origins, are_among, next_in_run, run_value, oldest_value, is_in_run, is_value_listed, line_of, used_by, values_used, values_to_list, is_unlisted, next_use, with_next_line, first_lines, AreLinesOf, IsListedAt}
 use Rattle.ga_provenance.proofs.Causes.{provenance_caused}
 use Rattle.ga_provenance.proofs.Finding.{found_in, none_pass, got_old, any_at, all_at, PassesAt, some_at}
 use Rattle.ga_provenance.proofs.Runs.{same_value, is_next}
@@ -94,7 +94,7 @@ old_or_last lines last line at listed is = go (got_old lines last is.found line 
 
 not_both : (s : State) (lines : List ProvenanceLine) (last : ProvenanceLine) (line at place other : ℕ) (listed : Value) → All (IsRun s) lines → IsNewRun s lines last → IsListedAt lines line at listed → IsLast lines last other place listed → ⊥
 not_both s lines last line at place other listed runs new old is =
-    both_ways (is_listed lines listed) (ap (is_listed lines) (sym is.same) ∙ new.new place is.within) (at_listed s lines line at listed runs old)
+    both_ways (is_value_listed lines listed) (ap (is_value_listed lines) (sym is.same) ∙ new.new place is.within) (at_listed s lines line at listed runs old)
 
 once_more : (s : State) (lines : List ProvenanceLine) (last : ProvenanceLine) → AreOnce s lines → IsNewRun s lines last → IsOnce (lines ++ last ∷ [])
 once_more s lines last are new line other at place listed first second = go (old_or_last lines last line at listed first) (old_or_last lines last other place listed second)
@@ -177,7 +177,7 @@ pub listed_caused : (s : State) (value : Value) (place : ℕ) (lines : List Prov
     → (line at : ℕ) (listed : Value) → IsListedAt lines line at listed → IsLoadedOrCause s value listed
 listed_caused s value place lines whole is are line at listed there = provenance_caused s value listed place is (listed_at_provenance s value lines whole are line at listed there)
 
-pub listed_sound : (s : State) (value : Value) (lines : List ProvenanceLine) (whole : Bool) → AreLinesOf s value lines whole → (listed : Value) → is_listed lines listed ≡ true → IsProvenance s value listed
+pub listed_sound : (s : State) (value : Value) (lines : List ProvenanceLine) (whole : Bool) → AreLinesOf s value lines whole → (listed : Value) → is_value_listed lines listed ≡ true → IsProvenance s value listed
 listed_sound s value lines whole are listed is =
     let somewhere = listed_somewhere s lines listed (runs_of s value lines whole are) is in listed_at_provenance s value lines whole are somewhere.line somewhere.at listed somewhere.listed
 
@@ -188,14 +188,14 @@ none_of None is = refl
 none_of (Some x) is = absurd (cc)
 
 abbrev IsListedUse : State → List ProvenanceLine → UsedValue → Type 0
-IsListedUse s lines usage = is_listed lines (origin_of s usage.used) ≡ true
+IsListedUse s lines usage = is_value_listed lines (origin_of s usage.used) ≡ true
 
 uses_listed : (s : State) (value : Value) (lines : List ProvenanceLine) → AreLinesOf s value lines true → All (IsListedUse s lines) (values_to_list s value lines)
 uses_listed s value lines are =
-    All-weaker (λ (usage : UsedValue). is_unlisted s lines usage ≡ false) (IsListedUse s lines) (λ usage is. not-false (is_listed lines (origin_of s usage.used)) is) (values_to_list s value lines)
+    All-weaker (λ (usage : UsedValue). is_unlisted s lines usage ≡ false) (IsListedUse s lines) (λ usage is. not-false (is_value_listed lines (origin_of s usage.used)) is) (values_to_list s value lines)
     (none_pass (is_unlisted s lines) (values_to_list s value lines) (none_of (next_use s value lines) are.whole))
 
-pub queried_listed : (s : State) (value : Value) (lines : List ProvenanceLine) → AreLinesOf s value lines true → is_listed lines (origin_of s value) ≡ true
+pub queried_listed : (s : State) (value : Value) (lines : List ProvenanceLine) → AreLinesOf s value lines true → is_value_listed lines (origin_of s value) ≡ true
 queried_listed s value lines are = All-head (IsListedUse s lines) (record { user = 0; used = value }) (values_used s 1 lines) (uses_listed s value lines are)
 
 halves : {X : Type 0} (P : X → Type 0) (xs ys : List X) → All P (xs ++ ys) → All P xs × All P ys
@@ -204,28 +204,28 @@ halves P (x ∷ xs) ys all = let rest = halves P xs ys (All-tail P x (xs ++ ys) 
 
 -- the values from which the oldest of each line was made
 abbrev AreListedSources : State → List ProvenanceLine → Value → Type 0
-AreListedSources s lines v = All (λ (x : Value). is_listed lines x ≡ true) (source_origins s v)
+AreListedSources s lines v = All (λ (x : Value). is_value_listed lines x ≡ true) (source_origins s v)
 
 used_listed : (s : State) (lines rest : List ProvenanceLine) (user : ℕ) → All (IsListedUse s lines) (values_used s user rest) → All (λ (line : ProvenanceLine). AreListedSources s lines (oldest_value line)) rest
 used_listed s lines [] user all = All-nil (λ (line : ProvenanceLine). AreListedSources s lines (oldest_value line))
 used_listed s lines (line ∷ rest) user all =
     let parts = halves (IsListedUse s lines) (used_by user (value_sources s (oldest_value line))) (values_used s (suc user) rest) all in
     All-cons (λ (l : ProvenanceLine). AreListedSources s lines (oldest_value l)) line rest
-    (All-map (λ (x : Value). is_listed lines x ≡ true) (origin_of s) (value_sources s (oldest_value line))
+    (All-map (λ (x : Value). is_value_listed lines x ≡ true) (origin_of s) (value_sources s (oldest_value line))
     (unmapped (IsListedUse s lines) (λ (x : Value). record { user = user; used = x }) (value_sources s (oldest_value line)) parts.0))
     (used_listed s lines rest (suc user) parts.1)
 
 -- those of a value are the next one of its run and those of that one
-among_listed : (s : State) (lines : List ProvenanceLine) (next : Value) (others values : List Value) → is_listed lines next ≡ true → All (λ (x : Value). is_listed lines x ≡ true) others → are_among next others values ≡ true
-    → All (λ (x : Value). is_listed lines x ≡ true) values
-among_listed s lines next others [] is all among = All-nil (λ (x : Value). is_listed lines x ≡ true)
+among_listed : (s : State) (lines : List ProvenanceLine) (next : Value) (others values : List Value) → is_value_listed lines next ≡ true → All (λ (x : Value). is_value_listed lines x ≡ true) others → are_among next others values ≡ true
+    → All (λ (x : Value). is_value_listed lines x ≡ true) values
+among_listed s lines next others [] is all among = All-nil (λ (x : Value). is_value_listed lines x ≡ true)
 among_listed s lines next others (x ∷ values) is all among =
     let tests = and_parts (is_same_value x next || list_any (is_same_value x) others) (list_all (λ it. is_same_value it next || list_any (is_same_value it) others) values) among in
-    All-cons (λ (y : Value). is_listed lines y ≡ true) x values (go (or_cases (is_same_value x next) (list_any (is_same_value x) others) tests.0)) (among_listed s lines next others values is all tests.1)
+    All-cons (λ (y : Value). is_value_listed lines y ≡ true) x values (go (or_cases (is_same_value x next) (list_any (is_same_value x) others) tests.0)) (among_listed s lines next others values is all tests.1)
   where
-    go : (is_same_value x next ≡ true) ⊎ (list_any (is_same_value x) others ≡ true) → is_listed lines x ≡ true
-    go (inl same) = ap (is_listed lines) (same_value x next same) ∙ is
-    go (inr other) = let found = some_at (is_same_value x) others other in ap (is_listed lines) (same_value x found.item found.passes) ∙ all_at (λ (y : Value). is_listed lines y ≡ true) others found.item found.place found.there all
+    go : (is_same_value x next ≡ true) ⊎ (list_any (is_same_value x) others ≡ true) → is_value_listed lines x ≡ true
+    go (inl same) = ap (is_value_listed lines) (same_value x next same) ∙ is
+    go (inr other) = let found = some_at (is_same_value x) others other in ap (is_value_listed lines) (same_value x found.item found.passes) ∙ all_at (λ (y : Value). is_value_listed lines y ≡ true) others found.item found.place found.there all
 
 run_listed : (s : State) (lines : List ProvenanceLine) (line : ProvenanceLine) (number : ℕ) → All (IsRun s) lines → slice_get lines number ≡ Some line → AreListedSources s lines (oldest_value line) → (left at : ℕ) → left + suc at ≡ line.count
     → AreListedSources s lines (run_value line at)
@@ -238,52 +238,15 @@ run_listed s lines line number runs there oldest (suc left) at is =
     (run_listed s lines line number runs there oldest left (suc at) (omega (arith, is)))
     next.among
 
-pub sources_listed : (s : State) (value : Value) (lines : List ProvenanceLine) → AreLinesOf s value lines true → (line at : ℕ) (listed : Value) → IsListedAt lines line at listed → All (λ (x : Value). is_listed lines x ≡ true) (source_origins s listed)
+pub sources_listed : (s : State) (value : Value) (lines : List ProvenanceLine) → AreLinesOf s value lines true → (line at : ℕ) (listed : Value) → IsListedAt lines line at listed → All (λ (x : Value). is_value_listed lines x ≡ true) (source_origins s listed)
 sources_listed s value lines are line at listed is =
     let within = is.within in
     let uses = All-tail (IsListedUse s lines) (record { user = 0; used = value }) (values_used s 1 lines) (uses_listed s value lines are) in
     let oldest = all_at (λ (l : ProvenanceLine). AreListedSources s lines (oldest_value l)) lines is.found line is.there (used_listed s lines lines 1 uses) in
     subst (AreListedSources s lines) is.same (run_listed s lines is.found line (runs_of s value lines true are) is.there oldest (is.found.count - suc at) at (omega (arith, within)))
 
-pub provenance_listed : (s : State) (value : Value) (lines : List ProvenanceLine) → AreLinesOf s value lines true → (found : Value) → IsProvenance s value found → is_listed lines found ≡ true
+pub provenance_listed : (s : State) (value : Value) (lines : List ProvenanceLine) → AreLinesOf s value lines true → (found : Value) → IsProvenance s value found → is_value_listed lines found ≡ true
 provenance_listed s value lines are found origin = queried_listed s value lines are
 provenance_listed s value lines are found (source {value = v} of x in_sources) =
     let somewhere = listed_somewhere s lines v (runs_of s value lines true are) (provenance_listed s value lines are v of) in
-    All-contains (λ (y : Value). is_listed lines y ≡ true) (source_origins s v) x (sources_listed s value lines are somewhere.line somewhere.at v somewhere.listed) in_sources
-
--- ---- the first line
-
--- the first line is that of the step that made the value
-pub record HasFirst (s : State) (value : Value) (lines : List ProvenanceLine) : Type 0 where
-  pub line : ProvenanceLine
-  pub first : slice_get lines 0 ≡ Some line
-  pub made : line.value ≡ origin_of s value
-
-first_of : (s : State) (value : Value) (count : ℕ) → HasFirst s value (first_lines s value (suc count))
-first_of s value zero = record { line = line_of s [] (record { user = 0; used = value }); first = refl; made = refl }
-first_of s value (suc count) = go (first_of s value count)
-  where
-    stays : (lines more : List ProvenanceLine) (line : ProvenanceLine) → slice_get lines 0 ≡ Some line → slice_get (lines ++ more) 0 ≡ Some line
-    stays [] more line is = absurd (none-some line is)
-    stays (x ∷ lines) more line is = is
-
-    go : HasFirst s value (first_lines s value (suc count)) → HasFirst s value (first_lines s value (suc (suc count)))
-    go has = record {
-      line = has.line;
-      first = stays (first_lines s value (suc count)) (option_to_list (option_map (line_of s (first_lines s value (suc count))) (next_use s value (first_lines s value (suc count))))) has.line has.first;
-      made = has.made;
-    }
-
-pub first_line : (s : State) (value : Value) (lines : List ProvenanceLine) (whole : Bool) (most : ℕ) → AreLinesOf s value lines whole → (whole ≡ false → length lines ≡ most) → 0 < most → HasFirst s value lines
-first_line s value lines whole most are cut some = go (length lines) refl
-  where
-    none : (b : Bool) → whole ≡ b → length lines ≡ 0 → ⊥
-    none true is e =
-        let empty : lines ≡ [] = are.first ∙ ap (first_lines s value) e in
-        let listed = queried_listed s value lines (subst (AreLinesOf s value lines) is are) in
-        both_ways (is_listed lines (origin_of s value)) (ap (λ (z : List ProvenanceLine). is_listed z (origin_of s value)) empty) listed
-    none false is e = let l = cut is in omega (arith, l, e, some)
-
-    go : (n : ℕ) → length lines ≡ n → HasFirst s value lines
-    go zero e = absurd (none whole refl e)
-    go (suc n) e = subst (HasFirst s value) (sym (are.first ∙ ap (first_lines s value) e)) (first_of s value n)
+    All-contains (λ (y : Value). is_value_listed lines y ≡ true) (source_origins s v) x (sources_listed s value lines are somewhere.line somewhere.at v somewhere.listed) in_sources

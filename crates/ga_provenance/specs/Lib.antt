@@ -3,6 +3,6 @@ pub mod Deciding
 pub mod Fetched
 pub mod Lines
 pub mod Origins
-pub mod Rows
+pub mod Sources
 pub mod Writes
 pub mod inner

@@ -12,7 +12,7 @@ use Rattle.ga_provenance.specs.declared.value.Value.{Value}
 use Rattle.ga_provenance.specs.declared.lines.ProvenanceLine.{ProvenanceLine}
 use Rattle.ga_provenance.specs.declared.lines.UsedValue.{UsedValue}
 use Rattle.ga_provenance.specs.Origins.{value_of_step, origin_of, IsMovedValue}
-use Rattle.ga_provenance.specs.Rows.{is_same_value, value_sources}
+use Rattle.ga_provenance.specs.Sources.{is_same_value, value_sources}
 
 -- ---- provenance
 
@@ -80,12 +80,12 @@ is_in_run line value =
     (line.value.node.number == value.node.number) && (is_equal_to line.value.part value.part && (nat_le value.step line.value.step
     && is_at_period line (line.value.step - value.step)))
 
-abbrev pub is_listed : List ProvenanceLine → Value → Bool
-is_listed lines value = list_any (λ (line : ProvenanceLine). is_in_run line value) lines
+abbrev pub is_value_listed : List ProvenanceLine → Value → Bool
+is_value_listed lines value = list_any (λ (line : ProvenanceLine). is_in_run line value) lines
 
 -- the number of values that follow one in a run, each so many steps before the last and not listed: at most `most`
 abbrev pub is_follower : List ProvenanceLine → ℕ → Value → Value → Bool
-is_follower lines period value next = (value.step - next.step == period) && not (is_listed lines next)
+is_follower lines period value next = (value.step - next.step == period) && not (is_value_listed lines next)
 
 abbrev pub count_from : (Value → Bool) → (Value → ℕ) → Option Value → ℕ
 count_from follows count None = 0
@@ -128,19 +128,19 @@ values_to_list s value lines = record { user = 0; used = value } ∷ values_used
 
 -- the first of them that these lines don't list
 abbrev pub is_unlisted : State → List ProvenanceLine → UsedValue → Bool
-is_unlisted s lines usage = not (is_listed lines (origin_of s usage.used))
+is_unlisted s lines usage = not (is_value_listed lines (origin_of s usage.used))
 
 abbrev pub next_use : State → Value → List ProvenanceLine → Option UsedValue
 next_use s value lines = find (is_unlisted s lines) (values_to_list s value lines)
 
 -- So many lines of a value: each next one is the line of the first value that is used and isn't listed. So lines of values that are
 -- fewer steps of provenance away come first.
-abbrev pub with_line : State → List ProvenanceLine → Option UsedValue → List ProvenanceLine
-with_line s lines usage = lines ++ option_to_list (option_map (line_of s lines) usage)
+abbrev pub with_next_line : State → List ProvenanceLine → Option UsedValue → List ProvenanceLine
+with_next_line s lines usage = lines ++ option_to_list (option_map (line_of s lines) usage)
 
 abbrev pub first_lines : State → Value → ℕ → List ProvenanceLine
 first_lines s value zero = []
-first_lines s value (suc count) = with_line s (first_lines s value count) (next_use s value (first_lines s value count))
+first_lines s value (suc count) = with_next_line s (first_lines s value count) (next_use s value (first_lines s value count))
 
 -- the first lines of a value, and whether they are all
 pub record AreLinesOf (s : State) (value : Value) (lines : List ProvenanceLine) (is_whole : Bool) : Type 0 where

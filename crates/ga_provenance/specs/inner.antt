@@ -35,8 +35,8 @@ use Rattle.ga_provenance.specs.declared.asked.QueriedPart.{QueriedPart}
 use Rattle.ga_provenance.specs.declared.asked.QueriedPart.TheVariants.{PartAfter, PartBefore, Nothing}
 use Rattle.ga_provenance.specs.declared.lines.ProvenanceLine.{ProvenanceLine}
 use Rattle.ga_provenance.specs.declared.source_search.TracedValue.{TracedValue}
-use Rattle.ga_provenance.specs.Rows.{value_sources}
-use Rattle.ga_provenance.specs.Lines.{source_origins, is_listed}
+use Rattle.ga_provenance.specs.Sources.{value_sources}
+use Rattle.ga_provenance.specs.Lines.{source_origins, is_value_listed}
 
 -- ---- the part from which a step moved a value to another part of the node, if the step as made determines it, whatever the
 -- node's values were (F18A Technology Reference DB001, opcodes, by their codes; Flow.antt of ga_event has each row in full). If
@@ -308,7 +308,7 @@ pub record IsTraced (s : State) (traced : TracedValue) : Type 0 where
 
 -- the value that follows the oldest of a run in it: the next one, unless it is listed or as many steps before as no other
 abbrev pub follows_in_run : List ProvenanceLine → ProvenanceLine → Value → Value → Bool
-follows_in_run lines line oldest next = ((line.count == 1) || (oldest.step - next.step == line.period)) && not (is_listed lines next)
+follows_in_run lines line oldest next = ((line.count == 1) || (oldest.step - next.step == line.period)) && not (is_value_listed lines next)
 
 abbrev pub following : List ProvenanceLine → ProvenanceLine → Value → Option Value → Option Value
 following lines line oldest None = None

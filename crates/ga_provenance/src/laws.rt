@@ -10,9 +10,9 @@ ghost use Rattle.ga_event.specs.Flow.{top, IsNodePart, part_value};
 ghost use Rattle.ga_provenance.specs.declared.value.Value.{Value};
 ghost use Rattle.ga_provenance.specs.Origins.{value_of_step, node_after, is_made_with_t, origin_of};
 ghost use Rattle.ga_provenance.specs.Asked.{queried_value};
-ghost use Rattle.ga_provenance.specs.Rows.{IsCause, IsLoadedOrCause};
+ghost use Rattle.ga_provenance.specs.Sources.{IsCause, IsLoadedOrCause};
 ghost use Rattle.ga_provenance.specs.declared.lines.ProvenanceLine.{ProvenanceLine};
-ghost use Rattle.ga_provenance.specs.Lines.{source_origins, IsProvenance, is_listed, AreLinesOf, IsListedAt};
+ghost use Rattle.ga_provenance.specs.Lines.{source_origins, IsProvenance, is_value_listed, AreLinesOf, IsListedAt};
 ghost use Rattle.ga_provenance.specs.declared.deciding.Decision.{Decision};
 ghost use Rattle.ga_provenance.specs.Deciding.{decision_at};
 
@@ -64,9 +64,9 @@ pub fn listed_values_are_causes()
 /// made the values from which it was made.
 #[tactic(auto, using(crate::proofs::Whole::queried_listed))]
 pub fn whole_lines_miss_nothing()
-    ensures asked { (s : State) (value : Value) (lines : List ProvenanceLine) → AreLinesOf s value lines true → is_listed lines (origin_of s value) ≡ true }
+    ensures asked { (s : State) (value : Value) (lines : List ProvenanceLine) → AreLinesOf s value lines true → is_value_listed lines (origin_of s value) ≡ true }
     ensures sources { (s : State) (value : Value) (lines : List ProvenanceLine) → AreLinesOf s value lines true →
-        (line at : ℕ) (listed : Value) → IsListedAt lines line at listed → All (λ (source : Value). is_listed lines source ≡ true) (source_origins s listed) }
+        (line at : ℕ) (listed : Value) → IsListedAt lines line at listed → All (λ (source : Value). is_value_listed lines source ≡ true) (source_origins s listed) }
 {}
 
 /// No value is listed twice.
@@ -86,7 +86,7 @@ pub fn lines_continue()
 #[tactic(auto, using(crate::proofs::Whole::listed_sound, crate::proofs::Whole::provenance_listed))]
 pub fn runs_unfold_to_provenance()
     ensures first { (s : State) (value : Value) (lines : List ProvenanceLine) (whole : Bool) → AreLinesOf s value lines whole →
-        (listed : Value) → is_listed lines listed ≡ true → IsProvenance s value listed }
+        (listed : Value) → is_value_listed lines listed ≡ true → IsProvenance s value listed }
     ensures whole { (s : State) (value : Value) (lines : List ProvenanceLine) → AreLinesOf s value lines true →
-        (found : Value) → IsProvenance s value found → is_listed lines found ≡ true }
+        (found : Value) → IsProvenance s value found → is_value_listed lines found ≡ true }
 {}

@@ -4,8 +4,8 @@ ghost use Rattle.std.specs.Prelude.{◌≡◌, ◌≤◌, ◌<◌, ◌+◌, ◌+
 ghost use Rattle.ga_event.specs.Flow.{IsNodePart};
 ghost use Rattle.ga_lab.specs.Machine.{node_at_step};
 ghost use Rattle.ga_provenance.specs.Origins.{origin_of};
-ghost use Rattle.ga_provenance.specs.Rows.{value_sources};
-ghost use Rattle.ga_provenance.specs.Lines.{is_in_run, is_listed, next_in_run, oldest_value, line_of, used_by, AreLinesOf, IsMovedLine};
+ghost use Rattle.ga_provenance.specs.Sources.{value_sources};
+ghost use Rattle.ga_provenance.specs.Lines.{is_in_run, is_value_listed, next_in_run, oldest_value, line_of, used_by, AreLinesOf, IsMovedLine};
 ghost use Rattle.ga_provenance.specs.inner.{IsOfPart, IsKept, IsTraced, traced_value, follows_in_run, following};
 
 use crate::source_search::{SourceSearch, TracedValue};
@@ -69,8 +69,8 @@ impl ProvenanceLine {
 }
 
 // Whether a value is in the run of a line.
-fn is_listed(lines: &[ProvenanceLine], value: Value) -> bool
-    ensures { result ≡ is_listed lines.now value }
+fn is_value_listed(lines: &[ProvenanceLine], value: Value) -> bool
+    ensures { result ≡ is_value_listed lines.now value }
 {
     lines.iter().any(|line| line.is_in_run(value))
 }
@@ -80,7 +80,7 @@ fn follows_in_run(lines: &[ProvenanceLine], line: ProvenanceLine, oldest: Value,
     requires { next.step ≤ oldest.step }
     ensures { result ≡ follows_in_run lines.now line oldest next }
 {
-    (line.count == 1 || oldest.step - next.step == line.period) && !is_listed(lines, next)
+    (line.count == 1 || oldest.step - next.step == line.period) && !is_value_listed(lines, next)
 }
 
 // The value that follows the oldest one of a run.
@@ -202,7 +202,7 @@ pub fn find_lines_at<'l>(
         next += 1;
         let (found, origin) = search.origin_of(usage.used);
         search = found;
-        if is_listed(&lines, origin) {
+        if is_value_listed(&lines, origin) {
             continue 'listing;
         }
         if lines.as_slice().len() == most as usize {

@@ -2,10 +2,10 @@
 
 ghost use Rattle.std.specs.Prelude.{◌≡◌};
 ghost use Rattle.std.specs.List.{list_any};
-ghost use Rattle.ga_provenance.specs.Rows.{is_same_value};
+ghost use Rattle.ga_provenance.specs.Sources.{is_same_value};
 ghost use Rattle.ga_provenance.specs.Lines.{is_same_action, is_same_event, making_event, is_repetition, are_among};
 
-use crate::listing::sources_by_trail;
+use crate::value_sources::sources_by_trail;
 use crate::origin::{kept_step, origin_behind, trail_on};
 use crate::trail::CachedWalk;
 use crate::value::Value;
@@ -112,7 +112,7 @@ impl<'l, 'n> SourceSearch<'l, 'n> {
     ghost use Rattle.ga_lab.specs.Machine.{node_at_step};
     ghost use Rattle.ga_provenance.specs.Origins.{origin_of};
     ghost use Rattle.ga_provenance.specs.Lines.{next_in_run};
-    ghost use Rattle.ga_provenance.specs.Rows.{value_sources};
+    ghost use Rattle.ga_provenance.specs.Sources.{value_sources};
     ghost use Rattle.ga_provenance.specs.inner.{IsOfPart, IsKept, IsTraced, traced_value};
 
     /// A search that begins where a node is walked back to.

@@ -27,7 +27,7 @@ impl Default for Value {
 
 impl Value {
     ghost use Rattle.std.specs.Prelude.{◌≡◌};
-    ghost use Rattle.ga_provenance.specs.Rows.{is_same_value};
+    ghost use Rattle.ga_provenance.specs.Sources.{is_same_value};
 
     /// Whether the two are of one part after one step.
     pub fn is_equal_to(self, other: Value) -> bool

@@ -4,7 +4,7 @@ use Rattle.ga_lab.specs.Machine.{State}
 use Rattle.ga_provenance.specs.declared.value.Value.{Value}
 use Rattle.ga_provenance.specs.declared.source_search.TracedValue.{TracedValue}
 use Rattle.ga_provenance.specs.Origins.{origin_of}
-use Rattle.ga_provenance.specs.Rows.{value_sources}
+use Rattle.ga_provenance.specs.Sources.{value_sources}
 use Rattle.ga_provenance.specs.Lines.{next_in_run}
 use Rattle.ga_provenance.specs.inner.{traced_value, IsTraced, following}
 use Rattle.ga_provenance.proofs.Runs.{IsGrowing, IsLine, one_value, is_next, follows, follows_by, grown, line_so}

@@ -6,21 +6,21 @@ use Rattle.ga_provenance.specs.declared.lines.UsedValue.{UsedValue}
 use Rattle.ga_provenance.specs.declared.lines.ProvenanceLine.{ProvenanceLine}
 use Rattle.ga_provenance.specs.declared.value.Value.{Value}
 use Rattle.ga_provenance.specs.Origins.{origin_of}
-use Rattle.ga_provenance.specs.Rows.{value_sources}
-use Rattle.ga_provenance.specs.Lines.{is_listed, line_of, oldest_value}
+use Rattle.ga_provenance.specs.Sources.{value_sources}
+use Rattle.ga_provenance.specs.Lines.{is_value_listed, line_of, oldest_value}
 use Rattle.ga_provenance.specs.inner.{IsOfPart}
 use Rattle.ga_provenance.proofs.GrowingLines.{grown_lines, grown_uses, passed_more, passed_next, next_is_here, none_next, lines_cut, lines_whole, moved_more, parts_more}
 use Rattle.ga_provenance.proofs.lines.find_lines_at.Goals as goal
 
-pub listing-preserved-then-is_listed : goal.listing-preserved-then-is_listed
-listing-preserved-then-is_listed c =
+pub listing-preserved-then-is_value_listed : goal.listing-preserved-then-is_value_listed
+listing-preserved-then-is_value_listed c =
     let s = c.args.lab.now in
     let lines = c.listing.lines.items in
     let uses = c.listing.uses.items in
     let found = c.origin_of-found.result.1 in
     let l : c.listing.next < length uses = omega (arith, c.listing-test.true, c.len.ensures, c.listing.uses.ok.0) in
     let made = c.origin_of-found.ensures.value ∙ ap (λ (z : State). origin_of z c.index-usage.result.now.used) c.listing.invariant.lab in
-    let listed : is_listed lines found ≡ true = ap (λ z. is_listed z found) (sym c.deref.ensures.value) ∙ sym c.is_listed.ensures ∙ c.if-is_listed.true in
+    let listed : is_value_listed lines found ≡ true = ap (λ z. is_value_listed z found) (sym c.deref.ensures.value) ∙ sym c.is_value_listed.ensures ∙ c.if-is_value_listed.true in
     record {
       lab = c.origin_of-found.ensures.lab ∙ c.listing.invariant.lab;
       uses = c.listing.invariant.uses;
@@ -39,7 +39,7 @@ returns-then-as_slice-most-clause-lines c =
     let found = c.origin_of-found.result.1 in
     let l : c.listing.next < length uses = omega (arith, c.listing-test.true, c.len.ensures, c.listing.uses.ok.0) in
     let made = c.origin_of-found.ensures.value ∙ ap (λ (z : State). origin_of z c.index-usage.result.now.used) c.listing.invariant.lab in
-    let listed : is_listed lines found ≡ false = ap (λ z. is_listed z found) (sym c.deref.ensures.value) ∙ sym c.is_listed.ensures ∙ c.if-is_listed.false in
+    let listed : is_value_listed lines found ≡ false = ap (λ z. is_value_listed z found) (sym c.deref.ensures.value) ∙ sym c.is_value_listed.ensures ∙ c.if-is_value_listed.false in
     lines_cut s c.args.value lines c.index-usage.result.now c.listing.invariant.lines
     (next_is_here s c.args.value lines uses c.listing.next c.index-usage.result.now found c.listing.invariant.uses c.listing.invariant.passed l c.index-usage.ensures made listed)
 
@@ -54,7 +54,7 @@ listing-preserved c =
     let found = c.origin_of-found.result.1 in
     let l : c.listing.next < length uses = omega (arith, c.listing-test.true, c.len.ensures, c.listing.uses.ok.0) in
     let made = c.origin_of-found.ensures.value ∙ ap (λ (z : State). origin_of z usage.used) c.listing.invariant.lab in
-    let listed : is_listed lines found ≡ false = ap (λ z. is_listed z found) (sym c.deref.ensures.value) ∙ sym c.is_listed.ensures ∙ c.if-is_listed.false in
+    let listed : is_value_listed lines found ≡ false = ap (λ z. is_value_listed z found) (sym c.deref.ensures.value) ∙ sym c.is_value_listed.ensures ∙ c.if-is_value_listed.false in
     let lab = c.origin_of-found.ensures.lab ∙ c.listing.invariant.lab in
     let line = c.find_line-after.result.1 in
     let next = next_is_here s value lines uses c.listing.next usage found c.listing.invariant.uses c.listing.invariant.passed l c.index-usage.ensures made listed in

@@ -2,8 +2,8 @@ use Rattle.std.proofs.Common.{◌≡◌, ℕ, suc, ◌-◌, arith}
 use Rattle.std.specs.List.{slice_get}
 use Rattle.ga_event.specs.Flow.{From}
 use Rattle.ga_lab.specs.Machine.{history_of}
-use Rattle.ga_provenance.proofs.Rows.{parts_of_step}
-use Rattle.ga_provenance.proofs.listing.sources_by_trail.Goals as goal
+use Rattle.ga_provenance.proofs.Sources.{parts_of_step}
+use Rattle.ga_provenance.proofs.value_sources.sources_by_trail.Goals as goal
 
 pub returns-in-From-clause-parts : goal.returns-in-From-clause-parts
 returns-in-From-clause-parts c =

@@ -12,9 +12,8 @@ use Rattle.ga_event.specs.declared.flow.part.NodePart.{NodePart}
 use Rattle.ga_event.specs.declared.flow.part.NodePart.TheVariants.{Data, Return, Ram, Rom, A, B, P, I, Io, Carry, Slot, Wait, Stop, Outside}
 use Rattle.ga_event.specs.Flow.{Flow, Same, From, IsNodePart, top, part_kind, part_index, is_equal_to, AreParts, HasValidSources}
 use Rattle.ga_provenance.specs.declared.value.Value.{Value}
-use Rattle.ga_provenance.specs.declared.listing.ProvenanceRow.{ProvenanceRow}
 use Rattle.ga_provenance.specs.Origins.{flow_at, value_of_step, origin_of}
-use Rattle.ga_provenance.specs.Rows.{sent_value, source_values, value_sources_after, is_same_value, value_sources}
+use Rattle.ga_provenance.specs.Sources.{sent_value, source_values, value_sources_after, is_same_value, value_sources}
 use Rattle.ga_provenance.specs.inner.{IsOfPart}
 use Rattle.std.proofs.lemmas.Bool.{eq-eqb}
 use Rattle.std.proofs.lemmas.List.Folds.{list_any-append}

@@ -4,7 +4,7 @@ ghost use Rattle.std.specs.Prelude.{◌≡◌, ◌≤◌, ◌-◌, All, IfSome, 
 ghost use Rattle.ga_event.specs.Flow.{IsNodePart, Same};
 ghost use Rattle.ga_lab.specs.Machine.{node_at_step};
 ghost use Rattle.ga_provenance.specs.Origins.{value_of_step};
-ghost use Rattle.ga_provenance.specs.Rows.{sent_value, source_values, value_sources};
+ghost use Rattle.ga_provenance.specs.Sources.{sent_value, source_values, value_sources};
 ghost use Rattle.ga_provenance.specs.inner.{IsOfPart};
 
 use crate::origin::flow_by_trail;
@@ -14,17 +14,6 @@ use arrayvec::ArrayVec;
 use ga_event::{Flow, Made, NodePart};
 use ga_grid::NodeId;
 use ga_lab::Lab;
-
-/// A row of a listing: a value that a step made, or that was loaded.
-#[derive(Clone, Copy, PartialEq, Eq, Debug)]
-pub struct ProvenanceRow {
-    /// How many steps lead from the queried value to this one: 0 for the step that made the value itself.
-    pub depth: u32,
-    /// The value, right after the step that made it.
-    pub value: Value,
-    /// The same value where it was used: since that step its node only moved it from part to part.
-    pub used: Value,
-}
 
 // What a word came from that an event carried: T of the writer before.
 pub(crate) fn sent_value(made: Option<Made>) -> Option<Value>

@@ -10,7 +10,6 @@ use Rattle.ga_grid.specs.declared.node_id.NodeId.{NodeId}
 use Rattle.ga_event.specs.declared.made.Made.{Made}
 use Rattle.ga_event.specs.declared.flow.part.NodePart.{NodePart}
 use Rattle.ga_event.specs.Flow.{Flow, Same, From, IsNodePart, top, is_equal_to}
-use Rattle.ga_provenance.specs.declared.listing.ProvenanceRow.{ProvenanceRow}
 use Rattle.ga_provenance.specs.Origins.{value_of_step, flow_at, origin_of, IsMovedValue}
 
 -- ---- values whose steps are causes of another's (Danos and Krivine, "Reversible Communicating Systems", 2004)
@@ -52,11 +51,3 @@ value_sources_after s node (suc k) at = source_values node k (slice_get (history
 
 abbrev pub value_sources : State → Value → List Value
 value_sources s value = value_sources_after s value.node value.step value.part
-
--- the row of a value at a depth
-abbrev pub row_at_depth : ℕ → Value → ProvenanceRow
-row_at_depth depth value = record { depth = depth; value = value; used = value }
-
--- the value of a row was only moved between the step that made it and its use
-abbrev pub IsMovedRow : State → ProvenanceRow → Type 0
-IsMovedRow s row = IsMovedValue s row.value row.used
