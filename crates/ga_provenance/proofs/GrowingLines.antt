@@ -1,18 +1,18 @@
 -- Lines that are listed one after another.
-use Rattle.std.proofs.Common.{◌≡◌, ℕ, zero, suc, ◌+◌, ◌-◌, ◌*◌, ◌/◌, ◌%◌, ◌<◌, ◌≤◌, ◌==◌, Bool, true, false, not, ◌&&◌, ◌||◌, cond, List, [], ◌∷◌, ◌++◌, length, map, take, drop, get_or, Some, None, refl, sym, ◌∙◌, ap, subst, arith, append_assoc, append-nil, length-append, inl, inr}
-use Rattle.std.specs.Prelude.{Option, option_map, option_to_list, is_none, nat_lt, nat_le, ◌⊎◌}
+use Rattle.std.proofs.Common.{◌≡◌, ℕ, suc, ◌+◌, ◌-◌, ◌/◌, ◌%◌, ◌<◌, ◌≤◌, ◌==◌, true, false, ◌&&◌, List, [], ◌∷◌, ◌++◌, length, take, get_or, Some, None, refl, sym, ◌∙◌, ap, subst, arith, append_assoc, append-nil, length-append, inl, inr}
+use Rattle.std.specs.Prelude.{is_none, nat_lt, nat_le, ◌⊎◌}
 use Rattle.std.proofs.Math.Nat.{zero-mod, zero-div}
-use Rattle.std.specs.List.{All, find, list_any}
-use Rattle.std.proofs.lemmas.Bool.{eq-eqb, ne_eqb, le-leb, lt-ltb, and_from, or_left, or_right, not_from_true, not_from_false, not-false, not-true, cond-false, cond-true, cases_eq}
+use Rattle.std.specs.List.{All, find}
+use Rattle.std.proofs.lemmas.Bool.{eq-eqb, ne_eqb, le-leb, lt-ltb, and_from, or_left, or_right, not_from_true, not_from_false, not-false, cond-false, cond-true, cases_eq}
 use Rattle.std.proofs.lemmas.List.{take-append-le}
-use Rattle.std.proofs.lemmas.List.Elements.{All-nil, All-cons, All-push, All-weaker, All-more, All-get_or, All-append, All-map}
+use Rattle.std.proofs.lemmas.List.Elements.{All-push, All-weaker, All-more, All-append, All-map}
 use Rattle.std.proofs.lemmas.List.Folds.{list_any-append}
-use Rattle.ga_event.specs.Flow.{IsNodePart, is_equal_to, part_kind, part_index}
+use Rattle.ga_event.specs.Flow.{is_equal_to, part_kind, part_index}
 use Rattle.ga_lab.specs.Machine.{State}
 use Rattle.ga_provenance.specs.declared.value.Value.{Value}
 use Rattle.ga_provenance.specs.declared.lines.ProvenanceLine.{ProvenanceLine}
 use Rattle.ga_provenance.specs.declared.lines.UsedValue.{UsedValue}
-use Rattle.ga_provenance.specs.Origins.{origin_of, IsMovedValue}
+use Rattle.ga_provenance.specs.Origins.{origin_of}
 use Rattle.ga_provenance.specs.Sources.{value_sources}
 use Rattle.ga_provenance.specs.Lines.{oldest_value, is_at_period, is_in_run, is_value_listed, line_of, used_by, values_used, values_to_list, is_unlisted, next_use, with_next_line, first_lines, AreLinesOf, IsMovedLine}
 use Rattle.ga_provenance.specs.inner.{IsOfPart}
@@ -38,7 +38,7 @@ newest_at line some = go (cases_eq line.period 0)
         cond-false (line.period == 0) (line.value.step - line.value.step == 0) (((line.value.step - line.value.step) % line.period == 0) && nat_lt ((line.value.step - line.value.step) / line.period) line.count) (ne_eqb line.period 0 more)
         ∙ ap (λ (k : ℕ). (k % line.period == 0) && nat_lt (k / line.period) line.count) back
         ∙ and_from (0 % line.period == 0) (nat_lt (0 / line.period) line.count) (eq-eqb (0 % line.period) 0 (zero-mod line.period))
-            (ap (λ (k : ℕ). nat_lt k line.count) (zero-div line.period) ∙ lt-ltb 0 line.count some)
+        (ap (λ (k : ℕ). nat_lt k line.count) (zero-div line.period) ∙ lt-ltb 0 line.count some)
 
 pub newest_in_run : (line : ProvenanceLine) → 0 < line.count → is_in_run line line.value ≡ true
 newest_in_run line some =
@@ -88,7 +88,7 @@ now_listed s lines line usage is some =
     not_from_true (is_value_listed (lines ++ line ∷ []) (origin_of s usage.used))
     (list_any-append (λ (l : ProvenanceLine). is_in_run l (origin_of s usage.used)) lines (line ∷ [])
     ∙ or_right (is_value_listed lines (origin_of s usage.used)) (is_value_listed (line ∷ []) (origin_of s usage.used))
-        (or_left (is_in_run line (origin_of s usage.used)) false (ap (is_in_run line) (sym is) ∙ newest_in_run line some)))
+    (or_left (is_in_run line (origin_of s usage.used)) false (ap (is_in_run line) (sym is) ∙ newest_in_run line some)))
 
 abbrev pub AreListed : State → List ProvenanceLine → List UsedValue → Type 0
 AreListed s lines uses = All (λ (usage : UsedValue). is_unlisted s lines usage ≡ false) uses

@@ -1,9 +1,8 @@
 -- Steps that leave each cell as it was, and the newest step that wrote one.
-use Rattle.std.proofs.Common.{◌≡◌, ◌<◌, Bool, false, List, [], ◌∷◌, Some, length, refl, arith, ℕ, zero, suc, ◌+◌, ◌≤◌, true, cond, None, sym, ◌∙◌, ap, ◌==◌, ◌/◌, ◌^◌, ◌++◌, ◌||◌, not}
+use Rattle.std.proofs.Common.{◌≡◌, ◌<◌, Bool, false, List, [], ◌∷◌, Some, refl, arith, ℕ, zero, suc, ◌+◌, ◌≤◌, true, cond, None, sym, ◌∙◌, ap, ◌==◌, ◌/◌, ◌^◌, ◌++◌, ◌||◌, not}
 use Rattle.std.specs.List.{slice_get}
 use Rattle.ga_lab.specs.Machine.{State, history_of}
-use Rattle.ga_provenance.specs.declared.value.Value.{Value}
-use Rattle.ga_provenance.specs.Origins.{origin_of, node_after, flow_at, optional_event_flow, moved_source_part, moved_source_part_at}
+use Rattle.ga_provenance.specs.Origins.{node_after, flow_at, optional_event_flow, moved_source_part, moved_source_part_at}
 use Rattle.std.specs.Prelude.{Option, option_map, slice_index}
 use Rattle.std.proofs.lemmas.Option.{same_Some}
 use Rattle.ga_event.specs.declared.made.Made.{Made}

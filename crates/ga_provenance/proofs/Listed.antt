@@ -1,25 +1,21 @@
 -- What is listed: the values of the runs of lines, each once, and of the provenance alone.
-use Rattle.std.proofs.Common.{◌≡◌, ℕ, zero, suc, ◌+◌, ◌-◌, ◌*◌, ◌/◌, ◌%◌, ◌<◌, ◌≤◌, ◌==◌, Bool, true, false, not, ◌&&◌, cond, List, [], ◌∷◌, ◌++◌, length, map, take, Some, None, refl, sym, ◌∙◌, ap, subst, arith, append_assoc, append-nil, inl, inr}
-use Rattle.std.specs.Prelude.{Option, option_map, option_to_list, nat_lt, nat_le, Contains, ◌⊎◌}
-use Rattle.std.specs.List.{All, slice_get}
+use Rattle.std.proofs.Common.{◌≡◌, ℕ, zero, suc, ◌+◌, ◌-◌, ◌*◌, ◌/◌, ◌%◌, ◌<◌, ◌≤◌, ◌==◌, Bool, true, false, not, ◌&&◌, cond, List, [], ◌∷◌, ◌++◌, length, Some, None, refl, sym, ◌∙◌, ap, subst, arith, append-nil, inl, inr}
+use Rattle.std.specs.Prelude.{Option, nat_lt, nat_le, ◌⊎◌}
+use Rattle.std.specs.List.{All}
 use Rattle.std.proofs.Math.Nat.{suc-mul, mul-div_cancel, mul-mod_left, mul-le-mul_right, mul_comm, div-add-mod}
-use Rattle.std.proofs.Math.Seq.{take-append_seam}
-use Rattle.std.proofs.lemmas.Bool.{eq-eqb, ne_eqb, eqb-true, le-leb, leb-true, lt-ltb, ltb-true, and_from, and_parts, not-true, cond-false, cond-true, cases_eq, cases_order, both_ways}
-use Rattle.std.proofs.lemmas.List.Elements.{All-nil, All-cons, All-push, All-weaker, All-append, All-map, All-contains, All-contains_itself, All-head, All-tail}
+use Rattle.std.proofs.lemmas.Bool.{eq-eqb, ne_eqb, eqb-true, le-leb, leb-true, lt-ltb, ltb-true, and_from, and_parts, not-true, cond-false, cond-true, cases_eq}
+use Rattle.std.proofs.lemmas.List.Elements.{All-nil, All-push}
 use Rattle.ga_grid.specs.declared.node_id.NodeId.{NodeId}
 use Rattle.ga_grid.proofs.NodeIds.{NodeId-same}
 use Rattle.ga_event.specs.Flow.{is_equal_to}
 use Rattle.ga_event.proofs.Following.{same_part}
-use Rattle.ga_causal.specs.Dependence.{position_of_step}
-use Rattle.ga_lab.specs.Machine.{State, causes_of}
+use Rattle.ga_lab.specs.Machine.{State}
 use Rattle.ga_provenance.specs.declared.value.Value.{Value}
 use Rattle.ga_provenance.specs.declared.lines.ProvenanceLine.{ProvenanceLine}
 use Rattle.ga_provenance.specs.declared.lines.UsedValue.{UsedValue}
 use Rattle.ga_provenance.specs.Origins.{value_of_step, origin_of}
-use Rattle.ga_provenance.specs.Sources.{value_sources, IsLoadedOrCause}
-use Rattle.ga_provenance.specs.Lines.{IsProvenance, origin, source, source_origins, next_in_run, run_value, oldest_value, is_at_period, is_in_run, is_value_listed, is_follower, count_from, count_followers, steps_to, line_of_run, line_of, used_by, values_used, values_to_list, is_unlisted, next_use, with_next_line, first_lines, AreLinesOf, IsListedAt}
-use Rattle.ga_provenance.proofs.Causes.{provenance_caused}
-use Rattle.ga_provenance.proofs.Finding.{found_in, got_old, any_at, all_at, PassesAt, some_at}
+use Rattle.ga_provenance.specs.Lines.{next_in_run, run_value, is_at_period, is_in_run, is_value_listed, is_follower, count_from, count_followers, line_of_run, line_of, values_to_list, is_unlisted, next_use, with_next_line, first_lines, AreLinesOf, IsListedAt}
+use Rattle.ga_provenance.proofs.Finding.{found_in, any_at, all_at, some_at}
 use Rattle.ga_provenance.proofs.GrowingLines.{same_part_true}
 use Rattle.ga_provenance.proofs.Runs.{same_values, IsNext, is_next, first_period, all_followers, steps_before}
 
@@ -149,7 +145,7 @@ period_at line at back some is l =
     cond-false (line.period == 0) (back == 0) ((back % line.period == 0) && nat_lt (back / line.period) line.count) (ne_eqb line.period 0 (λ e. omega (arith, e, some)))
     ∙ ap (λ (k : ℕ). (k % line.period == 0) && nat_lt (k / line.period) line.count) is
     ∙ and_from (at * line.period % line.period == 0) (nat_lt (at * line.period / line.period) line.count) (eq-eqb (at * line.period % line.period) 0 (mul-mod_left at line.period))
-        (ap (λ (k : ℕ). nat_lt k line.count) (mul-div_cancel at some) ∙ lt-ltb at line.count l)
+    (ap (λ (k : ℕ). nat_lt k line.count) (mul-div_cancel at some) ∙ lt-ltb at line.count l)
 
 single_at : (line : ProvenanceLine) (back : ℕ) → line.period ≡ 0 → back ≡ 0 → is_at_period line back ≡ true
 single_at line back single is = cond-true (line.period == 0) (back == 0) _ (eq-eqb line.period 0 single) ∙ eq-eqb back 0 is
@@ -196,7 +192,7 @@ place_of s line value run node part l at_period = go (cases_eq line.period 0)
         record { at = 0; within = run.some; same = same_values (run_value line 0) value (ap (λ (n : NodeId). n.number) node) (omega (arith, none, l)) part }
     go (inr more) =
         let tests = and_parts (back % line.period == 0) (nat_lt (back / line.period) line.count)
-            (sym (cond-false (line.period == 0) (back == 0) ((back % line.period == 0) && nat_lt (back / line.period) line.count) (ne_eqb line.period 0 more)) ∙ at_period) in
+        (sym (cond-false (line.period == 0) (back == 0) ((back % line.period == 0) && nat_lt (back / line.period) line.count) (ne_eqb line.period 0 more)) ∙ at_period) in
         let rest : back % line.period ≡ 0 = eqb-true (back % line.period) 0 tests.0 in
         let whole : line.period * (back / line.period) + back % line.period ≡ back = div-add-mod back line.period in
         let turned : line.period * (back / line.period) ≡ back / line.period * line.period = mul_comm line.period (back / line.period) in

@@ -1,13 +1,11 @@
 -- The runs of values: what follows in one, and how many.
-use Rattle.std.proofs.Common.{◌≡◌, ℕ, zero, suc, ◌+◌, ◌-◌, ◌*◌, ◌<◌, ◌≤◌, ◌==◌, Bool, true, false, not, ◌&&◌, ◌||◌, cond, List, [], ◌∷◌, length, Some, None, refl, sym, ◌∙◌, ap, subst, arith}
+use Rattle.std.proofs.Common.{◌≡◌, ℕ, zero, suc, ◌+◌, ◌-◌, ◌*◌, ◌<◌, ◌≤◌, ◌==◌, Bool, true, false, not, ◌&&◌, ◌||◌, cond, List, Some, None, refl, sym, ◌∙◌, ap, arith}
 use Rattle.std.specs.Prelude.{Option, Contains, nat_lt}
-use Rattle.std.specs.List.{All}
 use Rattle.std.proofs.lemmas.Option.{same_Some, none-some}
 use Rattle.std.proofs.lemmas.Bool.{ltb-true, eqb-true, eq-eqb, ne_eqb, and_parts, and_from, cond-false}
 use Rattle.std.proofs.Math.Nat.{suc-mul}
 use Rattle.ga_grid.specs.declared.node_id.NodeId.{NodeId}
 use Rattle.ga_grid.proofs.NodeIds.{NodeId-same}
-use Rattle.ga_event.specs.declared.flow.part.NodePart.{NodePart}
 use Rattle.ga_event.specs.Flow.{is_equal_to}
 use Rattle.ga_event.proofs.Following.{same_part}
 use Rattle.ga_lab.specs.Machine.{State}
@@ -15,8 +13,8 @@ use Rattle.ga_provenance.specs.declared.value.Value.{Value}
 use Rattle.ga_provenance.specs.declared.lines.ProvenanceLine.{ProvenanceLine}
 use Rattle.ga_provenance.specs.declared.lines.UsedValue.{UsedValue}
 use Rattle.ga_provenance.specs.Origins.{value_of_step, origin_of}
-use Rattle.ga_provenance.specs.Sources.{is_same_value, value_sources}
-use Rattle.ga_provenance.specs.Lines.{source_origins, is_same_event, making_event, is_repetition, are_among, is_next_in_run, next_in_run, run_value, oldest_value, is_value_listed, is_follower, count_from, count_followers, steps_to, line_of_run, line_of}
+use Rattle.ga_provenance.specs.Sources.{is_same_value}
+use Rattle.ga_provenance.specs.Lines.{source_origins, is_same_event, making_event, is_repetition, are_among, is_next_in_run, next_in_run, oldest_value, is_value_listed, is_follower, count_from, count_followers, steps_to, line_of_run, line_of}
 use Rattle.ga_provenance.specs.inner.{follows_in_run, following}
 use Rattle.ga_provenance.proofs.Finding.{found_in}
 

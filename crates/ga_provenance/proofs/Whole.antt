@@ -5,7 +5,7 @@ use Rattle.std.specs.List.{All, list_any, list_all, slice_get}
 use Rattle.std.proofs.Math.Nat.{suc-mul, mul-le-mul_right}
 use Rattle.std.proofs.Math.Seq.{take-append_seam}
 use Rattle.std.proofs.lemmas.Option.{none-some}
-use Rattle.std.proofs.lemmas.Bool.{and_parts, not-false, or_cases, or_left, or_right, cases_order, both_ways}
+use Rattle.std.proofs.lemmas.Bool.{and_parts, not-false, or_cases, cases_order, both_ways}
 use Rattle.std.proofs.lemmas.List.Elements.{All-nil, All-cons, All-push, All-weaker, All-append, All-map, All-contains, All-contains_itself, All-head, All-tail}
 use Rattle.ga_causal.specs.Dependence.{position_of_step}
 use Rattle.ga_lab.specs.Machine.{State, causes_of}
@@ -14,11 +14,11 @@ use Rattle.ga_provenance.specs.declared.lines.ProvenanceLine.{ProvenanceLine}
 use Rattle.ga_provenance.specs.declared.lines.UsedValue.{UsedValue}
 use Rattle.ga_provenance.specs.Origins.{origin_of}
 use Rattle.ga_provenance.specs.Sources.{is_same_value, value_sources, IsLoadedOrCause}
-use Rattle.ga_provenance.specs.Lines.{IsProvenance, origin, source, source_origins, are_among, next_in_run, run_value, oldest_value, is_in_run, is_value_listed, line_of, used_by, values_used, values_to_list, is_unlisted, next_use, with_next_line, first_lines, AreLinesOf, IsListedAt}
+use Rattle.ga_provenance.specs.Lines.{IsProvenance, origin, source, source_origins, are_among, run_value, oldest_value, is_in_run, is_value_listed, line_of, used_by, values_used, values_to_list, is_unlisted, next_use, first_lines, AreLinesOf, IsListedAt}
 use Rattle.ga_provenance.proofs.Causes.{provenance_caused}
-use Rattle.ga_provenance.proofs.Finding.{found_in, none_pass, got_old, any_at, all_at, PassesAt, some_at}
+use Rattle.ga_provenance.proofs.Finding.{found_in, none_pass, got_old, any_at, all_at, some_at}
 use Rattle.ga_provenance.proofs.Runs.{same_value, is_next}
-use Rattle.ga_provenance.proofs.Listed.{IsRun, IsNewRun, new_run, in_run, IsPlace, place_in, at_listed, IsListedSomewhere, listed_somewhere, each_listing, first_runs, runs_of}
+use Rattle.ga_provenance.proofs.Listed.{IsRun, IsNewRun, new_run, in_run, at_listed, listed_somewhere, each_listing, runs_of}
 
 -- ---- fewer lines are the first of more
 

@@ -111,8 +111,8 @@ own_moves s n k step m kind whole h =
           ap (λ (z : NodeRecord). part_value 0 z at) next
           ∙ sym (word_free (io_word step_is.seen) (own step_is.seen before).1 at is)
           ∙ same_word (io_word step_is.seen) before (own_flow before at) (part_value (io_word step_is.seen) (own step_is.seen before).1 at) (part_value (io_word step_is.seen) (own step_is.seen before).1 at) at start
-              (ap (λ (o : Option Made). moved_source_part (optional_event_flow o before n at) at) (sym h) ∙ moved)
-              (own_flows step_is.seen step_is.seen before before (record { due = refl; choice = refl }) has has at is);
+          (ap (λ (o : Option Made). moved_source_part (optional_event_flow o before n at) at) (sym h) ∙ moved)
+          (own_flows step_is.seen step_is.seen before before (record { due = refl; choice = refl }) has has at is);
     }
 
 passed_moves : (s : State) (n k : ℕ) (w r : NodeId) (i j word : ℕ) → IsWhole s → slice_get (history_of s n) k ≡ Some (made.Pass w i r j word) → Moves s n k
@@ -129,8 +129,8 @@ passed_moves s n k w r i j word whole h = go (n == r.number) refl
               ap (λ (z : NodeRecord). part_value 0 z at) next
               ∙ sym (word_free step_is.word (taken step_is.word before) at part)
               ∙ same_word step_is.word before (take_flow before.wait at) (part_value step_is.word (taken step_is.word before) at) (part_value step_is.word (taken step_is.word before) at) at start
-                  (ap (λ (b : Bool). moved_source_part (cond b (take_flow before.wait at) (send_flow at)) at) (sym is) ∙ ap (λ (o : Option Made). moved_source_part (optional_event_flow o before n at) at) (sym h) ∙ moved)
-                  (taken_flows step_is.word before step_is.word before has has refl at part);
+              (ap (λ (b : Bool). moved_source_part (cond b (take_flow before.wait at) (send_flow at)) at) (sym is) ∙ ap (λ (o : Option Made). moved_source_part (optional_event_flow o before n at) at) (sym h) ∙ moved)
+              (taken_flows step_is.word before step_is.word before has has refl at part);
         }
     go false is =
         let step_is = passed_so s n k w r i j word whole h in
@@ -142,8 +142,8 @@ passed_moves s n k w r i j word whole h = go (n == r.number) refl
           word = λ has at start part moved.
               ap (λ (z : NodeRecord). part_value 0 z at) next
               ∙ same_word 0 before (send_flow at) (part_value 0 (sent before) at) (part_value 0 (sent before) at) at start
-                  (ap (λ (b : Bool). moved_source_part (cond b (take_flow before.wait at) (send_flow at)) at) (sym is) ∙ ap (λ (o : Option Made). moved_source_part (optional_event_flow o before n at) at) (sym h) ∙ moved)
-                  (sent_flows 0 before 0 before has has at part);
+              (ap (λ (b : Bool). moved_source_part (cond b (take_flow before.wait at) (send_flow at)) at) (sym is) ∙ ap (λ (o : Option Made). moved_source_part (optional_event_flow o before n at) at) (sym h) ∙ moved)
+              (sent_flows 0 before 0 before has has at part);
         }
 
 step_moves : (s : State) (n k : ℕ) (x : Made) → IsWhole s → slice_get (history_of s n) k ≡ Some x → Moves s n k
@@ -188,7 +188,7 @@ has_word s node whole (suc k) at l is has =
         → ((from : NodePart) → k ≤ length (history_of s node.number) → IsNodePart from → HasSizes (node_after s node.number k) → HasWord s node (part_value 0 (node_after s node.number k) from) (origin_after_steps s node k from))
         → (o : Option NodePart) → moved_source_part_at s node.number k at ≡ o
         → HasWord s node (part_value 0 (node_after s node.number (suc k)) at)
-            (unwrap_or (option_map (origin_after_steps s node k) o) (value_of_step node (suc k) (listed_part (flow_at s node.number k at) at)))
+        (unwrap_or (option_map (origin_after_steps s node k) o) (value_of_step node (suc k) (listed_part (flow_at s node.number k at) at)))
     go x told moves before None e = record { part = at; word = refl; listed = listed_as s node.number k x at told }
     go x told moves before (Some from) e =
         let sizes = moves.sizes has in

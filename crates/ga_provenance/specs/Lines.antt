@@ -1,6 +1,6 @@
 -- The provenance of a value as lines, the nearest first, each of a value or of a run of values that differ only in their steps
 -- (docs/REFERENCE.md, "Exploring").
-use Rattle.std.specs.Prelude.{◌≡◌, ℕ, zero, suc, ◌+◌, ◌-◌, ◌*◌, ◌/◌, ◌%◌, ◌<◌, ◌==◌, nat_lt, nat_le, Bool, true, false, not, ◌&&◌, ◌||◌, if◌then◌else◌, List, [], ◌∷◌, ◌++◌, length, map, Option, Some, None, option_map, option_to_list, is_none, Contains}
+use Rattle.std.specs.Prelude.{◌≡◌, ℕ, zero, suc, ◌-◌, ◌*◌, ◌/◌, ◌%◌, ◌<◌, ◌==◌, nat_lt, nat_le, Bool, true, false, not, ◌&&◌, ◌||◌, if◌then◌else◌, List, [], ◌∷◌, ◌++◌, length, map, Option, Some, None, option_map, option_to_list, is_none, Contains}
 use Rattle.std.specs.List.{list_any, list_all, find, slice_get}
 use Rattle.ga_node.specs.declared.kind.OwnEventKind.{OwnEventKind}
 use Rattle.ga_node.specs.declared.kind.OwnEventKind.TheVariants as kind
@@ -53,7 +53,7 @@ abbrev pub are_among : Value → List Value → List Value → Bool
 are_among value others values = list_all (λ it. is_same_value it value || list_any (is_same_value it) others) values
 
 -- Whether the run of a value goes on with another: that is an earlier repetition, and was made from all the other values from which
--- the first one was made. So with the last value of a run all those that went into its values are found.
+-- the first one was made. So what a run was made from is among that from which its oldest value was made.
 abbrev pub is_next_in_run : State → Value → Value → Bool
 is_next_in_run s value next = is_repetition s value next && are_among next (source_origins s next) (source_origins s value)
 

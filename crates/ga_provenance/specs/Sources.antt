@@ -1,16 +1,16 @@
 -- The values from which a value was made, and the steps that are causes of another.
 use Rattle.ga_event.specs.declared.made.Made.TheVariants as made
 use Rattle.ga_event.specs.declared.flow.part.NodePart.TheVariants as part
-use Rattle.std.specs.Prelude.{◌≡◌, ℕ, ◌⊎◌, Some, zero, suc, ◌+◌, ◌-◌, ◌==◌, Bool, true, false, ◌&&◌, List, [], ◌∷◌, ◌++◌, map, Option, None, option_to_list}
+use Rattle.std.specs.Prelude.{◌≡◌, ℕ, ◌⊎◌, Some, zero, suc, ◌-◌, ◌==◌, Bool, ◌&&◌, List, [], ◌∷◌, map, Option, None, option_to_list}
 use Rattle.ga_causal.specs.Dependence.{DependsOn, position_of_step}
 use Rattle.ga_lab.specs.Machine.{State, causes_of, history_of}
 use Rattle.ga_provenance.specs.declared.value.Value.{Value}
-use Rattle.std.specs.List.{list_any, slice_get}
+use Rattle.std.specs.List.{slice_get}
 use Rattle.ga_grid.specs.declared.node_id.NodeId.{NodeId}
 use Rattle.ga_event.specs.declared.made.Made.{Made}
 use Rattle.ga_event.specs.declared.flow.part.NodePart.{NodePart}
-use Rattle.ga_event.specs.Flow.{Flow, Same, From, IsNodePart, top, is_equal_to}
-use Rattle.ga_provenance.specs.Origins.{value_of_step, flow_at, origin_of, IsMovedValue}
+use Rattle.ga_event.specs.Flow.{Flow, Same, From, top, is_equal_to}
+use Rattle.ga_provenance.specs.Origins.{value_of_step, flow_at}
 
 -- ---- values whose steps are causes of another's (Danos and Krivine, "Reversible Communicating Systems", 2004)
 

@@ -50,7 +50,7 @@ pub fn moved_values_keep_their_words()
         length s.load ≡ 144 → value.step ≤ length (history_of s value.node.number) → IsNodePart value.part → HasSizes (node_after s value.node.number value.step) →
         ((origin_of s value).part ≡ top → is_made_with_t (slice_get (history_of s value.node.number) ((origin_of s value).step - 1)) ≡ false) →
         part_value 0 (node_after s value.node.number value.step) value.part
-            ≡ part_value 0 (node_after s value.node.number (origin_of s value).step) (origin_of s value).part }
+        ≡ part_value 0 (node_after s value.node.number (origin_of s value).step) (origin_of s value).part }
 {}
 
 /// Each listed value was loaded, or its step is one on which the queried step depends.

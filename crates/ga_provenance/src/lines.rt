@@ -76,7 +76,12 @@ fn is_value_listed(lines: &[ProvenanceLine], value: Value) -> bool
 }
 
 // Whether a value follows the oldest one of a run that these lines don't list.
-fn follows_in_run(lines: &[ProvenanceLine], line: ProvenanceLine, oldest: Value, next: Value) -> bool
+fn follows_in_run(
+    lines: &[ProvenanceLine],
+    line: ProvenanceLine,
+    oldest: Value,
+    next: Value,
+) -> bool
     requires { next.step ≤ oldest.step }
     ensures { result ≡ follows_in_run lines.now line oldest next }
 {

@@ -5,10 +5,10 @@ ghost use Rattle.std.specs.List.{list_any};
 ghost use Rattle.ga_provenance.specs.Sources.{is_same_value};
 ghost use Rattle.ga_provenance.specs.Lines.{is_same_action, is_same_event, making_event, is_repetition, are_among};
 
-use crate::value_sources::sources_by_trail;
 use crate::origin::{kept_step, origin_behind, trail_on};
 use crate::trail::CachedWalk;
 use crate::value::Value;
+use crate::value_sources::sources_by_trail;
 use arrayvec::ArrayVec;
 use ga_event::Made;
 use ga_grid::NodeId;

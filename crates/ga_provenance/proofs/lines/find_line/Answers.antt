@@ -1,12 +1,9 @@
-use Rattle.std.proofs.Common.{◌≡◌, ◌+◌, ◌<◌, Some, None, refl, sym, ◌∙◌, ap, subst, arith}
-use Rattle.std.specs.Prelude.{Option, option_map}
+use Rattle.std.proofs.Common.{Some, None, refl, sym, ◌∙◌, ap, subst, arith}
+use Rattle.std.specs.Prelude.{option_map}
 use Rattle.ga_lab.specs.Machine.{State}
 use Rattle.ga_provenance.specs.declared.value.Value.{Value}
-use Rattle.ga_provenance.specs.declared.source_search.TracedValue.{TracedValue}
-use Rattle.ga_provenance.specs.Origins.{origin_of}
 use Rattle.ga_provenance.specs.Sources.{value_sources}
-use Rattle.ga_provenance.specs.Lines.{next_in_run}
-use Rattle.ga_provenance.specs.inner.{traced_value, IsTraced, following}
+use Rattle.ga_provenance.specs.inner.{traced_value, IsTraced}
 use Rattle.ga_provenance.proofs.Runs.{IsGrowing, IsLine, one_value, is_next, follows, follows_by, grown, line_so}
 use Rattle.ga_provenance.proofs.lines.find_line.Goals as goal
 
@@ -24,7 +21,7 @@ pub overflow_sub-line : goal.overflow_sub-line
 overflow_sub-line c =
     let s = c.args.search.lab.now in
     let fol = follows_by s c.run.search.lab.now c.args.lines.now c.run.line c.run.oldest.value (option_map traced_value c.find_following-found.result.1) (Some c.in-Some.next.value) c.run.invariant.lab c.find_following-found.ensures.next
-        (ap (option_map traced_value) c.in-Some.is) in
+    (ap (option_map traced_value) c.in-Some.is) in
     let earlier = (is_next s c.run.oldest.value c.in-Some.next.value (follows s c.args.lines.now c.run.line c.run.oldest.value c.in-Some.next.value fol).next).earlier in
     omega (arith, earlier)
 
@@ -32,7 +29,7 @@ pub overflow_add-line : goal.overflow_add-line
 overflow_add-line c =
     let s = c.args.search.lab.now in
     let fol = follows_by s c.run.search.lab.now c.args.lines.now c.run.line c.run.oldest.value (option_map traced_value c.find_following-found.result.1) (Some c.in-Some.next.value) c.run.invariant.lab c.find_following-found.ensures.next
-        (ap (option_map traced_value) c.in-Some.is) in
+    (ap (option_map traced_value) c.in-Some.is) in
     let next = is_next s c.run.oldest.value c.in-Some.next.value (follows s c.args.lines.now c.run.line c.run.oldest.value c.in-Some.next.value fol).next in
     let g = grown s c.args.lines.now c.args.value c.run.oldest.value c.in-Some.next.value c.run.line c.run.invariant.run fol in
     let few = g.few in
@@ -44,7 +41,7 @@ pub run-smaller : goal.run-smaller
 run-smaller c =
     let s = c.args.search.lab.now in
     let fol = follows_by s c.run.search.lab.now c.args.lines.now c.run.line c.run.oldest.value (option_map traced_value c.find_following-found.result.1) (Some c.in-Some.next.value) c.run.invariant.lab c.find_following-found.ensures.next
-        (ap (option_map traced_value) c.in-Some.is) in
+    (ap (option_map traced_value) c.in-Some.is) in
     let earlier = (is_next s c.run.oldest.value c.in-Some.next.value (follows s c.args.lines.now c.run.line c.run.oldest.value c.in-Some.next.value fol).next).earlier in
     omega (arith, earlier)
 
@@ -52,7 +49,7 @@ pub run-preserved : goal.run-preserved
 run-preserved c =
     let s = c.args.search.lab.now in
     let fol = follows_by s c.run.search.lab.now c.args.lines.now c.run.line c.run.oldest.value (option_map traced_value c.find_following-found.result.1) (Some c.in-Some.next.value) c.run.invariant.lab c.find_following-found.ensures.next
-        (ap (option_map traced_value) c.in-Some.is) in
+    (ap (option_map traced_value) c.in-Some.is) in
     record {
       lab = c.find_following-found.ensures.lab ∙ c.run.invariant.lab;
       traced = subst (λ (z : State). IsTraced z c.in-Some.next) c.run.invariant.lab (rw c.in-Some.is at c.find_following-found.ensures.traced);
@@ -66,7 +63,7 @@ ends : (c : goal.In-None) → IsLine c.args.search.lab.now c.args.lines.now c.ar
 ends c =
     let s = c.args.search.lab.now in
     let fol = follows_by s c.run.search.lab.now c.args.lines.now c.run.line c.run.oldest.value (option_map traced_value c.find_following-found.result.1) None c.run.invariant.lab c.find_following-found.ensures.next
-        (ap (option_map traced_value) c.in-None.is) in
+    (ap (option_map traced_value) c.in-None.is) in
     line_so s c.args.lines.now c.args.usage c.run.line c.run.oldest.value c.run.invariant.user c.run.invariant.used (c.run.invariant.value ∙ c.requires.value)
     (subst (λ (v : Value). IsGrowing s c.args.lines.now v c.run.line.count c.run.line.period c.run.oldest.value) c.requires.value c.run.invariant.run) fol
 

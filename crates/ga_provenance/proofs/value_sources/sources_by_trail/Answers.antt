@@ -1,4 +1,4 @@
-use Rattle.std.proofs.Common.{◌≡◌, ℕ, suc, ◌-◌, arith}
+use Rattle.std.proofs.Common.{ℕ, ◌-◌}
 use Rattle.std.specs.List.{slice_get}
 use Rattle.ga_event.specs.Flow.{From}
 use Rattle.ga_lab.specs.Machine.{history_of}
