@@ -19,7 +19,7 @@ use Rattle.ga_explorer_text.specs.Telling.{IsEffectsAnswer, IsWhoAnswer}
 use Rattle.ga_explorer_text.specs.Saved.{saved_text}
 use Rattle.ga_explorer_text.specs.Writing.{writes_text}
 use Rattle.ga_explorer_text.specs.Around.{steps_around_text}
-use Rattle.ga_explorer_text.specs.Trees.{IsWhenceAnswer}
+use Rattle.ga_explorer_text.specs.Whence.{IsWhenceAnswer}
 use Rattle.ga_explorer_text.specs.Because.{because_text}
 use Rattle.ga_explorer_text.specs.Races.{IsRacesAnswer}
 use Rattle.ga_explorer.specs.Reading.{selected_step, part_of_node_value, parse_run_arguments, parse_back_arguments, max_run_events, node_and_step, two_nodes, node_and_cell, node_and_value, node_and_steps}

@@ -5,7 +5,6 @@ use Rattle.ga_lab.specs.Machine.{State, history_of}
 use Rattle.ga_event.specs.declared.flow.part.NodePart.{NodePart}
 use Rattle.ga_event.specs.declared.flow.part.NodePart.TheVariants as part
 use Rattle.ga_provenance.specs.declared.value.Value.{Value}
-use Rattle.ga_provenance.specs.declared.deciding.Decision.{Decision}
 use Rattle.ga_causal.specs.Dependence.{is_marked}
 use Rattle.ga_text.specs.Lines.{Text}
 use Rattle.ga_grid.specs.declared.node_id.NodeId.{NodeId}
@@ -14,7 +13,6 @@ use Rattle.ga_event.specs.declared.event.Cause.{Cause}
 use Rattle.ga_event.specs.declared.made.Made.{Made}
 use Rattle.ga_event.specs.declared.made.Made.TheVariants.{Own, Pass}
 use Rattle.ga_explorer_text.specs.Saved.{saved_line, with_feed}
-use Rattle.ga_provenance.specs.declared.listing.ProvenanceRow.{ProvenanceRow}
 use Rattle.ga_provenance.specs.declared.lines.ProvenanceLine.{ProvenanceLine}
 
 -- ---- what private contracts cite
@@ -43,7 +41,7 @@ abbrev pub is_first : ℕ → List ProvenanceLine → Bool
 is_first step [] = false
 is_first step (line ∷ lines) = line.value.step == step
 
--- ---- the words of rows
+-- ---- the words of lines
 
 -- whether a part gets the word of a transfer, and whether the line of a value has no word but that one
 abbrev pub is_transferred : NodePart → Bool
@@ -58,7 +56,3 @@ is_transferred_by (Some (Pass writer i reader j word)) at = is_transferred at
 
 abbrev pub has_no_word : State → Value → Bool
 has_no_word s value = if value.step == 0 then false else is_transferred_by (slice_get (history_of s value.node.number) (value.step - 1)) value.part
-
--- the row of the value that decided a step
-abbrev pub decision_row : Decision → ProvenanceRow
-decision_row decision = record { depth = 0; value = decision.source; used = decision.tested }

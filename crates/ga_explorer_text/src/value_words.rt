@@ -14,7 +14,7 @@ use ga_event::NodePart;
 use ga_grid::NodeId;
 use ga_lab::{Lab, Made, NodeWalk};
 use ga_node::{Node, OwnEventKind, Place};
-use ga_provenance::{ProvenanceRow, Value};
+use ga_provenance::Value;
 use ga_word::Word18;
 
 /// The codes of `+*` and `+`.
@@ -153,9 +153,8 @@ impl<'l> StepContext<'l> {
     ghost use Rattle.std.specs.List.{slice_get};
     ghost use Rattle.ga_event.specs.Flow.{IsNodePart};
     ghost use Rattle.ga_lab.specs.Machine.{history_of};
-    ghost use Rattle.ga_provenance.specs.Origins.{is_made_with_t, origin_of};
-    ghost use Rattle.ga_explorer_text.specs.Trees.{word_of_value, a_of_value, value_with_word_text, value_text};
-    ghost use Rattle.ga_provenance.specs.Rows.{IsMovedRow};
+    ghost use Rattle.ga_provenance.specs.Origins.{is_made_with_t, origin_of, IsMovedValue};
+    ghost use Rattle.ga_explorer_text.specs.Whence.{word_of_value, a_of_value, value_with_word_text, value_text};
 
     /// The context of the step of a value.
     pub fn context_of_value(&self, value: Value) -> StepContext<'l>
@@ -200,16 +199,16 @@ impl<'l> StepContext<'l> {
         }
     }
 
-    /// The context of where a row's value was used, if its line has a word that is read there: by the context of the line before,
-    /// if that is of the same node and not earlier, else from here. For any other line the context of the line before.
-    pub fn context_of_use(&self, last: StepContext<'l>, row: ProvenanceRow) -> StepContext<'l>
+    /// The context of where a value was used, if its line has a word that is read there: by the context of the line before, if that
+    /// is of the same node and not earlier, else from here. For any other line the context of the line before.
+    pub fn context_of_use(&self, last: StepContext<'l>, value: Value, used: Value) -> StepContext<'l>
         requires lab { last.lab.now ≡ self.now.lab.now }
         requires notes { last.notes.now ≡ self.now.notes.now }
         ensures lab { result.lab.now ≡ self.now.lab.now }
         ensures notes { result.notes.now ≡ self.now.notes.now }
     {
-        let Value { node, step, .. } = row.used;
-        if has_no_word(self.lab, row.value) {
+        let Value { node, step, .. } = used;
+        if has_no_word(self.lab, value) {
             last
         } else if last.node == node && step <= last.near.step() {
             last.walked_back_to(step)
@@ -247,22 +246,22 @@ impl<'l> StepContext<'l> {
         walked_word(self.lab, node, place, &walk, part)
     }
 
-    /// The words of a row's line: where its value was used it has the same word, unless its step may have made T with it.
-    pub fn words_of_row(&self, row: ProvenanceRow) -> ValueWords
-        requires { IsMovedRow self.now.lab.now row }
-        ensures { value_with_word_text self.now.lab.now row.value result.word result.a ≡ value_text self.now.lab.now row.value }
+    /// The words of the line of a value that was used there: it has the same word there, unless its step may have made T with it.
+    pub fn words_of_used(&self, value: Value, used: Value) -> ValueWords
+        requires { IsMovedValue self.now.lab.now value used }
+        ensures { value_with_word_text self.now.lab.now value result.word result.a ≡ value_text self.now.lab.now value }
     {
         let none = Word18::from_low_bits(0);
-        if has_no_word(self.lab, row.value) {
+        if has_no_word(self.lab, value) {
             ValueWords {
                 word: none,
                 a: none,
             }
-        } else if is_made_with_t(self.lab, row.value) {
-            self.words_of(row.value)
+        } else if is_made_with_t(self.lab, value) {
+            self.words_of(value)
         } else {
             ValueWords {
-                word: self.word_of_use(row.used),
+                word: self.word_of_use(used),
                 a: none,
             }
         }

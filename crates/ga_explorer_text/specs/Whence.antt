@@ -1,5 +1,5 @@
--- The texts of `whence`: the steps whose values went into what a step made, as a tree (docs/REFERENCE.md, "Exploring"; this project's
--- own).
+-- The texts of `whence`: the steps whose values went into a value, the nearest first (docs/REFERENCE.md, "Exploring"; this
+-- project's own).
 use Rattle.std.specs.Prelude.{◌≡◌, ◌≤◌, ℕ, zero, suc, ◌+◌, ◌-◌, ◌%◌, ◌==◌, ◌&&◌, ◌⊎◌, min, Bool, true, false, nat_lt, not, ◌||◌, if◌then◌else◌, List, [], ◌∷◌, ◌++◌, length, drop, codes, decimal, Option, Some, None}
 use Rattle.std.specs.List.{slice_get}
 use Rattle.ga_text.specs.Lines.{Text}
@@ -17,7 +17,6 @@ use Rattle.ga_node.specs.declared.kind.OwnEventKind.TheVariants as kind
 use Rattle.ga_event.specs.declared.flow.part.NodePart.{NodePart}
 use Rattle.ga_event.specs.declared.flow.part.NodePart.TheVariants as part
 use Rattle.ga_provenance.specs.declared.value.Value.{Value}
-use Rattle.ga_provenance.specs.declared.listing.ProvenanceRow.{ProvenanceRow}
 use Rattle.ga_provenance.specs.declared.lines.ProvenanceLine.{ProvenanceLine}
 use Rattle.ga_provenance.specs.Origins.{value_of_step, node_after, origin_of}
 use Rattle.ga_provenance.specs.Lines.{AreLinesOf}
@@ -99,10 +98,13 @@ step_result_text (Some (Pass writer i reader j sent)) at word a = transfer_resul
 step_result_text (Some (Own node step what)) at word a = own_event_result_text what at word a
 step_result_text None at word a = codes " " ++ hex6_of word
 
--- a value with this word, where A was this after its step: the step that made it, or that it was loaded
+-- a value with this word, where A was this after its step: that it was loaded, or the step that made it
+abbrev pub loaded_value_text : Value → ℕ → Text
+loaded_value_text value word = name_of_node value.node ++ codes " load " ++ part_name value.part ++ (codes " " ++ hex6_of word)
+
 abbrev pub value_with_word_text : State → Value → ℕ → ℕ → Text
 value_with_word_text s value word a =
-    if value.step == 0 then name_of_node value.node ++ codes " load " ++ part_name value.part ++ (codes " " ++ hex6_of word)
+    if value.step == 0 then loaded_value_text value word
     else step_action_text s value.node value.step ++ part_mark_text value.part ++ step_result_text (slice_get (history_of s value.node.number) (value.step - 1)) value.part word a
 
 abbrev pub value_text : State → Value → Text
@@ -117,14 +119,9 @@ queried_value_text (Some (Pass writer i reader j sent)) step value word = querie
 queried_value_text (Some (Own node k what)) step value word = register_text (part_name value.part) word
 queried_value_text None step value word = register_text (part_name value.part) word
 
--- two blanks for each level
-unfoldable pub blanks : ℕ → Text
-blanks zero = []
-blanks (suc level) = codes "  " ++ blanks level
-
--- a line, `depth` levels deeper than the row
-abbrev pub tree_row_text : Option DebugInfo → State → ℕ → ProvenanceRow → Text
-tree_row_text notes s deeper row = blanks (row.depth + deeper) ++ (value_text s row.value ++ value_suffix_text notes s row.value)
+-- the line of a value without numbers, two blanks deeper
+abbrev pub indented_value_text : Option DebugInfo → State → Value → Text
+indented_value_text notes s value = (codes "  " ++ value_text s value) ++ value_suffix_text notes s value
 
 -- the number of a line, and that of the line that used its value
 abbrev pub user_text : Option ℕ → Text
@@ -148,41 +145,51 @@ step_with_queried_value s node step value = line_number_text 0 None ++ step_acti
 abbrev pub queried_step_line : Option DebugInfo → State → NodeId → ℕ → Value → Text
 queried_step_line notes s node step value = step_with_queried_value s node step value ++ step_suffix_text notes s node step
 
--- a line of a value, by its number
-abbrev pub value_line_text : Option DebugInfo → State → ℕ → Option ℕ → ProvenanceLine → Text
-value_line_text notes s number user line =
-    ((line_number_text number user ++ value_text s line.value) ++ run_count_text line.count) ++ value_suffix_text notes s line.value
-
 -- The first line has a user, line 0, if another step than that of the query made the value.
 abbrev pub user_of_line : Bool → ℕ → ℕ → Option ℕ
 user_of_line moved number user = if moved || nat_lt 1 number then Some user else None
 
--- some lines, of which `k` come before
-abbrev pub lines_text : Option DebugInfo → State → Bool → ℕ → List ProvenanceLine → Text
-lines_text notes s moved k [] = []
-lines_text notes s moved k (line ∷ rest) = value_line_text notes s (k + 1) (user_of_line moved (k + 1) line.user) line ++ lines_text notes s moved (k + 1) rest
+-- a line of a value, by its number
+abbrev pub value_line_text : Option DebugInfo → State → Bool → ℕ → ProvenanceLine → Text
+value_line_text notes s moved number line =
+    ((line_number_text number (user_of_line moved number line.user) ++ value_text s line.value) ++ run_count_text line.count) ++ value_suffix_text notes s line.value
 
--- Line 0 is the step of the query, if another step made the value.
-abbrev pub head_text : Option DebugInfo → State → NodeId → ℕ → Value → Bool → ℕ → Text
-head_text notes s node step value moved first = if moved && (first == 1) then queried_step_line notes s node step value else []
+-- some lines, of which `k` come before
+abbrev pub numbered_lines_text : Option DebugInfo → State → Bool → ℕ → List ProvenanceLine → Text
+numbered_lines_text notes s moved k [] = []
+numbered_lines_text notes s moved k (line ∷ rest) = value_line_text notes s moved (k + 1) line ++ numbered_lines_text notes s moved (k + 1) rest
+
+-- Line 0 is the step of the query, if another step made the value. It is written before line 1.
+abbrev pub has_head : Bool → ℕ → Bool
+has_head moved first = moved && (first == 1)
+
+abbrev pub head_text : Option DebugInfo → State → NodeId → ℕ → Value → Bool → Text
+head_text notes s node step value written = if written then queried_step_line notes s node step value else []
 
 -- the line after the lines: from where to go on, if these are not all, or that there are none
 abbrev pub more_lines_text : ℕ → ℕ → Bool → Text
 more_lines_text lines first true = if nat_lt lines first then codes "none\n" else []
 more_lines_text lines first false = codes "more from " ++ decimal (lines + 1) ++ codes "\n"
 
+-- the lines from one on, where another step than that of the query made the value, or not
+abbrev pub lines_from : Option DebugInfo → State → NodeId → ℕ → ℕ → Value → Bool → List ProvenanceLine → Text
+lines_from notes s node step first value moved lines =
+    head_text notes s node step value (has_head moved first) ++ numbered_lines_text notes s moved (first - 1) (drop (first - 1) lines)
+
 abbrev pub whence_lines_text : Option DebugInfo → State → NodeId → ℕ → ℕ → Value → List ProvenanceLine → Text
-whence_lines_text notes s node step first value lines =
-    let moved = not ((origin_of s value).step == step) in
-    head_text notes s node step value moved first ++ lines_text notes s moved (first - 1) (drop (first - 1) lines)
+whence_lines_text notes s node step first value lines = lines_from notes s node step first value (not ((origin_of s value).step == step)) lines
+
+-- the number of the last line that is written: lines are numbered below 2^32
+abbrev pub most_lines : ℕ → ℕ
+most_lines first = min ((first - 1) + max_lines) 4294967295
 
 -- The lines of the value are written from one on, all or as many as allowed; or an allocation failed.
 pub record IsLinesAnswer (notes : Option DebugInfo) (s : State) (node : NodeId) (step first : ℕ) (value : Value) (answer : Text) : Type 0 where
   pub lines : List ProvenanceLine
   pub is_whole : Bool
   pub told : AreLinesOf s value lines is_whole
-  pub most : length lines ≤ (first - 1) + max_lines
-  pub cut : is_whole ≡ false → length lines ≡ (first - 1) + max_lines
+  pub most : length lines ≤ most_lines first
+  pub cut : is_whole ≡ false → length lines ≡ most_lines first
   pub text : answer ≡ whence_lines_text notes s node step first value lines ++ more_lines_text (length lines) first is_whole
 
 -- the text about a step for which this value is queried; the step alone if it made none
