@@ -23,7 +23,7 @@ returns-in_err-say_queried g c = (
       let value = c.args.value in
       let first = c.args.first in
       let lines = c.args.lines.now in
-      let made : not c.is_first.result ≡ not (is_first at lines) = ap not (c.is_first.ensures ∙ ap (λ (k : ℕ). is_first k lines) c.step.ensures.value) in
+      let made : not c.is_first-is_moved.result ≡ not (is_first at lines) = ap not (c.is_first-is_moved.ensures ∙ ap (λ (k : ℕ). is_first k lines) c.step.ensures.value) in
       let done = c.in_err-say_queried.ensures.1 before said h in
       let last = numbered_lines_text notes s (not (is_first at lines)) (first - 1) (drop (first - 1) lines) in (
         done.0 ++ last,
@@ -61,13 +61,13 @@ returns g c = (
       let root = c.root-root.result in
       let skipped = c.saturating_sub-skipped.result in
       let written = c.lines_after-written.result.now in
-      let made : not c.is_first.result ≡ not (is_first at lines) = ap not (c.is_first.ensures ∙ ap (λ (k : ℕ). is_first k lines) c.step.ensures.value) in
+      let made : not c.is_first-is_moved.result ≡ not (is_first at lines) = ap not (c.is_first-is_moved.ensures ∙ ap (λ (k : ℕ). is_first k lines) c.step.ensures.value) in
       let done = c.in_ok-say_queried.ensures.1 before said h in
       let more = c.say_lines.ensures.1 before (said ++ done.0) done.2 in
       let last : more.0 ≡ numbered_lines_text notes s (not (is_first at lines)) (first - 1) (drop (first - 1) lines) =
       more.1
-      ∙ ap (λ (n : Option DebugInfo). numbered_lines_text n root.lab.now (not c.is_first.result) skipped written) c.root-root.ensures.notes
-      ∙ ap (λ (t : State). numbered_lines_text notes t (not c.is_first.result) skipped written) c.root-root.ensures.lab
+      ∙ ap (λ (n : Option DebugInfo). numbered_lines_text n root.lab.now (not c.is_first-is_moved.result) skipped written) c.root-root.ensures.notes
+      ∙ ap (λ (t : State). numbered_lines_text notes t (not c.is_first-is_moved.result) skipped written) c.root-root.ensures.lab
       ∙ ap (λ (b : Bool). numbered_lines_text notes s b skipped written) made
       ∙ ap (λ (z : List ProvenanceLine). numbered_lines_text notes s (not (is_first at lines)) skipped z) c.lines_after-written.ensures
       ∙ ap (λ (k : ℕ). numbered_lines_text notes s (not (is_first at lines)) k (drop k lines)) c.saturating_sub-skipped.ensures in (
