@@ -10,7 +10,7 @@ use Rattle.ga_lab.specs.Machine.{State, has_step, history_of, chip_of, causes_of
 use Rattle.ga_provenance.specs.Writes.{cell_write_at, newer_write, newest_cell_write}
 use Rattle.ga_provenance.specs.declared.writes.CellWrite.{CellWrite}
 use Rattle.ga_provenance.proofs.Keeping.{written_step}
-use Rattle.ga_provenance.proofs.Whole.{first_line}
+use Rattle.ga_provenance.proofs.FirstLine.{first_line}
 use Rattle.ga_explorer_text.specs.Writing.{cell_write_text, cell_writes}
 use Rattle.std.specs.List.{slice_get, All}
 use Rattle.std.proofs.lemmas.Option.{same_Some}

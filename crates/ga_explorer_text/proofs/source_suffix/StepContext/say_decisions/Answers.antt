@@ -21,7 +21,7 @@ telling-init g c = record {
 
 pub say_decision-requires : goal.say_decision-requires
 say_decision-requires g c =
-    decision_moved c.args.self.now.lab.now c.args.self.now.node c.telling.decisions.step 0 c.in-Some.decision
+    decision_moved c.args.self.now.lab.now c.args.self.now.node c.telling.decisions.step c.in-Some.decision
     (sym (c.in-Some.ensures.value ∙ ap (λ (w : NodeAtStep). newest_decision w.machine w.node c.telling.decisions.step) c.telling.invariant.decisions))
 
 pub returns-in_default : goal.returns-in_default

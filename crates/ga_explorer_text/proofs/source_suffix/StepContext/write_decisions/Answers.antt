@@ -21,7 +21,7 @@ returns-in_default g c = (
 
 pub say_decision-requires : goal.say_decision-requires
 say_decision-requires g c =
-    decision_moved c.args.self.now.lab.now c.args.self.now.node (c.args.self.now.near.step - 1) 0 c.in-Some.newest
+    decision_moved c.args.self.now.lab.now c.args.self.now.node (c.args.self.now.near.step - 1) c.in-Some.newest
     (sym (c.in-Some.ensures.value ∙ ap (λ (w : NodeAtStep). newest_decision w.machine w.node w.step) c.before-decisions.ensures))
 
 pub returns-then-most-eq0 : goal.returns-then-most-eq0
