@@ -54,9 +54,7 @@ pub(crate) fn node_and_steps(text: &[u8]) -> Option<(NodeId, StepSelector, u32)>
 
 /// `NNN K [VALUE] [from L]`
 #[tactic(auto, unfolding(crate::specs::Reading::node_and_value))]
-pub(crate) fn node_and_value(
-    text: &[u8],
-) -> Option<(NodeId, StepSelector, Option<NodeValue>, u32)>
+pub(crate) fn node_and_value(text: &[u8]) -> Option<(NodeId, StepSelector, Option<NodeValue>, u32)>
     ensures { result ≡ node_and_value text.now }
 {
     let (node, rest) = split_at_space(text)?;

@@ -1,5 +1,5 @@
 -- A text that is written line by line.
-use Rattle.std.proofs.Common.{◌≡◌, ℕ, List, ◌++◌, Option, Result, subst, ◌+◌, ◌<◌, ◌≤◌, [], ◌∷◌, Ok, Err, length, get_or, drop, refl, sym, ap, ◌∙◌, append_assoc, arith, zero, suc, ◌-◌, Some, None, ◌==◌, Bool, false, codes, add-one, true, cond, nat_le, min, ◌⊎◌, inl, inr}
+use Rattle.std.proofs.Common.{◌≡◌, ℕ, List, ◌++◌, Option, Result, subst, ◌+◌, ◌<◌, ◌≤◌, [], ◌∷◌, Ok, Err, length, get_or, drop, refl, sym, ap, ◌∙◌, append_assoc, arith, zero, suc, ◌-◌, Some, None, ◌==◌, Bool, false, add-one, true, cond, nat_le, min, ◌⊎◌, inl, inr}
 use Rattle.ga_text.specs.Output.{IsWrittenOrTruncated, IsWritten, IsTruncated}
 use Rattle.ga_text.specs.declared.output.WriteError.{WriteError}
 use Rattle.std.specs.Prelude.{flat_map, if◌then◌else◌, IsOk, is_none, ◌&&◌, not}

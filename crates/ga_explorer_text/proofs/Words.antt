@@ -4,7 +4,7 @@ use Rattle.std.specs.Prelude.{min}
 use Rattle.std.proofs.lemmas.Bool.{cases_lt}
 use Rattle.std.specs.List.{slice_get}
 use Rattle.ga_word.specs.Word.{hex6_of}
-use Rattle.ga_node.specs.Record.{NodeRecord, HasSizes}
+use Rattle.ga_node.specs.Record.{HasSizes}
 use Rattle.ga_node.specs.declared.kind.OwnEventKind.{OwnEventKind}
 use Rattle.ga_node.specs.declared.kind.OwnEventKind.TheVariants as kind
 use Rattle.ga_grid.specs.declared.node_id.NodeId.{NodeId}
@@ -22,7 +22,7 @@ use Rattle.ga_provenance.specs.inner.{IsWhole}
 use Rattle.ga_provenance.proofs.Words.{word_kept}
 use Rattle.ga_provenance.proofs.Made.{origin_last}
 use Rattle.ga_provenance.proofs.Causes.{made_before}
-use Rattle.ga_explorer_text.specs.Whence.{part_name, part_mark_text, step_action_text, word_of_value, a_of_value, op_result_text, own_event_result_text, transfer_result_text, step_result_text, value_with_word_text, value_text}
+use Rattle.ga_explorer_text.specs.Whence.{part_mark_text, step_action_text, word_of_value, a_of_value, op_result_text, own_event_result_text, transfer_result_text, step_result_text, value_with_word_text, value_text}
 use Rattle.ga_explorer_text.specs.inner.{is_transferred, is_transferred_by, has_no_word}
 
 -- ---- lines that have no word of their own

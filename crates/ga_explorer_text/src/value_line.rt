@@ -4,7 +4,7 @@ ghost use Rattle.std.specs.Prelude.{◌≡◌, ◌≤◌, ◌+◌, ◌-◌, ◌+
 ghost use Rattle.ga_word.specs.Word.{hex6_of};
 ghost use Rattle.ga_display.specs.Texts.{register_text};
 ghost use Rattle.arrayvec.specs.ArrayVec.{array_vec_len};
-ghost use Rattle.ga_explorer_text.specs.Whence.{transfer_result_text, op_result_text, own_event_result_text, step_result_text, loaded_value_text, value_with_word_text, queried_transfer_text, queried_value_text, step_action_text, user_of_line, line_number_text, run_count_text};
+ghost use Rattle.ga_explorer_text.specs.Whence.{transfer_result_text, op_result_text, own_event_result_text, step_result_text, loaded_value_text, value_with_word_text, queried_transfer_text, queried_value_text, step_action_text, line_number_text, run_count_text};
 ghost use Rattle.ga_lab.specs.Machine.{history_of};
 ghost use Rattle.std.specs.List.{slice_get};
 
@@ -42,7 +42,13 @@ pub(crate) fn head_line(lab: &Lab, node: NodeId, step: u32) -> TextBuffer
 }
 
 /// A step of a node as line 0, with what it did and the queried value.
-pub(crate) fn queried_line(lab: &Lab, node: NodeId, step: u32, value: Value, word: Word18) -> TextBuffer
+pub(crate) fn queried_line(
+    lab: &Lab,
+    node: NodeId,
+    step: u32,
+    value: Value,
+    word: Word18,
+) -> TextBuffer
     ensures { result.items ≡ line_number_text 0 None ++ step_action_text lab.now node step ++ queried_value_text (slice_get (history_of lab.now node.number) (step - 1)) step value word }
 {
     let mut out = ArrayVec::new();

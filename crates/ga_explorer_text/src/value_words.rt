@@ -17,8 +17,10 @@ use ga_node::{Node, OwnEventKind, Place};
 use ga_provenance::Value;
 use ga_word::Word18;
 
-/// The codes of `+*` and `+`.
+/// The code of `+*`.
 pub(crate) const MULTIPLY_STEP: u8 = 16;
+
+/// The code of `+`.
 const PLUS: u8 = 20;
 
 /// The word of a value, and A of its node after its step.
@@ -201,7 +203,12 @@ impl<'l> StepContext<'l> {
 
     /// The context of where a value was used, if its line has a word that is read there: by the context of the line before, if that
     /// is of the same node and not earlier, else from here. For any other line the context of the line before.
-    pub fn context_of_use(&self, last: StepContext<'l>, value: Value, used: Value) -> StepContext<'l>
+    pub fn context_of_use(
+        &self,
+        last: StepContext<'l>,
+        value: Value,
+        used: Value,
+    ) -> StepContext<'l>
         requires lab { last.lab.now ≡ self.now.lab.now }
         requires notes { last.notes.now ≡ self.now.notes.now }
         ensures lab { result.lab.now ≡ self.now.lab.now }

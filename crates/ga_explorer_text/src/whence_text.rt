@@ -92,7 +92,7 @@ impl<'l> StepContext<'l> {
     ghost use Rattle.std.specs.Prelude.{◌≡◌, ◌+◌, ◌^◌, ◌<◌, not, Some, All, length};
     ghost use Rattle.ga_event.specs.Flow.{IsNodePart};
     ghost use Rattle.ga_text.specs.Output.{WritesSome, WritesExactly};
-    ghost use Rattle.ga_explorer_text.specs.Whence.{head_text, value_line_text, numbered_lines_text, lines_from, indented_value_text, queried_step_text, queried_step_line, IsStepOrLinesAnswer};
+    ghost use Rattle.ga_explorer_text.specs.Whence.{head_text, value_line_text, numbered_lines_text, lines_from, indented_value_text, queried_step_text, IsStepOrLinesAnswer};
     ghost use Rattle.ga_provenance.specs.Lines.{IsMovedLine};
     ghost use Rattle.ga_provenance.specs.Origins.{IsMovedValue};
     ghost use Rattle.ga_explorer_text.specs.inner.{is_first};
@@ -109,7 +109,14 @@ impl<'l> StepContext<'l> {
         ensures { WritesSome result (λ text. IsStepOrLinesAnswer self.now.notes.now self.now.lab.now self.now.node self.now.near.step first (Some value) text)
             W.contents writer.old writer.new }
     {
-        match find_lines_at(alloc, self.lab, &self.near, self.node, value, most_lines(first)) {
+        match find_lines_at(
+            alloc,
+            self.lab,
+            &self.near,
+            self.node,
+            value,
+            most_lines(first),
+        ) {
             Ok(found) => {
                 let lines = found.lines.as_slice();
                 self.say_found(value, first, lines, writer)?;

@@ -1,4 +1,4 @@
-use Rattle.std.proofs.Common.{rules, ◌≡◌, ◌≤◌, Bool, false, ℕ, List, ◌++◌, refl, sym, subst, ap, ◌∙◌, inl, inr, length, arith}
+use Rattle.std.proofs.Common.{rules, ◌≡◌, ◌≤◌, false, ◌++◌, refl, sym, subst, ◌∙◌, inl, inr, length, arith}
 use Rattle.std.specs.List.{All}
 use Rattle.ga_provenance.specs.Lines.{IsMovedLine}
 use Rattle.ga_text.proofs.WriteLemmas.{truncated_here, truncated_within}

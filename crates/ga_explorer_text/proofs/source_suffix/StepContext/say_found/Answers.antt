@@ -7,7 +7,7 @@ use Rattle.ga_debug_info.specs.declared.notes.DebugInfo.{DebugInfo}
 use Rattle.ga_text.proofs.WriteLemmas.{truncated_here, truncated_within}
 use Rattle.ga_provenance.specs.declared.lines.ProvenanceLine.{ProvenanceLine}
 use Rattle.ga_provenance.specs.Lines.{IsMovedLine}
-use Rattle.ga_explorer_text.specs.Whence.{has_head, head_text, numbered_lines_text, lines_from}
+use Rattle.ga_explorer_text.specs.Whence.{has_head, head_text, numbered_lines_text}
 use Rattle.ga_explorer_text.specs.inner.{is_first}
 use Rattle.ga_explorer_text.proofs.Saying.{joined_written}
 use Rattle.ga_explorer_text.proofs.source_suffix.StepContext.say_found.Goals as goal

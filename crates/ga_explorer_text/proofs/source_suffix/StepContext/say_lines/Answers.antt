@@ -41,7 +41,7 @@ returns-in_err-write_line g c = (
         whole,
         refl,
         truncated_here c.from_residual.result _ before (said ++ whole) _ c.from_residual.ensures.0
-        (line_truncated _ before said whole _ text _ done.front more done.splits (c.in_err-write_line.ensures.1 before (said ++ done.front) done.is_said)),
+            (line_truncated _ before said whole _ text _ done.front more done.splits (c.in_err-write_line.ensures.1 before (said ++ done.front) done.is_said)),
       ),
 )
 

@@ -12,5 +12,5 @@ invariant-lines g l = record {
   same : l.writer.stream.ghost_name ≡ l.fn.writer.stream.ghost_name;
   said : (before said : List ℕ) → IsWritten (g.W.Write.contents l.fn.writer.stream.now) before said l.fn.writer.pending.items
       → IsWrittenUpTo (g.W.Write.contents l.writer.stream.now) before said (numbered_lines_text l.self.notes.now l.self.lab.now l.is_moved l.skipped l.lines)
-          (numbered_lines_text l.self.notes.now l.self.lab.now l.is_moved l.number (drop l.line-index l.lines)) l.writer.pending.items;
+      (numbered_lines_text l.self.notes.now l.self.lab.now l.is_moved l.number (drop l.line-index l.lines)) l.writer.pending.items;
 }

@@ -3,7 +3,7 @@ use Rattle.std.specs.List.{slice_get}
 use Rattle.ga_lab.specs.Machine.{history_of}
 use Rattle.ga_text.proofs.WriteLemmas.{truncated_here, truncated_within}
 use Rattle.ga_explorer_text.specs.SourceSuffix.{step_suffix_text}
-use Rattle.ga_explorer_text.specs.Whence.{line_number_text, step_action_text, queried_value_text, step_with_queried_value, queried_step_line, head_text}
+use Rattle.ga_explorer_text.specs.Whence.{line_number_text, step_action_text, queried_value_text, step_with_queried_value, head_text}
 use Rattle.ga_explorer_text.proofs.Saying.{joined_written}
 use Rattle.ga_explorer_text.proofs.source_suffix.StepContext.say_queried.Goals as goal
 
@@ -22,7 +22,7 @@ returns-in_err-write_blocks g c = (
       let line : List ℕ = c.as_slice.result.now in (
         line ++ tail,
         ap (λ (t : List ℕ). t ++ tail) (c.as_slice.ensures.value ∙ c.queried_line-line.ensures ∙ line_is)
-        ∙ ap (λ (b : Bool). head_text c.args.self.now.notes.now s node at value b) (sym c.if-not-is_written.false),
+            ∙ ap (λ (b : Bool). head_text c.args.self.now.notes.now s node at value b) (sym c.if-not-is_written.false),
         truncated_here c.from_residual.result _ before (said ++ (line ++ tail)) _ c.from_residual.ensures.0
             (truncated_within _ before said line tail (line ++ tail) refl (c.in_err-write_blocks.ensures.1 before said h)),
       ),
@@ -43,7 +43,7 @@ returns g c = (
       let line : List ℕ = c.as_slice.result.now in (
         line ++ tail,
         ap (λ (t : List ℕ). t ++ tail) (c.as_slice.ensures.value ∙ c.queried_line-line.ensures ∙ line_is)
-        ∙ ap (λ (b : Bool). head_text c.args.self.now.notes.now s node at value b) (sym c.if-not-is_written.false),
+            ∙ ap (λ (b : Bool). head_text c.args.self.now.notes.now s node at value b) (sym c.if-not-is_written.false),
         joined_written c.write_own_suffix.result _ before said line tail _ (c.write_own_suffix.ensures.1 before (said ++ line) (c.in_ok-write_blocks.ensures.1 before said h)),
       ),
 )

@@ -1,9 +1,8 @@
-use Rattle.std.proofs.Common.{◌≡◌, ◌≤◌, length, arith, ap, sym, subst, ◌∙◌}
+use Rattle.std.proofs.Common.{◌≤◌, length, arith, ap, sym, subst, ◌∙◌}
 use Rattle.std.proofs.lemmas.List.{length-map}
-use Rattle.ga_node.specs.Record.{NodeRecord, HasSizes, record_of}
+use Rattle.ga_node.specs.Record.{HasSizes, record_of}
 use Rattle.ga_event.specs.Told.{count_steps}
 use Rattle.ga_lab.specs.Machine.{chip_of}
-use Rattle.ga_provenance.specs.Origins.{node_after}
 use Rattle.ga_provenance.specs.inner.{IsWhole}
 use Rattle.ga_provenance.proofs.Made.{stood_of}
 use Rattle.ga_provenance.proofs.Ran.{whole_machine}
@@ -20,4 +19,4 @@ returns c =
     let there = stood_of s used.node c.walk_back_to_step-walk.result place (record_of c.node-2.result.now) c.walk_back_to_step-walk.ensures within c.node-2.ensures in
     c.walked_word.ensures
     ∙ word_there s used place c.steps.result whole c.min-place.ensures c.steps.ensures.steps c.steps.ensures.told c.requires.part
-        (subst HasSizes there c.has_sizes.ensures) c.requires.apart
+    (subst HasSizes there c.has_sizes.ensures) c.requires.apart

@@ -1,4 +1,4 @@
-use Rattle.std.proofs.Common.{◌≡◌, sym, ◌∙◌}
+use Rattle.std.proofs.Common.{sym, ◌∙◌}
 use Rattle.ga_explorer_text.proofs.Saying.{worded_as}
 use Rattle.ga_explorer_text.proofs.Words.{no_word, used_line, apart_of}
 use Rattle.ga_explorer_text.proofs.source_suffix.StepContext.words_of_used.Goals as goal
