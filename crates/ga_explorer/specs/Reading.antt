@@ -1,6 +1,6 @@
 -- The arguments of exploring commands, and how they are parsed: words with one space between two of them (docs/REFERENCE.md,
 -- "Exploring"; this project's own). Nodes and numbers have the form that they have in the debugger's commands.
-use Rattle.std.specs.Prelude.{ℕ, nat_eq, if◌then◌else◌, codes, Option, Some, None, option_map, option_and_then, ◌%◌, nat_lt, nat_le}
+use Rattle.std.specs.Prelude.{◌==◌, ℕ, nat_eq, if◌then◌else◌, codes, Option, Some, None, option_map, option_and_then, ◌%◌, nat_lt, nat_le}
 use Rattle.std.specs.Cmp.Lexicographic.{pointwise}
 use Rattle.ga_text.specs.Lines.{Line}
 use Rattle.ga_grid.specs.declared.node_id.NodeId.{NodeId}
