@@ -7,7 +7,7 @@ from listing import NAMES
 from machine import Machine, NODES, name
 from node import FETCH_DUE, Node, SIDES, neighbour, target_of
 from notes import Notes
-from whence import LOADED, asked_of, held_after, queried_word, rows_of, tested_by, word_in
+from whence import LOADED, MOST as MOST_LINES, asked_of, held_after, lines_of, queried_word, tested_by, word_in
 
 NODE, W, HH = "[0-7](?:0[0-9]|1[0-7])", "0[0-3][0-9a-fA-F]{4}", "[0-9a-fA-F]{2}"
 NUMBER = "(?:0|[1-9][0-9]{0,9})"
@@ -35,20 +35,21 @@ def command(*row):
 
 # what the words of a form stand for; one in brackets may be missing
 VALUE = "VALUE"
-KINDS = {"NNN": NODE, "MMM": NODE, "K": STEP, "HH": HH, "N": "[1-9]?[0-9]", "COMMAND": ".+", VALUE: rf"[tsrpabi]|d[2-9]|r[1-8]|io|carry|slot|\[{HH}\]"}
+KINDS = {"NNN": NODE, "MMM": NODE, "K": STEP, "HH": HH, "N": "[1-9]?[0-9]", "L": "[1-9][0-9]{0,9}", "COMMAND": ".+", VALUE: rf"[tsrpabi]|d[2-9]|r[1-8]|io|carry|slot|\[{HH}\]"}
 FEW = 3
 
 
-def kind_of(word):
-    """What a word of a form stands for."""
-    return word[1:-1] if word.startswith("[") else word
+def parts_of(form):
+    """The command of a form, and its arguments. One in brackets may be missing; a word in lower case stands for itself."""
+    return re.findall(r"\[[^]]*\]|[^ ]+", form)
 
 
 def spelled(form):
     """The lines of a form, and the kinds of its arguments."""
-    command, *words = form.split(" ")
-    kinds = [kind_of(word) for word in words]
-    return re.compile(command + "".join(f"(?: ({KINDS[kind]}))" + "?" * word.startswith("[") for kind, word in zip(kinds, words))), kinds
+    command, *parts = parts_of(form)
+    words = [part.strip("[]").split(" ") for part in parts]
+    patterns = ("".join(f" {word}" for word in before) + f" ({KINDS[kind]})" for *before, kind in words)
+    return re.compile(command + "".join(f"(?:{pattern})" + "?" * part.startswith("[") for pattern, part in zip(patterns, parts))), [it[-1] for it in words]
 
 
 def distance(one, other):
@@ -144,6 +145,8 @@ class Explorer(Machine):
         for kind, word in zip(kinds, words):
             if kind == "N":
                 given.append(FEW if word is None else int(word))
+            elif kind == "L":
+                given.append(int(word or 1))
             elif kind == "K":
                 given.append(self.steps[given[0]] if word == "last" else int(word))
             elif kind == "HH":
@@ -464,7 +467,7 @@ class Explorer(Machine):
             behind.update({(it, again.steps[it]): again.chip[it].copy() for it in event})
         return passed, deeds, behind
 
-    def made_line(self, tag, deeds, tails, behind):
+    def made_line(self, tag, deeds, tails, behind, count=""):
         """The step that made a word, by its tag, or that it was loaded, with the word; a transferred one is in what the step did."""
         node, number, part = tag
         mark = f" {part}" if part in LOADED + ("r",) and part != "i" else ""
@@ -473,16 +476,16 @@ class Explorer(Machine):
             word += f" a {behind[node, number].a:06x}"
         if number and part in ("t", "i") and deeds[node, number].startswith("takes"):
             word = ""
-        told = f"{number} {deeds[node, number]}{mark}{word}{tails[node, number]}" if number else f"load {part}{word}{self.notes.tail(node, cell_of(part))}"
+        told = f"{number} {deeds[node, number]}{mark}{word}{count}{tails[node, number]}" if number else f"load {part}{word}{self.notes.tail(node, cell_of(part))}"
         return f"{name(node)} {told}"
 
     @command(
-        f"whence NNN K [{VALUE}]",
+        f"whence NNN K [{VALUE}] [from L]",
         "the steps whose values went into what step K of NNN made, or\n"
         "                      into a register, a word of a stack or a cell as it is after step K",
-        "a tree: below each step, two blanks deeper, the steps that made the values it used", "whence 001 last, or whence 001 last r", 160,
+        "the nearest 100, each with its number and > the number of the step that used its value", "whence 001 last, or whence 001 last r", 160,
     )  # fmt: skip
-    def answer_whence(self, node, step, value):
+    def answer_whence(self, node, step, value, line):
         if not 1 <= step <= self.steps[node]:
             return "no 6 nostep"
         passed, deeds, behind = self.followed()
@@ -493,12 +496,18 @@ class Explorer(Machine):
             return f"{name(node)} {step} {deeds[node, step]}{tails[node, step]}"
         part = value and (f"{int(value[1:3], 16) & (0xBF if int(value[1:3], 16) > 0x7F else 0x3F):02x}" if value[0] == "[" else value)
         part, word = (part, word_in(behind[node, step], part)) if value else queried_word(deeds[node, step], behind[node, step - 1], behind[node, step])
-        head = f"{name(node)} {step} {deeds[node, step]}{f' {part} {word:06x}' if part else ''}{tails[node, step]}"
-        rows, whole = rows_of(first, made)
-        deeper = first[:2] != (node, step)
-        lines = [head] if deeper else []
-        lines += ["  " * (depth + deeper) + self.made_line(tag, deeds, tails, behind) for tag, depth in rows.items()]
-        return "\n".join(lines + ([] if whole else ["more"]))
+        moved = line == 1 and first[:2] != (node, step)
+        head = [f"0 {name(node)} {step} {deeds[node, step]}{f' {part} {word:06x}' if part else ''}{tails[node, step]}"] if moved else []
+        lines, whole = lines_of(first, made, deeds, line - 1 + MOST_LINES)
+        told = [
+            f"{number}{f'>{user}' if number > 1 or moved else ''} {self.run_line(run, deeds, tails, behind)}"
+            for number, (user, run) in enumerate(lines, 1) if number >= line
+        ]  # fmt: skip
+        return "\n".join(head + told + ([] if whole else [f"more from {len(lines) + 1}"])) or "none"
+
+    def run_line(self, run, deeds, tails, behind):
+        """The line of the first of a run, with how many there are."""
+        return self.made_line(run[0], deeds, tails, behind, f" x{len(run)}" if len(run) > 1 else "")
 
     @command(
         "because NNN K [N]",

@@ -13,7 +13,7 @@ import sys
 from itertools import zip_longest
 
 from conditions import generated_test, value_of
-from explore import FORMS, NODE, OFTEN, ROWS, STORES, VALUE, Explorer, kind_of, number_of
+from explore import FORMS, NODE, OFTEN, ROWS, STORES, VALUE, Explorer, parts_of, number_of
 from files import answer, load_of
 from machine import name
 from notes import Notes
@@ -195,17 +195,19 @@ class Session:
 
     def line_of(self, form):
         """A line of a form. What may be left out of it is, one time of three."""
-        command, *words = form.split(" ")
+        command, *parts = parts_of(form)
         draw, line = self.random, [command]
         first, second = self.link() if "MMM" in form else (self.node(), None)
-        for word in words:
-            if word.startswith("[") and draw.randrange(3) == 0:
-                break
+        for part in parts:
+            if part.startswith("[") and draw.randrange(3) == 0:
+                continue
+            *before, word = part.strip("[]").split(" ")
+            line += before
             line.append({
                 "NNN": lambda: name(first), "MMM": lambda: name(second), "K": lambda: f"{self.step(first)}", "HH": lambda: f"{self.cell(first):02x}",
-                "N": lambda: f"{draw.randrange(draw.choice((4, 100)))}", "COMMAND": lambda: draw.choice([*ROWS, "cond"]),
+                "N": lambda: f"{draw.randrange(draw.choice((4, 100)))}", "L": lambda: f"{draw.randrange(1, draw.choice((4, 300)))}", "COMMAND": lambda: draw.choice([*ROWS, "cond"]),
                 VALUE: lambda: draw.choice((*"tsrpabi", f"d{draw.randrange(2, 10)}", f"r{draw.randrange(1, 9)}", "io", "carry", "slot", f"[{self.address():02x}]")),
-            }[kind_of(word)]())  # fmt: skip
+            }[word]())  # fmt: skip
         return " ".join(line)
 
     def wrong(self):

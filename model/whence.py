@@ -5,6 +5,7 @@ the tags from which each was made.
 """
 
 import re
+from collections import deque
 
 from conditions import value_of
 from node import pop, push, target_of
@@ -217,15 +218,37 @@ def tested_by(told, before, asked, made, came):
     return made[asked][0] if code < 2 else asked, TESTED[code], held[TESTED[code]]
 
 
-def rows_of(first, made):
-    """The tags from which the first was made, each with its depth, up to the greatest number of them; and whether these are all."""
-    rows, todo = {}, [(0, first)]
+def next_in_run(tag, made, deeds):
+    """The tag that comes next after one in a run: of those from which it was made the first that the same opcode left in the same part of
+    the node, and that was made from all the others too. None where there is none."""
+    sources = dict.fromkeys(made[tag])
+    for it in sources:
+        if it[1] and (it[0], it[2]) == (tag[0], tag[2]) and deeds[it[:2]] == deeds[tag[:2]] and {*sources} - {it} <= {*made[it]}:
+            return it
+    return None
+
+
+def run_of(tag, made, deeds, told):
+    """A tag and those after it in a run, up to one that was told, whose steps are all as far apart as the first two."""
+    run, after = [tag], next_in_run(tag, made, deeds)
+    while after and after not in told and (len(run) == 1 or run[-1][1] - after[1] == run[0][1] - run[1][1]):
+        run.append(after)
+        after = next_in_run(after, made, deeds)
+    return run
+
+
+def lines_of(first, made, deeds, count):
+    """The first lines of the tags from which one was made, the nearest first: of each line its run, and the number of the line that used
+    it, or 0; and whether these are all."""
+    lines, told, todo = [], set(), deque([(0, first)])
     while todo:
-        depth, tag = todo.pop()
-        if tag in rows:
+        user, tag = todo.popleft()
+        if tag in told:
             continue
-        if len(rows) == MOST:
-            return rows, False
-        rows[tag] = depth
-        todo += [(depth + 1, source) for source in reversed(made[tag])]
-    return rows, True
+        if len(lines) == count:
+            return lines, False
+        run = run_of(tag, made, deeds, told)
+        told.update(run)
+        lines.append((user, run))
+        todo += [(len(lines), source) for source in made[run[-1]]]
+    return lines, True

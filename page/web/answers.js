@@ -91,10 +91,10 @@ function told_effects([head, ...rows]) {
 function line_told(told) { const found = /^ga144: line (\d+):/.exec(told) || /^no \d+ \w+ line (\d+)$/.exec(told); return found ? +found[1] : 0; }
 
 // What is no place where nodes or steps are named; and what is before, and after, the part that is one.
-const BARE = /^(?:it can|stopped|at least|\d+ states?|removed|kept|made|quiet|full|memory|spent|chain|effects|races|independent|none|no|idle|looks|every|ready)\b/;
+const BARE = /^(?:it can|stopped|at least|\d+ states?|removed|kept|made|quiet|full|memory|spent|chain|effects|races|independent|none|no|more|idle|looks|every|ready)\b/;
 const BARE_COMMANDS = /^(?:chip|dump|help|count)\b/;
 function named_part(command, line) {
-  const before = /^reached \d+ (?:by \d+ )?/.exec(line) || (/^words\b/.test(command) && /^\d+ /.exec(line)), after = /^effects\b/.test(command) ? / \d+$/.exec(line) : /^stuck\b/.test(line) && / and \d+ idle$/.exec(line);
+  const before = /^reached \d+ (?:by \d+ )?/.exec(line) || (/^words\b/.test(command) && /^\d+ /.exec(line)) || (/^whence\b/.test(command) && /^(?:\d|\d+>\d+) /.exec(line)), after = /^effects\b/.test(command) ? / \d+$/.exec(line) : /^stuck\b/.test(line) && / and \d+ idle$/.exec(line);
   return [before ? before[0].length : 0, after ? after.index : line.length];
 }
 

@@ -2,7 +2,7 @@
 const HELP = [
   ["A fault, found", null, `<p>The example <b>fault.f18</b> is open: node 001 has stopped (■).</p><ol>
     <li>Click its last step, <code>10 stop 2</code>. What led there is blue (◆).</li>
-    <li>Press <b>whence</b>: the steps whose values went into it, each below the one that used it.</li>
+    <li>Press <b>whence</b>: the steps whose values went into it, the nearest first: 2&gt;1 is line 2, whose value line 1 used.</li>
     <li>Click <code>000 7</code> there. Its word <code>2*</code> is marked in the source: it doubles the address that node 000 sends. What depends on the step is orange (×); node 200 has no part in it.</li>
     <li><b>take back</b> removes that step and all that depends on it, and nothing else. <b>redo</b> makes it again.</li></ol>
     <p>A program of your own, source or an image, can be pasted or dropped anywhere. <b>run until</b> then runs it up to a stop.</p>`],

@@ -19,7 +19,7 @@ use Rattle.ga_explorer_text.specs.Telling.{IsEffectsAnswer, IsWhoAnswer}
 use Rattle.ga_explorer_text.specs.Saved.{saved_text}
 use Rattle.ga_explorer_text.specs.Writing.{writes_text}
 use Rattle.ga_explorer_text.specs.Around.{steps_around_text}
-use Rattle.ga_explorer_text.specs.Trees.{IsWhenceAnswer}
+use Rattle.ga_explorer_text.specs.Whence.{IsWhenceAnswer}
 use Rattle.ga_explorer_text.specs.Because.{because_text}
 use Rattle.ga_explorer_text.specs.Races.{IsRacesAnswer}
 use Rattle.ga_explorer.specs.Reading.{selected_step, part_of_node_value, parse_run_arguments, parse_back_arguments, max_run_events, node_and_step, two_nodes, node_and_cell, node_and_value, node_and_steps}
@@ -43,7 +43,7 @@ command_table =
     ∷ entry (codes "words") (codes "words NNN MMM") (codes "         the words transferred from NNN to MMM\n") (codes "answers: words NNN MMM C, and for each of C words its number, the steps of both nodes and the word\nexample: words 000 001\n")
     ∷ entry (codes "writes") (codes "writes NNN HH") (codes "         the steps that wrote the cell HH of NNN, the newest first\n") (codes "answers: for each the step, the opcode and the word\nexample: writes 001 20\n")
     ∷ entry (codes "at") (codes "at NNN K [N]") (codes "          N steps before and after step K of NNN, with registers\n") (codes "answers: for each the step, what it did, and the registers t, s, r, a, b and p after it\nexample: at 001 last 5\n")
-    ∷ entry (codes "whence") (codes "whence NNN K [VALUE]") (codes "  the steps whose values went into what step K of NNN made, or\n                      into a register, a word of a stack or a cell as it is after step K\n") (codes "answers: a tree: below each step, two blanks deeper, the steps that made the values it used\nexample: whence 001 last, or whence 001 last r\n")
+    ∷ entry (codes "whence") (codes "whence NNN K [VALUE] [from L]") (codes "\n                      the steps whose values went into what step K of NNN made, or\n                      into a register, a word of a stack or a cell as it is after step K\n") (codes "answers: the nearest 100, each with its number and > the number of the step that used its value\nexample: whence 001 last, or whence 001 last r\n")
     ∷ entry (codes "because") (codes "because NNN K [N]") (codes "     N steps before step K at which a value decided where NNN continued\nK of effects, at, whence, because: a step's number, or last\n") (codes "answers: for each the step and the word that it tested, and below it the step that made that word\nexample: because 001 last\n")
     ∷ entry (codes "races") (codes "races [NNN]") (codes "           steps that yield another word in another order, and how\n") (codes "answers: races N, and for each of N steps the other word, and two commands that lead there\nexample: races 001\n")
     ∷ entry (codes "save") (codes "save") (codes "                  the history as lines of debug\n") (codes "answers: step NNN for each event, the oldest first\nexample: save\n")
@@ -97,7 +97,7 @@ query_with_arguments name text =
       Some (told.At it.0 it.1 it.2))
     else if pointwise nat_eq name (codes "whence") then (do
       it ← node_and_value text
-      Some (told.Whence it.0 it.1 it.2))
+      Some (told.Whence it.0 it.1 it.2 it.3))
     else if pointwise nat_eq name (codes "because") then (do
       it ← node_and_steps text
       Some (told.Because it.0 it.1 it.2))
@@ -145,7 +145,7 @@ AnswersQuery e (told.Effects node which) answer = IsEffectsAnswer e.lab node (se
 AnswersQuery e (told.Words from to) answer = answer ≡ link_words_text e.lab from to
 AnswersQuery e (told.Writes node address) answer = answer ≡ writes_text e.lab node address
 AnswersQuery e (told.At node which around) answer = answer ≡ steps_around_text e.notes e.lab node (selected_step e.lab node which) around
-AnswersQuery e (told.Whence node which value) answer = IsWhenceAnswer e.notes e.lab node (selected_step e.lab node which) (option_and_then part_of_node_value value) answer
+AnswersQuery e (told.Whence node which value first) answer = IsWhenceAnswer e.notes e.lab node (selected_step e.lab node which) (option_and_then part_of_node_value value) first answer
 AnswersQuery e (told.Because node which most) answer = answer ≡ because_text e.notes e.lab node (selected_step e.lab node which) most
 AnswersQuery e (told.Races only) answer = IsRacesAnswer e.lab only answer
 AnswersQuery e told.Who answer = IsWhoAnswer e.lab answer

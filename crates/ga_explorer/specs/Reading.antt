@@ -1,6 +1,6 @@
 -- The arguments of exploring commands, and how they are parsed: words with one space between two of them (docs/REFERENCE.md,
 -- "Exploring"; this project's own). Nodes and numbers have the form that they have in the debugger's commands.
-use Rattle.std.specs.Prelude.{ℕ, nat_eq, if◌then◌else◌, codes, Option, Some, None, option_map, option_and_then, ◌%◌, nat_lt, nat_le}
+use Rattle.std.specs.Prelude.{◌==◌, ℕ, nat_eq, if◌then◌else◌, codes, Option, Some, None, option_map, option_and_then, ◌%◌, nat_lt, nat_le}
 use Rattle.std.specs.Cmp.Lexicographic.{pointwise}
 use Rattle.ga_text.specs.Lines.{Line}
 use Rattle.ga_grid.specs.declared.node_id.NodeId.{NodeId}
@@ -142,24 +142,49 @@ node_and_step text = do
   which ← parse_step_selector parts.1
   Some (node, which)
 
--- `K` or `K VALUE`: a step, and a value after it
-abbrev pub step_and_value_of_parts : Option (Line × Line) → Line → Option (StepSelector × Option NodeValue)
-step_and_value_of_parts None text = option_map (λ which. (which, None)) (parse_step_selector text)
+-- the number of a line, from 1 on; and `from L`
+abbrev pub line_number : Line → Option ℕ
+line_number text = option_and_then (λ number. if number == 0 then None else Some number) (parse_number text)
+
+abbrev pub line_number_after : Line × Line → Option ℕ
+line_number_after parts = if pointwise nat_eq parts.0 (codes "from") then line_number parts.1 else None
+
+abbrev pub from_line : Line → Option ℕ
+from_line text = option_and_then line_number_after (split_at_space text)
+
+-- `VALUE`, `from L` or `VALUE from L`: a value, and the number of the first line
+abbrev pub value_and_line_of_parts : Option (Line × Line) → Line → Option (Option NodeValue × ℕ)
+value_and_line_of_parts None text = option_map (λ value. (Some value, 1)) (parse_part_value text)
+value_and_line_of_parts (Some parts) text =
+    if pointwise nat_eq parts.0 (codes "from") then (do
+      line ← line_number parts.1
+      Some (None, line))
+    else (do
+      value ← parse_part_value parts.0
+      line ← from_line parts.1
+      Some (Some value, line))
+
+abbrev pub value_and_line : Line → Option (Option NodeValue × ℕ)
+value_and_line text = value_and_line_of_parts (split_at_space text) text
+
+-- `K [VALUE] [from L]`
+abbrev pub step_and_value_of_parts : Option (Line × Line) → Line → Option (StepSelector × Option NodeValue × ℕ)
+step_and_value_of_parts None text = option_map (λ which. (which, None, 1)) (parse_step_selector text)
 step_and_value_of_parts (Some parts) text = do
   which ← parse_step_selector parts.0
-  named ← parse_part_value parts.1
-  Some (which, Some named)
+  asked ← value_and_line parts.1
+  Some (which, asked.0, asked.1)
 
-abbrev pub step_and_value : Line → Option (StepSelector × Option NodeValue)
+abbrev pub step_and_value : Line → Option (StepSelector × Option NodeValue × ℕ)
 step_and_value text = step_and_value_of_parts (split_at_space text) text
 
--- `NNN K` or `NNN K VALUE`
-unfoldable pub node_and_value : Line → Option (NodeId × StepSelector × Option NodeValue)
+-- `NNN K [VALUE] [from L]`
+unfoldable pub node_and_value : Line → Option (NodeId × StepSelector × Option NodeValue × ℕ)
 node_and_value text = do
   parts ← split_at_space text
   node ← parse_node parts.0
   asked ← step_and_value parts.1
-  Some (node, asked.0, asked.1)
+  Some (node, asked.0, asked.1, asked.2)
 
 -- `NNN MMM`
 unfoldable pub two_nodes : Line → Option (NodeId × NodeId)

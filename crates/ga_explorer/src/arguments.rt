@@ -1,7 +1,7 @@
 //! The arguments of commands, as lines have them.
 
 ghost use Rattle.std.specs.Prelude.{◌≡◌};
-ghost use Rattle.ga_explorer.specs.Reading.{node_and_step, two_nodes, node_and_cell, node_and_steps, node_and_value, step_and_value, parse_step_and_count};
+ghost use Rattle.ga_explorer.specs.Reading.{node_and_step, two_nodes, node_and_cell, node_and_steps, node_and_value, step_and_value, value_and_line, from_line, line_number, parse_step_and_count};
 
 use crate::named_value::parse_part_value;
 use crate::which::StepSelector;
@@ -52,29 +52,66 @@ pub(crate) fn node_and_steps(text: &[u8]) -> Option<(NodeId, StepSelector, u32)>
     Some((node, which, many))
 }
 
-/// `NNN K` or `NNN K VALUE`
+/// `NNN K [VALUE] [from L]`
 #[tactic(auto, unfolding(crate::specs::Reading::node_and_value))]
-pub(crate) fn node_and_value(text: &[u8]) -> Option<(NodeId, StepSelector, Option<NodeValue>)>
+pub(crate) fn node_and_value(text: &[u8]) -> Option<(NodeId, StepSelector, Option<NodeValue>, u32)>
     ensures { result ≡ node_and_value text.now }
 {
     let (node, rest) = split_at_space(text)?;
     let node = parse_node(node)?;
-    let (which, value) = step_and_value(rest)?;
-    Some((node, which, value))
+    let (which, value, first) = step_and_value(rest)?;
+    Some((node, which, value, first))
 }
 
-/// `K` or `K VALUE`: a step, and a value after it.
-fn step_and_value(text: &[u8]) -> Option<(StepSelector, Option<NodeValue>)>
+/// `K [VALUE] [from L]`: a step, a value after it, and the number of the first line that is written.
+fn step_and_value(text: &[u8]) -> Option<(StepSelector, Option<NodeValue>, u32)>
     ensures { result ≡ step_and_value text.now }
 {
     match split_at_space(text) {
-        Some((step, value)) => {
+        Some((step, rest)) => {
             let which = StepSelector::parse(step)?;
-            let value = parse_part_value(value)?;
-            Some((which, Some(value)))
+            let (value, first) = value_and_line(rest)?;
+            Some((which, value, first))
         }
-        None => Some((StepSelector::parse(text)?, None)),
+        None => Some((StepSelector::parse(text)?, None, 1)),
     }
+}
+
+/// `VALUE`, `from L` or `VALUE from L`.
+fn value_and_line(text: &[u8]) -> Option<(Option<NodeValue>, u32)>
+    ensures { result ≡ value_and_line text.now }
+{
+    match split_at_space(text) {
+        Some((first, rest)) => {
+            if first == b"from".as_slice() {
+                Some((None, line_number(rest)?))
+            } else {
+                let value = parse_part_value(first)?;
+                Some((Some(value), from_line(rest)?))
+            }
+        }
+        None => Some((Some(parse_part_value(text)?), 1)),
+    }
+}
+
+/// `from L`
+fn from_line(text: &[u8]) -> Option<u32>
+    ensures { result ≡ from_line text.now }
+{
+    let (from, number) = split_at_space(text)?;
+    if from == b"from".as_slice() {
+        line_number(number)
+    } else {
+        None
+    }
+}
+
+/// The number of a line, from 1 on.
+fn line_number(text: &[u8]) -> Option<u32>
+    ensures { result ≡ line_number text.now }
+{
+    let number = parse_number(text)?;
+    if number == 0 { None } else { Some(number) }
 }
 
 /// `K` or `K N`: a step, and how many further steps are written.

@@ -69,11 +69,12 @@ pub enum Query {
         which: StepSelector,
         most: u32,
     },
-    /// `whence`: writes the steps whose values went into what a step of a node made, or into a value after it.
+    /// `whence`: writes the steps whose values went into what a step of a node made, or into a value after it, from a line on.
     Whence {
         node: NodeId,
         which: StepSelector,
         value: Option<NodeValue>,
+        first: u32,
     },
     /// `because`: writes the last steps of a node before one, at most a given number, at which a value decided where it
     /// continued.
@@ -174,8 +175,13 @@ fn query_with_arguments(name: &[u8], arguments: &[u8]) -> Option<Query>
         let (node, which, most) = node_and_steps(arguments)?;
         Some(Query::At { node, which, most })
     } else if name == b"whence".as_slice() {
-        let (node, which, value) = node_and_value(arguments)?;
-        Some(Query::Whence { node, which, value })
+        let (node, which, value, first) = node_and_value(arguments)?;
+        Some(Query::Whence {
+            node,
+            which,
+            value,
+            first,
+        })
     } else if name == b"because".as_slice() {
         let (node, which, most) = node_and_steps(arguments)?;
         Some(Query::Because { node, which, most })
@@ -214,9 +220,14 @@ pub(crate) fn answer_query<W: Write>(
             let step = which.resolve(lab, node);
             write_steps_around(lab, notes, node, step, most, writer)
         }
-        Query::Whence { node, which, value } => {
+        Query::Whence {
+            node,
+            which,
+            value,
+            first,
+        } => {
             let step = which.resolve(lab, node);
-            write_whence(alloc, lab, notes, node, step, part_of(value), writer)
+            write_whence(alloc, lab, notes, node, step, part_of(value), first, writer)
         }
         Query::Because { node, which, most } => {
             let step = which.resolve(lab, node);
@@ -295,10 +306,10 @@ static ROWS: &[Row] = &[
     },
     Row {
         name: b"whence",
-        form: b"whence NNN K [VALUE]",
-        does: b"  the steps whose values went into what step K of NNN made, or\n                      into a register, a word of a stack or a cell as it is after step K\n",
-        more: b"answers: a tree: below each step, two blanks deeper, the steps that made the values it used\nexample: whence 001 last, or whence 001 last r\n",
-        usage: "  whence NNN K [VALUE]   show the steps whose values went into what step K of NNN made, or into a register or cell after it\n",
+        form: b"whence NNN K [VALUE] [from L]",
+        does: b"\n                      the steps whose values went into what step K of NNN made, or\n                      into a register, a word of a stack or a cell as it is after step K\n",
+        more: b"answers: the nearest 100, each with its number and > the number of the step that used its value\nexample: whence 001 last, or whence 001 last r\n",
+        usage: "  whence NNN K [VALUE] [from L]\n                         show the steps whose values went into what step K of NNN made, or into a register or cell after it\n",
     },
     Row {
         name: b"because",

@@ -4,3 +4,4 @@ pub mod Saving
 pub mod Because
 pub mod Rings
 pub mod Ending
+pub mod Words

@@ -1,25 +1,26 @@
 -- A text that is written line by line.
-use Rattle.std.proofs.Common.{◌≡◌, ℕ, List, ◌++◌, Option, Result, subst, ◌+◌, ◌<◌, ◌≤◌, [], ◌∷◌, Ok, Err, length, get_or, drop, refl, sym, ap, ◌∙◌, append_assoc, arith, zero, suc, ◌-◌, Some, None, ◌==◌, Bool, false, codes, add-one, true, cond, nat_le, min, ◌⊎◌, inl, inr}
+use Rattle.std.proofs.Common.{◌≡◌, ℕ, List, ◌++◌, Option, Result, subst, ◌+◌, ◌<◌, ◌≤◌, [], ◌∷◌, Ok, Err, length, get_or, drop, refl, sym, ap, ◌∙◌, append_assoc, arith, zero, suc, ◌-◌, Some, None, ◌==◌, Bool, false, add-one, true, cond, nat_le, min, ◌⊎◌, inl, inr}
 use Rattle.ga_text.specs.Output.{IsWrittenOrTruncated, IsWritten, IsTruncated}
 use Rattle.ga_text.specs.declared.output.WriteError.{WriteError}
-use Rattle.std.specs.Prelude.{flat_map, if◌then◌else◌, IsOk, is_none, ◌&&◌}
+use Rattle.std.specs.Prelude.{flat_map, if◌then◌else◌, IsOk, is_none, ◌&&◌, not}
 use Rattle.std.proofs.lemmas.List.{append-nil, drop_more, drop_all}
 use Rattle.ga_text.proofs.WriteLemmas.{written_as, said_assoc, cut_assoc, truncated_within}
 use Rattle.ga_grid.specs.declared.node_id.NodeId.{NodeId}
 use Rattle.ga_lab.specs.Machine.{State, has_step, history_of, chip_of, causes_of, rewind_answer}
 use Rattle.ga_provenance.specs.Writes.{cell_write_at, newer_write, newest_cell_write}
 use Rattle.ga_provenance.specs.declared.writes.CellWrite.{CellWrite}
-use Rattle.ga_provenance.proofs.Keeping.{written_step, first_told}
+use Rattle.ga_provenance.proofs.Keeping.{written_step}
+use Rattle.ga_provenance.proofs.FirstLine.{first_line}
 use Rattle.ga_explorer_text.specs.Writing.{cell_write_text, cell_writes}
 use Rattle.std.specs.List.{slice_get, All}
 use Rattle.std.proofs.lemmas.Option.{same_Some}
 use Rattle.ga_debug_info.specs.declared.notes.DebugInfo.{DebugInfo}
 use Rattle.ga_provenance.specs.declared.value.Value.{Value}
-use Rattle.ga_provenance.specs.declared.listing.ProvenanceRow.{ProvenanceRow}
+use Rattle.ga_provenance.specs.declared.lines.ProvenanceLine.{ProvenanceLine}
 use Rattle.ga_provenance.specs.Origins.{node_after, origin_of}
-use Rattle.ga_provenance.specs.Rows.{row_at_depth, origin_row, AreProvenanceRows}
+use Rattle.ga_provenance.specs.Lines.{AreLinesOf}
 use Rattle.ga_explorer_text.specs.inner.{is_first}
-use Rattle.ga_explorer_text.specs.Trees.{blanks, tree_rows_by_root, tree_rows_text, more_rows_text, max_tree_rows, IsTreeAnswer, word_of_value, a_of_value, value_with_word_text, value_text}
+use Rattle.ga_explorer_text.specs.Whence.{most_lines, more_lines_text, value_line_text, numbered_lines_text, lines_from, whence_lines_text, IsLinesAnswer, word_of_value, a_of_value, value_with_word_text, value_text}
 use Rattle.ga_explorer_text.specs.Waiting.{texts_of_nodes, node_count, all_waiting_text, stuck_text, wait_cycles_text, ended_and_idle_text}
 use Rattle.ga_explorer_text.specs.Ended.{AreEnded}
 use Rattle.std.proofs.lemmas.Bool.Decides.{nat_tests}
@@ -143,48 +144,51 @@ pub next_write : (s : State) (node : NodeId) (cell left : ℕ) (wrote : CellWrit
     → cell_writes s node cell left ≡ line ++ cell_writes s node cell (wrote.step - 1)
 next_write s node cell left wrote line e is = newest s node cell left wrote e ∙ ap (λ z. z ++ cell_writes s node cell (wrote.step - 1)) (sym is)
 
--- ---- A tree that was written
+-- ---- Lines that were written
 
--- whether the step of the query made the value can be read off the first row
-by_first : (s : State) (step : ℕ) (value : Value) (rows : List ProvenanceRow) → slice_get rows 0 ≡ Some (origin_row s (row_at_depth 0 value)) → is_first step rows ≡ ((origin_of s value).step == step)
-by_first s step value [] e = absurd (cc)
-by_first s step value (row ∷ rows) e = ap (λ (r : ProvenanceRow). r.value.step == step) (same_Some _ _ e)
+-- whether the step of the query made the value can be read off the first line
+by_first : (s : State) (step : ℕ) (value made : Value) (line : ProvenanceLine) (lines : List ProvenanceLine) → slice_get lines 0 ≡ Some line → line.value ≡ made → is_first step lines ≡ (made.step == step)
+by_first s step value made line [] e is = absurd (cc)
+by_first s step value made line (first ∷ lines) e is = ap (λ (l : ProvenanceLine). l.value.step == step) (same_Some _ _ e) ∙ ap (λ (v : Value). v.step == step) is
 
-pub made_by : (s : State) (step : ℕ) (value : Value) (rows : List ProvenanceRow) (is_whole : Bool) → AreProvenanceRows s [] (row_at_depth 0 value ∷ []) rows is_whole → (is_whole ≡ false → length rows ≡ max_tree_rows)
-    → is_first step rows ≡ ((origin_of s value).step == step)
-made_by s step value rows is_whole told cut = by_first s step value rows (first_told s value rows is_whole told (λ no. let long = cut no in omega (arith, long)))
+some_line : (first : ℕ) → 0 < most_lines first
+some_line first = omega arith
+
+pub made_by : (s : State) (step first : ℕ) (value : Value) (lines : List ProvenanceLine) (is_whole : Bool) → AreLinesOf s value lines is_whole → (is_whole ≡ false → length lines ≡ most_lines first)
+    → is_first step lines ≡ ((origin_of s value).step == step)
+made_by s step first value lines is_whole told cut =
+    let found = first_line s value lines is_whole (most_lines first) told cut (some_line first) in
+    by_first s step value (origin_of s value) found.line lines found.first found.made
 
 -- the whole text
-pub tree_told : (notes : Option DebugInfo) (s : State) (node : NodeId) (step : ℕ) (value : Value) (rows told : List ProvenanceRow) (is_whole : Bool) (first last : List ℕ) → AreProvenanceRows s [] (row_at_depth 0 value ∷ []) rows is_whole
-    → length rows ≤ max_tree_rows → (is_whole ≡ false → length rows ≡ max_tree_rows) → told ≡ rows → first ≡ tree_rows_by_root notes s node step value (is_first step told) told → last ≡ more_rows_text is_whole
-    → IsTreeAnswer notes s node step value (first ++ last)
-tree_told notes s node step value rows told is_whole first last are most cut same f l = record {
-  rows = rows;
+pub lines_told : (notes : Option DebugInfo) (s : State) (node : NodeId) (step first : ℕ) (value : Value) (lines told : List ProvenanceLine) (is_whole : Bool) (text last : List ℕ) → AreLinesOf s value lines is_whole
+    → length lines ≤ most_lines first → (is_whole ≡ false → length lines ≡ most_lines first) → told ≡ lines → text ≡ lines_from notes s node step first value (not (is_first step told)) told
+    → last ≡ more_lines_text (length told) first is_whole → IsLinesAnswer notes s node step first value (text ++ last)
+lines_told notes s node step first value lines told is_whole text last are most cut same t l = record {
+  lines = lines;
   is_whole = is_whole;
   told = are;
   most = most;
   cut = cut;
-  text = ap (λ z. z ++ last) (f ∙ ap (λ z. tree_rows_by_root notes s node step value (is_first step z) z) same ∙ ap (λ (b : Bool). tree_rows_by_root notes s node step value b rows) (made_by s step value rows is_whole are cut)) ∙ ap (λ z. tree_rows_text notes s node step value rows ++ z) l;
+  text = ap (λ z. z ++ last) (t ∙ ap (λ (z : List ProvenanceLine). lines_from notes s node step first value (not (is_first step z)) z) same
+      ∙ ap (λ (b : Bool). lines_from notes s node step first value (not b) lines) (made_by s step first value lines is_whole are cut))
+      ∙ ap (λ z. whence_lines_text notes s node step first value lines ++ z) (l ∙ ap (λ (z : List ProvenanceLine). more_lines_text (length z) first is_whole) same);
 }
+
+-- the numbered lines of a list, from one on
+pub rest_numbered : (notes : Option DebugInfo) (s : State) (moved : Bool) (lines : List ProvenanceLine) (i number : ℕ) (default : ProvenanceLine) (text : List ℕ) → i < length lines
+    → text ≡ value_line_text notes s moved (number + 1) (get_or lines i default)
+    → numbered_lines_text notes s moved number (drop i lines) ≡ text ++ numbered_lines_text notes s moved (number + 1) (drop (i + 1) lines)
+rest_numbered notes s moved lines i number default text within e =
+    ap (numbered_lines_text notes s moved number) (drop_more lines i default within)
+    ∙ ap (λ (z : List ℕ). z ++ numbered_lines_text notes s moved (number + 1) (drop (i + 1) lines)) (sym e)
+
+pub none_numbered : (notes : Option DebugInfo) (s : State) (moved : Bool) (lines : List ProvenanceLine) (i number : ℕ) → length lines ≤ i → numbered_lines_text notes s moved number (drop i lines) ≡ []
+none_numbered notes s moved lines i number past = ap (numbered_lines_text notes s moved number) (drop_all i lines past)
 
 -- a line with the words of its value
 pub worded_as : (s : State) (value : Value) (word a : ℕ) → word ≡ word_of_value s value → a ≡ a_of_value s value → value_with_word_text s value word a ≡ value_text s value
 worded_as s value word a e f = ap (λ (w : ℕ). value_with_word_text s value w a) e ∙ ap (value_with_word_text s value (word_of_value s value)) f
-
--- ---- blanks, two more at a time
-
-one_level : (level : ℕ) → blanks (suc level) ≡ codes "  " ++ blanks level
-unfolding blanks
-one_level level = refl
-
-pub no_level : (left : ℕ) → left ≡ zero → blanks left ≡ []
-unfolding blanks
-no_level zero e = refl
-no_level (suc left) e = absurd (omega (arith, e))
-
-pub next_level : (left less : ℕ) → 0 < left → less ≡ left - 1 → blanks left ≡ codes "  " ++ blanks less
-next_level left less some e =
-    ap blanks (let f : left ≡ suc (left - 1) = omega (arith, some) in f) ∙ one_level (left - 1) ∙ ap (λ (k : ℕ). codes "  " ++ blanks k) (sym e)
 
 -- ---- texts of nodes, one node more at a time
 

@@ -9,13 +9,12 @@ use Rattle.ga_lab.specs.declared.fault.LabFault.TheVariants.{NoStep}
 use Rattle.ga_event.specs.declared.flow.part.NodePart.{NodePart}
 use Rattle.ga_provenance.specs.declared.deciding.Decision.{Decision}
 use Rattle.ga_provenance.specs.Deciding.{newest_decision}
-use Rattle.ga_provenance.specs.Rows.{row_at_depth}
 use Rattle.ga_text.specs.Digits.{step_text}
 use Rattle.ga_display.specs.Texts.{register_text, refusal_text}
 use Rattle.ga_debug_info.specs.declared.notes.DebugInfo.{DebugInfo}
 use Rattle.ga_explorer_text.specs.Deeds.{action_text}
 use Rattle.ga_explorer_text.specs.SourceSuffix.{step_suffix_text}
-use Rattle.ga_explorer_text.specs.Trees.{part_name, tree_row_text}
+use Rattle.ga_explorer_text.specs.Whence.{part_name, indented_value_text}
 
 -- the register that a step of the node's own tested, with its word; a transferred word is in the text already
 abbrev pub tested_register_text : Made → NodePart → ℕ → Text
@@ -30,7 +29,7 @@ decision_step_text node decision =
 -- the line of a decision, and below it the line of the value's origin, as `whence` prints it
 abbrev pub decision_text : Option DebugInfo → State → NodeId → Decision → Text
 decision_text notes s node decision =
-    decision_step_text node decision ++ (step_suffix_text notes s node decision.step ++ tree_row_text notes s 1 (row_at_depth 0 decision.source))
+    decision_step_text node decision ++ (step_suffix_text notes s node decision.step ++ indented_value_text notes s decision.source)
 
 -- the newest decision, and those before it
 abbrev pub decisions_from_newest : Option DebugInfo → State → NodeId → (ℕ → Text) → Option Decision → Text

@@ -3,7 +3,7 @@ pub mod Deeds
 pub mod Writing
 pub mod SourceSuffix
 pub mod Around
-pub mod Trees
+pub mod Whence
 pub mod Because
 pub mod Ended
 pub mod Waiting

@@ -1,5 +1,10 @@
 -- What only private contracts and proofs name.
-use Rattle.std.specs.Prelude.{[], Option, Some, None, ℕ, ◌==◌, Bool, false, not, List, ◌∷◌}
+use Rattle.std.specs.Prelude.{[], Option, Some, None, ℕ, ◌-◌, ◌==◌, Bool, true, false, not, if◌then◌else◌, List, ◌∷◌}
+use Rattle.std.specs.List.{slice_get}
+use Rattle.ga_lab.specs.Machine.{State, history_of}
+use Rattle.ga_event.specs.declared.flow.part.NodePart.{NodePart}
+use Rattle.ga_event.specs.declared.flow.part.NodePart.TheVariants as part
+use Rattle.ga_provenance.specs.declared.value.Value.{Value}
 use Rattle.ga_causal.specs.Dependence.{is_marked}
 use Rattle.ga_text.specs.Lines.{Text}
 use Rattle.ga_grid.specs.declared.node_id.NodeId.{NodeId}
@@ -8,7 +13,7 @@ use Rattle.ga_event.specs.declared.event.Cause.{Cause}
 use Rattle.ga_event.specs.declared.made.Made.{Made}
 use Rattle.ga_event.specs.declared.made.Made.TheVariants.{Own, Pass}
 use Rattle.ga_explorer_text.specs.Saved.{saved_line, with_feed}
-use Rattle.ga_provenance.specs.declared.listing.ProvenanceRow.{ProvenanceRow}
+use Rattle.ga_provenance.specs.declared.lines.ProvenanceLine.{ProvenanceLine}
 
 -- ---- what private contracts cite
 
@@ -30,8 +35,24 @@ cause_line cause = with_feed (saved_line cause.event)
 abbrev pub ended_but : List Bool → ℕ → Bool
 ended_but live n = not (is_marked live n)
 
--- ---- which step the first of some rows is of
+-- ---- which step the first of some lines is of
 
-abbrev pub is_first : ℕ → List ProvenanceRow → Bool
+abbrev pub is_first : ℕ → List ProvenanceLine → Bool
 is_first step [] = false
-is_first step (row ∷ rows) = row.value.step == step
+is_first step (line ∷ lines) = line.value.step == step
+
+-- ---- the words of lines
+
+-- whether a part gets the word of a transfer, and whether the line of a value has no word but that one
+abbrev pub is_transferred : NodePart → Bool
+is_transferred (part.Data k) = k == 0
+is_transferred part.I = true
+is_transferred at = false
+
+abbrev pub is_transferred_by : Option Made → NodePart → Bool
+is_transferred_by None at = false
+is_transferred_by (Some (Own node step kind)) at = false
+is_transferred_by (Some (Pass writer i reader j word)) at = is_transferred at
+
+abbrev pub has_no_word : State → Value → Bool
+has_no_word s value = if value.step == 0 then false else is_transferred_by (slice_get (history_of s value.node.number) (value.step - 1)) value.part

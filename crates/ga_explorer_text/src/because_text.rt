@@ -12,7 +12,7 @@ use ga_debug_info::DebugInfo;
 use ga_display::refusal_text;
 use ga_grid::NodeId;
 use ga_lab::{Lab, LabFault, Made};
-use ga_provenance::{Decision, Decisions, ProvenanceRow};
+use ga_provenance::{Decision, Decisions};
 use ga_text::{TextBuffer, WriteResult, Writer, push_step, push_text};
 use std::io::Write;
 
@@ -55,6 +55,7 @@ fn decided_line(node: NodeId, decision: Decision) -> TextBuffer
 impl<'l> StepContext<'l> {
     ghost use Rattle.std.specs.Prelude.{◌≡◌, ◌-◌};
     ghost use Rattle.ga_text.specs.Output.{WritesSome, WritesExactly};
+    ghost use Rattle.ga_provenance.specs.Origins.{IsMovedValue};
     ghost use Rattle.ga_provenance.specs.Deciding.{newest_decision};
     ghost use Rattle.ga_explorer_text.specs.Because.{decision_text, decisions_text, decisions_or_none_text};
     ghost use Rattle.ga_lab.specs.Machine.{node_at_step};
@@ -99,15 +100,14 @@ impl<'l> StepContext<'l> {
 
     /// Says a step with what it tested, and below it the step that made the value.
     fn say_decision<W: Write>(&self, decision: Decision, writer: &mut Writer<'_, W>) -> WriteResult
+        requires { IsMovedValue self.now.lab.now decision.source decision.tested }
         ensures { WritesExactly result (decision_text self.now.notes.now self.now.lab.now self.now.node decision) W.contents writer.old writer.new }
     {
         let step = decision.step;
-        let row = ProvenanceRow {
-            depth: 0,
-            value: decision.source,
-        };
+        let source = decision.source;
+        let tested = decision.tested;
         writer.write_blocks(decided_line(self.node, decision).as_slice())?;
         self.write_step_suffix(self.node, step, writer)?;
-        self.write_tree_row(1, row, writer)
+        self.write_source_line(source, tested, writer)
     }
 }

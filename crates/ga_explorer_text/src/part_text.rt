@@ -3,7 +3,7 @@
 ghost use Rattle.std.specs.Prelude.{◌≡◌, ◌+◌, ◌≤◌, ◌++◌};
 ghost use Rattle.arrayvec.specs.ArrayVec.{array_vec_len};
 ghost use Rattle.ga_display.specs.Texts.{register_text};
-ghost use Rattle.ga_explorer_text.specs.Trees.{data_name, return_name, part_name, part_mark_text};
+ghost use Rattle.ga_explorer_text.specs.Whence.{data_name, return_name, part_name, part_mark_text};
 
 use ga_event::NodePart;
 use ga_text::{
@@ -91,7 +91,8 @@ pub(crate) fn push_part_suffix(out: &mut TextBuffer, part: NodePart)
 /// Adds the name of a part, and its word.
 pub(crate) fn push_named_word(out: &mut TextBuffer, part: NodePart, word: Word18)
     requires { array_vec_len out.old + MAX_NAMED_WORD_BYTES ≤ 256 }
-    ensures { out.new.items ≡ out.old.items ++ register_text (part_name part) word }
+    ensures text { out.new.items ≡ out.old.items ++ register_text (part_name part) word }
+    ensures len { array_vec_len out.new ≤ array_vec_len out.old + MAX_NAMED_WORD_BYTES }
 {
     push_text(out, b" ");
     push_part(out, part);

@@ -125,6 +125,19 @@ impl<'l> StepContext<'l> {
         }
     }
 
+    /// A copy, whose node is walked back independently.
+    pub fn copy(&self) -> Self
+        ensures lab { result.lab.now ≡ self.now.lab.now }
+        ensures notes { result.notes.now ≡ self.now.notes.now }
+    {
+        StepContext {
+            lab: self.lab,
+            notes: self.notes,
+            node: self.node,
+            near: self.near.copy(),
+        }
+    }
+
     /// A node that is walked back to its first `place` steps: from here, if this is the same node and not earlier, else from its
     /// newest step.
     pub fn walk_back_to_step(&self, node: NodeId, place: u32) -> NodeWalk<'l>

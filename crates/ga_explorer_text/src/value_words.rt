@@ -1,19 +1,27 @@
 //! The words of values, read from nodes that are walked back.
 
-ghost use Rattle.std.specs.Prelude.{◌≡◌, ◌≤◌, ◌<◌, ◌^◌, slice_index};
+ghost use Rattle.std.specs.Prelude.{◌≡◌, ◌≤◌, ◌<◌, ◌-◌, ◌^◌, slice_index};
+ghost use Rattle.std.specs.List.{slice_get};
 ghost use Rattle.ga_node.specs.Record.{record_of};
 ghost use Rattle.ga_event.specs.Flow.{part_value};
 ghost use Rattle.ga_event.specs.Told.{count_steps};
-ghost use Rattle.ga_lab.specs.Machine.{node_at_step};
-ghost use Rattle.ga_provenance.specs.Origins.{node_after};
+ghost use Rattle.ga_lab.specs.Machine.{history_of, node_at_step};
+ghost use Rattle.ga_provenance.specs.Origins.{is_made_with_t, node_after};
+ghost use Rattle.ga_explorer_text.specs.inner.{is_transferred, has_no_word};
 
 use crate::source_suffix::StepContext;
 use ga_event::NodePart;
 use ga_grid::NodeId;
-use ga_lab::{Lab, NodeWalk};
-use ga_node::{Node, Place};
-use ga_provenance::{ProvenanceRow, Value};
+use ga_lab::{Lab, Made, NodeWalk};
+use ga_node::{Node, OwnEventKind, Place};
+use ga_provenance::Value;
 use ga_word::Word18;
+
+/// The code of `+*`.
+pub(crate) const MULTIPLY_STEP: u8 = 16;
+
+/// The code of `+`.
+const PLUS: u8 = 20;
 
 /// The word of a value, and A of its node after its step.
 #[derive(Clone, Copy, PartialEq, Eq, Debug)]
@@ -103,19 +111,59 @@ fn walked_word(lab: &Lab, node: NodeId, place: u32, walk: &NodeWalk<'_>, part: N
     Word18::from_low_bits(part_word(walk.node(), part))
 }
 
-impl<'l> StepContext<'l> {
-    ghost use Rattle.std.specs.Prelude.{◌≡◌};
-    ghost use Rattle.ga_explorer_text.specs.Trees.{word_of_value, a_of_value};
+/// Whether the line of a value has no word but the transferred one.
+fn has_no_word(lab: &Lab, value: Value) -> bool
+    ensures { result ≡ has_no_word lab.now value }
+{
+    if value.step == 0 {
+        return false;
+    }
+    match lab.made_event_of_step(value.node, value.step - 1) {
+        Some(Made::Pass { .. }) => is_transferred(value.part),
+        Some(Made::Own { .. }) => false,
+        None => false,
+    }
+}
 
-    /// The context of the step of a value, or this one where there is no row: no row of the value's node is of a later step.
-    pub fn root(&self, rows: &[ProvenanceRow]) -> StepContext<'l>
+/// Whether a part gets the transferred word.
+fn is_transferred(part: NodePart) -> bool
+    ensures { result ≡ is_transferred part }
+{
+    match part {
+        NodePart::Data(place) => place == 0,
+        NodePart::I => true,
+        _ => false,
+    }
+}
+
+/// Whether the step of a value, as made, may have made T with A or the carry.
+fn is_made_with_t(lab: &Lab, value: Value) -> bool
+    ensures { result ≡ is_made_with_t (slice_get (history_of lab.now value.node.number) (value.step - 1)) }
+{
+    match lab.made_event_of_step(value.node, value.step.saturating_sub(1)) {
+        Some(Made::Own { kind, .. }) => match kind {
+            OwnEventKind::Run(code) => code == MULTIPLY_STEP || code == PLUS,
+            _ => false,
+        },
+        Some(Made::Pass { .. }) => false,
+        None => false,
+    }
+}
+
+impl<'l> StepContext<'l> {
+    ghost use Rattle.std.specs.Prelude.{◌≡◌, ◌≤◌, ◌-◌, false};
+    ghost use Rattle.std.specs.List.{slice_get};
+    ghost use Rattle.ga_event.specs.Flow.{IsNodePart};
+    ghost use Rattle.ga_lab.specs.Machine.{history_of};
+    ghost use Rattle.ga_provenance.specs.Origins.{is_made_with_t, origin_of, IsMovedValue};
+    ghost use Rattle.ga_explorer_text.specs.Whence.{word_of_value, a_of_value, value_with_word_text, value_text};
+
+    /// The context of the step of a value.
+    pub fn context_of_value(&self, value: Value) -> StepContext<'l>
         ensures lab { result.lab.now ≡ self.now.lab.now }
         ensures notes { result.notes.now ≡ self.now.notes.now }
     {
-        match rows {
-            [first, ..] => self.context_of(first.value.node, first.value.step),
-            [] => self.context_of(self.node, self.near.step()),
-        }
+        self.context_of(value.node, value.step)
     }
 
     /// The context of a step of a node, or of its last one.
@@ -132,6 +180,50 @@ impl<'l> StepContext<'l> {
         }
     }
 
+    /// The context of an earlier step of its node.
+    fn walked_back_to(self, step: u32) -> StepContext<'l>
+        requires { step ≤ self.near.step }
+        ensures lab { result.lab.now ≡ self.entry.lab.now }
+        ensures notes { result.notes.now ≡ self.entry.notes.now }
+    {
+        let StepContext {
+            lab,
+            notes,
+            node,
+            mut near,
+        } = self;
+        near.walk_back_to(step);
+        StepContext {
+            lab,
+            notes,
+            node,
+            near,
+        }
+    }
+
+    /// The context of where a value was used, if its line has a word that is read there: by the context of the line before, if that
+    /// is of the same node and not earlier, else from here. For any other line the context of the line before.
+    pub fn context_of_use(
+        &self,
+        last: StepContext<'l>,
+        value: Value,
+        used: Value,
+    ) -> StepContext<'l>
+        requires lab { last.lab.now ≡ self.now.lab.now }
+        requires notes { last.notes.now ≡ self.now.notes.now }
+        ensures lab { result.lab.now ≡ self.now.lab.now }
+        ensures notes { result.notes.now ≡ self.now.notes.now }
+    {
+        let Value { node, step, .. } = used;
+        if has_no_word(self.lab, value) {
+            last
+        } else if last.node == node && step <= last.near.step() {
+            last.walked_back_to(step)
+        } else {
+            self.context_of(node, step)
+        }
+    }
+
     /// Reads the words of a value. Takes time linear in the number of steps that its node is walked back.
     pub fn words_of(&self, value: Value) -> ValueWords
         ensures word { result.word ≡ word_of_value self.now.lab.now value }
@@ -143,6 +235,42 @@ impl<'l> StepContext<'l> {
         ValueWords {
             word: walked_word(self.lab, node, place, &walk, part),
             a: walked_word(self.lab, node, place, &walk, NodePart::A),
+        }
+    }
+
+    /// The word of a value that was only moved since the step that made it, unless this may have made T with it.
+    fn word_of_use(&self, used: Value) -> Word18
+        requires part { IsNodePart used.part }
+        requires apart { is_made_with_t (slice_get (history_of self.now.lab.now used.node.number) ((origin_of self.now.lab.now used).step - 1)) ≡ false }
+        ensures { result ≡ word_of_value self.now.lab.now (origin_of self.now.lab.now used) }
+    {
+        let Value { node, step, part } = used;
+        // This is called only for its contract, that the chip has all its nodes.
+        self.lab.chip().node(node);
+        let place = step.min(self.lab.steps(node));
+        let walk = self.walk_back_to_step(node, place);
+        walk.node().has_sizes();
+        walked_word(self.lab, node, place, &walk, part)
+    }
+
+    /// The words of the line of a value that was used there: it has the same word there, unless its step may have made T with it.
+    pub fn words_of_used(&self, value: Value, used: Value) -> ValueWords
+        requires { IsMovedValue self.now.lab.now value used }
+        ensures { value_with_word_text self.now.lab.now value result.word result.a ≡ value_text self.now.lab.now value }
+    {
+        let none = Word18::from_low_bits(0);
+        if has_no_word(self.lab, value) {
+            ValueWords {
+                word: none,
+                a: none,
+            }
+        } else if is_made_with_t(self.lab, value) {
+            self.words_of(value)
+        } else {
+            ValueWords {
+                word: self.word_of_use(used),
+                a: none,
+            }
         }
     }
 }

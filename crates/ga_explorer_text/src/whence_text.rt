@@ -1,50 +1,27 @@
 //! The provenance of a value, written line by line.
 
-ghost use Rattle.std.specs.Prelude.{◌≡◌, ◌≤◌, ◌<◌, ◌+◌, ◌-◌, ◌++◌, codes, IfSome};
-ghost use Rattle.ga_word.specs.Word.{hex6_of};
-ghost use Rattle.ga_display.specs.Texts.{register_text};
-ghost use Rattle.arrayvec.specs.ArrayVec.{array_vec_len};
-ghost use Rattle.ga_text.specs.Output.{WritesSome, WritesExactly};
-ghost use Rattle.ga_explorer_text.specs.Trees.{blanks, transfer_result_text, op_result_text, own_event_result_text, step_result_text, value_with_word_text, queried_transfer_text, queried_value_text, step_action_text, more_rows_text, selected_value, IsWhenceAnswer};
+ghost use Rattle.std.specs.Prelude.{◌≡◌, drop, IfSome};
+ghost use Rattle.ga_text.specs.Output.{WritesSome};
+ghost use Rattle.ga_explorer_text.specs.Whence.{selected_value, IsWhenceAnswer};
 ghost use Rattle.ga_event.specs.Flow.{IsNodePart};
-ghost use Rattle.ga_lab.specs.Machine.{history_of, node_at_step};
-ghost use Rattle.std.specs.List.{slice_get};
+ghost use Rattle.ga_lab.specs.Machine.{node_at_step};
 ghost use Rattle.ga_explorer_text.specs.inner.{is_first};
 
-use crate::deed_text::{MAX_ACTION_BYTES, push_action};
-use crate::part_text::{MAX_NAMED_WORD_BYTES, push_named_word, push_part, push_part_suffix};
+use crate::line_number::{has_head, more_lines, most_lines, user_of_line};
 use crate::source_suffix::StepContext;
-use crate::value_words::ValueWords;
-use arrayvec::ArrayVec;
+use crate::value_line::{head_line, indented_line, numbered_line, queried_line};
 use ga_debug_info::DebugInfo;
 use ga_display::{advised_refusal_text, refusal_text};
 use ga_event::NodePart;
 use ga_grid::NodeId;
-use ga_lab::{Lab, LabFault, Made, NodeWalk};
-use ga_node::OwnEventKind;
-use ga_provenance::{ProvenanceRow, Value, find_provenance_at, queried_value_at};
-use ga_text::{
-    MAX_STEP_BYTES, TextBuffer, WORD_DIGITS, WriteResult, Writer, push_node, push_spaced_word,
-    push_step, push_text,
-};
-use ga_word::Word18;
+use ga_lab::{Lab, LabFault, NodeWalk};
+use ga_provenance::{ProvenanceLine, Value, find_lines_at, queried_value_at};
+use ga_text::{WriteResult, Writer};
 use std::alloc::Global;
 use std::io::Write;
 
-/// How many lines a tree has at most.
-const MOST_ROWS: u32 = 100;
-
-/// The code of `+*`.
-const MULTIPLY_STEP: u8 = 16;
-
-/// The most bytes of a word and of A.
-const TWO_WORDS: usize = 1 + WORD_DIGITS + MAX_NAMED_WORD_BYTES;
-
-/// The most bytes of a step with what it did.
-const DID_ROOM: usize = MAX_STEP_BYTES + 1 + MAX_ACTION_BYTES;
-
-/// `whence NNN K [VALUE]`: writes the steps whose values went into what a step made, or into the value of a part after it, as a
-/// tree. The node is walked back to the step once, and the rest is found from there.
+/// `whence NNN K [VALUE] [from L]`: writes the steps whose values went into what a step made, or into the value of a part after
+/// it, the nearest first, from line `first` on. The node is walked back to the step once, and the rest is found from there.
 ///
 /// # Errors
 /// A write failed.
@@ -55,17 +32,18 @@ pub fn write_whence<W: Write>(
     node: NodeId,
     step: u32,
     part: Option<NodePart>,
+    first: u32,
     writer: &mut Writer<'_, W>,
 ) -> WriteResult
     requires { IfSome part IsNodePart }
-    ensures { WritesSome result (IsWhenceAnswer notes.now lab.now node step part) W.contents writer.old writer.new }
+    ensures { WritesSome result (IsWhenceAnswer notes.now lab.now node step part first) W.contents writer.old writer.new }
 {
     if !lab.has_step((node, step)) {
         return writer.write_text(refusal_text(LabFault::NoStep));
     }
     let here = StepContext::new(lab, notes, node, step);
     match selected_value(lab, &here.near, node, part) {
-        Some(value) => here.say_asked(alloc, value, writer),
+        Some(value) => here.say_asked(alloc, value, first, writer),
         None => here.say_head(writer),
     }
 }
@@ -92,221 +70,97 @@ fn selected_value(
     }
 }
 
-/// The text after the rows, if these are not all.
-fn more(is_whole: bool) -> &'static [u8]
-    ensures { result.now ≡ more_rows_text is_whole }
+/// Whether the first of some lines is of this step.
+fn is_first(step: u32, lines: &[ProvenanceLine]) -> bool
+    ensures { result ≡ is_first step lines.now }
 {
-    if is_whole { b"" } else { b"more\n" }
-}
-
-/// Whether the first of some rows is of this step.
-fn is_first(step: u32, rows: &[ProvenanceRow]) -> bool
-    ensures { result ≡ is_first step rows.now }
-{
-    match rows {
+    match lines {
         [first, ..] => first.value.step == step,
         [] => false,
     }
 }
 
-/// Says two blanks for each level.
-fn say_blanks<W: Write>(levels: u64, writer: &mut Writer<'_, W>) -> WriteResult
-    ensures { WritesExactly result (blanks levels) W.contents writer.old writer.new }
+/// The lines after the first `skipped`.
+fn lines_after(lines: &[ProvenanceLine], skipped: u32) -> &[ProvenanceLine]
+    ensures { result.now ≡ drop skipped lines.now }
 {
-    let mut left = levels;
-    'levels: while left > 0 {
-        writer.write_text(b"  ")?;
-        left -= 1;
-    }
-    Ok(())
-}
-
-/// A step of a node, with what it did.
-fn head_line(lab: &Lab, node: NodeId, step: u32) -> TextBuffer
-    ensures { result.items ≡ step_action_text lab.now node step }
-{
-    let mut out = ArrayVec::new();
-    push_did(&mut out, lab, node, step);
-    out
-}
-
-/// A step of a node, with what it did and the queried value.
-fn queried_line(lab: &Lab, node: NodeId, step: u32, value: Value, word: Word18) -> TextBuffer
-    ensures { result.items ≡ step_action_text lab.now node step ++ queried_value_text (slice_get (history_of lab.now node.number) (step - 1)) step value word }
-{
-    let mut out = ArrayVec::new();
-    push_did(&mut out, lab, node, step);
-    let made = lab.made_event_of_step(node, step.saturating_sub(1));
-    push_queried(&mut out, made, step, value, word);
-    out
-}
-
-/// The step that made a value, or that it was loaded, with the value's word.
-fn value_line(lab: &Lab, value: Value, words: ValueWords) -> TextBuffer
-    ensures { result.items ≡ value_with_word_text lab.now value words.word words.a }
-{
-    let mut out = ArrayVec::new();
-    if value.step == 0 {
-        push_node(&mut out, value.node);
-        push_text(&mut out, b" load ");
-        push_part(&mut out, value.part);
-        push_spaced_word(&mut out, words.word);
-    } else {
-        push_did(&mut out, lab, value.node, value.step);
-        push_part_suffix(&mut out, value.part);
-        let made = lab.made_event_of_step(value.node, value.step - 1);
-        push_left(&mut out, made, value.part, words);
-    }
-    out
-}
-
-/// Adds a step of a node, with what it did.
-fn push_did(out: &mut TextBuffer, lab: &Lab, node: NodeId, step: u32)
-    requires { array_vec_len out.old + DID_ROOM ≤ 256 }
-    ensures text { out.new.items ≡ out.old.items ++ step_action_text lab.now node step }
-    ensures len { array_vec_len out.new ≤ array_vec_len out.old + DID_ROOM }
-{
-    push_step(out, node, step);
-    push_text(out, b" ");
-    if let Some(made) = lab.made_event_of_step(node, step.saturating_sub(1)) {
-        push_action(out, made, node);
-    }
-}
-
-/// Adds the queried value of a step, but for the word that it sent.
-fn push_queried(out: &mut TextBuffer, made: Option<Made>, step: u32, value: Value, word: Word18)
-    requires { array_vec_len out.old + MAX_NAMED_WORD_BYTES ≤ 256 }
-    ensures { out.new.items ≡ out.old.items ++ queried_value_text made step value word }
-{
-    match made {
-        Some(Made::Pass { .. }) => push_queried_of_transfer(out, step, value, word),
-        Some(Made::Own { .. }) => push_named_word(out, value.part, word),
-        None => push_named_word(out, value.part, word),
-    }
-}
-
-/// Adds the queried value of a transfer: one that its node has after it.
-fn push_queried_of_transfer(out: &mut TextBuffer, step: u32, value: Value, word: Word18)
-    requires { array_vec_len out.old + MAX_NAMED_WORD_BYTES ≤ 256 }
-    ensures { out.new.items ≡ out.old.items ++ queried_transfer_text step value word }
-{
-    if value.step == step {
-        push_named_word(out, value.part, word);
-    }
-}
-
-/// Adds the word that a step left in a part, but for a transferred one.
-fn push_left(out: &mut TextBuffer, made: Option<Made>, part: NodePart, words: ValueWords)
-    requires { array_vec_len out.old + TWO_WORDS ≤ 256 }
-    ensures { out.new.items ≡ out.old.items ++ step_result_text made part words.word words.a }
-{
-    match made {
-        Some(Made::Pass { .. }) => push_beside_transfer(out, part, words.word),
-        Some(Made::Own { kind, .. }) => push_left_by_kind(out, kind, part, words),
-        None => push_spaced_word(out, words.word),
-    }
-}
-
-/// Adds the word that an event of a node's own left in a part.
-fn push_left_by_kind(out: &mut TextBuffer, kind: OwnEventKind, part: NodePart, words: ValueWords)
-    requires { array_vec_len out.old + TWO_WORDS ≤ 256 }
-    ensures { out.new.items ≡ out.old.items ++ own_event_result_text kind part words.word words.a }
-{
-    match kind {
-        OwnEventKind::Run(code) => push_left_by_op(out, code, part, words),
-        OwnEventKind::Fetch => push_spaced_word(out, words.word),
-        OwnEventKind::Wait => push_spaced_word(out, words.word),
-        OwnEventKind::Stop(_) => push_spaced_word(out, words.word),
-    }
-}
-
-/// Adds the word that an opcode left in a part, and A where it is T of `+*`.
-fn push_left_by_op(out: &mut TextBuffer, code: u8, part: NodePart, words: ValueWords)
-    requires { array_vec_len out.old + TWO_WORDS ≤ 256 }
-    ensures { out.new.items ≡ out.old.items ++ op_result_text code part words.word words.a }
-{
-    match part {
-        NodePart::Data(k) => {
-            if code == MULTIPLY_STEP && k == 0 {
-                push_t_and_a(out, words);
-            } else {
-                push_spaced_word(out, words.word);
-            }
-        }
-        _ => push_spaced_word(out, words.word),
-    }
-}
-
-/// Adds a word, and A.
-fn push_t_and_a(out: &mut TextBuffer, words: ValueWords)
-    requires { array_vec_len out.old + TWO_WORDS ≤ 256 }
-    ensures { out.new.items ≡ out.old.items ++ ((codes " " ++ hex6_of words.word) ++ register_text (codes "a") words.a) }
-{
-    push_spaced_word(out, words.word);
-    push_named_word(out, NodePart::A, words.a);
-}
-
-/// Adds the word that a transfer left in a part, but for the transferred one, which is in T or the instruction word.
-fn push_beside_transfer(out: &mut TextBuffer, part: NodePart, word: Word18)
-    requires { array_vec_len out.old + 1 + WORD_DIGITS ≤ 256 }
-    ensures { out.new.items ≡ out.old.items ++ transfer_result_text part word }
-{
-    match part {
-        NodePart::Data(0) => (),
-        NodePart::I => (),
-        _ => push_spaced_word(out, word),
-    }
+    let skipped = lines.len().min(skipped as usize);
+    &lines[skipped..]
 }
 
 impl<'l> StepContext<'l> {
-    ghost use Rattle.std.specs.Prelude.{◌≡◌, Some, flat_map};
+    ghost use Rattle.std.specs.Prelude.{◌≡◌, ◌+◌, ◌^◌, ◌<◌, not, Some, All, length};
     ghost use Rattle.ga_event.specs.Flow.{IsNodePart};
     ghost use Rattle.ga_text.specs.Output.{WritesSome, WritesExactly};
-    ghost use Rattle.ga_explorer_text.specs.Trees.{tree_row_text, tree_rows_by_root, queried_step_text, queried_step_line, IsStepOrTreeAnswer};
+    ghost use Rattle.ga_explorer_text.specs.Whence.{head_text, value_line_text, numbered_lines_text, lines_from, indented_value_text, queried_step_text, IsStepOrLinesAnswer};
+    ghost use Rattle.ga_provenance.specs.Lines.{IsMovedLine};
+    ghost use Rattle.ga_provenance.specs.Origins.{IsMovedValue};
     ghost use Rattle.ga_explorer_text.specs.inner.{is_first};
 
-    /// Writes the tree of a value for the step to which its node is walked back.
+    /// Writes the lines of a value for the step to which its node is walked back.
     fn say_asked<W: Write>(
         &self,
         alloc: Global,
         value: Value,
+        first: u32,
         writer: &mut Writer<'_, W>,
     ) -> WriteResult
         requires { IsNodePart value.part }
-        ensures { WritesSome result (λ text. IsStepOrTreeAnswer self.now.notes.now self.now.lab.now self.now.node self.now.near.step (Some value) text)
+        ensures { WritesSome result (λ text. IsStepOrLinesAnswer self.now.notes.now self.now.lab.now self.now.node self.now.near.step first (Some value) text)
             W.contents writer.old writer.new }
     {
-        match find_provenance_at(alloc, self.lab, &self.near, self.node, value, MOST_ROWS) {
-            Ok(listing) => {
-                self.say_rows(value, listing.rows.as_slice(), writer)?;
-                writer.write_blocks(more(listing.is_whole))
+        match find_lines_at(
+            alloc,
+            self.lab,
+            &self.near,
+            self.node,
+            value,
+            most_lines(first),
+        ) {
+            Ok(found) => {
+                let lines = found.lines.as_slice();
+                self.say_found(value, first, lines, writer)?;
+                let last = more_lines(lines.len() as u64, first, found.is_whole);
+                writer.write_blocks(last.as_slice())
             }
             Err(_) => writer.write_text(advised_refusal_text(LabFault::Memory)),
         }
     }
 
-    /// Writes the rows, after the step of the query if this isn't the first of them.
-    fn say_rows<W: Write>(
+    /// Says those of some lines that are written from line `first` on, and line 0 before the first.
+    fn say_found<W: Write>(
         &self,
         value: Value,
-        rows: &[ProvenanceRow],
+        first: u32,
+        lines: &[ProvenanceLine],
         writer: &mut Writer<'_, W>,
     ) -> WriteResult
-        ensures { WritesSome result (λ text. text ≡ tree_rows_by_root self.now.notes.now self.now.lab.now self.now.node self.now.near.step value (is_first self.now.near.step rows.now) rows.now)
+        requires most { length lines.now < 2 ^ 32 }
+        requires used { All (IsMovedLine self.now.lab.now) lines.now }
+        ensures { WritesSome result (λ text. text ≡ lines_from self.now.notes.now self.now.lab.now self.now.node self.now.near.step first value (not (is_first self.now.near.step lines.now)) lines.now)
             W.contents writer.old writer.new }
     {
-        if is_first(self.near.step(), rows) {
-            return self.say_tree(0, rows, writer);
-        }
-        self.say_queried(value, writer)?;
-        self.say_tree(1, rows, writer)
+        let is_moved = !is_first(self.near.step(), lines);
+        self.say_queried(value, has_head(is_moved, first), writer)?;
+        let skipped = first.saturating_sub(1);
+        let written = lines_after(lines, skipped);
+        let root = self.root(lines);
+        root.say_lines(self.copy(), is_moved, skipped, written, writer)
     }
 
-    /// Says the step asked for, to which its node is walked back, with the queried value.
-    fn say_queried<W: Write>(&self, value: Value, writer: &mut Writer<'_, W>) -> WriteResult
-        ensures { WritesSome result (λ text. text ≡ queried_step_line self.now.notes.now self.now.lab.now self.now.node self.now.near.step value)
+    /// Says the step asked for, to which its node is walked back, with the queried value, if this is written.
+    fn say_queried<W: Write>(
+        &self,
+        value: Value,
+        is_written: bool,
+        writer: &mut Writer<'_, W>,
+    ) -> WriteResult
+        ensures { WritesSome result (λ text. text ≡ head_text self.now.notes.now self.now.lab.now self.now.node self.now.near.step value is_written)
             W.contents writer.old writer.new }
     {
+        if !is_written {
+            return Ok(());
+        }
         let word = self.words_of(value).word;
         let line = queried_line(self.lab, self.node, self.near.step(), value, word);
         writer.write_blocks(line.as_slice())?;
@@ -322,48 +176,72 @@ impl<'l> StepContext<'l> {
         self.write_own_suffix(writer)
     }
 
-    /// Says the lines of some rows, each so much deeper, with words that are read from the first of them on.
-    fn say_tree<W: Write>(
-        &self,
-        deeper: u8,
-        rows: &[ProvenanceRow],
-        writer: &mut Writer<'_, W>,
-    ) -> WriteResult
-        ensures { WritesSome result (λ text. text ≡ flat_map (tree_row_text self.now.notes.now self.now.lab.now deeper) rows.now)
-            W.contents writer.old writer.new }
+    /// The context of the step of the first line's value, or this one where there are fewer than two lines.
+    fn root(&self, lines: &[ProvenanceLine]) -> StepContext<'l>
+        ensures lab { result.lab.now ≡ self.now.lab.now }
+        ensures notes { result.notes.now ≡ self.now.notes.now }
     {
-        let root = self.root(rows);
-        root.say_lines(deeper, rows, writer)
+        match lines {
+            [first, _, ..] => self.context_of_value(first.value),
+            _ => self.copy(),
+        }
     }
 
-    /// Says the lines of some rows, each so much deeper.
+    /// Says some lines, of which `skipped` come before. Their words are read from `start`, a context of the same lab, and from
+    /// here.
     fn say_lines<W: Write>(
         &self,
-        deeper: u8,
-        rows: &[ProvenanceRow],
+        start: StepContext<'l>,
+        is_moved: bool,
+        skipped: u32,
+        lines: &[ProvenanceLine],
         writer: &mut Writer<'_, W>,
     ) -> WriteResult
-        ensures { WritesSome result (λ text. text ≡ flat_map (tree_row_text self.now.notes.now self.now.lab.now deeper) rows.now)
-            W.contents writer.old writer.new }
+        requires lab { start.lab.now ≡ self.now.lab.now }
+        requires notes { start.notes.now ≡ self.now.notes.now }
+        requires most { skipped + length lines.now < 2 ^ 32 }
+        requires used { All (IsMovedLine self.now.lab.now) lines.now }
+        ensures { WritesSome result (λ text. text ≡ numbered_lines_text self.now.notes.now self.now.lab.now is_moved skipped lines.now) W.contents writer.old writer.new }
     {
-        'rows: for row in rows {
-            self.write_tree_row(deeper, *row, writer)?;
+        let mut here = start;
+        let mut number = skipped;
+        'lines: for line in lines {
+            here = self.context_of_use(here, line.value, line.used);
+            number += 1;
+            here.write_line(number, is_moved, *line, writer)?;
         }
         Ok(())
     }
 
-    /// Says the line of a row.
-    pub fn write_tree_row<W: Write>(
+    /// Says a line with its number.
+    fn write_line<W: Write>(
         &self,
-        deeper: u8,
-        row: ProvenanceRow,
+        number: u32,
+        is_moved: bool,
+        line: ProvenanceLine,
         writer: &mut Writer<'_, W>,
     ) -> WriteResult
-        ensures { WritesExactly result (tree_row_text self.now.notes.now self.now.lab.now deeper row) W.contents writer.old writer.new }
+        requires { IsMovedLine self.now.lab.now line }
+        ensures { WritesExactly result (value_line_text self.now.notes.now self.now.lab.now is_moved number line) W.contents writer.old writer.new }
     {
-        say_blanks(u64::from(row.depth) + u64::from(deeper), writer)?;
-        let words = self.words_of(row.value);
-        writer.write_blocks(value_line(self.lab, row.value, words).as_slice())?;
-        self.write_value_suffix(row.value, writer)
+        let words = self.words_of_used(line.value, line.used);
+        let user = user_of_line(is_moved, number, line.user);
+        writer.write_blocks(numbered_line(self.lab, number, user, line, words).as_slice())?;
+        self.write_value_suffix(line.value, writer)
+    }
+
+    /// Says the line of a value without numbers, two blanks deeper.
+    pub fn write_source_line<W: Write>(
+        &self,
+        value: Value,
+        used: Value,
+        writer: &mut Writer<'_, W>,
+    ) -> WriteResult
+        requires { IsMovedValue self.now.lab.now value used }
+        ensures { WritesExactly result (indented_value_text self.now.notes.now self.now.lab.now value) W.contents writer.old writer.new }
+    {
+        let words = self.words_of_used(value, used);
+        writer.write_blocks(indented_line(self.lab, value, words).as_slice())?;
+        self.write_value_suffix(value, writer)
     }
 }

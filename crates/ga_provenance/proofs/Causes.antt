@@ -25,13 +25,13 @@ use Rattle.ga_provenance.specs.declared.asked.QueriedPart.TheVariants.{PartAfter
 use Rattle.ga_provenance.specs.declared.value.Value.{Value}
 use Rattle.ga_provenance.specs.Origins.{node_after, value_of_step, flow_at, moved_source_part_at, listed_part, origin_after_steps, origin_of}
 use Rattle.ga_provenance.specs.Asked.{queried_event_part, queried_part_value, queried_value}
-use Rattle.std.proofs.lemmas.List.Elements.{All-nil, All-cons, All-append, All-map, All-head, All-tail}
+use Rattle.std.proofs.lemmas.List.Elements.{All-nil, All-cons, All-map, All-weaker, All-contains}
 use Rattle.ga_causal.proofs.Places.{stands_exact, older_step}
 use Rattle.ga_event.specs.declared.flow.part.NodePart.{NodePart}
 use Rattle.ga_event.specs.declared.flow.part.NodePart.TheVariants.{Data, Return, Ram, Rom, A, B, P, I, Io, Carry, Slot, Wait, Stop, Outside}
 use Rattle.ga_event.specs.Flow.{Flow, Same, From, top}
-use Rattle.ga_provenance.specs.declared.listing.ProvenanceRow.{ProvenanceRow}
-use Rattle.ga_provenance.specs.Rows.{sent_value, source_values, value_sources_after, value_sources, row_at_depth, origin_row, below, AreProvenanceRows, all, again, next, cut, IsCause, IsLoadedOrCause}
+use Rattle.ga_provenance.specs.Sources.{sent_value, source_values, value_sources_after, value_sources, IsCause, IsLoadedOrCause}
+use Rattle.ga_provenance.specs.Lines.{source_origins, IsProvenance, origin, source}
 
 -- ---- a node's step that is a pass is a step of the writer too
 
@@ -228,7 +228,7 @@ earlier s asked value other node less named = go other.step refl named
     go (suc k) is (inr cause) = inr (earlier_step s asked value other k is node less cause)
 
 -- where a value was made
-made_before : (s : State) (node : NodeId) (k : ℕ) (at : NodePart) → ((origin_after_steps s node k at).node ≡ node) × ((origin_after_steps s node k at).step ≤ k)
+pub made_before : (s : State) (node : NodeId) (k : ℕ) (at : NodePart) → ((origin_after_steps s node k at).node ≡ node) × ((origin_after_steps s node k at).step ≤ k)
 made_before s node zero at = (refl, omega arith)
 made_before s node (suc k) at = go (moved_source_part_at s node.number k at) (made_before s node k)
   where
@@ -289,17 +289,25 @@ named_sources s asked value named = go value.step refl
     go zero is = All-nil (IsLoadedOrCause s asked)
     go (suc k) is = named_by s asked value k is named (slice_get (history_of s value.node.number) k) refl (flow_at s value.node.number k value.part)
 
-named_below : (s : State) (asked : Value) (row : ProvenanceRow) → IsLoadedOrCause s asked row.value → All (λ (x : ProvenanceRow). IsLoadedOrCause s asked x.value) (below s row)
-named_below s asked row named = All-map (λ (x : ProvenanceRow). IsLoadedOrCause s asked x.value) (row_at_depth (row.depth + 1)) (value_sources s row.value) (named_sources s asked row.value named)
+-- so are all from which it was made, as the steps made them
+pub named_origins : (s : State) (asked value : Value) → IsLoadedOrCause s asked value → All (IsLoadedOrCause s asked) (source_origins s value)
+named_origins s asked value named =
+    All-map (IsLoadedOrCause s asked) (origin_of s) (value_sources s value)
+    (All-weaker (IsLoadedOrCause s asked) (λ (x : Value). IsLoadedOrCause s asked (origin_of s x)) (named_origin s asked) (value_sources s value) (named_sources s asked value named))
 
-pub rows_named : (s : State) (asked : Value) (named todo rows : List ProvenanceRow) (whole : Bool) → AreProvenanceRows s named todo rows whole
-    → All (λ (x : ProvenanceRow). IsLoadedOrCause s asked x.value) todo → All (λ (x : ProvenanceRow). IsLoadedOrCause s asked x.value) rows
-rows_named s asked named todo rows whole all ready = All-nil (λ (x : ProvenanceRow). IsLoadedOrCause s asked x.value)
-rows_named s asked named todo rows whole (again {named = n} {todo = t} row is rest) ready =
-    rows_named s asked n t rows whole rest (All-tail (λ (x : ProvenanceRow). IsLoadedOrCause s asked x.value) row t ready)
-rows_named s asked named todo rows whole (next {named = n} {todo = t} {rows = r} row is rest) ready =
-    let here = named_origin s asked row.value (All-head (λ (x : ProvenanceRow). IsLoadedOrCause s asked x.value) row t ready) in
-    All-cons (λ (x : ProvenanceRow). IsLoadedOrCause s asked x.value) (origin_row s row) r here
-    (rows_named s asked (n ++ origin_row s row ∷ []) (below s (origin_row s row) ++ t) r whole rest
-    (All-append (λ (x : ProvenanceRow). IsLoadedOrCause s asked x.value) (below s (origin_row s row)) t (named_below s asked (origin_row s row) here) (All-tail (λ (x : ProvenanceRow). IsLoadedOrCause s asked x.value) row t ready)))
-rows_named s asked named todo rows whole (cut row is) ready = All-nil (λ (x : ProvenanceRow). IsLoadedOrCause s asked x.value)
+provenance_named : (s : State) (asked value found : Value) → IsLoadedOrCause s asked value → IsProvenance s value found → IsLoadedOrCause s asked found
+provenance_named s asked value found named origin = named_origin s asked value named
+provenance_named s asked value found named (source {value = v} of x in_sources) =
+    All-contains (IsLoadedOrCause s asked) (source_origins s v) x (named_origins s asked v (provenance_named s asked value v named of)) in_sources
+
+pub provenance_caused : (s : State) (value found : Value) (place : ℕ) → position_of_step (causes_of s) value.node.number value.step ≡ Some place → IsProvenance s value found → IsLoadedOrCause s value found
+provenance_caused s value found place is of =
+    provenance_named s value value found (inr (record { cause = place; effect = place; cause_place = is; effect_place = is; depends = itself })) of
+
+pub selected_caused : (s : State) (node : NodeId) (step place : ℕ) (value found : Value) → position_of_step (causes_of s) node.number step ≡ Some place → queried_value s node step ≡ Some value → IsProvenance s value found
+    → IsLoadedOrCause s (value_of_step node step top) found
+selected_caused s node step place value found is asked of =
+    let near = asked_near s node step value asked in
+    let here = value_of_step node step top in
+    provenance_named s here value found
+    (earlier s here here value near.0 near.1 (inr (record { cause = place; effect = place; cause_place = is; effect_place = is; depends = itself }))) of

@@ -1,10 +1,14 @@
 -- The newest step of a node that a value decided; and that it is a cause, as where the value was made.
-use Rattle.std.proofs.Common.{◌≡◌, ℕ, suc, ◌<◌, ◌≤◌, Bool, [], Some, None, refl, sym, ◌∙◌, ap, subst, arith, inr}
+use Rattle.std.proofs.Common.{◌≡◌, ℕ, zero, suc, ◌<◌, ◌≤◌, ◌%◌, Bool, true, false, [], Some, None, refl, sym, ◌∙◌, ap, subst, arith, inr}
 use Rattle.std.specs.Prelude.{Option, option_map, option_and_then, option_to_list, unwrap_or}
 use Rattle.std.specs.List.{slice_get, All}
 use Rattle.std.proofs.lemmas.List.Elements.{All-head}
 use Rattle.std.proofs.lemmas.Option.{same_Some, none-some}
+use Rattle.ga_slots.specs.declared.op.Op.{Op}
+use Rattle.ga_slots.specs.declared.op.Op.TheVariants as op
+use Rattle.ga_slots.specs.Codes.{op_of}
 use Rattle.ga_node.specs.declared.kind.OwnEventKind.{OwnEventKind}
+use Rattle.ga_node.specs.declared.kind.OwnEventKind.TheVariants as kind
 use Rattle.ga_grid.specs.declared.node_id.NodeId.{NodeId}
 use Rattle.ga_event.specs.declared.made.Made.{Made}
 use Rattle.ga_event.specs.declared.made.Made.TheVariants.{Own, Pass}
@@ -12,12 +16,12 @@ use Rattle.ga_causal.specs.Dependence.{itself, position_of_step}
 use Rattle.ga_lab.specs.Machine.{State, causes_of, history_of}
 use Rattle.ga_event.specs.declared.flow.part.NodePart.{NodePart}
 use Rattle.ga_event.specs.declared.flow.part.NodePart.TheVariants as part
-use Rattle.ga_event.specs.Flow.{Flow, Same, From, top, part_value}
+use Rattle.ga_event.specs.Flow.{Flow, Same, From, IsNodePart, top, part_value}
 use Rattle.ga_provenance.specs.declared.value.Value.{Value}
 use Rattle.ga_provenance.specs.declared.deciding.Decision.{Decision}
-use Rattle.ga_provenance.specs.Origins.{value_of_step, node_after, flow_at, origin_of}
-use Rattle.ga_provenance.specs.Rows.{sent_value, IsCause, IsLoadedOrCause}
-use Rattle.ga_provenance.specs.Deciding.{port_code_source, is_incoming_code_at, has_port_code, tested_kind_part, tested_value_at, decision, step_decision, decision_at, newer_decision, newest_decision}
+use Rattle.ga_provenance.specs.Origins.{value_of_step, node_after, flow_at, origin_of, IsMovedValue}
+use Rattle.ga_provenance.specs.Sources.{sent_value, IsCause, IsLoadedOrCause}
+use Rattle.ga_provenance.specs.Deciding.{port_code_source, is_incoming_code_at, has_port_code, tested_code_part, tested_opcode_part, tested_kind_part, tested_value_at, decision, step_decision, decision_at, newer_decision, newest_decision}
 use Rattle.ga_provenance.specs.inner.{IsOwn}
 use Rattle.ga_provenance.proofs.Causes.{earlier, earlier_step, named_origin, named_sender}
 
@@ -126,3 +130,52 @@ source_cause s node step k place d is less h =
     let told = told_decided s node k d h in
     let named = named_origin s asked told.value (tested_named s node step k place told.made told.value is (omega (arith, less)) told.there told.tested) in
     subst (λ (x : Decision). IsLoadedOrCause s asked x.source) told.same named
+
+-- ---- the value that decided a step was only moved since it was made
+
+code_part : (came : Bool) (at : NodePart) → tested_code_part came ≡ Some at → IsNodePart at
+code_part true at h = subst IsNodePart (same_Some _ _ h) tt
+code_part false at h = absurd (none-some _ h)
+
+opcode_part : (s : State) (node : NodeId) (k : ℕ) (o : Op) (at : NodePart) → tested_opcode_part s node k o ≡ Some at → IsNodePart at
+opcode_part s node k op.Jump at h = code_part (has_port_code s node.number k) at h
+opcode_part s node k op.Call at h = code_part (has_port_code s node.number k) at h
+opcode_part s node k op.Return at h = subst IsNodePart (same_Some _ _ h) (omega arith)
+opcode_part s node k op.Execute at h = subst IsNodePart (same_Some _ _ h) (omega arith)
+opcode_part s node k op.Unext at h = subst IsNodePart (same_Some _ _ h) (omega arith)
+opcode_part s node k op.Next at h = subst IsNodePart (same_Some _ _ h) (omega arith)
+opcode_part s node k op.If at h = subst IsNodePart (same_Some _ _ h) (omega arith)
+opcode_part s node k op.MinusIf at h = subst IsNodePart (same_Some _ _ h) (omega arith)
+opcode_part s node k o at h = absurd (none-some _ h)
+
+kind_part : (s : State) (node : NodeId) (k : ℕ) (what : OwnEventKind) (at : NodePart) → tested_kind_part s node k what ≡ Some at → IsNodePart at
+kind_part s node k kind.Fetch at h = absurd (none-some _ h)
+kind_part s node k (kind.Run code) at h = opcode_part s node k (op_of (code % 32)) at h
+kind_part s node k kind.Wait at h = absurd (none-some _ h)
+kind_part s node k (kind.Stop number) at h = absurd (none-some _ h)
+
+tested_part_of : (s : State) (node : NodeId) (k : ℕ) (told : Made) (value : Value) → tested_value_at s node k told ≡ Some value → IsNodePart value.part
+tested_part_of s node k (Own other j what) value h = go (tested_kind_part s node k what) refl h
+  where
+    go : (o : Option NodePart) → tested_kind_part s node k what ≡ o → option_map (value_of_step node k) o ≡ Some value → IsNodePart value.part
+    go None is e = absurd (none-some _ e)
+    go (Some at) is e = subst (λ (v : Value). IsNodePart v.part) (same_Some _ _ e) (kind_part s node k what at is)
+tested_part_of s node k (Pass w i r j word) value h = go (slice_get (history_of s node.number) k) (code_sent (slice_get (history_of s node.number) k) (flow_at s node.number k part.I) value h)
+  where
+    go : (o : Option Made) → sent_value o ≡ Some value → IsNodePart value.part
+    go None e = absurd (none-some _ e)
+    go (Some (Own other j what)) e = absurd (none-some _ e)
+    go (Some (Pass w i r j word)) e = subst (λ (v : Value). IsNodePart v.part) (same_Some _ _ e) (omega arith)
+
+at_moved : (s : State) (node : NodeId) (k : ℕ) (d : Decision) → decision_at s node k ≡ Some d → IsMovedValue s d.source d.tested
+at_moved s node k d h =
+    let told = told_decided s node k d h in
+    subst (λ (x : Decision). IsMovedValue s x.source x.tested) told.same (refl, tested_part_of s node k told.made told.value told.tested)
+
+pub decision_moved : (s : State) (node : NodeId) (left : ℕ) (d : Decision) → newest_decision s node left ≡ Some d → IsMovedValue s d.source d.tested
+decision_moved s node zero d h = absurd (none-some _ h)
+decision_moved s node (suc k) d h = go (decision_at s node k) refl (λ e. decision_moved s node k d e) h
+  where
+    go : (o : Option Decision) → decision_at s node k ≡ o → (newest_decision s node k ≡ Some d → IsMovedValue s d.source d.tested) → newer_decision o (newest_decision s node k) ≡ Some d → IsMovedValue s d.source d.tested
+    go None is before e = before e
+    go (Some other) is before e = at_moved s node k d (is ∙ e)

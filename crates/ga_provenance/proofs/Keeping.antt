@@ -1,11 +1,8 @@
 -- Steps that leave each cell as it was, and the newest step that wrote one.
-use Rattle.std.proofs.Common.{◌≡◌, ◌<◌, Bool, false, List, [], ◌∷◌, Some, length, refl, arith, ℕ, zero, suc, ◌+◌, ◌≤◌, true, cond, None, sym, ◌∙◌, ap, ◌==◌, ◌/◌, ◌^◌, ◌++◌, ◌||◌, not}
+use Rattle.std.proofs.Common.{◌≡◌, ◌<◌, Bool, false, List, [], ◌∷◌, Some, refl, arith, ℕ, zero, suc, ◌+◌, ◌≤◌, true, cond, None, sym, ◌∙◌, ap, ◌==◌, ◌/◌, ◌^◌, ◌++◌, ◌||◌, not}
 use Rattle.std.specs.List.{slice_get}
 use Rattle.ga_lab.specs.Machine.{State, history_of}
-use Rattle.ga_provenance.specs.declared.value.Value.{Value}
-use Rattle.ga_provenance.specs.declared.listing.ProvenanceRow.{ProvenanceRow}
-use Rattle.ga_provenance.specs.Origins.{origin_of, node_after, flow_at, optional_event_flow, moved_source_part, moved_source_part_at}
-use Rattle.ga_provenance.specs.Rows.{has_value, row_at_depth, origin_row, AreProvenanceRows, all, again, next, cut}
+use Rattle.ga_provenance.specs.Origins.{node_after, flow_at, optional_event_flow, moved_source_part, moved_source_part_at}
 use Rattle.std.specs.Prelude.{Option, option_map, slice_index}
 use Rattle.std.proofs.lemmas.Option.{same_Some}
 use Rattle.ga_event.specs.declared.made.Made.{Made}
@@ -38,25 +35,6 @@ use Rattle.ga_event.specs.declared.flow.part.NodePart.{NodePart}
 use Rattle.ga_provenance.specs.declared.kept.Registers.{Registers}
 
 -- ---- the newest step that wrote a cell
-
--- ---- the first row of a listing is the step that made the value
-
--- if the next value wasn't listed, and a listing that is cut has some row, the next value's row is the first
-FirstIs : State → List ProvenanceRow → List ProvenanceRow → List ProvenanceRow → Bool → Type 0
-FirstIs s named [] rows whole = Unit {0}
-FirstIs s named (row ∷ todo) rows whole = has_value named (origin_of s row.value) ≡ false → (whole ≡ false → 0 < length rows) → slice_get rows 0 ≡ Some (origin_row s row)
-
-first_is : (s : State) (named todo rows : List ProvenanceRow) (whole : Bool) → AreProvenanceRows s named todo rows whole → FirstIs s named todo rows whole
-unfolding FirstIs
-first_is s named todo rows whole all = tt
-first_is s named todo rows whole (again row is rest) = λ other some. absurd (cc)
-first_is s named todo rows whole (next row is rest) = λ other some. refl
-first_is s named todo rows whole (cut row is) = λ other some. absurd (let l = some refl in omega (arith, l))
-
-pub first_told : (s : State) (value : Value) (rows : List ProvenanceRow) (whole : Bool) → AreProvenanceRows s [] (row_at_depth 0 value ∷ []) rows whole → (whole ≡ false → 0 < length rows)
-    → slice_get rows 0 ≡ Some (origin_row s (row_at_depth 0 value))
-unfolding FirstIs
-first_told s value rows whole told some = first_is s [] (row_at_depth 0 value ∷ []) rows whole told refl some
 
 -- the last of some steps wrote it, or an earlier one
 pub wrote_last : (s : State) (n cell left k : ℕ) (wrote : CellWrite) → suc k ≡ left → Some wrote ≡ cell_write_at s n cell k → Some wrote ≡ newest_cell_write s n cell left

@@ -1,8 +1,16 @@
 pub mod Made
-pub mod Rows
+pub mod Sources
 pub mod Causes
 pub mod Ran
 pub mod Keeping
 pub mod Moves
 pub mod Resting
 pub mod Decided
+pub mod Parts
+pub mod Words
+pub mod Finding
+pub mod Runs
+pub mod GrowingLines
+pub mod Listed
+pub mod Whole
+pub mod FirstLine

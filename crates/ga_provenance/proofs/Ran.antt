@@ -1,11 +1,11 @@
 -- A step of a node's own, as made, is what its next event was.
-use Rattle.std.proofs.Common.{◌≡◌, ℕ, zero, suc, ◌==◌, Bool, true, false, ◌||◌, cond, List, [], ◌∷◌, ◌++◌, ◌+◌, length, set, length-set, get_or-set_same, arith, take, Some, None, refl, sym, ◌∙◌, ap, subst}
+use Rattle.std.proofs.Common.{◌≡◌, ℕ, zero, suc, ◌==◌, Bool, true, false, ◌||◌, cond, List, [], ◌∷◌, ◌++◌, ◌+◌, length, set, length-set, get_or-set_same, get_or-set_other, ◌≢◌, arith, take, Some, None, refl, sym, ◌∙◌, ap, subst}
 use Rattle.std.specs.Prelude.{Option, option_map, option_and_then, option_to_list, unwrap_or, IfSome}
 use Rattle.std.specs.List.{slice_get}
 use Rattle.std.proofs.lemmas.Option.{same_Some, none-some}
 use Rattle.std.proofs.lemmas.Bool.{eqb-true}
 use Rattle.ga_node.specs.Record.{NodeRecord}
-use Rattle.ga_node.specs.Table.{own, Access, Plain, Reads, Writes, found, stored, followed, access_result, opcode_effect, fetch_access, next_action_of, wait_effect, stop_effect, with_kind, action_result, own_event}
+use Rattle.ga_node.specs.Table.{t, own, sent, taken, Access, Plain, Reads, Writes, found, stored, followed, access_result, opcode_effect, fetch_access, next_action_of, wait_effect, stop_effect, with_kind, action_result, own_event}
 use Rattle.ga_node.specs.declared.kind.OwnEventKind.{OwnEventKind}
 use Rattle.ga_node.specs.declared.kind.NotReady.{NotReady}
 use Rattle.ga_node.specs.declared.seen.Seen.{Seen}
@@ -25,6 +25,7 @@ use Rattle.ga_provenance.specs.Origins.{place_after_steps, node_after}
 use Rattle.ga_slots.specs.Codes.{code_of, op_of}
 use Rattle.ga_slots.proofs.Encoding.{op_of-code_of}
 use Rattle.ga_ports.specs.Address.{address_target, is_single_side, side_of}
+use Rattle.ga_ports.specs.declared.side.Side.{Side}
 use Rattle.ga_ports.specs.declared.address.Target.{Target}
 use Rattle.ga_ports.specs.declared.address.Target.TheVariants as target
 use Rattle.ga_node.specs.Changes.{Change}
@@ -92,21 +93,32 @@ pub empty_some : (i : ℕ) (x : Made) → slice_get [] i ≡ Some x → ⊥
 empty_some zero x h = none-some _ h
 empty_some (suc i) x h = none-some _ h
 
--- a node that held this made an event of this kind, and then held that, on a chip of all nodes
-record Went (nodes : ℕ) (before behind : NodeRecord) (kind : OwnEventKind) : Type 0 where
+-- a node that held this made an event of its own of this kind, and then held that, on a chip of all nodes
+record WentOwn (nodes : ℕ) (before behind : NodeRecord) (kind : OwnEventKind) : Type 0 where
   seen : Seen
   ran : (own seen before).0 ≡ kind
   next : nodes ≡ 144 → behind ≡ (own seen before).1
 
+-- a node that held this made its half of a transfer to this reader, and then held that
+record WentPassing (nodes n : ℕ) (before behind : NodeRecord) (reader : NodeId) : Type 0 where
+  word : ℕ
+  took : nodes ≡ 144 → n ≡ reader.number → behind ≡ taken word before
+  gave : nodes ≡ 144 → n ≢ reader.number → behind ≡ sent before
+
+-- a node that held this made this event, and then held that
+abbrev Went : ℕ → ℕ → NodeRecord → NodeRecord → Made → Type 0
+Went nodes n before behind (made.Own m step kind) = WentOwn nodes before behind kind
+Went nodes n before behind (made.Pass w i r j word) = WentPassing nodes n before behind r
+
 -- an event that touches the node
-touched_first : (chip : List NodeRecord) (e : Event) (before : List Event) (rest : List Made) (n step : ℕ) (m : NodeId) (kind : OwnEventKind) → touches e n ≡ true
-    → slice_get (option_to_list (made_event_after before e (after chip e).1) ++ rest) zero ≡ Some (made.Own m step kind) → Went (length chip) (record_at chip n) (record_at (after chip e).0 n) kind
-touched_first chip (event.Own node) before rest n step m kind touched h =
+touched_own : (chip : List NodeRecord) (node : NodeId) (n : ℕ) → touches (event.Own node) n ≡ true
+    → WentOwn (length chip) (record_at chip n) (record_at (after chip (event.Own node)).0 n) (own (neighbour_states chip node.number) (record_at chip node.number)).0
+touched_own chip node n touched =
     let at : node.number ≡ n = number (node.number == n) refl touched in
     let seen : Seen = neighbour_states chip node.number in
     record {
       seen = seen;
-      ran = ap (λ (k : ℕ). (own seen (record_at chip k)).0) (sym at) ∙ cc;
+      ran = ap (λ (k : ℕ). (own seen (record_at chip k)).0) (sym at);
       next = λ size.
           ap (record_at (set chip node.number (own seen (record_at chip node.number)).1)) (sym at)
           ∙ get_or-set_same chip node.number (own seen (record_at chip node.number)).1 _ (rw size node.in_range)
@@ -116,7 +128,38 @@ touched_first chip (event.Own node) before rest n step m kind touched h =
     number : (b : Bool) → (node.number == n) ≡ b → (b || false) ≡ true → node.number ≡ n
     number true is some = eqb-true node.number n is
     number false is some = absurd (cc)
-touched_first chip (event.Pass from to side) before rest n step m kind touched h = absurd (cc)
+
+touched_pass : (chip : List NodeRecord) (from to : NodeId) (side : Side) (n : ℕ) → touches (event.Pass from to side) n ≡ true
+    → WentPassing (length chip) n (record_at chip n) (record_at (after chip (event.Pass from to side)).0 n) to
+touched_pass chip from to side n touched =
+    let word : ℕ = t (record_at chip from.number) in
+    let first : List NodeRecord = set chip from.number (sent (record_at chip from.number)) in
+    let last : NodeRecord = taken word (record_at chip to.number) in
+    record {
+      word = word;
+      took = λ size is.
+          ap (record_at (set first to.number last)) is
+          ∙ get_or-set_same first to.number last _ (rw (length-set chip from.number (sent (record_at chip from.number)) ∙ size) to.in_range)
+          ∙ ap (λ (k : ℕ). taken word (record_at chip k)) (sym is);
+      gave = λ size other.
+          let at : from.number ≡ n = writer (from.number == n) (to.number == n) refl refl touched other in
+          get_or-set_other first to.number n last _ other
+          ∙ ap (record_at first) (sym at)
+          ∙ get_or-set_same chip from.number (sent (record_at chip from.number)) _ (rw size from.in_range)
+          ∙ ap (λ (k : ℕ). sent (record_at chip k)) at;
+    }
+  where
+    writer : (b c : Bool) → (from.number == n) ≡ b → (to.number == n) ≡ c → (b || (c || false)) ≡ true → n ≢ to.number → from.number ≡ n
+    writer true c is at some other = eqb-true from.number n is
+    writer false true is at some other = absurd (other (sym (eqb-true to.number n at)))
+    writer false false is at some other = absurd (cc)
+
+touched_first : (chip : List NodeRecord) (e : Event) (before : List Event) (rest : List Made) (n : ℕ) (x : Made) → touches e n ≡ true
+    → slice_get (option_to_list (made_event_after before e (after chip e).1) ++ rest) zero ≡ Some x → Went (length chip) n (record_at chip n) (record_at (after chip e).0 n) x
+touched_first chip (event.Own node) before rest n x touched h =
+    subst (Went (length chip) n (record_at chip n) (record_at (after chip (event.Own node)).0 n)) (same_Some _ _ h) (touched_own chip node n touched)
+touched_first chip (event.Pass from to side) before rest n x touched h =
+    subst (Went (length chip) n (record_at chip n) (record_at (after chip (event.Pass from to side)).0 n)) (same_Some _ _ h) (touched_pass chip from to side n touched)
 
 touched_next : (chip : List NodeRecord) (e : Event) (before : List Event) (rest : List Made) (k : ℕ) (x : Made)
     → slice_get (option_to_list (made_event_after before e (after chip e).1) ++ rest) (suc k) ≡ Some x → slice_get rest k ≡ Some x
@@ -131,70 +174,70 @@ abbrev chip_at : List NodeRecord → List Event → ℕ → List NodeRecord
 chip_at chip events place = unwrap_or (replay chip (take place events)) []
 
 -- a node's step after k of its steps, in a list of events
-abbrev WentAt : List NodeRecord → List Event → ℕ → ℕ → OwnEventKind → Type 0
-WentAt chip events n k kind = Went (length chip) (record_at (chip_at chip events (place_after_steps events n k)) n) (record_at (chip_at chip events (place_after_steps events n (suc k))) n) kind
+abbrev WentAt : List NodeRecord → List Event → ℕ → ℕ → Made → Type 0
+WentAt chip events n k x = Went (length chip) n (record_at (chip_at chip events (place_after_steps events n k)) n) (record_at (chip_at chip events (place_after_steps events n (suc k))) n) x
 
 -- a place of a list, with an event more in front
 moved_on : (chip : List NodeRecord) (e : Event) (es : List Event) (n place : ℕ) → refusal_of chip e ≡ None
     → record_at (chip_at (after chip e).0 es place) n ≡ record_at (chip_at chip (e ∷ es) (suc place)) n
 moved_on chip e es n place can = ap (λ (z : Option (List NodeRecord)). record_at (unwrap_or z []) n) (sym (replay_on chip e (take place es) can))
 
-went_on : (chip : List NodeRecord) (e : Event) (es : List Event) (n first last : ℕ) (kind : OwnEventKind) → refusal_of chip e ≡ None
-    → Went (length (after chip e).0) (record_at (chip_at (after chip e).0 es first) n) (record_at (chip_at (after chip e).0 es last) n) kind
-    → Went (length chip) (record_at (chip_at chip (e ∷ es) (suc first)) n) (record_at (chip_at chip (e ∷ es) (suc last)) n) kind
-went_on chip e es n first last kind can went =
-    subst (λ (many : ℕ). Went many (record_at (chip_at chip (e ∷ es) (suc first)) n) (record_at (chip_at chip (e ∷ es) (suc last)) n) kind) (length_after chip e)
-    (subst (λ (z : NodeRecord). Went (length (after chip e).0) z (record_at (chip_at chip (e ∷ es) (suc last)) n) kind) (moved_on chip e es n first can)
-    (subst (λ (z : NodeRecord). Went (length (after chip e).0) (record_at (chip_at (after chip e).0 es first) n) z kind) (moved_on chip e es n last can) went))
+went_on : (chip : List NodeRecord) (e : Event) (es : List Event) (n first last : ℕ) (x : Made) → refusal_of chip e ≡ None
+    → Went (length (after chip e).0) n (record_at (chip_at (after chip e).0 es first) n) (record_at (chip_at (after chip e).0 es last) n) x
+    → Went (length chip) n (record_at (chip_at chip (e ∷ es) (suc first)) n) (record_at (chip_at chip (e ∷ es) (suc last)) n) x
+went_on chip e es n first last x can went =
+    subst (λ (many : ℕ). Went many n (record_at (chip_at chip (e ∷ es) (suc first)) n) (record_at (chip_at chip (e ∷ es) (suc last)) n) x) (length_after chip e)
+    (subst (λ (z : NodeRecord). Went (length (after chip e).0) n z (record_at (chip_at chip (e ∷ es) (suc last)) n) x) (moved_on chip e es n first can)
+    (subst (λ (z : NodeRecord). Went (length (after chip e).0) n (record_at (chip_at (after chip e).0 es first) n) z x) (moved_on chip e es n last can) went))
 
 -- if the step is the first event, or a later one
-at_first : (chip : List NodeRecord) (e : Event) (es before : List Event) (told : List Made) (n step : ℕ) (m : NodeId) (kind : OwnEventKind) → refusal_of chip e ≡ None
-    → (slice_get told zero ≡ Some (made.Own m step kind) → WentAt (after chip e).0 es n zero kind)
-    → (b : Bool) → touches e n ≡ b → slice_get (cond b (option_to_list (made_event_after before e (after chip e).1)) [] ++ told) zero ≡ Some (made.Own m step kind)
-    → Went (length chip) (record_at chip n) (record_at (chip_at chip (e ∷ es) (suc (place_after_steps es n (cond b zero (suc zero))))) n) kind
-at_first chip e es before told n step m kind can next true touched at =
-    subst (λ (z : NodeRecord). Went (length chip) (record_at chip n) z kind)
+at_first : (chip : List NodeRecord) (e : Event) (es before : List Event) (told : List Made) (n : ℕ) (x : Made) → refusal_of chip e ≡ None
+    → (slice_get told zero ≡ Some x → WentAt (after chip e).0 es n zero x)
+    → (b : Bool) → touches e n ≡ b → slice_get (cond b (option_to_list (made_event_after before e (after chip e).1)) [] ++ told) zero ≡ Some x
+    → Went (length chip) n (record_at chip n) (record_at (chip_at chip (e ∷ es) (suc (place_after_steps es n (cond b zero (suc zero))))) n) x
+at_first chip e es before told n x can next true touched at =
+    subst (λ (z : NodeRecord). Went (length chip) n (record_at chip n) z x)
     (moved_on chip e es n zero can ∙ ap (λ (p : ℕ). record_at (chip_at chip (e ∷ es) (suc p)) n) (sym (none_first es n)))
-    (touched_first chip e before told n step m kind touched at)
-at_first chip e es before told n step m kind can next false other at =
-    let there = went_on chip e es n (place_after_steps es n zero) (place_after_steps es n (suc zero)) kind can (next at) in
-    subst (λ (z : NodeRecord). Went (length chip) z (record_at (chip_at chip (e ∷ es) (suc (place_after_steps es n (suc zero)))) n) kind)
+    (touched_first chip e before told n x touched at)
+at_first chip e es before told n x can next false other at =
+    let there = went_on chip e es n (place_after_steps es n zero) (place_after_steps es n (suc zero)) x can (next at) in
+    subst (λ (z : NodeRecord). Went (length chip) n z (record_at (chip_at chip (e ∷ es) (suc (place_after_steps es n (suc zero)))) n) x)
     (sym (moved_on chip e es n (place_after_steps es n zero) can) ∙ ap (λ (p : ℕ). record_at (chip_at (after chip e).0 es p) n) (none_first es n) ∙ sym (stays chip e n can other))
     there
 
-at_later : (chip : List NodeRecord) (e : Event) (es before : List Event) (told : List Made) (n k step : ℕ) (m : NodeId) (kind : OwnEventKind) → refusal_of chip e ≡ None
-    → ((j : ℕ) → slice_get told j ≡ Some (made.Own m step kind) → WentAt (after chip e).0 es n j kind)
-    → (b : Bool) → slice_get (cond b (option_to_list (made_event_after before e (after chip e).1)) [] ++ told) (suc k) ≡ Some (made.Own m step kind)
-    → Went (length chip) (record_at (chip_at chip (e ∷ es) (suc (place_after_steps es n (cond b k (suc k))))) n)
-    (record_at (chip_at chip (e ∷ es) (suc (place_after_steps es n (cond b (suc k) (suc (suc k)))))) n) kind
-at_later chip e es before told n k step m kind can next true at =
-    went_on chip e es n (place_after_steps es n k) (place_after_steps es n (suc k)) kind can (next k (touched_next chip e before told k (made.Own m step kind) at))
-at_later chip e es before told n k step m kind can next false at =
-    went_on chip e es n (place_after_steps es n (suc k)) (place_after_steps es n (suc (suc k))) kind can (next (suc k) at)
+at_later : (chip : List NodeRecord) (e : Event) (es before : List Event) (told : List Made) (n k : ℕ) (x : Made) → refusal_of chip e ≡ None
+    → ((j : ℕ) → slice_get told j ≡ Some x → WentAt (after chip e).0 es n j x)
+    → (b : Bool) → slice_get (cond b (option_to_list (made_event_after before e (after chip e).1)) [] ++ told) (suc k) ≡ Some x
+    → Went (length chip) n (record_at (chip_at chip (e ∷ es) (suc (place_after_steps es n (cond b k (suc k))))) n)
+    (record_at (chip_at chip (e ∷ es) (suc (place_after_steps es n (cond b (suc k) (suc (suc k)))))) n) x
+at_later chip e es before told n k x can next true at =
+    went_on chip e es n (place_after_steps es n k) (place_after_steps es n (suc k)) x can (next k (touched_next chip e before told k x at))
+at_later chip e es before told n k x can next false at =
+    went_on chip e es n (place_after_steps es n (suc k)) (place_after_steps es n (suc (suc k))) x can (next (suc k) at)
 
-went : (chip : List NodeRecord) (events before : List Event) (done : Ended) (n k step : ℕ) (m : NodeId) (kind : OwnEventKind) → run chip events ≡ Some done
-    → slice_get (made_events_after before done.1 n) k ≡ Some (made.Own m step kind) → WentAt chip events n k kind
-went chip [] before done n k step m kind is h =
-    absurd (empty_some k (made.Own m step kind) (subst (λ (z : Ended). slice_get (made_events_after before z.1 n) k ≡ Some (made.Own m step kind)) (sym (same_Some _ _ is)) h))
-went chip (e ∷ es) before done n zero step m kind is h =
+went : (chip : List NodeRecord) (events before : List Event) (done : Ended) (n k : ℕ) (x : Made) → run chip events ≡ Some done
+    → slice_get (made_events_after before done.1 n) k ≡ Some x → WentAt chip events n k x
+went chip [] before done n k x is h =
+    absurd (empty_some k x (subst (λ (z : Ended). slice_get (made_events_after before z.1 n) k ≡ Some x) (sym (same_Some _ _ is)) h))
+went chip (e ∷ es) before done n zero x is h =
     let first = begins chip e es done is in
-    at_first chip e es before (made_events_after (before ++ e ∷ []) first.rest.1 n) n step m kind first.can
-    (λ at. went (after chip e).0 es (before ++ e ∷ []) first.rest n zero step m kind first.runs at)
-    (touches e n) refl (subst (λ z. slice_get (made_events_after before z n) zero ≡ Some (made.Own m step kind)) first.is h)
-went chip (e ∷ es) before done n (suc k) step m kind is h =
+    at_first chip e es before (made_events_after (before ++ e ∷ []) first.rest.1 n) n x first.can
+    (λ at. went (after chip e).0 es (before ++ e ∷ []) first.rest n zero x first.runs at)
+    (touches e n) refl (subst (λ z. slice_get (made_events_after before z n) zero ≡ Some x) first.is h)
+went chip (e ∷ es) before done n (suc k) x is h =
     let first = begins chip e es done is in
-    at_later chip e es before (made_events_after (before ++ e ∷ []) first.rest.1 n) n k step m kind first.can
-    (λ j at. went (after chip e).0 es (before ++ e ∷ []) first.rest n j step m kind first.runs at)
-    (touches e n) (subst (λ z. slice_get (made_events_after before z n) (suc k) ≡ Some (made.Own m step kind)) first.is h)
+    at_later chip e es before (made_events_after (before ++ e ∷ []) first.rest.1 n) n k x first.can
+    (λ j at. went (after chip e).0 es (before ++ e ∷ []) first.rest n j x first.runs at)
+    (touches e n) (subst (λ z. slice_get (made_events_after before z n) (suc k) ≡ Some x) first.is h)
 
-went_so : (s : State) (n k step : ℕ) (m : NodeId) (kind : OwnEventKind) → slice_get (history_of s n) k ≡ Some (made.Own m step kind)
-    → Went (length s.load) (node_after s n k) (node_after s n (suc k)) kind
-went_so s n k step m kind h = go (run s.load s.kept) refl h
+went_so : (s : State) (n k : ℕ) (x : Made) → slice_get (history_of s n) k ≡ Some x
+    → Went (length s.load) n (node_after s n k) (node_after s n (suc k)) x
+went_so s n k x h = go (run s.load s.kept) refl h
   where
-    go : (o : Option Ended) → run s.load s.kept ≡ o → slice_get (made_events_after [] (outcomes_of_run o) n) k ≡ Some (made.Own m step kind)
-        → Went (length s.load) (node_after s n k) (node_after s n (suc k)) kind
-    go None is at = absurd (empty_some k (made.Own m step kind) at)
-    go (Some done) is at = went s.load s.kept [] done n k step m kind is at
+    go : (o : Option Ended) → run s.load s.kept ≡ o → slice_get (made_events_after [] (outcomes_of_run o) n) k ≡ Some x
+        → Went (length s.load) n (node_after s n k) (node_after s n (suc k)) x
+    go None is at = absurd (empty_some k x at)
+    go (Some done) is at = went s.load s.kept [] done n k x is at
 
 -- a machine to whose chip its history leads has as many nodes from the load on
 length_run : (chip : List NodeRecord) (events : List Event) (done : Ended) → run chip events ≡ Some done → length done.0 ≡ length chip
@@ -217,7 +260,7 @@ pub record WasNext (node : NodeRecord) (kind : OwnEventKind) : Type 0 where
 
 -- the kind of a node's step, as made
 pub ran_so : (s : State) (n k step : ℕ) (m : NodeId) (kind : OwnEventKind) → slice_get (history_of s n) k ≡ Some (made.Own m step kind) → WasNext (node_after s n k) kind
-ran_so s n k step m kind h = let step_is = went_so s n k step m kind h in record { seen = step_is.seen; is = step_is.ran }
+ran_so s n k step m kind h = let step_is : WentOwn (length s.load) (node_after s n k) (node_after s n (suc k)) kind = went_so s n k (made.Own m step kind) h in record { seen = step_is.seen; is = step_is.ran }
 
 -- and the node after it
 pub record Became (before behind : NodeRecord) (kind : OwnEventKind) : Type 0 where
@@ -228,12 +271,24 @@ pub record Became (before behind : NodeRecord) (kind : OwnEventKind) : Type 0 wh
 pub became_so : (s : State) (n k step : ℕ) (m : NodeId) (kind : OwnEventKind) → length s.load ≡ 144 → slice_get (history_of s n) k ≡ Some (made.Own m step kind)
     → Became (node_after s n k) (node_after s n (k + 1)) kind
 became_so s n k step m kind whole h =
-    let step_is = went_so s n k step m kind h in
+    let step_is : WentOwn (length s.load) (node_after s n k) (node_after s n (suc k)) kind = went_so s n k (made.Own m step kind) h in
     record {
       seen = step_is.seen;
       ran = step_is.ran;
       next = ap (node_after s n) (let e : k + 1 ≡ suc k = omega arith in e) ∙ step_is.next whole;
     }
+
+-- a node after its half of a transfer to this reader
+pub record Passed (n : ℕ) (before behind : NodeRecord) (reader : NodeId) : Type 0 where
+  pub word : ℕ
+  pub took : n ≡ reader.number → behind ≡ taken word before
+  pub gave : n ≢ reader.number → behind ≡ sent before
+
+pub passed_so : (s : State) (n k : ℕ) (w r : NodeId) (i j word : ℕ) → length s.load ≡ 144 → slice_get (history_of s n) k ≡ Some (made.Pass w i r j word) → Passed n (node_after s n k) (node_after s n (k + 1)) r
+passed_so s n k w r i j word whole h =
+    let step_is : WentPassing (length s.load) n (node_after s n k) (node_after s n (suc k)) r = went_so s n k (made.Pass w i r j word) h in
+    let there = ap (node_after s n) (let e : k + 1 ≡ suc k = omega arith in e) in
+    record { word = step_is.word; took = λ is. there ∙ step_is.took whole is; gave = λ other. there ∙ step_is.gave whole other }
 
 -- ---- what came next in a node, by the kind of its event
 

@@ -17,7 +17,7 @@ use Rattle.ga_event.specs.Flow.{Flow, Same, From, top, top_return, part_value}
 use Rattle.ga_provenance.specs.declared.value.Value.{Value}
 use Rattle.ga_provenance.specs.declared.deciding.Decision.{Decision}
 use Rattle.ga_provenance.specs.Origins.{value_of_step, node_after, flow_at, origin_of}
-use Rattle.ga_provenance.specs.Rows.{sent_value}
+use Rattle.ga_provenance.specs.Sources.{sent_value}
 
 -- the part before it that an opcode tests, or that it makes P of
 abbrev pub tested_part : Op → Option NodePart

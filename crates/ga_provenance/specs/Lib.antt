@@ -1,7 +1,8 @@
 pub mod Asked
 pub mod Deciding
 pub mod Fetched
+pub mod Lines
 pub mod Origins
-pub mod Rows
+pub mod Sources
 pub mod Writes
 pub mod inner

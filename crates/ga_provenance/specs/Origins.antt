@@ -1,8 +1,10 @@
 -- Which step made the value in a part of a node: the newest that didn't just move it from part to part (F18A Technology
 -- Reference DB001, opcodes; Flow.antt of ga_event has for each where its values come from).
-use Rattle.std.specs.Prelude.{ℕ, zero, suc, ◌==◌, Bool, true, false, not, if◌then◌else◌, List, [], ◌∷◌, Option, Some, None, option_map, unwrap_or}
+use Rattle.std.specs.Prelude.{◌≡◌, ℕ, zero, suc, ◌==◌, Bool, true, false, not, ◌||◌, if◌then◌else◌, List, [], ◌∷◌, Option, Some, None, option_map, unwrap_or}
 use Rattle.std.specs.List.{slice_get}
 use Rattle.ga_node.specs.Record.{NodeRecord}
+use Rattle.ga_node.specs.declared.kind.OwnEventKind.{OwnEventKind}
+use Rattle.ga_node.specs.declared.kind.OwnEventKind.TheVariants as kind
 use Rattle.ga_grid.specs.declared.node_id.NodeId.{NodeId}
 use Rattle.ga_grid.specs.Chip.{record_at}
 use Rattle.ga_event.specs.declared.event.Event.{Event}
@@ -12,7 +14,7 @@ use Rattle.ga_event.specs.Touches.{touches}
 use Rattle.ga_lab.specs.Machine.{State, chip_of, earlier, history_of}
 use Rattle.ga_event.specs.declared.flow.part.NodePart.{NodePart}
 use Rattle.ga_event.specs.declared.flow.part.NodePart.TheVariants as part
-use Rattle.ga_event.specs.Flow.{Flow, Same, From, top, own_flow, send_flow, take_flow}
+use Rattle.ga_event.specs.Flow.{Flow, Same, From, IsNodePart, top, own_flow, send_flow, take_flow}
 use Rattle.ga_provenance.specs.declared.value.Value.{Value}
 
 -- the number of first events that contain k steps of a node, and the node after these
@@ -63,6 +65,16 @@ listed_part flow part.A = if is_three_part_flow flow then top else part.A
 listed_part flow part.Carry = if is_three_part_flow flow then top else part.Carry
 listed_part flow at = at
 
+-- whether a step, as made, may have made T with A or the carry: `+*`, and `+`
+abbrev pub is_made_with_t_by : OwnEventKind → Bool
+is_made_with_t_by (kind.Run code) = code == 16 || code == 20
+is_made_with_t_by _ = false
+
+abbrev pub is_made_with_t : Option Made → Bool
+is_made_with_t None = false
+is_made_with_t (Some (made.Own node step kind)) = is_made_with_t_by kind
+is_made_with_t (Some (made.Pass writer i reader j word)) = false
+
 -- the value that a step made, or one at load
 abbrev pub value_of_step : NodeId → ℕ → NodePart → Value
 value_of_step node step at = record { node = node; step = step; part = at }
@@ -79,3 +91,7 @@ origin_after_steps s node (suc k) at =
 
 abbrev pub origin_of : State → Value → Value
 origin_of s value = origin_after_steps s value.node value.step value.part
+
+-- a value was only moved between the step that made it and its use
+abbrev pub IsMovedValue : State → Value → Value → Type 0
+IsMovedValue s value used = (origin_of s used ≡ value) × IsNodePart used.part

@@ -1,5 +1,5 @@
 -- What private contracts, invariants and bridges cite.
-use Rattle.std.specs.Prelude.{ℕ, ◌+◌, ◌-◌, ◌==◌, ◌||◌, nat_lt, if◌then◌else◌, Bool, true, false, not, Option, Some, None, ◌/◌, ◌≡◌, ◌≤◌, ◌<◌, ◌^◌, length, slice_index}
+use Rattle.std.specs.Prelude.{ℕ, ◌+◌, ◌-◌, ◌==◌, ◌||◌, nat_lt, if◌then◌else◌, Bool, true, false, not, Option, Some, None, ◌/◌, ◌≡◌, ◌≤◌, ◌<◌, ◌^◌, ◌&&◌, List, length, slice_index}
 use Rattle.ga_ports.specs.Address.{address_target}
 use Rattle.ga_ports.specs.declared.address.Target.{Target}
 use Rattle.ga_ports.specs.declared.address.Target.TheVariants as target
@@ -26,14 +26,17 @@ use Rattle.ga_provenance.specs.declared.kept.TrackedPlace.{TrackedPlace}
 use Rattle.ga_provenance.specs.declared.kept.TrackedPlace.TheVariants as hand
 use Rattle.ga_provenance.specs.Origins.{node_after, origin_of}
 use Rattle.ga_provenance.specs.declared.value.Value.{Value}
-use Rattle.std.specs.List.{slice_get}
+use Rattle.std.specs.List.{All, slice_get}
 use Rattle.ga_grid.specs.declared.node_id.NodeId.{NodeId}
 use Rattle.ga_provenance.specs.declared.writes.Reached.{Reached}
 use Rattle.ga_provenance.specs.Writes.{newest_cell_write}
 use Rattle.ga_node.specs.declared.due.NextAction.{NextAction}
 use Rattle.ga_provenance.specs.declared.asked.QueriedPart.{QueriedPart}
 use Rattle.ga_provenance.specs.declared.asked.QueriedPart.TheVariants.{PartAfter, PartBefore, Nothing}
-use Rattle.ga_provenance.specs.declared.listing.ProvenanceRow.{ProvenanceRow}
+use Rattle.ga_provenance.specs.declared.lines.ProvenanceLine.{ProvenanceLine}
+use Rattle.ga_provenance.specs.declared.source_search.TracedValue.{TracedValue}
+use Rattle.ga_provenance.specs.Sources.{value_sources}
+use Rattle.ga_provenance.specs.Lines.{source_origins, is_value_listed}
 
 -- ---- the part from which a step moved a value to another part of the node, if the step as made determines it, whatever the
 -- node's values were (F18A Technology Reference DB001, opcodes, by their codes; Flow.antt of ga_event has each row in full). If
@@ -283,11 +286,33 @@ IsDueBy kind.Fetch what = what ≡ due.Fetch
 IsDueBy (kind.Run code) what = what ≡ due.Run (op_of code)
 IsDueBy _ what = ⊥
 
--- ---- values that are still to be listed, and selected values
+-- ---- searched and selected values
 
--- the value of a row is that of a part of a node, and the row is no deeper than `deepest`
-abbrev pub IsOpen : ℕ → ProvenanceRow → Type 0
-IsOpen deepest row = IsNodePart row.value.part × (row.depth ≤ deepest)
+-- a value is that of a part of a node, and one after a step that the node made
+abbrev pub IsOfPart : Value → Type 0
+IsOfPart value = IsNodePart value.part
+
+pub record IsKept (s : State) (value : Value) : Type 0 where
+  pub part : IsOfPart value
+  pub within : value.step ≤ count_steps value.node.number s.kept
+
+-- a value with those from which it was made
+abbrev pub traced_value : TracedValue → Value
+traced_value traced = traced.value
+
+pub record IsTraced (s : State) (traced : TracedValue) : Type 0 where
+  pub used : traced.used.items ≡ value_sources s traced.value
+  pub origins : traced.origins.items ≡ source_origins s traced.value
+  pub parts : All IsOfPart traced.used.items
+  pub kept : All (IsKept s) traced.origins.items
+
+-- the value that follows the oldest of a run in it: the next one, unless it is listed or as many steps before as no other
+abbrev pub follows_in_run : List ProvenanceLine → ProvenanceLine → Value → Value → Bool
+follows_in_run lines line oldest next = ((line.count == 1) || (oldest.step - next.step == line.period)) && not (is_value_listed lines next)
+
+abbrev pub following : List ProvenanceLine → ProvenanceLine → Value → Option Value → Option Value
+following lines line oldest None = None
+following lines line oldest (Some next) = if follows_in_run lines line oldest next then Some next else None
 
 -- the selected value is that of a part of a node, or there is none
 abbrev pub IsAsked : QueriedPart → Type 0

@@ -9,10 +9,10 @@ ghost use Rattle.ga_provenance.specs.Origins.{origin_of};
 ghost use Rattle.ga_provenance.specs.Deciding.{tested_part, port_code_source_at, is_incoming_code_at, has_port_code, tested_opcode_part, tested_kind_part, step_decision, decision_at};
 ghost use Rattle.ga_provenance.specs.inner.{IsTested, IsOwn, IsTrailTo};
 
-use crate::listing::sent_value;
 use crate::origin::{flow_by_trail, kept_step, origin_behind, trail_near};
 use crate::trail::CachedWalk;
 use crate::value::Value;
+use crate::value_sources::sent_value;
 use ga_event::{Flow, Made, NodePart};
 use ga_grid::NodeId;
 use ga_lab::{Lab, NodeWalk};

@@ -156,13 +156,6 @@ pub fn origin_of(lab: &Lab, value: Value) -> Value
     origin_behind(lab, &mut trail, value.node, step, value.part)
 }
 
-// A value that a step made, and a trail of its node that has not come past that step.
-#[derive(Drop)]
-pub(crate) struct Origin<'l> {
-    pub value: Value,
-    pub trail: CachedWalk<'l>,
-}
-
 // A trail of a node that has not come past a step: from another walk, where that is of the same node and not earlier, else from the
 // newest step.
 pub(crate) fn trail_near<'l>(
@@ -184,51 +177,27 @@ pub(crate) fn trail_near<'l>(
     }
 }
 
-// A trail of a node that has not come past a step: that of the origin found last where it serves, else one as by [`trail_near`].
-fn trail_on<'l>(
+// A trail of a node that has not come past a step: the last one, which is of some node, where it serves, else one as by
+// [`trail_near`].
+pub(crate) fn trail_on<'l>(
     lab: &'l Lab,
     near: &NodeWalk<'l>,
     at: NodeId,
-    last: Origin<'l>,
+    last: NodeId,
+    trail: CachedWalk<'l>,
     node: NodeId,
     step: u32,
 ) -> CachedWalk<'l>
     requires within { step ≤ count_steps node.number lab.now.kept }
     requires near { near.now ≡ node_at_step lab.now at near.now.step }
-    requires last { last.trail ≡ node_at_step lab.now last.value.node last.trail.step }
+    requires trail { trail ≡ node_at_step lab.now last trail.step }
     ensures stands { result ≡ node_at_step lab.now node result.step }
     ensures order { step ≤ result.step }
 {
-    let Origin { value, trail } = last;
-    if value.node == node && step <= trail.step() {
+    if last == node && step <= trail.step() {
         trail
     } else {
         trail_near(lab, near, at, node, step)
-    }
-}
-
-// What made a value, found by the trail of the origin that was found last, or by a walk of some node, which is not walked on.
-pub(crate) fn origin_at<'l>(
-    lab: &'l Lab,
-    near: &NodeWalk<'l>,
-    at: NodeId,
-    last: Origin<'l>,
-    value: Value,
-) -> Origin<'l>
-    requires part { IsNodePart value.part }
-    requires near { near.now ≡ node_at_step lab.now at near.now.step }
-    requires last { last.trail ≡ node_at_step lab.now last.value.node last.trail.step }
-    ensures value { result.value ≡ origin_of lab.now value }
-    ensures part { IsNodePart result.value.part }
-    ensures stands { result.trail ≡ node_at_step lab.now result.value.node result.trail.step }
-    ensures order { result.value.step - 1 ≤ result.trail.step }
-{
-    let step = kept_step(lab, value);
-    let mut trail = trail_on(lab, near, at, last, value.node, step);
-    let origin = origin_behind(lab, &mut trail, value.node, step, value.part);
-    Origin {
-        value: origin,
-        trail,
     }
 }
 

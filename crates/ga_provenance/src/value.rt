@@ -14,9 +14,20 @@ pub struct Value {
     pub part: NodePart,
 }
 
+/// T of node 000 at load, with which room for values begins.
+impl Default for Value {
+    fn default() -> Self {
+        Value {
+            node: NodeId::new(0),
+            step: 0,
+            part: NodePart::default(),
+        }
+    }
+}
+
 impl Value {
     ghost use Rattle.std.specs.Prelude.{◌≡◌};
-    ghost use Rattle.ga_provenance.specs.Rows.{is_same_value};
+    ghost use Rattle.ga_provenance.specs.Sources.{is_same_value};
 
     /// Whether the two are of one part after one step.
     pub fn is_equal_to(self, other: Value) -> bool

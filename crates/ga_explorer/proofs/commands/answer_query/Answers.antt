@@ -17,7 +17,7 @@ returns-in-At-clause-said g c = record {
 
 pub returns-in-Whence-clause-said : goal.returns-in-Whence-clause-said
 returns-in-Whence-clause-said g c = record {
-  meant = question.Whence c.in-Whence.node c.in-Whence.which c.in-Whence.value;
+  meant = question.Whence c.in-Whence.node c.in-Whence.which c.in-Whence.value c.in-Whence.first;
   is = c.in-Whence.is;
   said = rw (← c.resolve-step-in-Whence.ensures, ← c.part_of.ensures.value) c.write_whence.ensures;
 }

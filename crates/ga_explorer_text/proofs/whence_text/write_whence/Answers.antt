@@ -1,7 +1,7 @@
 use Rattle.std.proofs.Common.{rules, ℕ, ◌≡◌, Some, sym, ap, ◌∙◌, inl, inr, subst}
 use Rattle.ga_lab.specs.Machine.{NodeAtStep}
 use Rattle.ga_provenance.proofs.Made.{has_step_so}
-use Rattle.ga_explorer_text.specs.Trees.{IsStepOrTreeAnswer, selected_value, queried_step_text}
+use Rattle.ga_explorer_text.specs.Whence.{IsStepOrLinesAnswer, selected_value, queried_step_text}
 use Rattle.ga_explorer_text.proofs.whence_text.write_whence.Goals as goal
 
 pub returns-then-not-has_step : goal.returns-then-not-has_step
@@ -24,11 +24,11 @@ returns-in-Some g c = (
       let s = c.args.lab.now in
       let done = c.say_asked.ensures.1 before said h in
       let at : c.new-here.result.near.step ≡ c.args.step = ap (λ (z : NodeAtStep). z.step) c.new-here.ensures.near in
-      let told : IsStepOrTreeAnswer c.args.notes.now s c.args.node c.args.step (Some c.in-Some.value) done.0 = rw (c.new-here.ensures.notes, c.new-here.ensures.lab, c.new-here.ensures.node, at) at done.1 in (
+      let told : IsStepOrLinesAnswer c.args.notes.now s c.args.node c.args.step c.args.first (Some c.in-Some.value) done.0 = rw (c.new-here.ensures.notes, c.new-here.ensures.lab, c.new-here.ensures.node, at) at done.1 in (
         done.0,
         inr (
           sym c.has_step.ensures.value ∙ c.if-not-has_step.false,
-          subst (λ v. IsStepOrTreeAnswer c.args.notes.now s c.args.node c.args.step v done.0) (c.in-Some.ensures.value ∙ ap (λ (k : ℕ). selected_value s c.args.node k c.args.part) at) told,
+          subst (λ v. IsStepOrLinesAnswer c.args.notes.now s c.args.node c.args.step c.args.first v done.0) (c.in-Some.ensures.value ∙ ap (λ (k : ℕ). selected_value s c.args.node k c.args.part) at) told,
         ),
         done.2,
       ),
@@ -45,7 +45,7 @@ returns-in-None g c = (
         done.0,
         inr (
           sym c.has_step.ensures.value ∙ c.if-not-has_step.false,
-          subst (λ v. IsStepOrTreeAnswer c.args.notes.now s c.args.node c.args.step v done.0) (c.in-None.ensures.value ∙ ap (λ (k : ℕ). selected_value s c.args.node k c.args.part) at) told,
+          subst (λ v. IsStepOrLinesAnswer c.args.notes.now s c.args.node c.args.step c.args.first v done.0) (c.in-None.ensures.value ∙ ap (λ (k : ℕ). selected_value s c.args.node k c.args.part) at) told,
         ),
         done.2,
       ),

@@ -6,6 +6,6 @@ use Rattle.ga_provenance.proofs.origin.trail_on.Goals as goal
 
 pub returns-then-step-clause-stands : goal.returns-then-step-clause-stands
 returns-then-step-clause-stands c =
-    let number : c.args.last.value.node.number ≡ c.args.node.number = search rules in
-    let same : c.args.last.value.node ≡ c.args.node = NodeId-same c.args.last.value.node c.args.node number in
-    c.requires.last ∙ ap (λ (n : NodeId). node_at_step c.args.lab.now n c.args.last.trail.step) same
+    let number : c.args.last.number ≡ c.args.node.number = search rules in
+    let same : c.args.last ≡ c.args.node = NodeId-same c.args.last c.args.node number in
+    c.requires.trail ∙ ap (λ (n : NodeId). node_at_step c.args.lab.now n c.args.trail.step) same

@@ -1,6 +1,7 @@
 use Rattle.std.proofs.Common.{rules, ◌-◌, ℕ, List, ◌++◌, [], refl, sym, ap, ◌∙◌, arith}
 use Rattle.ga_lab.specs.Machine.{NodeAtStep, node_at_step}
 use Rattle.ga_provenance.specs.Deciding.{newest_decision}
+use Rattle.ga_provenance.proofs.Decided.{decision_moved}
 use Rattle.ga_text.proofs.WriteLemmas.{truncated_here, written_pending}
 use Rattle.ga_explorer_text.specs.Because.{decision_text, decisions_text}
 use Rattle.ga_explorer_text.proofs.Saying.{line_written, line_truncated, all_said}
@@ -17,6 +18,11 @@ telling-init g c = record {
     is_said = written_pending _ before said _ h;
   };
 }
+
+pub say_decision-requires : goal.say_decision-requires
+say_decision-requires g c =
+    decision_moved c.args.self.now.lab.now c.args.self.now.node c.telling.decisions.step c.in-Some.decision
+    (sym (c.in-Some.ensures.value ∙ ap (λ (w : NodeAtStep). newest_decision w.machine w.node c.telling.decisions.step) c.telling.invariant.decisions))
 
 pub returns-in_default : goal.returns-in_default
 returns-in_default g c = (

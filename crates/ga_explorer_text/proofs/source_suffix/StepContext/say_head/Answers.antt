@@ -1,7 +1,7 @@
 use Rattle.std.proofs.Common.{rules, List, ℕ, ◌++◌, refl, ap, ◌∙◌}
 use Rattle.ga_text.proofs.WriteLemmas.{truncated_here, truncated_within}
 use Rattle.ga_explorer_text.specs.SourceSuffix.{step_suffix_text}
-use Rattle.ga_explorer_text.specs.Trees.{step_action_text}
+use Rattle.ga_explorer_text.specs.Whence.{step_action_text}
 use Rattle.ga_explorer_text.proofs.Saying.{joined_written}
 use Rattle.ga_explorer_text.proofs.source_suffix.StepContext.say_head.Goals as goal
 

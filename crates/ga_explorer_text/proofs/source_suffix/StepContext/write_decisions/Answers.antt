@@ -1,6 +1,7 @@
 use Rattle.std.proofs.Common.{rules, ◌≡◌, ◌-◌, ℕ, List, ◌++◌, [], Some, codes, refl, sym, ap, ◌∙◌, arith}
 use Rattle.ga_lab.specs.Machine.{NodeAtStep}
 use Rattle.ga_provenance.specs.Deciding.{newest_decision}
+use Rattle.ga_provenance.proofs.Decided.{decision_moved}
 use Rattle.ga_text.proofs.WriteLemmas.{truncated_here, truncated_within, written_pending}
 use Rattle.ga_explorer_text.specs.Because.{decision_text, decisions_text, decisions_or_none_text}
 use Rattle.ga_explorer_text.proofs.Saying.{joined_written}
@@ -17,6 +18,11 @@ returns-in_default g c = (
     c.write_text.ensures.1 before said h,
   ),
 )
+
+pub say_decision-requires : goal.say_decision-requires
+say_decision-requires g c =
+    decision_moved c.args.self.now.lab.now c.args.self.now.node (c.args.self.now.near.step - 1) c.in-Some.newest
+    (sym (c.in-Some.ensures.value ∙ ap (λ (w : NodeAtStep). newest_decision w.machine w.node w.step) c.before-decisions.ensures))
 
 pub returns-then-most-eq0 : goal.returns-then-most-eq0
 returns-then-most-eq0 g c = (

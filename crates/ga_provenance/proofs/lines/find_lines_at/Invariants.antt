@@ -1,0 +1,22 @@
+use Rattle.std.proofs.Common.{◌≡◌, ◌+◌, ◌-◌, ◌*◌, ◌≤◌, length, take}
+use Rattle.std.specs.List.{All}
+use Rattle.ga_provenance.specs.declared.lines.UsedValue.{UsedValue}
+use Rattle.ga_provenance.specs.Lines.{values_to_list, first_lines, IsMovedLine}
+use Rattle.ga_provenance.specs.inner.{IsOfPart}
+use Rattle.ga_provenance.proofs.GrowingLines.{AreListed}
+use Rattle.ga_provenance.proofs.lines.find_lines_at.Given as goal
+
+abbrev pub invariant-listing : goal.invariant-listing
+invariant-listing l = record {
+  lab : l.search.lab.now ≡ l.lab;
+  uses : l.uses.items ≡ values_to_list l.lab l.fn.value l.lines.items;
+  lines : l.lines.items ≡ first_lines l.lab l.fn.value (length l.lines.items);
+  passed : AreListed l.lab l.lines.items (take l.next l.uses.items);
+  parts : All (λ (usage : UsedValue). IsOfPart usage.used) l.uses.items;
+  most : length l.lines.items ≤ l.most;
+  moved : All (IsMovedLine l.lab) l.lines.items;
+}
+
+-- each line uses at most three values
+abbrev pub decreases-listing : goal.decreases-listing
+decreases-listing l = 4 * (l.most - length l.lines.items) + (length l.uses.items - l.next)
