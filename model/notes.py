@@ -8,11 +8,13 @@ LONGEST, WHITE = 40, " \t\r\f"
 
 
 class Notes:
-    """The words and the labels of a source by cell. An image has none."""
+    """The words and the labels of a source by cell. An image has none. `set` has the parts that the text gives, each with its node and named
+    as `whence` does; or None if it gives all."""
 
-    def __init__(self, source=None):
+    def __init__(self, source=None, given=None):
         self.cells, self.labels, self.begins, self.lines = {}, {}, {}, lines_of(source or "")
-        for name, (_, _, layout) in (programs_of(words_of(source)) if source is not None else {}).items():
+        self.set = given if source is None or given is not None else set()
+        for name, (_, words, layout) in (programs_of(words_of(source)) if source is not None else {}).items():
             node = NODE_NAMES[name]
             for cell in layout.cells:
                 address = cell.address
