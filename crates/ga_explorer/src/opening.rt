@@ -106,7 +106,18 @@ fn open_on_image<E: Write>(
 fn with_words(notes: DebugInfo, given: GivenWords) -> DebugInfo
     ensures { result ≡ record notes { given = given } }
 {
-    DebugInfo { given, ..notes }
+    let DebugInfo {
+        notes: cells,
+        names,
+        words,
+        given: _,
+    } = notes;
+    DebugInfo {
+        notes: cells,
+        names,
+        words,
+        given,
+    }
 }
 
 /// A lab that has as its load the chip of an image, and the words that the image gives.
