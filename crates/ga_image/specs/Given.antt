@@ -18,13 +18,13 @@ use Rattle.ga_image.specs.FirstFault.{format_in}
 -- ---- whether a word is given
 
 -- the cell of RAM, or of ROM, that a place is
-abbrev pub ram_cell : Place → Option ℕ
-ram_cell (Ram cell) = Some cell
-ram_cell _ = None
+abbrev pub ram_cell_of_place : Place → Option ℕ
+ram_cell_of_place (Ram cell) = Some cell
+ram_cell_of_place _ = None
 
-abbrev pub rom_cell : Place → Option ℕ
-rom_cell (Rom cell) = Some cell
-rom_cell _ = None
+abbrev pub rom_cell_of_place : Place → Option ℕ
+rom_cell_of_place (Rom cell) = Some cell
+rom_cell_of_place _ = None
 
 abbrev pub is_a : Place → Bool
 is_a A = true
@@ -48,8 +48,8 @@ abbrev pub is_within : Place → ℕ → Place → Bool
 is_within A count place = is_a place
 is_within B count place = is_b place
 is_within P count place = is_p place
-is_within (Ram first) count place = is_in_row first count (ram_cell place)
-is_within (Rom first) count place = is_in_row first count (rom_cell place)
+is_within (Ram first) count place = is_in_row first count (ram_cell_of_place place)
+is_within (Rom first) count place = is_in_row first count (rom_cell_of_place place)
 is_within _ count place = false
 
 -- one of the words of a row is that of a place of the node

@@ -5,7 +5,7 @@ ghost use Rattle.std.specs.List.{list_any};
 ghost use Rattle.ga_text.specs.Lines.{lines_of};
 ghost use Rattle.ga_image.specs.FirstFault.{format_in};
 ghost use Rattle.ga_image.specs.inner.{form_of};
-ghost use Rattle.ga_image.specs.Given.{ram_cell, rom_cell, is_a, is_b, is_p, is_in_row, is_within, gives_word, line_ranges, block_node, given_ranges, gives_all, image_ranges, ranges_of};
+ghost use Rattle.ga_image.specs.Given.{ram_cell_of_place, rom_cell_of_place, is_a, is_b, is_p, is_in_row, is_within, gives_word, line_ranges, block_node, given_ranges, gives_all, image_ranges, ranges_of};
 
 use super::line::Line;
 use ga_grid::NodeId;
@@ -70,8 +70,8 @@ fn is_within(first: Place, count: usize, place: Place) -> bool
         Place::A => is_a(place),
         Place::B => is_b(place),
         Place::P => is_p(place),
-        Place::Ram(first) => is_in_row(first, count, ram_cell(place)),
-        Place::Rom(first) => is_in_row(first, count, rom_cell(place)),
+        Place::Ram(first) => is_in_row(first, count, ram_cell_of_place(place)),
+        Place::Rom(first) => is_in_row(first, count, rom_cell_of_place(place)),
         _ => false,
     }
 }
@@ -104,8 +104,8 @@ fn is_p(place: Place) -> bool
 }
 
 /// The cell of RAM that a place is.
-fn ram_cell(place: Place) -> Option<u8>
-    ensures { result ≡ ram_cell place }
+fn ram_cell_of_place(place: Place) -> Option<u8>
+    ensures { result ≡ ram_cell_of_place place }
 {
     match place {
         Place::Ram(cell) => Some(cell),
@@ -114,8 +114,8 @@ fn ram_cell(place: Place) -> Option<u8>
 }
 
 /// The cell of ROM that a place is.
-fn rom_cell(place: Place) -> Option<u8>
-    ensures { result ≡ rom_cell place }
+fn rom_cell_of_place(place: Place) -> Option<u8>
+    ensures { result ≡ rom_cell_of_place place }
 {
     match place {
         Place::Rom(cell) => Some(cell),

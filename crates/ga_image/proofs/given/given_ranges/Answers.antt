@@ -32,7 +32,7 @@ one_more before after all block behind read text rest more splits spelled added 
 pub loop-rest-preserved : goal.loop-rest-preserved
 loop-rest-preserved c =
     one_more c.loop-rest.ranges.items c.add_line.new.ranges.items _ c.loop-rest.node c.block_node-node.result _ c.first_line.result.0.now c.loop-rest.rest.now c.first_line.result.1.now
-        c.first_line.ensures.splits c.parse-line.ensures c.in_ok-add_line.ensures c.block_node-node.ensures c.loop-rest.invariant
+    c.first_line.ensures.splits c.parse-line.ensures c.in_ok-add_line.ensures c.block_node-node.ensures c.loop-rest.invariant
 
 pub returns : goal.returns
 returns c =
