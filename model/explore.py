@@ -476,7 +476,7 @@ class Explorer(Machine):
             word += f" a {behind[node, number].a:06x}"
         if number and part in ("t", "i") and deeds[node, number].startswith("takes"):
             word = ""
-        told = f"{number} {deeds[node, number]}{mark}{word}{count}{tails[node, number]}" if number else f"load {part}{word}{self.notes.tail(node, cell_of(part))}"
+        told = f"{number} {deeds[node, number]}{mark}{word}{count}{tails[node, number]}" if number else f"load {part}{word}{self.notes.never_set(node, part)}{self.notes.tail(node, cell_of(part))}"
         return f"{name(node)} {told}"
 
     @command(

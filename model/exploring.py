@@ -14,7 +14,7 @@ from itertools import zip_longest
 
 from conditions import generated_test, value_of
 from explore import FORMS, NODE, OFTEN, ROWS, STORES, VALUE, Explorer, parts_of, number_of
-from files import answer, load_of
+from files import FIELDS, answer, given_of, load_of
 from machine import name
 from notes import Notes
 from sessions import EXPLORED_LIMIT, SECONDS, Generator
@@ -76,8 +76,18 @@ class Session:
         self.front = "".join(f"{line}\n" for line in self.base.image())
         self.machine = Explorer(self.base.load, self.limit)
         self.source = None
+        if number % 8 == 4:
+            self.begin_with_format_1()
         if number % 2:
             self.begin_with_source({7: coders_of, 9: rivals_of}.get(number % 10, source_of)(draw))
+
+    def begin_with_format_1(self):
+        """Leaves out what an image of format 1 can't give."""
+        lines = [it for it in self.front.splitlines()[1:] if re.fullmatch(f"node .*|end|{FIELDS['ga144 1']}", it)]
+        self.front = "".join(f"{it}\n" for it in ["ga144 1"] + lines)
+        self.machine = Explorer(load_of(["ga144 1"] + lines), self.limit)
+        self.machine.notes = Notes()
+        self.machine.notes.set = given_of(["ga144 1"] + lines)
 
     def begin_with_source(self, source):
         image, told, status = asm(source)

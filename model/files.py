@@ -17,7 +17,7 @@ from itertools import zip_longest
 from explore import LONGEST, Explorer, cure
 from machine import Machine, NODES, name
 from node import FETCH_DUE, Node, SIDES, WORD, target_of
-from notes import Notes
+from notes import Notes, part_of
 from sessions import DEFAULT_LIMIT, EXPLORED_LIMIT
 from source import asm
 
@@ -63,8 +63,8 @@ def put(node, given, line):
     given.update(places)
 
 
-def load_of(lines):
-    """The nodes of an image."""
+def blocks_of(lines):
+    """The nodes of an image; and the fields and cells that it gives to each node with a block."""
     load, blocks, node = [Node(number) for number in range(NODES)], {}, None
     demand(len(lines) > 1 and lines[0] in FIELDS and lines[-1] == "end", "header or end")
     for line in lines[1:-1]:
@@ -78,7 +78,19 @@ def load_of(lines):
     for it in load:
         demand(not (it.wait and it.stop), "wait and stop")
         demand(not it.wait or (it.wait[0] == "fetch") == (it.slot == 4), "wait and slot")
-    return load
+    return load, blocks
+
+
+def load_of(lines):
+    """The nodes of an image."""
+    return blocks_of(lines)[0]
+
+
+def given_of(lines):
+    """The parts that an image gives, each with its node and named as `whence` does; or None if it gives all, as format 2 does."""
+    if lines[0] != "ga144 1":
+        return None
+    return {(node, it if isinstance(it, str) else part_of(it)) for node, given in blocks_of(lines)[1].items() for it in given}
 
 
 def is_command(line):
@@ -117,15 +129,17 @@ def opened(path):
     past = lines.index("end") + 1 if "end" in lines else len(lines)
     kind = Explorer if {"explore", "check"} & {*path.split(os.sep)} else Machine
     limit = int(folder[6:]) if folder.startswith("limit-") else EXPLORED_LIMIT if kind is Explorer else DEFAULT_LIMIT
-    load, notes = lines[:past], Notes()
+    load, source = lines[:past], None
     if kind is Explorer and not load[0].startswith("ga144"):
         source = "".join(f"{line}\n" for line in load)
-        load, notes = asm(source)[0].splitlines(), Notes(source)
+        load = asm(source)[0].splitlines()
     if folder == "chip":
         with open(f"{path}.image", encoding="latin-1", newline="") as file:
             load = file.read().splitlines()
     machine = kind(load_of(load), limit)
-    machine.notes = notes
+    machine.notes = Notes(source)
+    if source is None or folder == "chip":
+        machine.notes.set = given_of(load)
     if folder == "settled":
         settle(machine)
     commands = lines[past:]

@@ -7,12 +7,19 @@ from words import lines_of, words_of
 LONGEST, WHITE = 40, " \t\r\f"
 
 
+def part_of(cell):
+    """The name that a cell has in `whence`: its address, in ROM from 80 on."""
+    return f"{cell[1] + 128 * (cell[0] == 'rom'):02x}"
+
+
 class Notes:
-    """The words and the labels of a source by cell. An image has none."""
+    """The words and the labels of a source by cell. An image has none. `set` has the parts that the text gives, each with its node and named
+    as `whence` does; or None if it gives all."""
 
     def __init__(self, source=None):
         self.cells, self.labels, self.begins, self.lines = {}, {}, {}, lines_of(source or "")
-        for name, (_, _, layout) in (programs_of(words_of(source)) if source is not None else {}).items():
+        self.set = None if source is None else set()
+        for name, (_, asked, layout) in (programs_of(words_of(source)) if source is not None else {}).items():
             node = NODE_NAMES[name]
             for cell in layout.cells:
                 address = cell.address
@@ -20,8 +27,14 @@ class Notes:
                     self.begins.setdefault((node, cell.slots[0][0]), address)
                 for words in [[word for word, *_ in cell.slots]] + [[word] for word, _ in cell.literals]:
                     self.cells[node, target_of(address)] = f"{address:03x}", words
+                    self.set.add((node, part_of(target_of(address))))
                     address = advanced(address)
             self.labels[node] = [(it, layout.labels[it]) for _, it in layout.order if isinstance(it, str)]
+            self.set |= {(node, it[1:]) for it in [*asked.registers] + ["/p"] * bool(layout.cells)}
+
+    def never_set(self, node, part):
+        """The text after a loaded value that the text of the chip didn't give."""
+        return "" if self.set is None or (node, part) in self.set else ", never set"
 
     def label(self, node, cell):
         """The label of a cell: of the labels in the same memory and not after the cell, the last one at the greatest address."""

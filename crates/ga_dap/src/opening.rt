@@ -10,8 +10,8 @@ ghost use Rattle.ga_parser.specs.declared.fault.SourceCause.TheVariants.{Memory 
 ghost use Rattle.ga_text.specs.Lines.{lines_of};
 ghost use Rattle.ga_lab.specs.Machine.{initial_state};
 ghost use Rattle.ga_console.specs.Run.{IsOpenedOnImage as OpensImage};
-ghost use Rattle.ga_explorer.specs.Opening.{begins_as_image, OpensExplorer, OpensSource};
-ghost use Rattle.ga_dap.specs.Opening.{OpensProgram, IsNoProgram, AreProgramNodes, AreNodesOfSource, program_explorer_state};
+ghost use Rattle.ga_explorer.specs.Opening.{begins_as_image, OpensSource};
+ghost use Rattle.ga_dap.specs.Opening.{OpensProgram, OpensText, IsNoProgram, AreProgramNodes, AreNodesOfSource, program_explorer_state};
 ghost use Rattle.ga_dap.specs.inner.Unopened.{IfFault};
 
 use ga_console::{open_image, refuse};
@@ -129,7 +129,7 @@ fn is_image(text: &[u8]) -> bool
 }
 
 fn contents_of(alloc: Global, text: Vec<u8>, limit: u32) -> Result<Contents, LaunchError>
-    ensures ok { IfOk result (λ c. OpensExplorer text.items limit (program_explorer_state c.lab c.source)) }
+    ensures ok { IfOk result (λ c. OpensText text.items limit c.lab c.source) }
     ensures nodes { IfOk result (λ c. AreProgramNodes text.items c.nodes.items) }
     ensures err { IfErr result (λ why. IfFault why (IsNoProgram text.items)) }
 {

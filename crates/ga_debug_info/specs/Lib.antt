@@ -4,3 +4,4 @@ pub mod Faults
 pub mod Edited
 pub mod Unrepresented
 pub mod inner
+pub mod Given

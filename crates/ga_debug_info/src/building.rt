@@ -1,16 +1,19 @@
 //! The notes of a source.
 
 ghost use Rattle.std.specs.Prelude.{◌≡◌, ◌++◌, map, decimal, IfOk, OnOk};
+ghost use Rattle.ga_debug_info.specs.Given.{HasSourceWords};
 ghost use Rattle.ga_debug_info.specs.Notes.{IsDebugInfoOfSource};
 ghost use Rattle.ga_debug_info.specs.Source.{label_address_content, named_label, program_label_names, label_text, address_text, cell_comment_text as note_text_of, whole_line_text, cell_source_content, cell_sources_at_address, is_code, group_cell_sources, program_cell_sources, literal_cell_sources};
 ghost use Rattle.ga_source.specs.Reading.{p_after_item};
 ghost use Rattle.ga_debug_info.specs.inner.{IsMarked};
 
+use crate::given::source_ranges;
 use crate::label::{LastLabels, cell_of, name_of};
 use crate::line::{Lines, is_long};
 use crate::notes::{CellSource, DebugInfo, LabelAddress};
 use crate::wording::slot_words;
 use ga_grid::NodeId;
+use ga_image::GivenWords;
 use ga_ports::advance_p;
 use ga_source::{CellGroup, Item, Label, Program};
 use ga_word::Word18;
@@ -24,7 +27,7 @@ struct CellAt {
     line: u32,
 }
 
-/// What a source says of each cell that it gives and of each slot, and the names of its labels.
+/// What a source says of each cell that it gives and of each slot, the names of its labels, and which words at load it gives.
 ///
 /// # Errors
 /// Memory is wanting.
@@ -33,7 +36,8 @@ pub fn debug_info_of(
     source: &[u8],
     programs: &[Program<'_>],
 ) -> Result<DebugInfo, AllocError>
-    ensures { IfOk result (λ notes. IsDebugInfoOfSource source.now programs.now notes) }
+    ensures notes { IfOk result (λ notes. IsDebugInfoOfSource source.now programs.now notes) }
+    ensures given { IfOk result (HasSourceWords programs.now) }
 {
     let mut lines = Lines::new(source);
     let mut names = Vec::new(alloc);
@@ -43,10 +47,12 @@ pub fn debug_info_of(
         add_cells(alloc, &mut notes, program, &mut lines)?;
     }
     let words = slot_words(alloc, source)?;
+    let given = GivenWords::Ranges(source_ranges(alloc, programs, notes.as_slice())?);
     Ok(DebugInfo {
         notes,
         names,
         words,
+        given,
     })
 }
 

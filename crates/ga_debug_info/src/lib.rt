@@ -6,6 +6,7 @@ mod building;
 mod causes;
 mod editor_artifact;
 mod faults;
+mod given;
 mod label;
 mod line;
 mod notes;

@@ -5,6 +5,8 @@ ghost use Rattle.ga_debug_info.specs.Notes.{is_source_of_cell, begins_on_line, i
 
 use crate::wording::{DisplayedWord, SlotWord};
 use ga_grid::NodeId;
+use ga_image::GivenWords;
+use ga_node::Place;
 use std::alloc::Global;
 
 /// What the source says of a cell that it gives.
@@ -34,30 +36,53 @@ pub struct LabelAddress {
     pub address: u32,
 }
 
-/// What a source says of the cells of its chip. An image says nothing.
+/// What the text of a chip gives, and what a source says of its cells. An image says nothing of them.
 #[derive(Drop)]
 pub struct DebugInfo {
     pub notes: Vec<CellSource>,
     pub names: Vec<LabelAddress>,
     /// The words of the slots, in the order of the source.
     pub words: Vec<DisplayedWord>,
+    /// The words at load that the text gives.
+    pub given: GivenWords,
 }
 
 impl DebugInfo {
     ghost use Rattle.std.specs.Prelude.{◌≡◌, ◌==◌, length, [], None, Some, option_map};
+    ghost use Rattle.ga_image.specs.Given.{is_given};
+    ghost use Rattle.ga_image.specs.declared.given.GivenWords.TheVariants.{All};
     ghost use Rattle.ga_debug_info.specs.Notes.{first_cell_source_text, is_first_cell_source_long, slot_text, slot_word_of, nearest_word, line_address, label_address_of};
 
-    /// The notes of an image: none.
+    /// No debug info, of a chip whose words are all given.
     pub fn none(alloc: Global) -> Self
         ensures notes { result.notes.items ≡ [] }
         ensures names { result.names.items ≡ [] }
         ensures words { result.words.items ≡ [] }
+        ensures given { result.given ≡ All }
+    {
+        DebugInfo::of_image(alloc, GivenWords::All)
+    }
+
+    /// The debug info of an image, which gives these words and says nothing of cells.
+    pub fn of_image(alloc: Global, given: GivenWords) -> Self
+        ensures notes { result.notes.items ≡ [] }
+        ensures names { result.names.items ≡ [] }
+        ensures words { result.words.items ≡ [] }
+        ensures given { result.given ≡ given }
     {
         DebugInfo {
             notes: Vec::new(alloc),
             names: Vec::new(alloc),
             words: Vec::new(alloc),
+            given,
         }
+    }
+
+    /// Whether the text gives the word at load of a place of a node. Takes time linear in what it gives.
+    pub fn is_given(&self, node: NodeId, place: Place) -> bool
+        ensures { result ≡ is_given self.now.given node place }
+    {
+        self.given.has(node, place)
     }
 
     /// Whether there is no debug info of any cell.

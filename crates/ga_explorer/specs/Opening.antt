@@ -6,14 +6,16 @@ use Rattle.ga_debug_info.specs.declared.notes.DebugInfo.{DebugInfo}
 use Rattle.std.specs.List.{All}
 use Rattle.ga_node.specs.Record.{NodeState}
 use Rattle.ga_grid.specs.Chip.{records_of}
-use Rattle.ga_text.specs.Lines.{Bytes, Text}
+use Rattle.ga_text.specs.Lines.{Bytes, Text, lines_of}
 use Rattle.ga_image.specs.FirstFault.{memory_fault}
+use Rattle.ga_image.specs.Given.{ranges_of, image_ranges}
 use Rattle.ga_image.specs.declared.fault.ImageFault.{ImageFault}
 use Rattle.ga_source.specs.declared.program.Program.{Program}
 use Rattle.ga_source.specs.Programs.{IsAssembledChip, ArePlainProgramsOfSource, AreProgramsOfSource}
 use Rattle.ga_source.specs.Cells.{HasRequestedGroups}
 use Rattle.ga_source.specs.Made.{IsChipOfSource}
 use Rattle.ga_debug_info.specs.Notes.{IsDebugInfoOfSource}
+use Rattle.ga_debug_info.specs.Given.{HasSourceWords}
 use Rattle.ga_text.specs.Input.{UnreadInput}
 use Rattle.ga_text.specs.Image.{EndsWithEndLine, HasNoEndLine}
 use Rattle.ga_console.specs.Run.{IsOpenedOnImage as OpensImage, ReadsOnlyImage, IsFaultyImageInput, WritesImageRefusal, IsFaultOfImage}
@@ -22,7 +24,7 @@ use Rattle.ga_console.specs.declared.run.Status.TheVariants.{ImageRefused, Strea
 
 -- ---- what is explored (docs/REFERENCE.md, "Exploring"; this project's own)
 
--- a machine, and what the source says of its cells where it began with source
+-- a machine, and what is known of the text on which it began, where that is known
 pub record ExplorerState : Type 0 where
   pub lab : State
   pub notes : Option DebugInfo
@@ -45,11 +47,25 @@ pub record OpensSource (source : Text) (limit : ℕ) (begun : ExplorerState) : T
   pub load : begun.lab ≡ initial_state (records_of chip) limit
   pub noted : begun.notes ≡ Some notes
   pub says : IsDebugInfoOfSource source programs notes
+  pub gives : HasSourceWords programs notes
 
--- the machine has the text's chip as its load; of an image there are no notes
+-- the words that an image gives are known, in format 2 all
+abbrev pub HasImageWords : Text → DebugInfo → Type 0
+HasImageWords image notes = ranges_of notes.given ≡ image_ranges (lines_of image)
+
+-- The machine has the chip of an image as its load. Known is which words the image gives, and nothing of its cells.
+pub record ExploresImage (image : Text) (limit : ℕ) (begun : ExplorerState) : Type 0 where
+  pub notes : DebugInfo
+  pub opens : OpensImage image limit begun.lab
+  pub noted : begun.notes ≡ Some notes
+  pub labels : notes.names.items ≡ []
+  pub cells : notes.notes.items ≡ []
+  pub slots : notes.words.items ≡ []
+  pub gives : HasImageWords image notes
+
+-- the machine has the text's chip as its load
 abbrev pub OpensExplorer : Text → ℕ → ExplorerState → Type 0
-OpensExplorer text limit begun = ((begins_as_image text ≡ true) × OpensImage text limit begun.lab × (begun.notes ≡ None))
-    ⊎ ((begins_as_image text ≡ false) × OpensSource text limit begun)
+OpensExplorer text limit begun = ((begins_as_image text ≡ true) × ExploresImage text limit begun) ⊎ ((begins_as_image text ≡ false) × OpensSource text limit begun)
 
 -- The notes are those of a source and of the programs that it has.
 pub record IsDebugInfoOf (source : Text) (notes : DebugInfo) : Type 0 where
@@ -62,12 +78,14 @@ pub record IsDebugInfoOf (source : Text) (notes : DebugInfo) : Type 0 where
   pub made : IsChipOfSource source chip
   pub says : IsDebugInfoOfSource source programs notes
 
--- The machine has as its load the chip of an image, and the notes are those of the source, whatever that chip holds.
+-- The machine has as its load the chip of an image, which gives the words, and the notes are those of the source, whatever that
+-- chip holds.
 pub record OpensOnImage (source image : Text) (limit : ℕ) (begun : ExplorerState) : Type 0 where
   pub notes : DebugInfo
   pub opens : OpensImage image limit begun.lab
   pub noted : begun.notes ≡ Some notes
   pub notes_of : IsDebugInfoOf source notes
+  pub gives : HasImageWords image notes
 
 -- the text of the image that is given for the chip, where one is
 abbrev pub image_text_of : Option (Vec ℕ Global) → Option Text

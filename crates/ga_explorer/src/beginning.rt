@@ -6,19 +6,12 @@ ghost use Rattle.ga_explorer.specs.Opening.{IsSessionOpened, image_text_of};
 ghost use Rattle.ga_explorer.specs.inner.{IsOpened};
 
 use crate::explorer::Explorer;
-use crate::opening::{OpenError, is_read_as_image, open_text};
+use crate::opening::{NO_MEMORY, OpenError, is_read_as_image, open_text};
 use ga_console::{Status, refuse};
 use ga_debug_info::report_input_too_long;
-use ga_image::{ImageCause, ImageFault};
 use ga_text::{ImageEnd, Input, read_image};
 use std::alloc::Global;
 use std::io::{Read, Write};
-
-/// The fault of an image for which memory was wanting.
-const NO_MEMORY: ImageFault = ImageFault {
-    line: 0,
-    cause: ImageCause::Memory,
-};
 
 /// Reads an image or source up to its first line `end`, and opens a lab that has its chip as its load, to be explored. A text whose first line
 /// begins with `ga144` is an image, and any other is source. Where an image is given for the `chip`, the load is that one's, and the text is

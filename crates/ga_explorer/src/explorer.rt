@@ -22,7 +22,7 @@ use std::alloc::Global;
 use std::io::Write;
 use std::marker::Model;
 
-/// A lab that is explored, and what its source says of the cells, where it began with source.
+/// A lab that is explored, and what is known of the text on which it began.
 #[derive(Drop)]
 pub struct Explorer {
     lab: Lab,

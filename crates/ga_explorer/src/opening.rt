@@ -2,6 +2,9 @@
 ghost use Rattle.std.specs.Prelude.{◌≡◌, IfOk, IfErr, IfSome, Some, None};
 ghost use Rattle.ga_explorer.specs.Opening.{begins_as_image, image_text_of, is_read_as_image, OpensLeadingText, OpensExplorer, OpensOnImage, OpensSource, IsDebugInfoOf};
 ghost use Rattle.ga_explorer.specs.inner.{IsUnopened};
+ghost use Rattle.ga_console.specs.Run.{IsOpenedOnImage as OpensImage, IsFaultOfImage};
+ghost use Rattle.ga_image.specs.Given.{ranges_of, image_ranges};
+ghost use Rattle.ga_text.specs.Lines.{lines_of};
 
 use crate::explorer::Explorer;
 use ga_console::open_image;
@@ -9,12 +12,18 @@ use ga_debug_info::{
     DebugInfo, debug_info_of, find_image_artifact, find_source_artifact, report_code_stores,
     report_editor_artifact, report_faults, report_out_of_memory,
 };
-use ga_image::ImageFault;
+use ga_image::{GivenWords, ImageCause, ImageFault, given_words};
 use ga_lab::Lab;
 use ga_source::assemble;
 use ga_text::write_all;
 use std::alloc::Global;
 use std::io::Write;
+
+/// The fault of an image for which memory was wanting.
+pub(crate) const NO_MEMORY: ImageFault = ImageFault {
+    line: 0,
+    cause: ImageCause::Memory,
+};
 
 /// Why a session doesn't begin.
 #[derive(Clone, Copy, PartialEq, Eq)]
@@ -83,13 +92,53 @@ fn open_on_image<E: Write>(
         return Err(OpenError::Source);
     };
     let edited = find_image_artifact(image.as_slice());
-    match open_image(alloc, image, limit) {
-        Ok(lab) => Ok(Explorer::of(lab, Some(notes))),
+    match open_with_words(alloc, image, limit) {
+        Ok((lab, given)) => Ok(Explorer::of(lab, Some(with_words(notes, given)))),
         Err(fault) => {
             let _written = report_editor_artifact(errors, edited);
             tell_chip(errors);
             Err(OpenError::Image(fault))
         }
+    }
+}
+
+/// Debug info of a chip whose words were given so.
+fn with_words(notes: DebugInfo, given: GivenWords) -> DebugInfo
+    ensures { result ≡ record notes { given = given } }
+{
+    let DebugInfo {
+        notes: cells,
+        names,
+        words,
+        given: _,
+    } = notes;
+    DebugInfo {
+        notes: cells,
+        names,
+        words,
+        given,
+    }
+}
+
+/// A lab that has as its load the chip of an image, and the words that the image gives.
+///
+/// # Errors
+/// The image's first fault, or want of memory.
+fn open_with_words(
+    alloc: Global,
+    image: Vec<u8>,
+    limit: u32,
+) -> Result<(Lab, GivenWords), ImageFault>
+    ensures ok { IfOk result (λ opened. OpensImage image.items limit opened.0) }
+    ensures given { IfOk result (λ opened. ranges_of opened.1 ≡ image_ranges (lines_of image.items)) }
+    ensures err { IfErr result (λ fault. IsFaultOfImage image.items fault) }
+{
+    let Ok(given) = given_words(alloc, image.as_slice()) else {
+        return Err(NO_MEMORY);
+    };
+    match open_image(alloc, image, limit) {
+        Ok(lab) => Ok((lab, given)),
+        Err(fault) => Err(fault),
     }
 }
 
@@ -136,8 +185,8 @@ fn open_alone<E: Write>(
 {
     if is_image(text.as_slice()) {
         let edited = find_image_artifact(text.as_slice());
-        return match open_image(alloc, text, limit) {
-            Ok(lab) => Ok(Explorer::of(lab, None)),
+        return match open_with_words(alloc, text, limit) {
+            Ok((lab, given)) => Ok(Explorer::of(lab, Some(DebugInfo::of_image(alloc, given)))),
             Err(fault) => {
                 let _written = report_editor_artifact(errors, edited);
                 Err(OpenError::Image(fault))

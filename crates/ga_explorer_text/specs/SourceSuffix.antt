@@ -2,7 +2,10 @@
 -- project's own).
 use Rattle.std.specs.Prelude.{ℕ, ◌+◌, ◌-◌, ◌%◌, ◌==◌, min, if◌then◌else◌, [], ◌++◌, codes, Option, Some, None}
 use Rattle.ga_text.specs.Lines.{Text}
+use Rattle.ga_node.specs.declared.place.Place.{Place}
+use Rattle.ga_node.specs.declared.place.Place.TheVariants as place
 use Rattle.ga_grid.specs.declared.node_id.NodeId.{NodeId}
+use Rattle.ga_image.specs.Given.{is_given}
 use Rattle.ga_event.specs.Told.{count_steps}
 use Rattle.ga_lab.specs.Machine.{State}
 use Rattle.ga_event.specs.declared.flow.part.NodePart.{NodePart}
@@ -44,7 +47,25 @@ part_cell (part.Ram k) = Some k
 part_cell (part.Rom k) = Some (128 + k % 64)
 part_cell _ = None
 
--- after a value: that of the step that made it, or of the cell where it was loaded, from the word that begins it
+-- The place by which a part is given: A, B, P and each cell are given alone. All else is given only with all words, as T is.
+abbrev pub listed_place : NodePart → Place
+listed_place part.A = place.A
+listed_place part.B = place.B
+listed_place part.P = place.P
+listed_place (part.Ram k) = place.Ram k
+listed_place (part.Rom k) = place.Rom k
+listed_place _ = place.T
+
+-- after a loaded value: whether neither image nor source gave it
+abbrev pub never_set_text : Option DebugInfo → NodeId → NodePart → Text
+never_set_text None node part = []
+never_set_text (Some notes) node part = if is_given notes.given node (listed_place part) then [] else codes ", never set"
+
+-- after a loaded value: that, and the text of its cell, from the word that begins it
+abbrev pub loaded_suffix_text : Option DebugInfo → NodeId → NodePart → Text
+loaded_suffix_text notes node part = never_set_text notes node part ++ source_suffix_line notes node (part_cell part) 4
+
+-- after a value: that of the step that made it, or of the load
 abbrev pub value_suffix_text : Option DebugInfo → State → Value → Text
 value_suffix_text notes s value =
-    if value.step == 0 then source_suffix_line notes value.node (part_cell value.part) 4 else step_suffix_text notes s value.node value.step
+    if value.step == 0 then loaded_suffix_text notes value.node value.part else step_suffix_text notes s value.node value.step

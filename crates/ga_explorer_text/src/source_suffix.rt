@@ -6,7 +6,7 @@ ghost use Rattle.ga_event.specs.Told.{count_steps};
 ghost use Rattle.ga_lab.specs.Machine.{node_at_step};
 ghost use Rattle.ga_provenance.specs.Origins.{node_after};
 ghost use Rattle.ga_text.specs.Output.{WritesExactly};
-ghost use Rattle.ga_explorer_text.specs.SourceSuffix.{cell_note_text, slot_note_text as noted_slot_of, source_suffix_line, part_cell};
+ghost use Rattle.ga_explorer_text.specs.SourceSuffix.{cell_note_text, slot_note_text as noted_slot_of, source_suffix_line, part_cell, listed_place, never_set_text, loaded_suffix_text};
 
 use ga_debug_info::DebugInfo;
 use ga_event::NodePart;
@@ -57,6 +57,36 @@ fn part_cell(part: NodePart) -> Option<u8>
     }
 }
 
+/// The place by which a part is given: that of T stands for all that is given only with all words.
+fn listed_place(part: NodePart) -> Place
+    ensures { result ≡ listed_place part }
+{
+    match part {
+        NodePart::A => Place::A,
+        NodePart::B => Place::B,
+        NodePart::P => Place::P,
+        NodePart::Ram(cell) => Place::Ram(cell),
+        NodePart::Rom(cell) => Place::Rom(cell),
+        _ => Place::T,
+    }
+}
+
+/// What follows a loaded value that neither image nor source gave.
+fn never_set_text(notes: &Option<DebugInfo>, node: NodeId, part: NodePart) -> &'static [u8]
+    ensures { result.now ≡ never_set_text notes.now node part }
+{
+    match notes {
+        Some(notes) => {
+            if notes.is_given(node, listed_place(part)) {
+                b""
+            } else {
+                b", never set"
+            }
+        }
+        None => b"",
+    }
+}
+
 /// The slot of a node.
 #[tactic(auto, unfolding(ga_node::specs::Record::record_of))]
 fn slot_of(node: &Node) -> u32
@@ -78,6 +108,19 @@ fn say_tail<W: Write>(
     writer.write_blocks(noted(notes, node, cell))?;
     writer.write_blocks(slot_note_text(notes, node, cell, slot))?;
     writer.write_text(b"\n")
+}
+
+/// Says whether a loaded value was given, and what the source says of its cell, and ends the line.
+fn say_loaded<W: Write>(
+    notes: &Option<DebugInfo>,
+    node: NodeId,
+    part: NodePart,
+    writer: &mut Writer<'_, W>,
+) -> WriteResult
+    ensures { WritesExactly result (loaded_suffix_text notes.now node part) W.contents writer.old writer.new }
+{
+    writer.write_blocks(never_set_text(notes, node, part))?;
+    say_tail(notes, node, part_cell(part), FETCH, writer)
 }
 
 /// The slot of a node that is walked back to its first `place` steps.
@@ -191,7 +234,13 @@ impl<'l> StepContext<'l> {
             ≡ source_note_text self.now.notes.now node (cell_fetched self.now.lab.now node step) slot }
     {
         match self.notes {
-            Some(_) => fetched_cell_at(self.lab, &self.near, self.node, node, step),
+            Some(notes) => {
+                if notes.is_empty() {
+                    None
+                } else {
+                    fetched_cell_at(self.lab, &self.near, self.node, node, step)
+                }
+            }
             None => None,
         }
     }
@@ -223,7 +272,7 @@ impl<'l> StepContext<'l> {
         self.write_step_suffix(self.node, self.near.step(), writer)
     }
 
-    /// Ends a line about a value: that of the step that made it, or of the cell where it was loaded.
+    /// Ends a line about a value: that of the step that made it, or of the part where it was loaded.
     ///
     /// # Errors
     /// A write failed.
@@ -235,8 +284,7 @@ impl<'l> StepContext<'l> {
         ensures { WritesExactly result (value_suffix_text self.now.notes.now self.now.lab.now value) W.contents writer.old writer.new }
     {
         if value.step == 0 {
-            let cell = part_cell(value.part);
-            say_tail(self.notes, value.node, cell, FETCH, writer)
+            say_loaded(self.notes, value.node, value.part, writer)
         } else {
             self.write_step_suffix(value.node, value.step, writer)
         }

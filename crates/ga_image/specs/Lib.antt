@@ -5,3 +5,4 @@ pub mod Reading
 pub mod FirstFault
 pub mod Printing
 pub mod inner
+pub mod Given

@@ -5,6 +5,7 @@
 mod fault;
 mod field;
 mod field_text;
+mod given;
 mod image;
 pub mod laws;
 mod line;
@@ -12,6 +13,7 @@ mod parser;
 mod printing;
 
 pub use fault::{ImageCause, ImageFault};
+pub use given::{GivenRange, GivenWords, given_words};
 pub use image::parse;
 pub use parser::LINE_LIMIT;
 pub use printing::print;

@@ -1,0 +1,103 @@
+//! Which words of a chip its source gives.
+
+ghost use Rattle.std.specs.Prelude.{◌≡◌, ◌++◌, IfOk, OnOk};
+ghost use Rattle.ga_source.specs.Programs.{has_cells, is_item_request};
+ghost use Rattle.ga_debug_info.specs.Given.{word_if, register_ranges, cell_place, cell_range, source_ranges};
+
+use crate::notes::CellSource;
+use ga_grid::NodeId;
+use ga_image::GivenRange;
+use ga_node::Place;
+use ga_source::{AssemblyRequest, LocatedRequest, Program};
+use std::alloc::{AllocError, Global};
+
+/// The words that programs give: registers, and the cells of which the source says something.
+///
+/// # Errors
+/// Out of memory.
+pub(crate) fn source_ranges(
+    alloc: Global,
+    programs: &[Program<'_>],
+    notes: &[CellSource],
+) -> Result<Vec<GivenRange>, AllocError>
+    ensures { IfOk result (λ given. given.items ≡ source_ranges programs.now notes.now) }
+{
+    let mut given = Vec::new(alloc);
+    for program in programs {
+        add_registers(&mut given, program)?;
+    }
+    for note in notes {
+        given.push(cell_range(note))?;
+    }
+    Ok(given)
+}
+
+/// Adds the registers that a program gives.
+fn add_registers(given: &mut Vec<GivenRange>, program: &Program<'_>) -> Result<(), AllocError>
+    ensures { OnOk result (given.new.items ≡ given.old.items ++ register_ranges program.now) }
+{
+    let node = program.node;
+    let registers = program.registers;
+    add_word(given, registers.a.is_some(), node, Place::A)?;
+    add_word(given, registers.b.is_some(), node, Place::B)?;
+    let is_started = registers.p.is_some() || has_cells(program.asked.as_slice());
+    add_word(given, is_started, node, Place::P)
+}
+
+/// Adds a word of a node, if it is given.
+fn add_word(
+    given: &mut Vec<GivenRange>,
+    is_given: bool,
+    node: NodeId,
+    place: Place,
+) -> Result<(), AllocError>
+    ensures { OnOk result (given.new.items ≡ given.old.items ++ word_if is_given node place) }
+{
+    if is_given {
+        given.push(GivenRange {
+            node,
+            first: place,
+            count: 1,
+        })?;
+    }
+    Ok(())
+}
+
+/// Whether one of the requests asks for an item, and so for a cell.
+fn has_cells(asked: &[LocatedRequest]) -> bool
+    ensures { result ≡ has_cells asked.now }
+{
+    asked.iter().any(|one| is_item_request(one.request))
+}
+
+/// Whether a request asks for an item.
+fn is_item_request(request: AssemblyRequest) -> bool
+    ensures { result ≡ is_item_request request }
+{
+    match request {
+        AssemblyRequest::Put(_) | AssemblyRequest::Unext(_) => true,
+        _ => false,
+    }
+}
+
+/// The word of a cell.
+fn cell_range(note: &CellSource) -> GivenRange
+    ensures { result ≡ cell_range note.now }
+{
+    GivenRange {
+        node: note.node,
+        first: cell_place(note.cell),
+        count: 1,
+    }
+}
+
+/// A cell as a place.
+fn cell_place(cell: u8) -> Place
+    ensures { result ≡ cell_place cell }
+{
+    if cell < 128 {
+        Place::Ram(cell)
+    } else {
+        Place::Rom(cell - 128)
+    }
+}

@@ -1,0 +1,93 @@
+-- Which words of a chip a text gives (docs/REFERENCE.md, "Images" and "Causes"; this project's own). What isn't given is as at load.
+use Rattle.std.specs.Prelude.{ℕ, ◌+◌, ◌==◌, ◌&&◌, nat_le, nat_lt, if◌then◌else◌, Bool, true, false, List, [], ◌∷◌, ◌++◌, length, Option, Some, None, option_map}
+use Rattle.std.specs.List.{list_any}
+use Rattle.ga_text.specs.Lines.{Line}
+use Rattle.ga_node.specs.declared.place.Place.{Place}
+use Rattle.ga_node.specs.declared.place.Place.TheVariants.{A, B, P, Ram, Rom}
+use Rattle.ga_grid.specs.declared.node_id.NodeId.{NodeId}
+use Rattle.ga_grid.specs.Grid.{node_id, number_of_yxx}
+use Rattle.ga_image.specs.declared.given.GivenRange.{GivenRange}
+use Rattle.ga_image.specs.declared.given.GivenWords.{GivenWords}
+use Rattle.ga_image.specs.declared.given.GivenWords.TheVariants.{All, Ranges}
+use Rattle.ga_image.specs.declared.field.Format.{Format}
+use Rattle.ga_image.specs.declared.field.Format.TheVariants.{One, Two}
+use Rattle.ga_image.specs.Fields.{field_place}
+use Rattle.ga_image.specs.Spelling.{Form, Node, Words, form}
+use Rattle.ga_image.specs.FirstFault.{format_in}
+
+-- ---- whether a word is given
+
+-- the cell of RAM, or of ROM, that a place is
+abbrev pub ram_cell_of_place : Place → Option ℕ
+ram_cell_of_place (Ram cell) = Some cell
+ram_cell_of_place _ = None
+
+abbrev pub rom_cell_of_place : Place → Option ℕ
+rom_cell_of_place (Rom cell) = Some cell
+rom_cell_of_place _ = None
+
+abbrev pub is_a : Place → Bool
+is_a A = true
+is_a _ = false
+
+abbrev pub is_b : Place → Bool
+is_b B = true
+is_b _ = false
+
+abbrev pub is_p : Place → Bool
+is_p P = true
+is_p _ = false
+
+-- a cell is one of so many from the first on
+abbrev pub is_in_row : ℕ → ℕ → Option ℕ → Bool
+is_in_row first count (Some cell) = nat_le first cell && nat_lt cell (first + count)
+is_in_row first count None = false
+
+-- A place is the register A, B or P that is given, or one of the cells from the first on.
+abbrev pub is_within : Place → ℕ → Place → Bool
+is_within A count place = is_a place
+is_within B count place = is_b place
+is_within P count place = is_p place
+is_within (Ram first) count place = is_in_row first count (ram_cell_of_place place)
+is_within (Rom first) count place = is_in_row first count (rom_cell_of_place place)
+is_within _ count place = false
+
+-- one of the words of a row is that of a place of the node
+abbrev pub gives_word : NodeId → Place → GivenRange → Bool
+gives_word node place range = range.node.number == node.number && is_within range.first range.count place
+
+-- the text gives the word of a place of the node
+abbrev pub is_given : GivenWords → NodeId → Place → Bool
+is_given All node place = true
+is_given (Ranges ranges) node place = list_any (gives_word node place) ranges.items
+
+-- ---- what an image gives
+
+-- the words that a field line gives to the node of its block
+abbrev pub line_ranges : Option NodeId → Option Form → List GivenRange
+line_ranges (Some node) (Some (Words field words)) = record { node = node; first = field_place field; count = length words } ∷ []
+line_ranges _ _ = []
+
+-- the node whose block continues after a line
+abbrev pub block_node : Option NodeId → Option Form → Option NodeId
+block_node before (Some (Node yxx)) = option_map node_id (number_of_yxx yxx)
+block_node before _ = before
+
+-- the words that lines give, the first of which continue the block of this node
+unfoldable pub given_ranges : Option NodeId → List Line → List GivenRange
+given_ranges block [] = []
+given_ranges block (text ∷ texts) = line_ranges block (form text) ++ given_ranges (block_node block (form text)) texts
+
+-- a word that an image of format 2 doesn't give is as its dump had it
+abbrev pub gives_all : Format → Bool
+gives_all One = false
+gives_all Two = true
+
+-- the words that an image gives, which are all of format 2
+abbrev pub image_ranges : List Line → Option (List GivenRange)
+image_ranges texts = if gives_all (format_in texts) then None else Some (given_ranges None texts)
+
+-- given words as their list, if they aren't all
+abbrev pub ranges_of : GivenWords → Option (List GivenRange)
+ranges_of All = None
+ranges_of (Ranges ranges) = Some ranges.items

@@ -1,0 +1,206 @@
+//! Which words of a chip a text gives.
+
+ghost use Rattle.std.specs.Prelude.{◌≡◌, ◌++◌, IfOk, OnOk, option_map, None};
+ghost use Rattle.std.specs.List.{list_any};
+ghost use Rattle.ga_text.specs.Lines.{lines_of};
+ghost use Rattle.ga_image.specs.FirstFault.{format_in};
+ghost use Rattle.ga_image.specs.inner.{form_of};
+ghost use Rattle.ga_image.specs.Given.{ram_cell_of_place, rom_cell_of_place, is_a, is_b, is_p, is_in_row, is_within, gives_word, line_ranges, block_node, given_ranges, gives_all, image_ranges, ranges_of};
+
+use super::line::Line;
+use ga_grid::NodeId;
+use ga_node::Place;
+use ga_text::first_line;
+use std::alloc::{AllocError, Global};
+
+/// Words of a node that a text gives: of a register, or of cells from one on.
+#[derive(Clone, Copy, Debug)]
+pub struct GivenRange {
+    /// The node.
+    pub node: NodeId,
+    /// The first place.
+    pub first: Place,
+    /// The number of words.
+    pub count: usize,
+}
+
+/// The words of a chip that a text gives; all others are as at load.
+#[derive(Drop)]
+pub enum GivenWords {
+    /// Each word is given.
+    All,
+    /// These are given.
+    Ranges(Vec<GivenRange>),
+}
+
+impl GivenWords {
+    ghost use Rattle.std.specs.Prelude.{◌≡◌};
+    ghost use Rattle.ga_image.specs.Given.{is_given};
+
+    /// Whether the word of a place of a node is given. Only A, B, P and memory are given one by one.
+    pub fn has(&self, node: NodeId, place: Place) -> bool
+        ensures { result ≡ is_given self.now node place }
+    {
+        match self {
+            GivenWords::All => true,
+            GivenWords::Ranges(ranges) => has_range(ranges.as_slice(), node, place),
+        }
+    }
+}
+
+/// Whether one of these rows has the word of a place of a node.
+fn has_range(ranges: &[GivenRange], node: NodeId, place: Place) -> bool
+    ensures { result ≡ list_any (gives_word node place) ranges.now }
+{
+    ranges.iter().any(|range| gives_word(*range, node, place))
+}
+
+/// Whether a row has the word of a place of a node.
+fn gives_word(range: GivenRange, node: NodeId, place: Place) -> bool
+    ensures { result ≡ gives_word node place range }
+{
+    range.node == node && is_within(range.first, range.count, place)
+}
+
+/// Whether a place is the register that is given, or one of the cells from the first on.
+fn is_within(first: Place, count: usize, place: Place) -> bool
+    ensures { result ≡ is_within first count place }
+{
+    match first {
+        Place::A => is_a(place),
+        Place::B => is_b(place),
+        Place::P => is_p(place),
+        Place::Ram(first) => is_in_row(first, count, ram_cell_of_place(place)),
+        Place::Rom(first) => is_in_row(first, count, rom_cell_of_place(place)),
+        _ => false,
+    }
+}
+
+fn is_a(place: Place) -> bool
+    ensures { result ≡ is_a place }
+{
+    match place {
+        Place::A => true,
+        _ => false,
+    }
+}
+
+fn is_b(place: Place) -> bool
+    ensures { result ≡ is_b place }
+{
+    match place {
+        Place::B => true,
+        _ => false,
+    }
+}
+
+fn is_p(place: Place) -> bool
+    ensures { result ≡ is_p place }
+{
+    match place {
+        Place::P => true,
+        _ => false,
+    }
+}
+
+/// The cell of RAM that a place is.
+fn ram_cell_of_place(place: Place) -> Option<u8>
+    ensures { result ≡ ram_cell_of_place place }
+{
+    match place {
+        Place::Ram(cell) => Some(cell),
+        _ => None,
+    }
+}
+
+/// The cell of ROM that a place is.
+fn rom_cell_of_place(place: Place) -> Option<u8>
+    ensures { result ≡ rom_cell_of_place place }
+{
+    match place {
+        Place::Rom(cell) => Some(cell),
+        _ => None,
+    }
+}
+
+/// Whether a cell is one of `count` from the first on.
+fn is_in_row(first: u8, count: usize, cell: Option<u8>) -> bool
+    ensures { result ≡ is_in_row first count cell }
+{
+    match cell {
+        Some(cell) => first <= cell && usize::from(cell - first) < count,
+        None => false,
+    }
+}
+
+/// The words that an image gives: all of format 2, of format 1 those of its field lines. Takes time linear in the text.
+///
+/// # Errors
+/// Out of memory.
+pub fn given_words(alloc: Global, text: &[u8]) -> Result<GivenWords, AllocError>
+    ensures { IfOk result (λ given. ranges_of given ≡ image_ranges (lines_of text.now)) }
+{
+    if gives_all(text) {
+        return Ok(GivenWords::All);
+    }
+    Ok(GivenWords::Ranges(given_ranges(alloc, text)?))
+}
+
+/// Whether the first line of a text is not the header of format 1.
+fn gives_all(text: &[u8]) -> bool
+    ensures { result ≡ gives_all (format_in (lines_of text.now)) }
+{
+    if text.is_empty() {
+        return false;
+    }
+    let (header, _) = first_line(text);
+    header != b"ga144 1".as_slice()
+}
+
+/// The words that the lines of a text give.
+fn given_ranges(alloc: Global, text: &[u8]) -> Result<Vec<GivenRange>, AllocError>
+    ensures { IfOk result (λ ranges. ranges.items ≡ given_ranges None (lines_of text.now)) }
+{
+    let mut ranges = Vec::new(alloc);
+    let mut node = None;
+    let mut rest = text;
+    while !rest.is_empty() {
+        let (line, after) = first_line(rest);
+        let line = Line::parse(line);
+        add_line(&mut ranges, node, &line)?;
+        node = block_node(node, &line);
+        rest = after;
+    }
+    Ok(ranges)
+}
+
+/// Adds the words that a line gives to the node of its block.
+fn add_line(
+    ranges: &mut Vec<GivenRange>,
+    node: Option<NodeId>,
+    line: &Option<Line>,
+) -> Result<(), AllocError>
+    ensures { OnOk result (ranges.new.items ≡ ranges.old.items ++ line_ranges node (option_map form_of line.now)) }
+{
+    let Some(node) = node else {
+        return Ok(());
+    };
+    if let Some(Line::Words(field, words)) = line {
+        ranges.push(GivenRange {
+            node,
+            first: field.place(),
+            count: words.len(),
+        })?;
+    }
+    Ok(())
+}
+
+/// The node whose block continues after a line.
+fn block_node(node: Option<NodeId>, line: &Option<Line>) -> Option<NodeId>
+    ensures { result ≡ block_node node (option_map form_of line.now) }
+{
+    match line {
+        Some(Line::Node(yxx)) => NodeId::from_yxx(*yxx),
+        _ => node,
+    }
+}
