@@ -1,0 +1,50 @@
+-- What is expected of a node at an end: a value that it holds, or how it waits or is stopped (F18A Technology Reference DB001, registers, memory
+-- map and ports; the stops are this project's own). It speaks of the node's record alone, so not of how many steps it made.
+use Rattle.std.specs.Prelude.{ℕ, ◌==◌, ◌&&◌, Bool, true, false, not, List}
+use Rattle.ga_node.specs.Record.{NodeRecord}
+use Rattle.ga_node.specs.declared.wait.Wait.{Wait}
+use Rattle.ga_node.specs.declared.wait.Wait.TheVariants.{Nothing, Fetch, Read, Write}
+use Rattle.ga_grid.specs.Chip.{record_at}
+use Rattle.ga_event.specs.Apply.{waits_to_write_side}
+use Rattle.ga_scheduler.specs.Values.{passes, is_step_count}
+use Rattle.ga_scheduler.specs.declared.value_test.ValueTest.{ValueTest}
+use Rattle.ga_state_expectations.specs.declared.expectation.NodeExpectation.{NodeExpectation}
+use Rattle.ga_state_expectations.specs.declared.expectation.NodeRequirement.{NodeRequirement}
+use Rattle.ga_state_expectations.specs.declared.expectation.NodeRequirement.TheVariants.{Holds, Reads, Writes, AwaitsCode, Stopped}
+
+-- the node waits to read a word from exactly these sides
+abbrev pub awaits_word_from : Wait → ℕ → Bool
+awaits_word_from Nothing sides = false
+awaits_word_from (Fetch awaited) sides = false
+awaits_word_from (Read awaited) sides = awaited == sides
+awaits_word_from (Write side) sides = false
+
+abbrev pub waits_for_code : Wait → Bool
+waits_for_code Nothing = false
+waits_for_code (Fetch awaited) = true
+waits_for_code (Read awaited) = false
+waits_for_code (Write side) = false
+
+-- the node's stop has this number; number 0 is no stop
+abbrev pub is_stopped_with : ℕ → ℕ → Bool
+is_stopped_with stop number = not (number == 0) && (stop == number)
+
+-- a value of the node, which isn't the number of its steps, passes the test
+abbrev pub holds_value : NodeRecord → ValueTest → Bool
+holds_value node test = not (is_step_count test.value) && passes test node 0
+
+-- the node has what is required
+abbrev pub has_required : NodeRequirement → NodeRecord → Bool
+has_required (Holds test) node = holds_value node test
+has_required (Reads sides) node = awaits_word_from node.wait sides
+has_required (Writes side) node = waits_to_write_side node.wait side
+has_required AwaitsCode node = waits_for_code node.wait
+has_required (Stopped number) node = is_stopped_with node.stop number
+
+-- a node with this record satisfies the expectation
+abbrev pub is_satisfied : NodeExpectation → NodeRecord → Bool
+is_satisfied expectation node = has_required expectation.requirement node
+
+-- its node does on the chip
+abbrev pub is_met_on : NodeExpectation → List NodeRecord → Bool
+is_met_on expectation chip = is_satisfied expectation (record_at chip expectation.node.number)

@@ -1,0 +1,3 @@
+pub mod Expectations
+pub mod Recurrent
+pub mod Unmet

@@ -1,0 +1,113 @@
+//! What is expected of a node.
+
+ghost use Rattle.std.specs.Prelude.{◌≡◌};
+ghost use Rattle.ga_node.specs.Record.{record_of};
+ghost use Rattle.ga_grid.specs.Chip.{records_of};
+ghost use Rattle.ga_scheduler.specs.Values.{is_step_count};
+ghost use Rattle.ga_state_expectations.specs.Expectations.{awaits_word_from, waits_for_code, is_stopped_with, holds_value, has_required, is_satisfied, is_met_on};
+
+use ga_event::is_writing;
+use ga_grid::{Chip, NodeId};
+use ga_node::{Node, Wait};
+use ga_ports::{PortSet, Side};
+use ga_scheduler::{NodeValue, ValueTest};
+
+/// What is required of a node at one moment.
+#[derive(Clone, Copy, PartialEq, Eq, Debug)]
+pub enum NodeRequirement {
+    /// One of its values passes the test. No node meets a test of the number of steps, which isn't kept at an end.
+    Holds(ValueTest),
+    /// It waits to read a word from exactly these sides.
+    Reads(PortSet),
+    /// It waits to write a word to this side.
+    Writes(Side),
+    /// It waits for code.
+    AwaitsCode,
+    /// It is stopped, by the stop of this number. No node is by that of number 0.
+    Stopped(u8),
+}
+
+/// What is required of a node at each end of a program.
+#[derive(Clone, Copy, PartialEq, Eq, Debug)]
+pub struct NodeExpectation {
+    /// The node.
+    pub node: NodeId,
+    /// What is required of it.
+    pub requirement: NodeRequirement,
+}
+
+/// Whether a node that waits so waits to read a word from exactly these sides.
+fn awaits_word_from(wait: Wait, sides: PortSet) -> bool
+    ensures { result ≡ awaits_word_from wait sides }
+{
+    match wait {
+        Wait::Nothing => false,
+        Wait::Fetch(_) => false,
+        Wait::Read(awaited) => awaited.get() == sides.get(),
+        Wait::Write(_) => false,
+    }
+}
+
+/// Whether a node that waits so waits for code.
+fn waits_for_code(wait: Wait) -> bool
+    ensures { result ≡ waits_for_code wait }
+{
+    match wait {
+        Wait::Nothing => false,
+        Wait::Fetch(_) => true,
+        Wait::Read(_) => false,
+        Wait::Write(_) => false,
+    }
+}
+
+/// Whether the number is that of a stop, and the node's.
+fn is_stopped_with(stop: u8, number: u8) -> bool
+    ensures { result ≡ is_stopped_with stop number }
+{
+    number != 0 && stop == number
+}
+
+/// Whether a value of the node passes the test, which is of no number of steps.
+fn holds_value(node: &Node, test: &ValueTest) -> bool
+    ensures { result ≡ holds_value (record_of node.now) test.now }
+{
+    !is_step_count(test.value) && test.passes(node, 0)
+}
+
+/// Whether the value is the number of steps.
+fn is_step_count(value: NodeValue) -> bool
+    ensures { result ≡ is_step_count value }
+{
+    value == NodeValue::Step
+}
+
+impl NodeRequirement {
+    /// Whether the node has what is required.
+    pub fn is_met_by(&self, node: &Node) -> bool
+        ensures { result ≡ has_required self.now (record_of node.now) }
+    {
+        match self {
+            NodeRequirement::Holds(test) => holds_value(node, test),
+            NodeRequirement::Reads(sides) => awaits_word_from(node.wait(), *sides),
+            NodeRequirement::Writes(side) => is_writing(&node.wait(), *side),
+            NodeRequirement::AwaitsCode => waits_for_code(node.wait()),
+            NodeRequirement::Stopped(number) => is_stopped_with(node.stop(), *number),
+        }
+    }
+}
+
+impl NodeExpectation {
+    /// Whether a node that is as this one satisfies the expectation.
+    pub fn is_satisfied_by(&self, node: &Node) -> bool
+        ensures { result ≡ is_satisfied self.now (record_of node.now) }
+    {
+        self.requirement.is_met_by(node)
+    }
+
+    /// Whether its node satisfies the expectation on the chip.
+    pub fn is_met_on(&self, chip: &Chip) -> bool
+        ensures { result ≡ is_met_on self.now (records_of chip.now) }
+    {
+        self.is_satisfied_by(chip.node(self.node))
+    }
+}
