@@ -11,7 +11,7 @@ _ga144() {
     debug) options='--limit -h --help' ;;
     explore) is_file=yes options='--chip --limit -h --help' ;;
     race) options='--workers --calls --limit -h --help' ;;
-    check) is_file=yes options='--most --seconds --settled --session --progress -h --help' ;;
+    check) is_file=yes options='--most --seconds --settled --session --never --progress -h --help' ;;
     dap) options='-h --help' ;;
     asm) is_file=yes options='-h --help' ;;
     list) is_file=yes options='-h --help' ;;
@@ -20,7 +20,7 @@ _ga144() {
     esac
     case $before in
     --chip) is_file=yes options='' ;;
-    --calls|--cause|--fold|--from|--limit|--most|--rewind|--seconds|--session|--to|--workers) return ;;
+    --calls|--cause|--fold|--from|--limit|--most|--never|--rewind|--seconds|--session|--to|--workers) return ;;
     esac
     if [[ $word == -* ]]; then
         mapfile -t COMPREPLY < <(compgen -W "$options" -- "$word")

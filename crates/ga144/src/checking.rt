@@ -1,7 +1,7 @@
 //! `ga144 check`: the search for the ends of a program, beside a clock that stops it and reports how far it is.
 
 use crate::files::InputPrefix;
-use ga_check_report::{CheckBounds, Verdict, check_ends};
+use ga_check_report::{CheckBounds, ConditionFault, Verdict, check_ends, check_never};
 use ga_state_search::SearchControl;
 use std::sync::atomic::{AtomicBool, Ordering};
 use std::thread::{Threads, join};
@@ -20,21 +20,23 @@ const TICKS: u64 = 50;
 /// How far to search, whether the idle nodes come to rest first, the number of the kind of end whose session is wanted, if it isn't 0, and
 /// whether the progress is reported.
 #[derive(Clone, Copy)]
-pub struct CheckOptions {
+pub struct CheckOptions<'a> {
     pub bounds: CheckBounds,
     pub settled: bool,
     pub asked: u32,
+    /// The conditions that are looked for in place of ends, if any.
+    pub never: Option<&'a str>,
     pub progress: bool,
 }
 
-/// What comes of a search for the ends of the program that is read. The search is stopped after as many seconds as the bounds have, if it isn't
-/// 0. Without a second thread the clock starts after the search.
+/// What comes of a search for the ends of the program that is read, or for conditions, of which a fault may be told. The search is stopped
+/// after as many seconds as the bounds have, if it isn't 0. Without a second thread the clock starts after the search.
 pub fn find_verdict<T: Threads + Sync>(
     threads: &T,
     rt: &HostRuntime,
-    work: CheckOptions,
+    work: CheckOptions<'_>,
     front: &InputPrefix,
-) -> Verdict {
+) -> Result<Verdict, ConditionFault> {
     let watch = SearchControl::new();
     if !work.progress && work.bounds.seconds == 0 {
         return search(rt, work, front, &watch);
@@ -52,30 +54,44 @@ pub fn find_verdict<T: Threads + Sync>(
     verdict
 }
 
-/// Tells the ends of the program that is read.
+/// Tells the ends of the program that is read, or what is looked for.
 fn search(
     rt: &HostRuntime,
-    work: CheckOptions,
+    work: CheckOptions<'_>,
     front: &InputPrefix,
     watch: &SearchControl,
-) -> Verdict {
+) -> Result<Verdict, ConditionFault> {
     let mut reader = front.reader(rt);
     let (mut writer, mut errors) = (rt.stdout(), rt.stderr());
-    check_ends(
-        rt.alloc(),
-        &mut reader,
-        &mut writer,
-        &mut errors,
-        work.bounds,
-        SESSION_LIMIT,
-        work.settled,
-        work.asked,
-        watch,
-    )
+    match work.never {
+        None => Ok(check_ends(
+            rt.alloc(),
+            &mut reader,
+            &mut writer,
+            &mut errors,
+            work.bounds,
+            SESSION_LIMIT,
+            work.settled,
+            work.asked,
+            watch,
+        )),
+        Some(conditions) => check_never(
+            rt.alloc(),
+            &mut reader,
+            &mut writer,
+            &mut errors,
+            work.bounds,
+            SESSION_LIMIT,
+            work.settled,
+            conditions.as_bytes(),
+            work.asked != 0,
+            watch,
+        ),
+    }
 }
 
 /// Looks at the clock until the search is done: stops it when its time is over, and reports each second how many states there are, if it is to.
-fn attend(rt: &HostRuntime, work: CheckOptions, watch: &SearchControl, is_done: &AtomicBool) {
+fn attend(rt: &HostRuntime, work: CheckOptions<'_>, watch: &SearchControl, is_done: &AtomicBool) {
     let begun = Instant::now(rt);
     for tick in 1..u64::MAX {
         thread::sleep(rt, Duration::from_millis(TICK));

@@ -18,7 +18,7 @@ use arriving::spawn_reader;
 use checking::{CheckOptions, find_verdict};
 use files::{read_chip_file, read_input_prefix};
 use ga_asm_text::{assemble_source, disassemble, list_source};
-use ga_check_report::{CheckBounds, Verdict};
+use ga_check_report::{CheckBounds, ConditionFault, Verdict};
 use ga_console::{CommandLineFault, Settings, Status, arguments, race_report, session};
 use ga_explorer::{QueryUsage, explore};
 use ga_picture::{PictureView, draw_session};
@@ -56,6 +56,7 @@ fn main(rt: HostRuntime) -> ExitCode {
                 seconds,
                 settled,
                 session,
+                never,
                 progress,
                 file,
             },
@@ -69,6 +70,7 @@ fn main(rt: HostRuntime) -> ExitCode {
                 bounds,
                 settled,
                 asked,
+                never: never.as_ref().map(|text| text.as_str()),
                 progress,
             };
             checked(&rt, &rt, work, &file)
@@ -190,13 +192,39 @@ fn is_at_terminal(rt: &HostRuntime) -> bool {
 fn checked<T: Threads + Sync>(
     threads: &T,
     rt: &HostRuntime,
-    work: CheckOptions,
+    work: CheckOptions<'_>,
     file: &Option<String>,
 ) -> ExitCode {
-    match read_input_prefix(rt, file) {
-        Ok(front) => exit_with(rt, find_verdict(threads, rt, work, &front)),
-        Err(code) => code,
+    let front = match read_input_prefix(rt, file) {
+        Ok(front) => front,
+        Err(code) => return code,
+    };
+    match find_verdict(threads, rt, work, &front) {
+        Ok(verdict) => exit_with(rt, verdict),
+        Err(fault) => refuse_conditions(rt, work.never.unwrap_or(""), fault),
     }
+}
+
+/// Reports that a text spells no conditions of states, in the form of clap's errors.
+fn refuse_conditions(rt: &HostRuntime, given: &str, fault: ConditionFault) -> ExitCode {
+    let why = match fault {
+        ConditionFault::Syntax => {
+            "COND is NNN VALUE OP N, pass NNN MMM OP N, stop, stop NNN, wait NNN, stuck NNN, mem NNN HH = N, \
+            p NNN X, reach NNN X, change NNN HH [= N], or COND or COND"
+        }
+        ConditionFault::CountsSteps => {
+            "a state counts no steps; step NNN K and NNN step OP N are conditions of explore alone"
+        }
+        ConditionFault::CountsWords => {
+            "a state counts no words; give the word, as pass NNN MMM OP N does"
+        }
+        ConditionFault::TooMany => "at most 8 conditions",
+    };
+    let _ = eprint!(rt;
+        "ga144: command line refused\nerror: invalid value '{given}' for '--never <COND>': {why}\n\n\
+        For more information, try '--help'.\n"
+    );
+    ExitCode::from(3)
 }
 
 /// The exit status of a verdict.

@@ -1,6 +1,6 @@
 -- Events that lead a machine to an end.
-use Rattle.std.proofs.Common.{◌≡◌, ◌⊎◌, inl, inr, ℕ, ◌+◌, ◌-◌, ◌<◌, List, [], ◌∷◌, ◌++◌, Option, Some, None, Ok, Err, Result, length, get_or, take, drop, refl, sym, ap, ◌∙◌, subst, append_assoc, append-nil, arith}
-use Rattle.std.specs.Prelude.{slice_get, unwrap_or, IsSome, IsOk, OnOk}
+use Rattle.std.proofs.Common.{◌≡◌, ◌⊎◌, inl, inr, ℕ, ◌+◌, ◌-◌, ◌^◌, ◌<◌, Bool, true, false, cond, List, [], ◌∷◌, ◌++◌, Option, Some, None, Ok, Err, Result, length, get_or, take, drop, refl, sym, ap, ◌∙◌, subst, append_assoc, append-nil, arith}
+use Rattle.std.specs.Prelude.{slice_get, nat_le, unwrap_or, IsSome, IsOk, OnOk}
 use Rattle.std.proofs.lemmas.Option.{slice_get-get_or}
 use Rattle.std.proofs.lemmas.List.{drop_more, take_more}
 use Rattle.ga_node.specs.Record.{NodeRecord}
@@ -12,8 +12,8 @@ use Rattle.ga_event.specs.Next.{next}
 use Rattle.ga_races.proofs.Exact.{replay_into}
 use Rattle.ga_races.proofs.Independence.{replay_more}
 use Rattle.ga_lab.specs.declared.fault.LabFault.{LabFault}
-use Rattle.ga_lab.specs.Machine.{State, chip_of, step_answer, state_after_step, with_event, unless_refused}
-use Rattle.ga_lab.specs.declared.fault.LabFault.TheVariants.{Memory}
+use Rattle.ga_lab.specs.Machine.{State, chip_of, answer_to_event, made_next_event, step_answer, state_after_step, with_event, unless_refused}
+use Rattle.ga_lab.specs.declared.fault.LabFault.TheVariants.{Memory, Full, Spent}
 use Rattle.ga_lab.proofs.Forward.{applied}
 use Rattle.ga_state_ends.specs.Ends.{EndSearchResult, AreEndsOfChip}
 use Rattle.ga_state_ends.specs.declared.end_kind.EndKind.{EndKind}
@@ -24,6 +24,19 @@ use Rattle.ga_check_report.specs.Checking.{HasAppendedEvents, HasReachedEndKind}
 pub stepped_is : (s : State) (n : NodeId) (m : Made) (e : Event) → step_answer s n ≡ Ok m → next (chip_of s) n ≡ Ok e → state_after_step s n ≡ with_event s (Ok e)
 stepped_is s n m e answer is =
     ap (λ (a : Result Made LabFault). unless_refused s a (with_event s (next (chip_of s) n))) answer ∙ ap (with_event s) is
+
+ok_or : Made → Result Made LabFault → Made
+ok_or default (Ok made) = made
+ok_or default (Err why) = default
+
+answered : (full spent : Bool) (m told : Made) → cond full (Err Full) (cond spent (Err Spent) (Ok told)) ≡ Ok m → m ≡ told
+answered true spent m told is = absurd (cc)
+answered false true m told is = absurd (cc)
+answered false false m told is = sym (ap (ok_or m) is)
+
+pub told_is : (s : State) (n : NodeId) (m : Made) (e : Event) → step_answer s n ≡ Ok m → next (chip_of s) n ≡ Ok e → m ≡ made_next_event s e
+told_is s n m e answer is =
+    answered (nat_le s.limit (length s.kept)) (nat_le (2 ^ 64 - 1) s.made) m (made_next_event s e) (sym (ap (answer_to_event s) is) ∙ answer)
 
 pub answer_of : (s : State) (n : NodeId) (m : Made) → (Ok m ≡ step_answer s n) ⊎ ((Ok m ≡ Err Memory) × IsOk (step_answer s n)) → step_answer s n ≡ Ok m
 answer_of s n m (inl q) = sym q

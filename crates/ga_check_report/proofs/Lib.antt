@@ -1,3 +1,4 @@
+pub mod NeverTelling
 pub mod EndsOut
 pub mod Leading
 pub mod Resting

@@ -146,7 +146,7 @@ fn at_least_text(whole: bool) -> &'static [u8]
 }
 
 /// Adds how many there are of a thing.
-fn push_counted(out: &mut TextBuffer, number: u64, thing: &[u8])
+pub(crate) fn push_counted(out: &mut TextBuffer, number: u64, thing: &[u8])
     requires room { array_vec_len out.old ≤ 100 }
     requires short { length thing.now ≤ 6 }
     ensures text { out.new.items ≡ out.old.items ++ counted_noun_text number thing.now }
@@ -191,8 +191,9 @@ fn termination_text(before: bool, cycle: bool) -> &'static [u8]
 }
 
 /// Why the search stopped before its end.
-fn stopped_line(bounds: CheckBounds, fault: SearchFault) -> TextBuffer
-    ensures { result.items ≡ search_stop_text bounds fault }
+pub(crate) fn stopped_line(bounds: CheckBounds, fault: SearchFault) -> TextBuffer
+    ensures text { result.items ≡ search_stop_text bounds fault }
+    ensures len { array_vec_len result ≤ 60 }
 {
     let mut out = ArrayVec::new();
     match fault {

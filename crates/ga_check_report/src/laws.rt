@@ -1,13 +1,20 @@
 //! What a reader of the answer of `ga144 check` may rely on, as laws: each is the contract of a function that does nothing.
 
-ghost use Rattle.std.specs.Prelude.{◌≡◌, ◌++◌, ℕ, List, None, Some, true, false};
+ghost use Rattle.std.specs.Prelude.{◌≡◌, ◌++◌, ℕ, Bool, List, None, Some, true, false, length, slice_get};
 ghost use Rattle.std.specs.List.{list_any};
 ghost use Rattle.ga_text.specs.Lines.{Text};
 ghost use Rattle.ga_event.specs.declared.event.Event.{Event};
+ghost use Rattle.ga_node.specs.Record.{NodeRecord};
 ghost use Rattle.ga_event.specs.Apply.{replay};
+ghost use Rattle.ga_event.specs.declared.made.Made.{Made};
+ghost use Rattle.ga_races.specs.Orders.{IsEnabled};
 ghost use Rattle.ga_lab.specs.Machine.{State, chip_of};
 ghost use Rattle.ga_explorer_text.specs.Saved.{saved_text};
 ghost use Rattle.ga_state_ends.specs.Ends.{EndSearchResult, AreEndsOfChip, is_unclean};
+ghost use Rattle.ga_state_conditions.specs.declared.condition.StateCondition.{StateCondition};
+ghost use Rattle.ga_state_conditions.specs.Reached.{IsConditionMet};
+ghost use Rattle.ga_check_report.specs.NeverTexts.{reached_text};
+ghost use Rattle.ga_check_report.specs.Never.{HasReachedEvent, WritesNeverReport};
 ghost use Rattle.ga_check_report.specs.Settled.{settled};
 ghost use Rattle.ga_check_report.specs.EndTexts.{ends_text};
 ghost use Rattle.ga_check_report.specs.Checking.{WritesEndsReport, HasAppendedEvents, HasReachedEndKind};
@@ -30,6 +37,19 @@ pub fn unclean_verdict_sound()
 pub fn session_leads_to_end()
     ensures { (bounds : CheckBounds) (asked : ℕ) (s : State) (text : Text) → WritesEndsReport bounds asked s text Saved →
         (found : EndSearchResult) × (last : State) × AreEndsOfChip (chip_of s) found × HasReachedEndKind found asked s last × (text ≡ saved_text last) }
+{}
+
+/// Where the verdict of `check_never` is `Clean`, none of the conditions is met by an event that comes after any list of events.
+pub fn never_verdict_sound()
+    ensures { (bounds : CheckBounds) (conditions : List StateCondition) (session : Bool) (s : State) (text : Text) → WritesNeverReport bounds conditions session s text Clean →
+        (last : List NodeRecord) (events : List Event) (event : Event) (place : ℕ) (condition : StateCondition) → slice_get conditions place ≡ Some condition →
+        replay (chip_of s) events ≡ Some last → IsEnabled last event → IsConditionMet condition last event → ⊥ }
+{}
+
+/// Where it is `Unclean`, the text is that of an event that meets one of the conditions, or of its session.
+pub fn reached_verdict_sound()
+    ensures { (bounds : CheckBounds) (conditions : List StateCondition) (session : Bool) (s : State) (text : Text) → WritesNeverReport bounds conditions session s text Unclean →
+        (which : ℕ) × (last : State) × (made : Made) × HasReachedEvent conditions which s last made × (text ≡ reached_text session (length conditions) which made last) }
 {}
 
 /// A machine that has come to rest keeps some events more, and else is as it was. So what holds from there holds of the program: a list of

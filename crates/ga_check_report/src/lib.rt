@@ -7,8 +7,11 @@ mod end_nodes;
 mod ends_text;
 pub mod laws;
 mod making;
+mod never;
 mod report;
 mod settling;
 
 pub use ends_text::CheckBounds;
+pub use ga_state_conditions::ConditionFault;
+pub use never::check_never;
 pub use report::{Verdict, check_ends};

@@ -1,14 +1,14 @@
 //! Events of a list, made on a lab.
 
-ghost use Rattle.std.specs.Prelude.{◌≡◌, ◌⊎◌, None, Some, Ok, IsSome, OnOk, IfErr};
+ghost use Rattle.std.specs.Prelude.{◌≡◌, ◌⊎◌, None, Some, Ok, IsSome, IfOk, OnOk, IfErr};
 ghost use Rattle.ga_event.specs.Apply.{refusal_of, after, replay};
-ghost use Rattle.ga_lab.specs.Machine.{chip_of, with_event, acting_node};
+ghost use Rattle.ga_lab.specs.Machine.{chip_of, made_next_event, with_event, acting_node};
 ghost use Rattle.ga_lab.specs.declared.fault.LabFault.TheVariants.{Memory, Full};
 ghost use Rattle.ga_check_report.specs.Checking.{HasAppendedEvents};
 
 use ga_event::Event;
 use ga_grid::NodeId;
-use ga_lab::{Lab, LabFault};
+use ga_lab::{Lab, LabFault, Made};
 
 /// Makes the events one after another.
 ///
@@ -27,8 +27,12 @@ pub(crate) fn make_all(lab: &mut Lab, events: &[Event]) -> Result<(), LabFault>
 }
 
 /// Makes an enabled event. A lab that can count no further event is out of memory.
-fn make(lab: &mut Lab, event: Event) -> Result<(), LabFault>
+///
+/// # Errors
+/// [`LabFault::Full`] or [`LabFault::Memory`].
+pub(crate) fn make(lab: &mut Lab, event: Event) -> Result<Made, LabFault>
     requires { refusal_of (chip_of lab.old) event ≡ None }
+    ensures told { IfOk result (λ told. told ≡ made_next_event lab.old event) }
     ensures made { OnOk result (lab.new ≡ with_event lab.old (Ok event)) }
     ensures chip { OnOk result (chip_of lab.new ≡ (after (chip_of lab.old) event).0) }
     ensures faults { IfErr result (λ why. (why ≡ Full) ⊎ (why ≡ Memory)) }
@@ -36,7 +40,7 @@ fn make(lab: &mut Lab, event: Event) -> Result<(), LabFault>
     // So the kept events can be replayed.
     let _chip = lab.chip();
     match lab.step(acting_node(event)) {
-        Ok(_) => Ok(()),
+        Ok(made) => Ok(made),
         Err(LabFault::Full) => Err(LabFault::Full),
         Err(_) => Err(LabFault::Memory),
     }

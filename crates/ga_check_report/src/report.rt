@@ -33,11 +33,11 @@ use std::io::{Read, Write};
 /// What came of the search for the ends of a program.
 #[derive(Clone, Copy, PartialEq, Eq, Debug)]
 pub enum Verdict {
-    /// At each end each node goes on or rests cleanly.
+    /// At each end each node goes on or rests cleanly; or no event comes after which a condition holds.
     Clean,
-    /// At some end a node makes no further step and doesn't rest cleanly.
+    /// At some end a node makes no further step and doesn't rest cleanly; or there is an event after which a condition holds.
     Unclean,
-    /// A bound was met, and each end that was found is clean, or the kind that was asked for wasn't found.
+    /// A bound was met, and each end that was found is clean, or what was asked for wasn't found.
     Unknown,
     /// The session of a kind of end was written.
     Saved,
@@ -160,7 +160,7 @@ fn tell_session<W: Write>(
         (W.contents writer.old) (W.contents writer.new) }
 {
     match lead_to(alloc, lab, found, asked) {
-        Ok(()) => tell_saved(lab, writer),
+        Ok(()) => tell_saved_as(Verdict::Saved, lab, writer),
         Err(LabFault::Full) => tell_refused(LabFault::Full, writer),
         Err(_) => tell_refused(LabFault::Memory, writer),
     }
@@ -203,17 +203,17 @@ fn tell_none<W: Write>(asked: u32, found: &FoundEnds, writer: &mut W) -> Verdict
     sent(said, missing_kind_verdict(found), &mut out)
 }
 
-/// Tells the session that leads to the present state of a lab.
-fn tell_saved<W: Write>(lab: &Lab, writer: &mut W) -> Verdict
-    ensures { WritesText (λ text. IsReportOutput (saved_text lab.now) Saved text result) (W.contents writer.old) (W.contents writer.new) }
+/// Tells the session that leads to the present state of a lab, with this verdict.
+pub(crate) fn tell_saved_as<W: Write>(verdict: Verdict, lab: &Lab, writer: &mut W) -> Verdict
+    ensures { WritesText (λ text. IsReportOutput (saved_text lab.now) verdict text result) (W.contents writer.old) (W.contents writer.new) }
 {
     let mut out = Writer::new(writer);
     let said = write_save(lab, &mut out);
-    sent(said, Verdict::Saved, &mut out)
+    sent(said, verdict, &mut out)
 }
 
-/// Writes why no ends are written.
-fn tell_refused<W: Write>(fault: LabFault, writer: &mut W) -> Verdict
+/// Writes why nothing else is written.
+pub(crate) fn tell_refused<W: Write>(fault: LabFault, writer: &mut W) -> Verdict
     ensures { WritesText (λ text. IsReportOutput (refusal_text fault) (Ended ImageRefused) text result)
         (W.contents writer.old) (W.contents writer.new) }
 {
@@ -223,7 +223,11 @@ fn tell_refused<W: Write>(fault: LabFault, writer: &mut W) -> Verdict
 }
 
 /// Writes what is pending, and answers a verdict, or that a write failed.
-fn sent<W: Write>(said: WriteResult, verdict: Verdict, writer: &mut Writer<'_, W>) -> Verdict
+pub(crate) fn sent<W: Write>(
+    said: WriteResult,
+    verdict: Verdict,
+    writer: &mut Writer<'_, W>,
+) -> Verdict
     ensures same { IsSameStream writer.old writer.new }
     ensures written { (before whole : Bytes) → IsWrittenOrTruncated said (W.contents writer.old.stream.now) before whole writer.old.pending.items →
         (text : Bytes) × (W.contents writer.new.stream.now ≡ Some (before ++ text)) × IsReportOutput whole verdict text result }

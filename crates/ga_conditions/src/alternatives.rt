@@ -45,7 +45,7 @@ fn split_at_or(text: &[u8]) -> Option<(&[u8], &[u8])>
 }
 
 /// The first condition's text, and that of the others where there are some.
-fn split_first_condition(text: &[u8]) -> (&[u8], Option<&[u8]>)
+pub fn split_first_condition(text: &[u8]) -> (&[u8], Option<&[u8]>)
     ensures first { result.0.now ≡ (split_first_condition text.now).0 }
     ensures others { option_map (λ others. others.now) result.1 ≡ (split_first_condition text.now).1 }
 {

@@ -12,7 +12,7 @@ use ga_text::{parse_hex_byte, parse_node, parse_number, split_at_space};
 use ga_word::Word18;
 
 /// The condition that a text spells, or none.
-pub(crate) fn parse_run_condition(notes: &Option<DebugInfo>, text: &[u8]) -> Option<Condition>
+pub fn parse_run_condition(notes: &Option<DebugInfo>, text: &[u8]) -> Option<Condition>
     ensures { result ≡ condition_in notes.now text.now }
 {
     match split_at_space(text) {

@@ -6,6 +6,9 @@ mod condition;
 mod numbers;
 mod tests_of_values;
 
-pub use alternatives::{Conditions, no_conditions, parse_conditions, parse_until};
+pub use alternatives::{
+    Conditions, no_conditions, parse_conditions, parse_until, split_first_condition,
+};
+pub use condition::parse_run_condition;
 pub use numbers::parse_hex_word;
 pub use tests_of_values::{parse_test, parse_value};

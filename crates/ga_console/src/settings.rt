@@ -46,13 +46,15 @@ pub enum Settings {
         limit: u32,
     },
     /// Find the ends of a program in every order of its nodes, with at most `most` states, 1 to 4294967295, in at most `seconds`, 1 to
-    /// 4294967295, if given, and write their kinds; or write the session of one kind, whose number counts from 1. With `settled` each node
-    /// whose first event is to wait for code makes it first, and with `progress` the progress is written.
+    /// 4294967295, if given, and write their kinds; or write the session of one kind, whose number counts from 1. With `never` find an event
+    /// after which one of the conditions of this text holds, or write its session. With `settled` each node whose first event is to wait for
+    /// code makes it first, and with `progress` the progress is written.
     Check {
         most: u32,
         seconds: Option<u32>,
         settled: bool,
         session: Option<u32>,
+        never: Option<String>,
         progress: bool,
         file: Option<String>,
     },
@@ -174,11 +176,17 @@ fn checked(alloc: Global, check: &ArgMatches<'_>) -> Result<Settings, CommandLin
     ensures in_range { IfOk result AreInRange }
 {
     let most = place(check.get_str("most"), DEFAULT_MOST)?;
+    let session = kind(alloc, check.get_str("session"))?;
+    let never = name(alloc, check.get_str("never"))?;
+    if never.is_some() && is_later_kind(session) {
+        return Err(no_later_session(alloc));
+    }
     Ok(Settings::Check {
         most,
         seconds: seconds(check.get_str("seconds"))?,
         settled: check.get_flag("settled"),
-        session: kind(alloc, check.get_str("session"))?,
+        session,
+        never,
         progress: check.get_flag("progress"),
         file: file(alloc, check)?,
     })
@@ -204,6 +212,25 @@ fn kind(alloc: Global, text: Option<&str>) -> Result<Option<u32>, CommandLineFau
             Some(_) => Ok(Some(number(text, u32::MAX)?)),
             None => Err(no_kind(alloc, given)),
         },
+    }
+}
+
+/// Whether a session is asked for, and not the first.
+fn is_later_kind(session: Option<u32>) -> bool {
+    match session {
+        None => false,
+        Some(number) => number != 1,
+    }
+}
+
+/// Reports that there is one session alone of a condition, in the form of clap's errors.
+fn no_later_session(alloc: Global) -> CommandLineFault {
+    match String::from_str(alloc,
+        "error: invalid value for '--session <K>': with '--never <COND>' K is 1\n\n\
+        For more information, try '--help'.\n"
+    ) {
+        Ok(text) => CommandLineFault::Refused(text),
+        Err(_) => CommandLineFault::Memory,
     }
 }
 

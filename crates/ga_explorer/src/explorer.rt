@@ -53,6 +53,13 @@ impl Explorer {
         &self.lab
     }
 
+    /// What the source says of the cells, where it began with source.
+    pub fn notes(&self) -> &Option<DebugInfo>
+        ensures { result.now ≡ self.now.notes }
+    {
+        &self.notes
+    }
+
     /// The lab, for which nothing is explored any more.
     pub fn into_lab(self) -> Lab
         ensures { result ≡ self.lab }

@@ -73,10 +73,14 @@ others make no further step. Prints the number of states and, for each kind of e
 clean: stopped, waiting to write, or waiting to read from a node that isn't clean, that goes on, or that waits for them in turn.
 `at least`: a bound was met, so there may be others. The last line names the bound.
 With --session K it writes instead the lines `step NNN` that lead to the Kth kind of end.
+With --never it looks for an event after which a condition of explore's `run until` holds, and prints `never`, or the first such event that
+it found, with the number of events up to it; with --session 1 instead the lines that lead there. `stuck NNN` is one more condition: NNN makes
+no further step, whatever comes. A state counts neither steps nor words, so `step NNN K`, `NNN step OP N` and `pass NNN MMM J` are none.
 With --settled the idle nodes wait before the first step, so that a look sees them wait. A session has these steps first.
 
 Exit status: 0 each end is clean, or a session is written, 1 image or source refused, or no such kind, 2 a stream failed,
-3 command line refused, 5 an end isn't clean, 6 a bound was met, and what was found is clean.";
+3 command line refused, 5 an end isn't clean, 6 a bound was met, and what was found is clean. With --never: 0 never, 5 reached, 6 a bound
+was met.";
 
 /// What `ga144 dap --help` says.
 const EDITOR: &str = "\
@@ -127,6 +131,8 @@ const SECONDS: &str = "How many seconds the search may take, 1 to 4294967295";
 const SETTLED: &str = "Let each node whose first event is to wait for code make it first";
 
 const SESSION: &str = "Write the session of the Kth kind of end, counted from 1";
+
+const NEVER: &str = "Find an event after which COND holds: COND or COND .., as of run until";
 
 const PROGRESS: &str = "Print on standard error, each second, how many states there are";
 
@@ -206,6 +212,7 @@ fn check_line<'a>(alloc: Global) -> Result<Command<'a>, AllocError> {
         .arg(number_option(alloc, "seconds", SECONDS, u32::MAX).value_name("N"))?
         .arg(flag(alloc, "settled", SETTLED))?
         .arg(number_option(alloc, "session", SESSION, u32::MAX).value_name("K"))?
+        .arg(named_option(alloc, "never", NEVER).value_name("COND"))?
         .arg(flag(alloc, "progress", PROGRESS))?
         .arg(file_argument(alloc, "An image or source"))
 }

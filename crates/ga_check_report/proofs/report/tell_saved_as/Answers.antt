@@ -1,7 +1,7 @@
 use Rattle.std.proofs.Common.{rules, ap, ◌∙◌, []}
 use Rattle.ga_console.proofs.RunLemmas.{written_fresh}
 use Rattle.ga_explorer_text.specs.Saved.{saved_text}
-use Rattle.ga_check_report.proofs.report.tell_saved.Goals as goal
+use Rattle.ga_check_report.proofs.report.tell_saved_as.Goals as goal
 
 pub returns : goal.returns
 returns g c = λ before held.

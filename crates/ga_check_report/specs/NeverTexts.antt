@@ -1,0 +1,27 @@
+-- What `ga144 check --never` prints (docs/REFERENCE.md, "Every order"; this project's own): that no event comes after which a condition holds,
+-- that none was found, or which one was.
+use Rattle.std.specs.Prelude.{ℕ, Bool, true, false, List, ◌++◌, codes, length, Option, Some, None}
+use Rattle.ga_text.specs.Lines.{Text}
+use Rattle.ga_event.specs.declared.made.Made.{Made}
+use Rattle.ga_lab.specs.Machine.{State}
+use Rattle.ga_scheduler.specs.declared.running.RunEnd.TheVariants as the_end
+use Rattle.ga_explorer_text.specs.Texts.{run_text}
+use Rattle.ga_explorer_text.specs.Saved.{saved_text}
+use Rattle.ga_state_search.specs.declared.fault.SearchFault.{SearchFault}
+use Rattle.ga_state_ends.specs.Ends.{EndSearchResult}
+use Rattle.ga_check_report.specs.declared.ends_text.CheckBounds.{CheckBounds}
+use Rattle.ga_check_report.specs.EndTexts.{counted_noun_text, search_stop_text}
+
+-- no such event was found among this number of states: none comes if each was explored; else the bound that was met
+abbrev pub not_reached_text : CheckBounds → ℕ → Option SearchFault → Text
+not_reached_text bounds states None = codes "never, in " ++ counted_noun_text states (codes " state") ++ codes "\n"
+not_reached_text bounds states (Some fault) =
+    codes "not reached in " ++ counted_noun_text states (codes " state") ++ codes ", " ++ search_stop_text bounds fault
+
+abbrev pub unreached_text : CheckBounds → EndSearchResult → Text
+unreached_text bounds found = not_reached_text bounds (length found.searched.chips) found.fault
+
+-- the machine has made the event, as `run until` tells it: where several conditions are looked for, which of them held; or its session
+abbrev pub reached_text : Bool → ℕ → ℕ → Made → State → Text
+reached_text true conditions which made s = saved_text s
+reached_text false conditions which made s = run_text conditions (length s.kept) (the_end.Reached made which)

@@ -1,0 +1,58 @@
+-- What `check --never` looks for, as text: conditions of a run that count neither steps nor words, and `stuck NNN`, with ` or ` between
+-- them (docs/REFERENCE.md, "Every order"; this project's own).
+use Rattle.std.specs.Prelude.{ℕ, zero, suc, nat_eq, if◌then◌else◌, codes, List, [], ◌∷◌, Option, Some, None, Result, Ok, Err}
+use Rattle.std.specs.Cmp.Lexicographic.{pointwise}
+use Rattle.ga_text.specs.Lines.{Line}
+use Rattle.ga_text.specs.Parsing.{split_at_space, parse_node}
+use Rattle.ga_grid.specs.declared.node_id.NodeId.{NodeId}
+use Rattle.ga_debug_info.specs.declared.notes.DebugInfo.{DebugInfo}
+use Rattle.ga_scheduler.specs.declared.condition.Condition.{Condition}
+use Rattle.ga_conditions.specs.Conditions.{condition_in, split_first_condition, condition_limit}
+use Rattle.ga_state_conditions.specs.declared.condition.StateCondition.{StateCondition}
+use Rattle.ga_state_conditions.specs.declared.condition.StateCondition.TheVariants.{After, Stuck}
+use Rattle.ga_state_conditions.specs.declared.asked.ConditionFault.{ConditionFault}
+use Rattle.ga_state_conditions.specs.declared.asked.ConditionFault.TheVariants.{Syntax, CountsSteps, CountsWords, TooMany}
+use Rattle.ga_state_conditions.specs.Held.{counts_steps, counts_words}
+
+-- a condition of a run, unless it counts
+abbrev pub uncounting_condition : Option Condition → Result StateCondition ConditionFault
+uncounting_condition None = Err Syntax
+uncounting_condition (Some condition) =
+    if counts_steps condition then Err CountsSteps else if counts_words condition then Err CountsWords else Ok (After condition)
+
+-- the node that is to be stuck
+abbrev pub stuck_condition : Option NodeId → Result StateCondition ConditionFault
+stuck_condition None = Err Syntax
+stuck_condition (Some node) = Ok (Stuck node)
+
+abbrev pub state_condition_from_split : Option DebugInfo → Option (Line × Line) → Line → Result StateCondition ConditionFault
+state_condition_from_split notes None text = uncounting_condition (condition_in notes text)
+state_condition_from_split notes (Some parts) text =
+    if pointwise nat_eq parts.0 (codes "stuck") then stuck_condition (parse_node parts.1) else uncounting_condition (condition_in notes text)
+
+-- one condition
+abbrev pub state_condition_in : Option DebugInfo → Line → Result StateCondition ConditionFault
+state_condition_in notes text = state_condition_from_split notes (split_at_space text) text
+
+abbrev pub prepended_state_condition : StateCondition → Result (List StateCondition) ConditionFault → Result (List StateCondition) ConditionFault
+prepended_state_condition one (Err why) = Err why
+prepended_state_condition one (Ok others) = Ok (one ∷ others)
+
+abbrev pub remaining_state_conditions : (Line → Result (List StateCondition) ConditionFault) → Option Line → Result (List StateCondition) ConditionFault
+remaining_state_conditions others None = Ok []
+remaining_state_conditions others (Some text) = others text
+
+-- a condition, and then the others
+abbrev pub joined_state_conditions : Result StateCondition ConditionFault → Result (List StateCondition) ConditionFault → Result (List StateCondition) ConditionFault
+joined_state_conditions (Err why) others = Err why
+joined_state_conditions (Ok one) others = prepended_state_condition one others
+
+-- conditions with ` or ` between them, at most this number; or the first fault
+unfoldable pub state_conditions_within : Option DebugInfo → ℕ → Line → Result (List StateCondition) ConditionFault
+state_conditions_within notes zero text = Err TooMany
+state_conditions_within notes (suc more) text =
+    joined_state_conditions (state_condition_in notes (split_first_condition text).0)
+    (remaining_state_conditions (state_conditions_within notes more) (split_first_condition text).1)
+
+abbrev pub state_conditions_in : Option DebugInfo → Line → Result (List StateCondition) ConditionFault
+state_conditions_in notes text = state_conditions_within notes condition_limit text

@@ -1,0 +1,4 @@
+pub mod Held
+pub mod Reached
+pub mod Asked
+pub mod inner
