@@ -225,9 +225,10 @@ fn is_later_kind(session: Option<u32>) -> bool {
 
 /// Reports that there is one session alone of a condition, in the form of clap's errors.
 fn no_later_session(alloc: Global) -> CommandLineFault {
-    match String::from_str(alloc,
+    match String::from_str(
+        alloc,
         "error: invalid value for '--session <K>': with '--never <COND>' K is 1\n\n\
-        For more information, try '--help'.\n"
+        For more information, try '--help'.\n",
     ) {
         Ok(text) => CommandLineFault::Refused(text),
         Err(_) => CommandLineFault::Memory,
