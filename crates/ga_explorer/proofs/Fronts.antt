@@ -32,7 +32,7 @@ not_both text is other = cc
 
 too_long : (limit : ℕ) (text : List ℕ) (begun : ExplorerState) → length text ≡ input_limit → begins_as_image text ≡ true → OpensExplorer text limit begun → ⊥
 too_long limit text begun full is (inl opens) =
-    let short : length text < 16777216 = short_image text opens.1.0 opens.1.1 in omega arith
+    let short : length text < 16777216 = short_image text opens.1.opens.0 opens.1.opens.1 in omega arith
 too_long limit text begun full is (inr opens) = not_both text is opens.0
 
 -- it is source, and no image
