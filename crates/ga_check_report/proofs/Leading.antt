@@ -25,7 +25,7 @@ pub stepped_is : (s : State) (n : NodeId) (m : Made) (e : Event) → step_answer
 stepped_is s n m e answer is =
     ap (λ (a : Result Made LabFault). unless_refused s a (with_event s (next (chip_of s) n))) answer ∙ ap (with_event s) is
 
-ok_or : Made → Result Made LabFault → Made
+abbrev ok_or : Made → Result Made LabFault → Made
 ok_or default (Ok made) = made
 ok_or default (Err why) = default
 

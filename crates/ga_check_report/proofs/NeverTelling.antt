@@ -75,7 +75,7 @@ reached_by s t u conditions which events event chip made led is appended there r
 -- the events of a session can be made, and then its last
 pub session_can : (load : List NodeRecord) (conditions : List StateCondition) (which : ℕ) (events : List Event) (event : Event)
     → ((chip : List NodeRecord) × (replay load events ≡ Some chip) × IsReachedOn conditions which chip event) → IsSome (replay load events)
-session_can load conditions which events event it = subst (λ (o : Option (List NodeRecord)). IsSome o) (sym it.1) tt
+session_can load conditions which events event it = subst (λ (o : Option (List NodeRecord)). IsSome o) (sym it.1) refl
 
 pub last_can : (load there : List NodeRecord) (conditions : List StateCondition) (which : ℕ) (events : List Event) (event : Event)
     → ((chip : List NodeRecord) × (replay load events ≡ Some chip) × IsReachedOn conditions which chip event) → replay load events ≡ Some there → IsEnabled there event

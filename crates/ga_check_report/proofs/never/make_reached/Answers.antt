@@ -19,12 +19,12 @@ make-requires c =
     let s : State = c.args.lab.now in
     let it = c.in-Ok.ensures.leads (chip_of s) c.requires.ends in
     last_can (chip_of s) (chip_of c.make_all.new.lab) c.args.conditions.now c.args.reached.which c.in-Ok.events.items c.args.reached.event it
-    (ap (replay (chip_of s)) (sym c.as_slice.ensures.value) ∙ c.in_ok-make_all.ensures.there)
+    (ap (replay (chip_of s)) (sym c.as_slice.ensures.value) ∙ c.in_ok-make_all-in-Ok.ensures.there)
 
-pub returns-clause-made : goal.returns-clause-made
-returns-clause-made c =
+pub returns-in_ok-make_all-in-Ok-clause-made : goal.returns-in_ok-make_all-in-Ok-clause-made
+returns-in_ok-make_all-in-Ok-clause-made c =
     let s : State = c.args.lab.now in
     let it = c.in-Ok.ensures.leads (chip_of s) c.requires.ends in
     reached_result s c.make_all.new.lab c.make.new.lab c.args.conditions.now c.args.reached.which c.in-Ok.events.items c.args.reached.event c.make.result it
-    (subst (λ (list : List Event). HasAppendedEvents s list c.make_all.new.lab) c.as_slice.ensures.value c.in_ok-make_all.ensures.made)
-    (ap (replay (chip_of s)) (sym c.as_slice.ensures.value) ∙ c.in_ok-make_all.ensures.there) c.make.ensures.told c.make.ensures.made
+    (subst (λ (list : List Event). HasAppendedEvents s list c.make_all.new.lab) c.as_slice.ensures.value c.in_ok-make_all-in-Ok.ensures.made)
+    (ap (replay (chip_of s)) (sym c.as_slice.ensures.value) ∙ c.in_ok-make_all-in-Ok.ensures.there) c.make.ensures.told c.make.ensures.made
