@@ -1,10 +1,10 @@
 -- Lines that are listed one after another.
-use Rattle.std.proofs.Common.{◌≡◌, ℕ, suc, ◌+◌, ◌-◌, ◌/◌, ◌%◌, ◌<◌, ◌≤◌, ◌==◌, true, false, ◌&&◌, List, [], ◌∷◌, ◌++◌, length, take, get_or, Some, None, refl, sym, ◌∙◌, ap, subst, arith, append_assoc, append-nil, length-append, inl, inr}
+use Rattle.std.proofs.Common.{◌≡◌, ℕ, suc, ◌+◌, ◌-◌, ◌/◌, ◌%◌, ◌<◌, ◌≤◌, ◌==◌, true, false, ◌&&◌, List, [], ◌∷◌, ◌++◌, length, map, take, get_or, Some, None, refl, sym, ◌∙◌, ap, subst, arith, append_assoc, append-nil, length-append, inl, inr}
 use Rattle.std.specs.Prelude.{is_none, nat_lt, nat_le, ◌⊎◌}
 use Rattle.std.proofs.Math.Nat.{zero-mod, zero-div}
 use Rattle.std.specs.List.{All, find}
 use Rattle.std.proofs.lemmas.Bool.{eq-eqb, ne_eqb, le-leb, lt-ltb, and_from, or_left, or_right, not_from_true, not_from_false, not-false, cond-false, cond-true, cases_eq}
-use Rattle.std.proofs.lemmas.List.{take-append-le}
+use Rattle.std.proofs.lemmas.List.{take-append-le, map-append, get_or-map}
 use Rattle.std.proofs.lemmas.List.Elements.{All-push, All-weaker, All-more, All-append, All-map}
 use Rattle.std.proofs.lemmas.List.Folds.{list_any-append}
 use Rattle.ga_event.specs.Flow.{is_equal_to, part_kind, part_index}
@@ -15,7 +15,7 @@ use Rattle.ga_provenance.specs.declared.lines.UsedValue.{UsedValue}
 use Rattle.ga_provenance.specs.Origins.{origin_of}
 use Rattle.ga_provenance.specs.Sources.{value_sources}
 use Rattle.ga_provenance.specs.Lines.{oldest_value, is_at_period, is_in_run, is_value_listed, line_of, used_by, values_used, values_to_list, is_unlisted, next_use, with_next_line, first_lines, AreLinesOf, IsMovedLine}
-use Rattle.ga_provenance.specs.inner.{IsOfPart}
+use Rattle.ga_provenance.specs.inner.{IsOfPart, use_origin}
 use Rattle.ga_provenance.proofs.Finding.{found_at, skipped, drop_all}
 
 -- ---- the newest value of a line is listed
@@ -138,3 +138,26 @@ pub parts_more : (uses grown : List UsedValue) (user : ℕ) (values : List Value
 parts_more uses grown user values is of parts =
     subst (All (λ (u : UsedValue). IsOfPart u.used)) (sym is)
     (All-append (λ (u : UsedValue). IsOfPart u.used) uses (used_by user values) parts (All-map (λ (u : UsedValue). IsOfPart u.used) (λ (value : Value). record { user = user; used = value }) values of))
+
+-- ---- the values that are used, as the steps made them
+
+pub read_origin : (s : State) (uses : List UsedValue) (origins : List Value) (next : ℕ) (usage : UsedValue) (origin : Value) → origins ≡ map (use_origin s) uses → next < length uses → usage ≡ get_or uses next usage → origin ≡ get_or origins next origin
+    → origin ≡ origin_of s usage.used
+read_origin s uses origins next usage origin is l used made =
+    made
+    ∙ ap (λ (z : List Value). get_or z next origin) is
+    ∙ get_or-map (use_origin s) uses next usage origin l
+    ∙ ap (use_origin s) (sym used)
+
+origins_used : (s : State) (user : ℕ) (values : List Value) → map (use_origin s) (used_by user values) ≡ map (origin_of s) values
+origins_used s user [] = refl
+origins_used s user (value ∷ values) = ap (λ (z : List Value). origin_of s value ∷ z) (origins_used s user values)
+
+pub more_origins : (s : State) (uses grown : List UsedValue) (user : ℕ) (origins more : List Value) (values made : List Value) → origins ≡ map (use_origin s) uses → grown ≡ uses ++ used_by user values → more ≡ origins ++ made
+    → made ≡ map (origin_of s) values → more ≡ map (use_origin s) grown
+more_origins s uses grown user origins more values made is grown_is more_is made_is =
+    more_is
+    ∙ ap (λ (z : List Value). z ++ made) is
+    ∙ ap (λ (z : List Value). map (use_origin s) uses ++ z) (made_is ∙ sym (origins_used s user values))
+    ∙ sym (map-append (use_origin s) uses (used_by user values))
+    ∙ ap (map (use_origin s)) (sym grown_is)

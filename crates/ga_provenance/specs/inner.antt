@@ -34,6 +34,7 @@ use Rattle.ga_node.specs.declared.due.NextAction.{NextAction}
 use Rattle.ga_provenance.specs.declared.asked.QueriedPart.{QueriedPart}
 use Rattle.ga_provenance.specs.declared.asked.QueriedPart.TheVariants.{PartAfter, PartBefore, Nothing}
 use Rattle.ga_provenance.specs.declared.lines.ProvenanceLine.{ProvenanceLine}
+use Rattle.ga_provenance.specs.declared.lines.UsedValue.{UsedValue}
 use Rattle.ga_provenance.specs.declared.source_search.TracedValue.{TracedValue}
 use Rattle.ga_provenance.specs.Sources.{value_sources}
 use Rattle.ga_provenance.specs.Lines.{source_origins, is_value_listed}
@@ -295,6 +296,10 @@ IsOfPart value = IsNodePart value.part
 pub record IsKept (s : State) (value : Value) : Type 0 where
   pub part : IsOfPart value
   pub within : value.step ≤ count_steps value.node.number s.kept
+
+-- a used value as the step made it
+abbrev pub use_origin : State → UsedValue → Value
+use_origin s usage = origin_of s usage.used
 
 -- a value with those from which it was made
 abbrev pub traced_value : TracedValue → Value

@@ -1,6 +1,6 @@
 //! The provenance of a value as lines, the nearest first, each of a value or of a run of values that differ only in their steps.
 
-ghost use Rattle.std.specs.Prelude.{◌≡◌, ◌≤◌, ◌<◌, ◌+◌, ◌++◌, false, IfOk, IfSome, OnOk, All, length, option_map};
+ghost use Rattle.std.specs.Prelude.{◌≡◌, ◌≤◌, ◌<◌, ◌+◌, ◌++◌, false, IfOk, IfSome, OnOk, All, length, map, option_map};
 ghost use Rattle.ga_event.specs.Flow.{IsNodePart};
 ghost use Rattle.ga_lab.specs.Machine.{node_at_step};
 ghost use Rattle.ga_provenance.specs.Origins.{origin_of};
@@ -113,19 +113,27 @@ fn find_following<'l, 'n>(
     }
 }
 
-// The line of a used value after others, and the values from which the oldest one of its run was made.
+// The line of a used value after others, and the values from which the oldest one of its run was made: where its step read them,
+// and as the steps made them.
 fn find_line<'l, 'n>(
     search: SourceSearch<'l, 'n>,
     lines: &[ProvenanceLine],
     usage: UsedValue,
     value: Value,
-) -> (SourceSearch<'l, 'n>, ProvenanceLine, ArrayVec<Value, 3>)
+) -> (
+    SourceSearch<'l, 'n>,
+    ProvenanceLine,
+    ArrayVec<Value, 3>,
+    ArrayVec<Value, 3>,
+)
     requires value { value ≡ origin_of search.lab.now usage.used }
     requires kept { IsKept search.lab.now value }
     ensures lab { result.0.lab.now ≡ search.entry.lab.now }
     ensures line { result.1 ≡ line_of search.entry.lab.now lines.now usage }
     ensures used { result.2.items ≡ value_sources search.entry.lab.now (oldest_value (line_of search.entry.lab.now lines.now usage)) }
     ensures parts { All IsOfPart result.2.items }
+    ensures origins { result.3.items ≡ map (origin_of search.entry.lab.now) result.2.items }
+    ensures kept { All (IsKept search.entry.lab.now) result.3.items }
 {
     let (mut search, mut oldest) = search.trace(value);
     let mut line = ProvenanceLine {
@@ -145,8 +153,8 @@ fn find_line<'l, 'n>(
                 oldest = next;
             }
             None => {
-                let TracedValue { used, .. } = oldest;
-                return (search, line, used);
+                let TracedValue { used, origins, .. } = oldest;
+                return (search, line, used, origins);
             }
         }
     }
@@ -166,6 +174,17 @@ fn push_used(
     'values: for used in values.as_slice() {
         let used = *used;
         uses.push(UsedValue { user, used })?;
+    }
+    Ok(())
+}
+
+// Adds values.
+fn push_origins(origins: &mut Vec<Value>, values: ArrayVec<Value, 3>) -> Result<(), AllocError>
+    ensures { OnOk result (origins.new.items ≡ origins.old.items ++ values.items) }
+{
+    'values: for value in values.as_slice() {
+        let value = *value;
+        origins.push(value)?;
     }
     Ok(())
 }
@@ -200,13 +219,14 @@ pub fn find_lines_at<'l>(
         user: 0,
         used: value,
     })?;
-    let mut search = SourceSearch::new(lab, near, at);
+    let mut origins: Vec<Value> = Vec::new(alloc);
+    let (mut search, origin) = SourceSearch::new(lab, near, at).origin_of(value);
+    origins.push(origin)?;
     let mut next = 0;
     'listing: while next < uses.len() {
         let usage = uses[next];
+        let origin = origins[next];
         next += 1;
-        let (found, origin) = search.origin_of(usage.used);
-        search = found;
         if is_value_listed(&lines, origin) {
             continue 'listing;
         }
@@ -216,10 +236,11 @@ pub fn find_lines_at<'l>(
                 is_whole: false,
             });
         }
-        let (after, line, used) = find_line(search, &lines, usage, origin);
+        let (after, line, used, made) = find_line(search, &lines, usage, origin);
         search = after;
         lines.push(line)?;
         push_used(&mut uses, lines.len() as u32, used)?;
+        push_origins(&mut origins, made)?;
     }
     Ok(ProvenanceLines {
         lines,

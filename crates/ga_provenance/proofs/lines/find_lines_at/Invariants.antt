@@ -1,8 +1,8 @@
-use Rattle.std.proofs.Common.{◌≡◌, ◌+◌, ◌-◌, ◌*◌, ◌≤◌, length, take}
+use Rattle.std.proofs.Common.{◌≡◌, ◌+◌, ◌-◌, ◌*◌, ◌≤◌, length, take, map}
 use Rattle.std.specs.List.{All}
 use Rattle.ga_provenance.specs.declared.lines.UsedValue.{UsedValue}
 use Rattle.ga_provenance.specs.Lines.{values_to_list, first_lines, IsMovedLine}
-use Rattle.ga_provenance.specs.inner.{IsOfPart}
+use Rattle.ga_provenance.specs.inner.{IsOfPart, IsKept, use_origin}
 use Rattle.ga_provenance.proofs.GrowingLines.{AreListed}
 use Rattle.ga_provenance.proofs.lines.find_lines_at.Given as goal
 
@@ -13,6 +13,8 @@ invariant-listing l = record {
   lines : l.lines.items ≡ first_lines l.lab l.fn.value (length l.lines.items);
   passed : AreListed l.lab l.lines.items (take l.next l.uses.items);
   parts : All (λ (usage : UsedValue). IsOfPart usage.used) l.uses.items;
+  origins : l.origins.items ≡ map (use_origin l.lab) l.uses.items;
+  kept : All (IsKept l.lab) l.origins.items;
   most : length l.lines.items ≤ l.most;
   moved : All (IsMovedLine l.lab) l.lines.items;
 }
