@@ -376,7 +376,6 @@ WRONG = (
     (WHENCE, "return ASKED_BEFORE[word], word_in(before, ASKED_BEFORE[word])", "return ASKED_BEFORE[word], word_in(behind, ASKED_BEFORE[word])"),
     (WHENCE, 'if word == "sends":', 'if word == "send":'),
     (WHENCE, "and {*sources} - {it} <= {*made[it]}", ""),
-    (WHENCE, "while after and after not in told and (", "while after and ("),
     (WHENCE, "run[-1][1] - after[1] == run[0][1] - run[1][1]", "True"),
     (WHENCE, "for source in made[run[-1]]]", "for source in made[run[0]]]"),
     (EXPLORE, "{word_in(behind[node, number], part):06x}", "{word_in(behind[node, max(number - 1, 0)], part):06x}"),
