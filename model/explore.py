@@ -380,7 +380,9 @@ class Explorer(Machine):
             return "no 6 nostep"
         goes = self.dependents(place)
         left = [sum(at in event for event, gone in zip(self.events, goes) if not gone) for at in range(NODES)]
-        lines = [f"{name(at)} {left[at] + 1} {self.steps[at] - left[at]}" for at in range(NODES) if left[at] < self.steps[at]]
+        tails = self.tails(self.followed()[0])
+        firsts = [(at, left[at] + 1) for at in range(NODES) if left[at] < self.steps[at]]
+        lines = [f"{name(at)} {first} {self.steps[at] - left[at]}{tails[at, first]}" for at, first in firsts]
         return "\n".join([f"effects {sum(goes)} {len(lines)}"] + lines)
 
     def sent(self, writer, reader):

@@ -71,7 +71,7 @@ class Generator:
                     continue
                 lines += [f": {label} {self.some(self.random.randrange(0, 5), 2)}", self.some(self.random.randrange(0, 7), 2) + self.random.choice(["", " ;", f" {label} ;"])]
         lines = [self.random.choice(["", "", "\\ why ", "( so ) "]) + it if it.startswith("/") else it for it in lines]
-        return "\n".join(self.with_groups(self.with_constants(lines))) + "\n"
+        return "\n".join(self.with_expectations(self.with_groups(self.with_constants(lines)))) + "\n"
 
     def with_constants(self, lines):
         """The lines with constants, some of them at fault, and uses of them."""
@@ -83,6 +83,15 @@ class Generator:
         lines.insert(self.extra.choice([0, 0, self.extra.randrange(len(lines))]), defined)
         for use in self.extra.choices(["k", "k ,", "k constant j j", "'k", ": k", "org k", "/a k", "k ;", "9 constant k", "constant"], [9, 5, 5, 1, 1, 3, 2, 1, 1, 0.5], k=3):
             lines[self.extra.randrange(len(lines))] += f" {use}"
+        return lines
+
+    def with_expectations(self, lines):
+        """The lines with expectations among them, and sometimes one within a line, or with a comment that is left open."""
+        if self.extra.random() < 0.6:
+            return lines
+        lines = [*lines]
+        for said in self.extra.choices(["expect one end", "  expect 001 t = 3", "( so ) expect 017 [20] < 5 ( or ) \\ more", "expect never stop", "expect every order ends", "expect ( so", "dup expect", ": expect dup"], [9, 9, 9, 5, 5, 1, 1, 1], k=2):
+            lines.insert(self.extra.randrange(len(lines) + 1), said)
         return lines
 
     def with_groups(self, lines):

@@ -10,7 +10,7 @@ PORTS = {"right": 0x1D5, "down": 0x115, "left": 0x175, "up": 0x145, "io": 0x15D}
 BEGINNINGS = {"if": "if", "-if": "-if", "ahead": "jump"}
 ENDINGS = {"again": "jump", "until": "if", "-until": "-if", "next": "next"}
 CONTROLS = {*BEGINNINGS, *ENDINGS, "begin", "for", "else", "then", "while", "-while", "repeat", "unext", "*next"}
-DIRECTIVES = {":", "org", "/p", "/a", "/b", "..", "+cy", "-cy", "node", "constant", ",", "\\", "("}
+DIRECTIVES = {":", "org", "/p", "/a", "/b", "..", "+cy", "-cy", "node", "constant", "expect", ",", "\\", "("}
 MARK = "\xef\xbb\xbf"
 # In the place of a word that was skipped.
 GAP = ""
@@ -23,9 +23,9 @@ OTHERS |= {"lshift": "2*, one bit", "<<": "2*, one bit", "rshift": "2/, one bit"
 OTHERS |= {"a@": "a", "@a": "@", "!a": "!", "@a+": "@+", "!a+": "!+", "do": "for", "loop": "next", "if,": "if", "endif": "then"}
 OTHERS |= {"exit": ";", ";s": ";", "call": "NAME", "jump": "NAME ;", "variable": ": NAME 0 ,", "create": ": NAME", ",": "N ,"}
 OTHERS |= {"equ": "N constant NAME"}
-OTHERS |= {"end": "end on a line of its own", "//": "\\", "#": "\\", "--": "\\"}
+OTHERS |= {"expect": "expect begins a line of its own", "end": "end on a line of its own", "//": "\\", "#": "\\", "--": "\\"}
 MEANT = "drop dup pop over push and or xor inv invert nop ex a a! b! begin for next unext *next again until -until while -while repeat".split()
-MEANT += "if -if ahead else then org node constant right down left up io".split()
+MEANT += "if -if ahead else then org node expect constant right down left up io".split()
 
 
 class Fault(Exception):
@@ -102,14 +102,14 @@ def unknown(line, word):
 
 
 def scanned(source):
-    """The words with their lines and columns; a line at fault is a word that is a Fault."""
+    """The words with their lines and columns, without those of expectations; a line at fault is a word that is a Fault."""
     for number, line in enumerate(lines_of(source), 1):
         if line == "end":
             return
         if len(line) > 200:
             yield number, fault(number, "the line has more than 200 bytes")
             continue
-        within = False
+        within, said = False, []
         for found in re.finditer("[^ \t]+", line):
             word = found[0]
             if within:
@@ -119,7 +119,9 @@ def scanned(source):
             elif word == "(":
                 within = True
             else:
-                yield At(number, found.start() + 1), word
+                said.append((At(number, found.start() + 1), word))
+        if not said or said[0][1] != "expect":
+            yield from said
         if within:
             yield number, fault(number, "a comment without its )")
 

@@ -3,7 +3,7 @@
 
 wrong.py PROGRAM COUNT: each wrong definition has to be told within so many sessions, by an answer that differs or by a
 replay that can't go on; one of source within so many sources and as many that are cut or changed, one of pictures within so many of
-these, one of ends within so many programs. A definition is wrong in one place: its file, a text that stands there once, and
+these, one of ends or expectations within so many programs. A definition is wrong in one place: its file, a text that stands there once, and
 what takes its place.
 
 The file `told` beside this says which session told a definition when `wrong.py --write PROGRAM COUNT` wrote it, by a sum of the
@@ -21,8 +21,10 @@ from concurrent.futures import ThreadPoolExecutor
 
 NODE, MACHINE, WORDS, SOURCE, LISTING = "node.py", "machine.py", "words.py", "source.py", "listing.py"
 EXPLORE, WHENCE, NOTES, PICTURES, ENDS = "explore.py", "whence.py", "notes.py", "pictures.py", "ends.py"
+EXPECTATIONS = "expectations.py"
 # Which generator tells a wrong definition in a file; the others `sessions`.
-GENERATORS = {WORDS: "sources", SOURCE: "sources", LISTING: "sources", EXPLORE: "exploring", WHENCE: "exploring", NOTES: "exploring", PICTURES: "pictures", ENDS: "ends"}
+GENERATORS = {WORDS: "sources", SOURCE: "sources", LISTING: "sources", EXPLORE: "exploring", WHENCE: "exploring", NOTES: "exploring"}
+GENERATORS |= {PICTURES: "pictures", ENDS: "ends", EXPECTATIONS: "expectations"}
 WRONG = (
     # the grid
     (NODE, '(column % 2 == 0) == (side == "r")', '(column % 2 == 0) == (side == "l")'),
@@ -256,6 +258,10 @@ WRONG = (
     (SOURCE, 'last = next((place for place in range(at + 1, len(words)) if words[place][1] != ","), len(words))', "last = at + 1"),
     (SOURCE, 'words = words[2 if words[0][1] == "node" else 1 :]', "words = words[1:]"),
     (SOURCE, "            if isinstance(words[0][1], Fault):\n                words = words[1:]\n                continue\n", ""),
+    # expectations
+    (WORDS, 'if not said or said[0][1] != "expect":', 'if not said or said[0][1] != "expect" or said[0][0].column > 1:'),
+    (WORDS, 'if not said or said[0][1] != "expect":', 'if "expect" not in [it for _, it in said]:'),
+    (WORDS, '"node", "constant", "expect", ","', '"node", "constant", ","'),
     # constants, and nodes with one program
     (WORDS, "name in numbers or name in labels or not", "name in numbers or not"),
     (WORDS, "name in labels or not is_name(name)", "name in labels"),
@@ -350,6 +356,8 @@ WRONG = (
     (EXPLORE, 'self.chip[node].wait[0] == "read"]', 'self.chip[node].wait[0] != "fetch"]'),
     (EXPLORE, "self.awaited(node) and all(", "self.awaited(node) and any("),
     (EXPLORE, 'self.steps[given[0]] if word == "last"', 'self.steps[given[0]] - 1 if word == "last"'),
+    (EXPLORE, "{self.steps[at] - left[at]}{tails[at, first]}", "{self.steps[at] - left[at]}"),
+    (EXPLORE, "{self.steps[at] - left[at]}{tails[at, first]}", "{self.steps[at] - left[at]}{tails[at, self.steps[at]]}"),
     # what decided
     (EXPLORE, "for number in range(1, step):", "for number in range(1, step + 1):"),
     (EXPLORE, 'taken and before.wait[0] == "fetch"}', 'taken and before.wait[0] == "read"}'),
@@ -447,6 +455,25 @@ WRONG = (
     (ENDS, "return 5 if any(", "return 5 if all("),
     (ENDS, "if chip in self.kind_at and not self.kind_at[chip][1]}", "if chip in self.kind_at}"),
     (ENDS, "            last = place\n", "            last = last or place\n"),
+    # expectations
+    (EXPECTATIONS, "return wait[0] == kind[:-1] and {*wait[1]} == {", "return wait[0] == kind[:-1] and {*wait[1]} >= {"),
+    (EXPECTATIONS, "return wait[0] == kind[:-1] and", 'return wait[0] in ("fetch", kind[:-1]) and'),
+    (EXPECTATIONS, 'return wait[0] == "fetch"', 'return wait[0] in ("fetch", "read")'),
+    (EXPECTATIONS, '"left": "l", "up": "u"', '"left": "u", "up": "l"'),
+    (EXPECTATIONS, "if within or word == \"(\":", "if within:"),
+    (EXPECTATIONS, 'elif word == "\\\\":', 'elif word == ".":'),
+    (EXPECTATIONS, "constants[named] = constants.get(value, value)", "constants[named] = value"),
+    (EXPECTATIONS, "words = [constants.get(it, it) for it in words[1:]]", "words = words[1:]"),
+    (EXPECTATIONS, "named = nodes\n", "named = nodes[:1]\n"),
+    (EXPECTATIONS, "named, words = [NUMBERS[words[0]]], words[1:]", "named, words = nodes or [NUMBERS[words[0]]], words[1:]"),
+    (EXPECTATIONS, "if chip in self.ends.kind_at and not expectation", "if not expectation"),
+    (EXPECTATIONS, "return not self.unmet(expectation)", "return len(self.unmet(expectation)) < len(self.ends.kind_at)"),
+    (EXPECTATIONS, "return not self.can_hold(self.conditions(expectation))", "return self.can_hold(self.conditions(expectation))"),
+    (EXPECTATIONS, "return not self.ends.has_cycle if", "return not self.ends.has_cycle_before if"),
+    (EXPECTATIONS, "sum(self.ends.kinds.values()) == 1", "len(self.ends.kinds) == 1"),
+    (EXPECTATIONS, 'return 5 if any(it.startswith("broken")', 'return 5 if all(it.startswith("broken")'),
+    (EXPECTATIONS, "6 if NOT_KNOWN in verdicts", "6 if len(verdicts) > 4"),
+    (EXPECTATIONS, "for line in lines[:-1]:", "for line in lines[:-2]:"),
 )
 
 

@@ -16,7 +16,7 @@
   "Words that begin or end a control structure.")
 
 (defconst f18-directives
-  '(":" "org" "/p" "/a" "/b" ".." "+cy" "-cy" "node" "constant" ",")
+  '(":" "org" "/p" "/a" "/b" ".." "+cy" "-cy" "node" "constant" "expect" ",")
   "Words that ask for no opcode.")
 
 (defconst f18-ports

@@ -83,7 +83,7 @@ function lines_in(command, rows, at) {
 
 // The answer of `effects` as a sentence.
 function told_effects([head, ...rows]) {
-  const [, events, nodes] = head.split(" "), counted = (count, what) => `${count} ${what}${count === "1" ? "" : "s"}`, firsts = rows.slice(0, 6).map(row => row.replace(/ \d+$/, "")).join(", ");
+  const [, events, nodes] = head.split(" "), counted = (count, what) => `${count} ${what}${count === "1" ? "" : "s"}`, firsts = rows.slice(0, 6).map(row => row.replace(/ \d+(?: \\ .*)?$/s, "")).join(", ");
   return head.startsWith("effects ") ? `${counted(events, "event")} of ${counted(nodes, "node")} gone, from ${firsts}${rows.length > 6 ? " .." : ""}` : head;
 }
 

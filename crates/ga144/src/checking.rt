@@ -1,7 +1,9 @@
 //! `ga144 check`: the search for the ends of a program, beside a clock that stops it and reports how far it is.
 
 use crate::files::InputPrefix;
-use ga_check_report::{CheckBounds, ConditionFault, Verdict, check_ends, check_never};
+use ga_check_report::{
+    CheckBounds, ConditionFault, Verdict, check_ends, check_never, check_program,
+};
 use ga_state_search::SearchControl;
 use std::sync::atomic::{AtomicBool, Ordering};
 use std::thread::{Threads, join};
@@ -17,8 +19,8 @@ const TICK: u64 = 20;
 /// The number of looks between two progress lines.
 const TICKS: u64 = 50;
 
-/// How far to search, whether the idle nodes come to rest first, the number of the kind of end whose session is wanted, if it isn't 0, and
-/// whether the progress is reported.
+/// How far to search, whether the idle nodes come to rest first, the number of the kind of end or of the expectation whose session is wanted,
+/// if it isn't 0, and whether the progress is reported.
 #[derive(Clone, Copy)]
 pub struct CheckOptions<'a> {
     pub bounds: CheckBounds,
@@ -26,6 +28,8 @@ pub struct CheckOptions<'a> {
     pub asked: u32,
     /// The conditions that are looked for in place of ends, if any.
     pub never: Option<&'a str>,
+    /// Whether the ends are printed in place of expectations.
+    pub ends: bool,
     pub progress: bool,
 }
 
@@ -54,7 +58,7 @@ pub fn find_verdict<T: Threads + Sync>(
     verdict
 }
 
-/// Tells the ends of the program that is read, or what is looked for.
+/// Writes the expectations or the ends of the program that is read, or what is looked for.
 fn search(
     rt: &HostRuntime,
     work: CheckOptions<'_>,
@@ -63,30 +67,33 @@ fn search(
 ) -> Result<Verdict, ConditionFault> {
     let mut reader = front.reader(rt);
     let (mut writer, mut errors) = (rt.stdout(), rt.stderr());
+    let alloc = rt.alloc();
+    let (input, output, told) = (&mut reader, &mut writer, &mut errors);
+    let (bounds, limit, settles, asked) = (work.bounds, SESSION_LIMIT, work.settled, work.asked);
     match work.never {
-        None => Ok(check_ends(
-            rt.alloc(),
-            &mut reader,
-            &mut writer,
-            &mut errors,
-            work.bounds,
-            SESSION_LIMIT,
-            work.settled,
-            work.asked,
-            watch,
-        )),
         Some(conditions) => check_never(
-            rt.alloc(),
-            &mut reader,
-            &mut writer,
-            &mut errors,
-            work.bounds,
-            SESSION_LIMIT,
-            work.settled,
+            alloc,
+            input,
+            output,
+            told,
+            bounds,
+            limit,
+            settles,
             conditions.as_bytes(),
-            work.asked != 0,
+            asked != 0,
             watch,
         ),
+        None => {
+            if work.ends {
+                Ok(check_ends(
+                    alloc, input, output, told, bounds, limit, settles, asked, watch,
+                ))
+            } else {
+                Ok(check_program(
+                    alloc, input, output, told, bounds, limit, settles, asked, watch,
+                ))
+            }
+        }
     }
 }
 

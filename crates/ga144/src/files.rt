@@ -4,7 +4,6 @@ use ga_explorer::{append_end_line, lacks_end_line};
 use std::fs::File;
 use std::io;
 use std::io::{Chain, ErrorKind, Read, Stdin, Take};
-use std::process::ExitCode;
 
 /// The most bytes of a file: the bound of an input.
 pub const MAX_FILE_BYTES: u64 = 16_777_216;
@@ -36,15 +35,14 @@ impl InputPrefix {
 /// `end` nothing is read.
 ///
 /// # Errors
-/// The file can't be read, which was reported.
-pub fn read_input_prefix(rt: &HostRuntime, file: &Option<String>) -> Result<InputPrefix, ExitCode> {
+/// The exit status, as the file can't be read, which was reported.
+pub fn read_input_prefix(rt: &HostRuntime, file: Option<&str>) -> Result<InputPrefix, u8> {
     let Some(name) = file else {
         return Ok(InputPrefix {
             text: Vec::new(rt.alloc()),
             behind: u64::MAX,
         });
     };
-    let name = name.as_str();
     let mut text = text_of(rt, name)?;
     if lacks_end_line(text.as_slice()) {
         return Ok(InputPrefix { text, behind: 0 });
@@ -61,8 +59,8 @@ pub fn read_input_prefix(rt: &HostRuntime, file: &Option<String>) -> Result<Inpu
 /// The text of a file.
 ///
 /// # Errors
-/// The file can't be read, which was reported.
-fn text_of(rt: &HostRuntime, name: &str) -> Result<Vec<u8>, ExitCode> {
+/// The exit status, as the file can't be read, which was reported.
+fn text_of(rt: &HostRuntime, name: &str) -> Result<Vec<u8>, u8> {
     match read_file(rt, name) {
         Ok(text) => {
             if text.len() as u64 > MAX_FILE_BYTES {
@@ -77,11 +75,8 @@ fn text_of(rt: &HostRuntime, name: &str) -> Result<Vec<u8>, ExitCode> {
 /// The text of the file that gives the chip, if one is named.
 ///
 /// # Errors
-/// The file can't be read, which was reported.
-pub fn read_chip_file(
-    rt: &HostRuntime,
-    file: &Option<String>,
-) -> Result<Option<Vec<u8>>, ExitCode> {
+/// The exit status, as the file can't be read, which was reported.
+pub fn read_chip_file(rt: &HostRuntime, file: &Option<String>) -> Result<Option<Vec<u8>>, u8> {
     match file {
         None => Ok(None),
         Some(name) => Ok(Some(text_of(rt, name.as_str())?)),
@@ -89,17 +84,17 @@ pub fn read_chip_file(
 }
 
 /// Reports why a file can't be read. Returns 1 if memory is exhausted, else 2.
-fn unread_for(rt: &HostRuntime, name: &str, why: &io::Error) -> ExitCode {
+fn unread_for(rt: &HostRuntime, name: &str, why: &io::Error) -> u8 {
     let status = if why.kind() == ErrorKind::OutOfMemory {
         1
     } else {
         2
     };
     let _ = eprintln!(rt; "ga144: {name}: {why}");
-    ExitCode::from(status)
+    status
 }
 
-fn unread(rt: &HostRuntime, name: &str, why: &str, status: u8) -> ExitCode {
+fn unread(rt: &HostRuntime, name: &str, why: &str, status: u8) -> u8 {
     let _ = eprintln!(rt; "ga144: {name}: {why}");
-    ExitCode::from(status)
+    status
 }

@@ -57,8 +57,9 @@ fn main(rt: HostRuntime) -> ExitCode {
                 settled,
                 session,
                 never,
+                ends,
                 progress,
-                file,
+                files,
             },
         ) => {
             let bounds = CheckBounds {
@@ -71,9 +72,10 @@ fn main(rt: HostRuntime) -> ExitCode {
                 settled,
                 asked,
                 never: never.as_ref().map(|text| text.as_str()),
+                ends,
                 progress,
             };
-            checked(&rt, &rt, work, &file)
+            ExitCode::from(check_files(&rt, &rt, work, files.as_slice()))
         }
         Ok(Settings::Dap) => match spawn_reader(rt, rt.alloc(), rt.stdin()) {
             Ok((mut reader, mut arrivals)) => serve_editor(&rt, &mut reader, &mut arrivals),
@@ -157,13 +159,13 @@ enum Work {
 
 /// Reads a file, if one is named, followed by standard input, and does the work; on the chip of another file, if one is named.
 fn served(rt: &HostRuntime, work: Work, chip: &Option<String>, file: &Option<String>) -> ExitCode {
-    let front = match read_input_prefix(rt, file) {
+    let front = match read_input_prefix(rt, file.as_ref().map(|name| name.as_str())) {
         Ok(front) => front,
-        Err(code) => return code,
+        Err(status) => return ExitCode::from(status),
     };
     let chip = match read_chip_file(rt, chip) {
         Ok(chip) => chip,
-        Err(code) => return code,
+        Err(status) => return ExitCode::from(status),
     };
     let mut reader = front.reader(rt);
     let (mut writer, mut errors) = (rt.stdout(), rt.stderr());
@@ -188,25 +190,80 @@ fn is_at_terminal(rt: &HostRuntime) -> bool {
     rt.stdin().is_terminal() && rt.stdout().is_terminal()
 }
 
-/// Reads a file, if one is named, or standard input, and prints the ends of its program.
-fn checked<T: Threads + Sync>(
+/// Checks the program of each file, or that of standard input if none is named. Returns the exit status.
+fn check_files<T: Threads + Sync>(
     threads: &T,
     rt: &HostRuntime,
     work: CheckOptions<'_>,
-    file: &Option<String>,
-) -> ExitCode {
+    files: &[String],
+) -> u8 {
+    match files {
+        [] => check_file(threads, rt, work, None),
+        [file] => check_file(threads, rt, work, named_file(file.as_str())),
+        _ => check_each(threads, rt, work, files),
+    }
+}
+
+/// The name of a file, unless it stands for standard input.
+fn named_file(name: &str) -> Option<&str> {
+    if name == "-" { None } else { Some(name) }
+}
+
+/// Checks the program of each file, and writes the name of the file before the answer. Returns the worst exit status.
+fn check_each<T: Threads + Sync>(
+    threads: &T,
+    rt: &HostRuntime,
+    work: CheckOptions<'_>,
+    files: &[String],
+) -> u8 {
+    let mut worst = 0;
+    for file in files {
+        let name = file.as_str();
+        if println!(rt; "{name}:").is_err() {
+            return status_of(rt, Status::StreamFault);
+        }
+        worst = worse_status(worst, check_file(threads, rt, work, named_file(name)));
+    }
+    worst
+}
+
+/// The worse of two exit statuses: a refused file, then what is broken, then what isn't known. Of two files that are refused that of the first.
+fn worse_status(first: u8, second: u8) -> u8 {
+    if badness(second) > badness(first) {
+        second
+    } else {
+        first
+    }
+}
+
+fn badness(status: u8) -> u8 {
+    match status {
+        0 => 0,
+        6 => 1,
+        5 => 2,
+        _ => 3,
+    }
+}
+
+/// Reads a file, if one is named, or standard input, and prints the expectations or the ends of its program. Returns the exit status.
+fn check_file<T: Threads + Sync>(
+    threads: &T,
+    rt: &HostRuntime,
+    work: CheckOptions<'_>,
+    file: Option<&str>,
+) -> u8 {
     let front = match read_input_prefix(rt, file) {
         Ok(front) => front,
-        Err(code) => return code,
+        Err(status) => return status,
     };
     match find_verdict(threads, rt, work, &front) {
-        Ok(verdict) => exit_with(rt, verdict),
+        Ok(verdict) => status_of_verdict(rt, verdict),
         Err(fault) => refuse_conditions(rt, work.never.unwrap_or(""), fault),
     }
 }
 
 /// Reports that a text spells no conditions of states, in the form of clap's errors.
-fn refuse_conditions(rt: &HostRuntime, given: &str, fault: ConditionFault) -> ExitCode {
+fn refuse_conditions(rt: &HostRuntime, given: &str, fault: ConditionFault) -> u8 {
     let why = match fault {
         ConditionFault::Syntax => {
             "COND is NNN VALUE OP N, pass NNN MMM OP N, stop, stop NNN, wait NNN, stuck NNN, mem NNN HH = N, \
@@ -224,17 +281,17 @@ fn refuse_conditions(rt: &HostRuntime, given: &str, fault: ConditionFault) -> Ex
         "ga144: command line refused\nerror: invalid value '{given}' for '--never <COND>': {why}\n\n\
         For more information, try '--help'.\n"
     );
-    ExitCode::from(3)
+    3
 }
 
 /// The exit status of a verdict.
-fn exit_with(rt: &HostRuntime, verdict: Verdict) -> ExitCode {
+fn status_of_verdict(rt: &HostRuntime, verdict: Verdict) -> u8 {
     match verdict {
-        Verdict::Clean => ExitCode::from(0),
-        Verdict::Saved => ExitCode::from(0),
-        Verdict::Unclean => ExitCode::from(5),
-        Verdict::Unknown => ExitCode::from(6),
-        Verdict::Ended(status) => exit(rt, status),
+        Verdict::Clean => 0,
+        Verdict::Saved => 0,
+        Verdict::Unclean => 5,
+        Verdict::Unknown => 6,
+        Verdict::Ended(status) => status_of(rt, status),
     }
 }
 
@@ -250,18 +307,23 @@ fn help(rt: &HostRuntime, text: &str) -> ExitCode {
     }
 }
 
-/// The exit status of a program that ended so, and its line on standard error.
+/// Ends a program that ended so.
 fn exit(rt: &HostRuntime, status: Status) -> ExitCode {
+    ExitCode::from(status_of(rt, status))
+}
+
+/// The exit status of a program that ended so; writes its line on standard error.
+fn status_of(rt: &HostRuntime, status: Status) -> u8 {
     match status {
-        Status::Done => ExitCode::from(0),
-        Status::ImageRefused => ExitCode::from(1),
+        Status::Done => 0,
+        Status::ImageRefused => 1,
         Status::StreamFault => {
             let _ = eprintln!(rt; "ga144: stream fault");
-            ExitCode::from(2)
+            2
         }
         Status::NotFinished => {
             let _ = eprintln!(rt; "ga144: race not finished");
-            ExitCode::from(4)
+            4
         }
     }
 }

@@ -14,7 +14,7 @@ use Rattle.ga_asm_text.proofs.Telling.{says_nothing, says_both, says_line, says_
 -- ---- numbers as words
 
 pub number_ordinary : (k n : ℕ) → IsOrdinary (number_word k n)
-number_ordinary k n = record { bytes = refl; shown = all_shown k n; no_remark = refl; no_opening = refl }
+number_ordinary k n = record { bytes = refl; shown = all_shown k n; no_remark = refl; no_opening = refl; no_expect = refl }
 
 hex_inner : (k n : ℕ) → list_all is_inner (hex_of k n) ≡ true
 hex_inner k n = all_inner (hex_of k n) (all_shown k n)
@@ -50,7 +50,7 @@ register_same old new name v n usual m e f added = subst (λ (k : ℕ). Adds old
 pub address_added : (old new : Text) (address next : ℕ) → (address ≡ next → ⊥) → new ≡ old ++ ((codes "org 0x" ++ hex_of 2 address) ++ 10 ∷ []) → Adds old new (address_words address next)
 address_added old new address next differs e =
     subst (λ (words : List Word). Adds old new words) (sym (cond-false (address == next) [] (codes "org" ∷ number_word 2 address ∷ []) (ne_eqb address next differs)))
-    ((codes "org 0x" ++ hex_of 2 address) ++ 10 ∷ [], e, says_two (codes "org") (number_word 2 address) refl (plain_word (codes "org") refl refl refl refl) (number_ordinary 2 address) (omega arith))
+    ((codes "org 0x" ++ hex_of 2 address) ++ 10 ∷ [], e, says_two (codes "org") (number_word 2 address) refl (plain_word (codes "org") refl refl refl refl refl) (number_ordinary 2 address) (omega arith))
 
 pub address_usual : (old : Text) (address next : ℕ) → address ≡ next → Adds old old (address_words address next)
 address_usual old address next same = nothing_added old (address_words address next) (cond-true (address == next) [] (codes "org" ∷ number_word 2 address ∷ []) (eq-eqb address next same))
@@ -63,7 +63,7 @@ behind remark = 44 ∷ 32 ∷ 92 ∷ 32 ∷ remark
 cell_says : (w : ℕ) (remark : Text) (line : ℕ) → tokens_of_words line false (source_words (number_word 6 w ++ 32 ∷ behind remark)) ≡ map (word_token line) (number_word 6 w ∷ codes "," ∷ [])
 cell_says w remark line =
     word_first line (number_word 6 w) (behind remark) (number_ordinary 6 w)
-    ∙ ap (λ (l : List TokenContent). word_token line (number_word 6 w) ∷ l) (word_first line (codes ",") (92 ∷ 32 ∷ remark) (plain_word (codes ",") refl refl refl refl)
+    ∙ ap (λ (l : List TokenContent). word_token line (number_word 6 w) ∷ l) (word_first line (codes ",") (92 ∷ 32 ∷ remark) (plain_word (codes ",") refl refl refl refl refl)
     ∙ ap (λ (l : List TokenContent). word_token line (codes ",") ∷ l) (remark_last line remark))
 
 cell_line : (w : ℕ) (remark : Text) → list_all is_inner remark ≡ true → length remark ≤ 80 → Says ((number_word 6 w ++ 32 ∷ behind remark) ++ 10 ∷ []) (number_word 6 w ∷ codes "," ∷ [])
@@ -73,6 +73,7 @@ cell_line w remark inner short =
     (omega (arith, length-append (number_word 6 w) (32 ∷ behind remark)))
     (no_end (number_word 6 w) (behind remark))
     (λ none. cc)
+    refl
     (cell_says w remark)
 
 pub cell_added : (old with_number new : Text) (w : ℕ) (remark : Text) → with_number ≡ old ++ (number_word 6 w ++ codes " , \\ ") → new ≡ (with_number ++ remark) ++ 10 ∷ [] → list_all is_inner remark ≡ true → length remark ≤ 80 → Adds old new (number_word 6 w ∷ codes "," ∷ [])

@@ -8,7 +8,7 @@ use Rattle.std.proofs.lemmas.Slice.Eq.{bytes_eq-Decides}
 use Rattle.std.proofs.lemmas.Bool.{cases_Bool, and_parts, and_from, cond-false, ltb-true, lt-ltb, ne_eqb, false≢true}
 use Rattle.ga_text.specs.Lines.{Text, Bytes, Line, HasNoLineFeed, ended, text_of, ends_line, with_byte}
 use Rattle.ga_text.specs.Digits.{decimal3_of}
-use Rattle.ga_parser.specs.Saying.{parts_ended_by, is_line_feed, is_blank, source_lines, has_bytes, source_words, byte_order_mark, without_carriage_return, stripped_source_line, TokenContent, word_token, is_word, tokens_of_words, tokens_of_line, next_line_number, tokens_of_lines, tokens_until_fault, PlacedToken, with_columns, columns_of_line, columns_of_lines, scanned_tokens}
+use Rattle.ga_parser.specs.Saying.{parts_ended_by, is_line_feed, is_blank, source_lines, has_bytes, source_words, byte_order_mark, without_carriage_return, stripped_source_line, TokenContent, word_token, is_word, tokens_of_words, all_tokens_of_line, begins_expectation, expectation_tokens, tokens_of_line, next_line_number, tokens_of_lines, tokens_until_fault, PlacedToken, with_columns, columns_of_line, columns_of_lines, scanned_tokens}
 use Rattle.ga_parser.specs.Words.{source_tokens_until_fault, placed_source_tokens}
 use Rattle.ga_parser.specs.Constants.{without_definitions}
 use Rattle.ga_parser.specs.Groups.{expand_node_groups}
@@ -184,13 +184,23 @@ all_words : (line : ℕ) (words : List Word) → (map (λ (said : TokenContent).
 all_words line [] = (refl, refl)
 all_words line (word ∷ words) = let more = all_words line words in (ap (λ (l : List Word). word ∷ l) more.0, more.1)
 
+-- words of which the first isn't `expect` are the tokens of their line
+same_first : (line : ℕ) (words : List Word) → begins_expectation (map (word_token line) words) ≡ begins_expectation (map (word_token 0) words)
+same_first line [] = refl
+same_first line (word ∷ words) = refl
+
+no_expectation : (line : ℕ) (text : Text) (words : List Word) → all_tokens_of_line line text ≡ map (word_token line) words → begins_expectation (map (word_token 0) words) ≡ false → tokens_of_line line text ≡ map (word_token line) words
+no_expectation line text words says plain =
+    cond-false (begins_expectation (all_tokens_of_line line text)) (expectation_tokens line (all_tokens_of_line line text)) (all_tokens_of_line line text) (ap begins_expectation says ∙ (same_first line words ∙ plain))
+    ∙ says
+
 -- one line
-pub says_line : (text : Text) (words : List Word) → IsUnmarked text → list_all is_inner text ≡ true → length text ≤ 200 → bytes_eq text (codes "end") ≡ false → (words ≡ [] → ⊥) → ((line : ℕ) → tokens_of_words line false (source_words text) ≡ map (word_token line) words) → Says (text ++ 10 ∷ []) words
-says_line text words start inner short other some says = record {
+pub says_line : (text : Text) (words : List Word) → IsUnmarked text → list_all is_inner text ≡ true → length text ≤ 200 → bytes_eq text (codes "end") ≡ false → (words ≡ [] → ⊥) → begins_expectation (map (word_token 0) words) ≡ false → ((line : ℕ) → tokens_of_words line false (source_words text) ≡ map (word_token line) words) → Says (text ++ 10 ∷ []) words
+says_line text words start inner short other some plain says = record {
   says = λ line rest. (
     map (word_token line) words,
     next_line_number line,
-    line_first line text rest start inner other ∙ ap (λ (l : List TokenContent). l ++ tokens_of_lines (next_line_number line) (source_lines rest)) (short_line line text short ∙ says line),
+    line_first line text rest start inner other ∙ ap (λ (l : List TokenContent). l ++ tokens_of_lines (next_line_number line) (source_lines rest)) (no_expectation line text words (short_line line text short ∙ says line) plain),
     (all_words line words).0,
     (all_words line words).1,
   );
@@ -220,6 +230,7 @@ says_two first second start one two short =
     (omega (arith, length-append first (32 ∷ second)))
     (no_end first second)
     (λ none. cc)
+    one.no_expect
     (λ line. word_first line first second one ∙ ap (λ (l : List TokenContent). word_token line first ∷ l) (word_last line second two))
 
 -- ---- the name of a node
@@ -230,20 +241,24 @@ digit_shown n = lt-ltb 32 (48 + n) (omega arith)
 three_long : (a b c d : ℕ) → bytes_eq (a ∷ b ∷ c ∷ []) (d ∷ []) ≡ false
 three_long a b c d = and_false (a == d)
 
+three_no_expect : (a b c : ℕ) → bytes_eq (a ∷ b ∷ c ∷ []) (codes "expect") ≡ false
+three_no_expect a b c = and_none (a == 101) _ (and_none (b == 120) _ (and_false (c == 112)))
+
 pub name_ordinary : (n : ℕ) → IsOrdinary (decimal3_of n)
 name_ordinary n = record {
   bytes = refl;
   shown = and_from (is_shown (48 + n / 100)) _ (digit_shown (n / 100)) (and_from (is_shown (48 + n / 10 % 10)) _ (digit_shown (n / 10 % 10)) (and_from (is_shown (48 + n % 10)) true (digit_shown (n % 10)) refl));
   no_remark = three_long (48 + n / 100) (48 + n / 10 % 10) (48 + n % 10) 92;
   no_opening = three_long (48 + n / 100) (48 + n / 10 % 10) (48 + n % 10) 40;
+  no_expect = three_no_expect (48 + n / 100) (48 + n / 10 % 10) (48 + n % 10);
 }
 
-pub plain_word : (word : Word) → has_bytes word ≡ true → list_all is_shown word ≡ true → bytes_eq word (codes "\\") ≡ false → bytes_eq word (codes "(") ≡ false → IsOrdinary word
-plain_word word bytes shown no_remark no_opening = record { bytes = bytes; shown = shown; no_remark = no_remark; no_opening = no_opening }
+pub plain_word : (word : Word) → has_bytes word ≡ true → list_all is_shown word ≡ true → bytes_eq word (codes "\\") ≡ false → bytes_eq word (codes "(") ≡ false → bytes_eq word (codes "expect") ≡ false → IsOrdinary word
+plain_word word bytes shown no_remark no_opening no_expect = record { bytes = bytes; shown = shown; no_remark = no_remark; no_opening = no_opening; no_expect = no_expect }
 
 -- the line of a node
 pub says_node : (n : ℕ) → Says (codes "node " ++ decimal3_of n ++ 10 ∷ []) (codes "node" ∷ decimal3_of n ∷ [])
-says_node n = says_two (codes "node") (decimal3_of n) refl (plain_word (codes "node") refl refl refl refl) (name_ordinary n) (omega arith)
+says_node n = says_two (codes "node") (decimal3_of n) refl (plain_word (codes "node") refl refl refl refl refl) (name_ordinary n) (omega arith)
 
 -- pieces that were added
 pub grown : (old first second a b : Text) → first ≡ old ++ a → second ≡ first ++ b → second ≡ old ++ (a ++ b)
@@ -293,9 +308,9 @@ end_last_column : (line : ℕ) (rest : Bytes) → columns_of_lines line (source_
 unfolding columns_of_lines
 end_last_column line rest =
     ap (columns_of_lines line) (part_behind is_line_feed end_line 10 rest refl refl)
-    ∙ ap (λ (own : List ℕ). if bytes_eq own (codes "end") then [] else columns_of_line own ++ columns_of_lines (next_line_number line) (source_lines rest)) (own_line line end_line refl refl)
+    ∙ ap (λ (own : List ℕ). if bytes_eq own (codes "end") then [] else columns_of_line line own ++ columns_of_lines (next_line_number line) (source_lines rest)) (own_line line end_line refl refl)
 
-column_then : (line : ℕ) (first rest : Text) → HasNoLineFeed first → columns_of_lines line (source_lines (ended first ++ rest)) ≡ (if bytes_eq (stripped_source_line line first) (codes "end") then [] else columns_of_line (stripped_source_line line first) ++ columns_of_lines (next_line_number line) (source_lines rest))
+column_then : (line : ℕ) (first rest : Text) → HasNoLineFeed first → columns_of_lines line (source_lines (ended first ++ rest)) ≡ (if bytes_eq (stripped_source_line line first) (codes "end") then [] else columns_of_line line (stripped_source_line line first) ++ columns_of_lines (next_line_number line) (source_lines rest))
 unfolding columns_of_lines
 column_then line first rest none =
     ap (λ (t : Text). columns_of_lines line (source_lines t)) (append_assoc first (10 ∷ []) rest)
@@ -309,7 +324,7 @@ columns_to_end (first ∷ lines) body line rest =
     ap (λ (t : Text). t ++ rest) (append_assoc (ended first) (text_of lines) (ended end_line)) ∙ append_assoc (ended first) behind rest in
     ap (λ (t : Text). columns_of_lines line (source_lines t)) whole
     ∙ (column_then line first (behind ++ rest) body.0.no_feed
-    ∙ (ap (λ (l : List ℕ). if bytes_eq (stripped_source_line line first) (codes "end") then [] else columns_of_line (stripped_source_line line first) ++ l) (columns_to_end lines body.1 (next_line_number line) rest)
+    ∙ (ap (λ (l : List ℕ). if bytes_eq (stripped_source_line line first) (codes "end") then [] else columns_of_line line (stripped_source_line line first) ++ l) (columns_to_end lines body.1 (next_line_number line) rest)
     ∙ (sym (column_then line first behind body.0.no_feed)
     ∙ ap (λ (t : Text). columns_of_lines line (source_lines t)) (sym (append_assoc (ended first) (text_of lines) (ended end_line))))))
 

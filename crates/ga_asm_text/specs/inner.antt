@@ -40,12 +40,13 @@ pub record Says (text : Text) (words : List Word) : Type 0 where
 abbrev pub is_shown : ℕ → Bool
 is_shown byte = nat_lt 32 byte
 
--- a word that begins no comment
+-- a word that begins no comment and no expectation
 pub record IsOrdinary (word : Word) : Type 0 where
   pub bytes : has_bytes word ≡ true
   pub shown : list_all is_shown word ≡ true
   pub no_remark : bytes_eq word (codes "\\") ≡ false
   pub no_opening : bytes_eq word (codes "(") ≡ false
+  pub no_expect : bytes_eq word (codes "expect") ≡ false
 
 -- a text grew by lines that say these words
 abbrev pub Adds : Text → Text → List Word → Type 0

@@ -10,6 +10,7 @@ use ga_console::Status;
 use ga_debug_info::{report_code_stores, report_faults, report_out_of_memory};
 use ga_image::print;
 use ga_source::assemble;
+use ga_state_expectations::{check_source_expectations, report_expectations_error};
 use ga_text::{WriteError, write_all};
 use std::alloc::Global;
 use std::io::{Read, Write};
@@ -51,6 +52,10 @@ pub fn write_text<W: Write>(writer: &mut W, text: Vec<u8>) -> Status
 fn image_of<E: Write>(alloc: Global, errors: &mut E, source: Vec<u8>) -> Option<Vec<u8>>
     ensures { IfSome result (λ image. IsAssembledImage source.items image.items) }
 {
+    if let Err(why) = check_source_expectations(alloc, source.as_slice()) {
+        let _written = report_expectations_error(alloc, errors, &why);
+        return None;
+    }
     match assemble(alloc, source.as_slice()) {
         Ok(assembled) => {
             if let Ok(image) = print(alloc, &assembled.chip) {

@@ -1,6 +1,6 @@
 //! Source in, a listing of its cells out.
 ghost use Rattle.ga_text.specs.Output.{ReadsAndWrites};
-ghost use Rattle.std.specs.Prelude.{◌≡◌, ◌≤◌, ◌<◌, ◌++◌, [], ◌∷◌, codes, Some, IfOk, OnOk, slice_index};
+ghost use Rattle.std.specs.Prelude.{◌≡◌, ◌≤◌, ◌<◌, ◌++◌, [], ◌∷◌, codes, Some, IfOk, IfSome, OnOk, slice_index};
 ghost use Rattle.ga_text.specs.Lines.{Bytes};
 ghost use Rattle.hex.specs.Hex.{lower_digits};
 ghost use Rattle.ga_grid.specs.Grid.{yxx_of};
@@ -26,6 +26,7 @@ use ga_source::{
     SourceCause, SourceFault, Token, assemble_by_word_number, faults_on_lines, faults_or_first,
     recover_words, source_words, source_words_without_copies,
 };
+use ga_state_expectations::{check_source_expectations, report_expectations_error};
 use ga_text::write_all;
 use std::alloc::{AllocError, Global};
 use std::io::{Read, Write};
@@ -44,14 +45,28 @@ pub fn list_source<R: Read, W: Write, E: Write>(
         (R.remaining reader.old) (R.remaining reader.new) (W.contents writer.old) (W.contents writer.new) }
 {
     match read_source(alloc, reader, errors) {
-        Ok(source) => match listing_of(alloc, source.as_slice()) {
-            Ok(listed) => write_listed(writer, errors, listed),
-            Err(_) => {
-                let _written = report_out_of_memory(errors);
-                Status::ImageRefused
-            }
+        Ok(source) => match accepted_listing(alloc, errors, source.as_slice()) {
+            Some(listed) => write_listed(writer, errors, listed),
+            None => Status::ImageRefused,
         },
         Err(status) => status,
+    }
+}
+
+/// The listing of a source; or none, and what is wrong with what it expects of its programs is written to `errors`, or that memory ran out.
+fn accepted_listing<E: Write>(alloc: Global, errors: &mut E, source: &[u8]) -> Option<Listed>
+    ensures { IfSome result (λ listed. IsListed source.now listed.is_faulty listed.text.items) }
+{
+    if let Err(why) = check_source_expectations(alloc, source) {
+        let _written = report_expectations_error(alloc, errors, &why);
+        return None;
+    }
+    match listing_of(alloc, source) {
+        Ok(listed) => Some(listed),
+        Err(_) => {
+            let _written = report_out_of_memory(errors);
+            None
+        }
     }
 }
 

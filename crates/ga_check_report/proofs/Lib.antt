@@ -3,3 +3,7 @@ pub mod EndsOut
 pub mod Leading
 pub mod Resting
 pub mod Telling
+pub mod ExpectationsOut
+pub mod JudgingLemmas
+pub mod ExpectationTelling
+pub mod BreachSessions

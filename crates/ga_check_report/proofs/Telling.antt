@@ -27,7 +27,7 @@ saved_by true whole is = cc
 saved_by false true is = cc
 saved_by false false is = cc
 
-whole_is : (fault : Option SearchFault) → is_fully_explored fault ≡ true → fault ≡ None
+pub whole_is : (fault : Option SearchFault) → is_fully_explored fault ≡ true → fault ≡ None
 whole_is None h = refl
 whole_is (Some fault) h = absurd (cc)
 

@@ -4,3 +4,8 @@ pub mod Settled
 pub mod Checking
 pub mod NeverTexts
 pub mod Never
+pub mod Observations
+pub mod Outcomes
+pub mod ExpectationTexts
+pub mod Expected
+pub mod inner

@@ -21,7 +21,7 @@ use ga_word::Word18;
 const KIND_ROOM: usize = b" stop ".len() + MAX_NUMBER_DIGITS;
 
 /// The maximum number of bytes of an event.
-const MADE_ROOM: usize = b"pass ".len()
+pub(crate) const MADE_ROOM: usize = b"pass ".len()
     + MAX_STEP_BYTES
     + b" ".len()
     + MAX_STEP_BYTES
@@ -43,7 +43,7 @@ pub(crate) fn decision_line(decision: Option<EndDecision>) -> TextBuffer
 }
 
 /// Adds an event.
-fn push_made(out: &mut TextBuffer, made: Made)
+pub(crate) fn push_made(out: &mut TextBuffer, made: Made)
     requires { array_vec_len out.old + MADE_ROOM ≤ 256 }
     ensures text { out.new.items ≡ out.old.items ++ made_text made }
     ensures len { array_vec_len out.new ≤ array_vec_len out.old + MADE_ROOM }

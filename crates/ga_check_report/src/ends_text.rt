@@ -138,7 +138,7 @@ fn head_line(whole: bool, states: usize, kinds: usize) -> TextBuffer
 }
 
 /// Whether there may be more.
-fn at_least_text(whole: bool) -> &'static [u8]
+pub(crate) fn at_least_text(whole: bool) -> &'static [u8]
     ensures text { result.now ≡ at_least_text whole }
     ensures len { length result.now ≤ 9 }
 {
@@ -148,9 +148,9 @@ fn at_least_text(whole: bool) -> &'static [u8]
 /// Adds how many there are of a thing.
 pub(crate) fn push_counted(out: &mut TextBuffer, number: u64, thing: &[u8])
     requires room { array_vec_len out.old ≤ 100 }
-    requires short { length thing.now ≤ 6 }
+    requires short { length thing.now ≤ 12 }
     ensures text { out.new.items ≡ out.old.items ++ counted_noun_text number thing.now }
-    ensures len { array_vec_len out.new ≤ array_vec_len out.old + 27 }
+    ensures len { array_vec_len out.new ≤ array_vec_len out.old + 33 }
 {
     push_number(out, number);
     push_text(out, thing);

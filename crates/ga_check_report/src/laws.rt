@@ -1,6 +1,6 @@
 //! What a reader of the answer of `ga144 check` may rely on, as laws: each is the contract of a function that does nothing.
 
-ghost use Rattle.std.specs.Prelude.{◌≡◌, ◌++◌, ℕ, Bool, List, None, Some, true, false, length, slice_get};
+ghost use Rattle.std.specs.Prelude.{◌≡◌, ◌-◌, ◌++◌, ℕ, Bool, List, None, Some, true, false, length, slice_get};
 ghost use Rattle.std.specs.List.{list_any};
 ghost use Rattle.ga_text.specs.Lines.{Text};
 ghost use Rattle.ga_event.specs.declared.event.Event.{Event};
@@ -16,6 +16,12 @@ ghost use Rattle.ga_state_conditions.specs.Reached.{IsConditionMet};
 ghost use Rattle.ga_check_report.specs.NeverTexts.{reached_text};
 ghost use Rattle.ga_check_report.specs.Never.{HasReachedEvent, WritesNeverReport};
 ghost use Rattle.ga_check_report.specs.Settled.{settled};
+ghost use Rattle.ga_state_expectations.specs.declared.source.Expectation.{Expectation as AnExpectation};
+ghost use Rattle.ga_state_expectations.specs.declared.source.LineExpectation.{LineExpectation};
+ghost use Rattle.ga_check_report.specs.declared.outcome.Breach.{Breach as ABreach};
+ghost use Rattle.ga_check_report.specs.declared.outcome.ExpectationOutcome.TheVariants.{Holds, Broken};
+ghost use Rattle.ga_check_report.specs.Outcomes.{IsOutcome, HoldsInEveryOrder, IsBrokenInSomeOrder};
+ghost use Rattle.ga_check_report.specs.Expected.{LeadsToBreach, WritesExpectationsReport};
 ghost use Rattle.ga_check_report.specs.EndTexts.{ends_text};
 ghost use Rattle.ga_check_report.specs.Checking.{WritesEndsReport, HasAppendedEvents, HasReachedEndKind};
 ghost use Rattle.ga_check_report.specs.declared.ends_text.CheckBounds.{CheckBounds};
@@ -57,4 +63,30 @@ pub fn reached_verdict_sound()
 pub fn settling_appends_events()
     ensures { (s : State) → replay s.load s.kept ≡ Some (chip_of s) → (waits : List Event) × HasAppendedEvents s waits (settled s)
         × ((events : List Event) → replay (chip_of (settled s)) events ≡ replay (chip_of s) (waits ++ events)) }
+{}
+
+/// An expectation that a search shows to hold does so in every order, and one that it shows to be broken doesn't in some order.
+pub fn expectation_outcomes_sound()
+    ensures holds { (s : State) (found : EndSearchResult) (expectation : AnExpectation) → AreEndsOfChip (chip_of s) found →
+        IsOutcome s found expectation Holds → HoldsInEveryOrder (chip_of s) expectation }
+    ensures broken { (s : State) (found : EndSearchResult) (expectation : AnExpectation) (breach : ABreach) → AreEndsOfChip (chip_of s) found →
+        IsOutcome s found expectation (Broken breach) → IsBrokenInSomeOrder s found expectation }
+{}
+
+/// Where the verdict about expectations is `Clean`, each holds in every order, and its line says so. Where it is `Unclean`, one is broken.
+pub fn expectations_verdict_sound()
+    ensures clean { (bounds : CheckBounds) (expectations : List LineExpectation) (asked : ℕ) (s : State) (text : Text) →
+        WritesExpectationsReport bounds expectations asked s text Clean → (place : ℕ) (one : LineExpectation) → slice_get expectations place ≡ Some one →
+        HoldsInEveryOrder (chip_of s) one.expectation }
+    ensures unclean { (bounds : CheckBounds) (expectations : List LineExpectation) (asked : ℕ) (s : State) (text : Text) →
+        WritesExpectationsReport bounds expectations asked s text Unclean →
+        (found : EndSearchResult) × (place : ℕ) × (one : LineExpectation) × AreEndsOfChip (chip_of s) found × (slice_get expectations place ≡ Some one)
+        × IsBrokenInSomeOrder s found one.expectation }
+{}
+
+/// Where the verdict about an expectation is `Saved`, the session that is written leads to what breaks it.
+pub fn breach_session_sound()
+    ensures { (bounds : CheckBounds) (expectations : List LineExpectation) (asked : ℕ) (s : State) (text : Text) →
+        WritesExpectationsReport bounds expectations asked s text Saved →
+        (one : LineExpectation) × (last : State) × (slice_get expectations (asked - 1) ≡ Some one) × LeadsToBreach s one.expectation last × (text ≡ saved_text last) }
 {}

@@ -203,7 +203,7 @@ fn tell_event<W: Write>(
 ///
 /// # Errors
 /// [`LabFault::Full`] or [`LabFault::Memory`]; some of the events may be kept then.
-fn make_reached(
+pub(crate) fn make_reached(
     alloc: Global,
     lab: &mut Lab,
     found: &mut FoundEnds,
@@ -215,6 +215,7 @@ fn make_reached(
     requires reached { IsReachedEvent found.old conditions.now reached }
     ensures made { IfOk result (λ made. HasReachedEvent conditions.now reached.which lab.old lab.new made) }
     ensures faults { IfErr result (λ why. (why ≡ Full) ⊎ (why ≡ Memory)) }
+    ensures same { found.new ≡ found.old }
 {
     match find_session(alloc, found, conditions, reached) {
         Ok(events) => {

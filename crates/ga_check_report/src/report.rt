@@ -33,15 +33,16 @@ use std::io::{Read, Write};
 /// What came of the search for the ends of a program.
 #[derive(Clone, Copy, PartialEq, Eq, Debug)]
 pub enum Verdict {
-    /// At each end each node goes on or rests cleanly; or no event comes after which a condition holds.
+    /// At each end each node goes on or rests cleanly; or no event comes after which a condition holds; or each expectation holds.
     Clean,
-    /// At some end a node makes no further step and doesn't rest cleanly; or there is an event after which a condition holds.
+    /// At some end a node makes no further step and doesn't rest cleanly; or there is an event after which a condition holds; or an expectation is
+    /// broken.
     Unclean,
-    /// A bound was met, and each end that was found is clean, or what was asked for wasn't found.
+    /// A bound was met, and each end that was found is clean, or what was asked for wasn't found, or no expectation is broken.
     Unknown,
-    /// The session of a kind of end was written.
+    /// The session of a kind of end or of an expectation was written.
     Saved,
-    /// No ends were written, or a write failed.
+    /// Nothing was found out, or a write failed.
     Ended(Status),
 }
 
@@ -100,7 +101,7 @@ fn tell_settled<W: Write>(
 }
 
 /// Tells the ends of a lab's chip, or the session of one.
-fn tell_ends<W: Write>(
+pub(crate) fn tell_ends<W: Write>(
     alloc: Global,
     lab: &mut Lab,
     bounds: CheckBounds,

@@ -10,5 +10,5 @@ pub use alternatives::{
     Conditions, no_conditions, parse_conditions, parse_until, split_first_condition,
 };
 pub use condition::parse_run_condition;
-pub use numbers::parse_hex_word;
-pub use tests_of_values::{parse_test, parse_value};
+pub use numbers::{parse_hex_word, parse_operand};
+pub use tests_of_values::{parse_comparison, parse_test, parse_value};

@@ -104,7 +104,7 @@ fn plain_operand(text: &[u8]) -> Option<u32>
 }
 
 /// A number, a word as answers have it, the address of a port, or else that of a label of the node.
-pub(crate) fn parse_operand(names: &[LabelAddress], node: NodeId, text: &[u8]) -> Option<u32>
+pub fn parse_operand(names: &[LabelAddress], node: NodeId, text: &[u8]) -> Option<u32>
     ensures { result ≡ operand_in names.now node text.now }
 {
     match plain_operand(text) {

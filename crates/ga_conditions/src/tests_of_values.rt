@@ -80,7 +80,7 @@ pub fn parse_value(text: &[u8]) -> Option<NodeValue>
 }
 
 /// The comparison with this sign: `=` or `==`, `!=`, `<`, `<=`, `>` or `>=`.
-pub(crate) fn parse_comparison(text: &[u8]) -> Option<Comparison>
+pub fn parse_comparison(text: &[u8]) -> Option<Comparison>
     ensures { result ≡ comparison_in text.now }
 {
     if text == b"=".as_slice() || text == b"==".as_slice() {

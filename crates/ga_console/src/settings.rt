@@ -46,17 +46,19 @@ pub enum Settings {
         limit: u32,
     },
     /// Find the ends of a program in every order of its nodes, with at most `most` states, 1 to 4294967295, in at most `seconds`, 1 to
-    /// 4294967295, if given, and write their kinds; or write the session of one kind, whose number counts from 1. With `never` find an event
-    /// after which one of the conditions of this text holds, or write its session. With `settled` each node whose first event is to wait for
-    /// code makes it first, and with `progress` the progress is written.
+    /// 4294967295, if given, and write their kinds; or write the session of one kind, whose number counts from 1. Of source with expectations
+    /// write whether each holds, or the session of one, unless `ends` is set. With `never` find an event after which one of the conditions of
+    /// this text holds, or write its session. With `settled` each node whose first event is to wait for code makes it first, and with
+    /// `progress` the progress is written. The `files` are checked one after another; `-` is standard input, and so is no file.
     Check {
         most: u32,
         seconds: Option<u32>,
         settled: bool,
         session: Option<u32>,
         never: Option<String>,
+        ends: bool,
         progress: bool,
-        file: Option<String>,
+        files: Vec<String>,
     },
     /// Serve an editor, by the Debug Adapter Protocol.
     Dap,
@@ -181,15 +183,43 @@ fn checked(alloc: Global, check: &ArgMatches<'_>) -> Result<Settings, CommandLin
     if never.is_some() && is_later_kind(session) {
         return Err(no_later_session(alloc));
     }
+    let files = files(alloc, check)?;
+    if files.len() > 1 && (never.is_some() || session.is_some()) {
+        return Err(no_further_file(alloc));
+    }
     Ok(Settings::Check {
         most,
         seconds: seconds(check.get_str("seconds"))?,
         settled: check.get_flag("settled"),
         session,
         never,
+        ends: check.get_flag("ends"),
         progress: check.get_flag("progress"),
-        file: file(alloc, check)?,
+        files,
     })
+}
+
+/// The names of the files.
+fn files(alloc: Global, matches: &ArgMatches<'_>) -> Result<Vec<String>, CommandLineFault> {
+    let mut files = Vec::new(alloc);
+    let Some(names) = matches.get_strs("FILE") else {
+        return Ok(files);
+    };
+    for name in names {
+        push_name(alloc, &mut files, name)?;
+    }
+    Ok(files)
+}
+
+/// Adds the name of a file.
+fn push_name(alloc: Global, files: &mut Vec<String>, name: &str) -> Result<(), CommandLineFault> {
+    let Ok(name) = String::from_str(alloc, name) else {
+        return Err(CommandLineFault::Memory);
+    };
+    match files.push(name) {
+        Ok(()) => Ok(()),
+        Err(_) => Err(CommandLineFault::Memory),
+    }
 }
 
 /// The maximum number of seconds, if one is given.
@@ -228,6 +258,18 @@ fn no_later_session(alloc: Global) -> CommandLineFault {
     match String::from_str(
         alloc,
         "error: invalid value for '--session <K>': with '--never <COND>' K is 1\n\n\
+        For more information, try '--help'.\n",
+    ) {
+        Ok(text) => CommandLineFault::Refused(text),
+        Err(_) => CommandLineFault::Memory,
+    }
+}
+
+/// Reports that a session and conditions are asked of one file alone, in the form of clap's errors.
+fn no_further_file(alloc: Global) -> CommandLineFault {
+    match String::from_str(
+        alloc,
+        "error: invalid value for '[FILE]...': with '--session <K>' or '--never <COND>' there is one FILE\n\n\
         For more information, try '--help'.\n",
     ) {
         Ok(text) => CommandLineFault::Refused(text),

@@ -9,6 +9,8 @@ use Rattle.ga_debug_info.specs.declared.notes.DebugInfo.{DebugInfo}
 use Rattle.ga_source.specs.Programs.{AreProgramsOfSource}
 use Rattle.ga_source.specs.declared.program.Program.{Program}
 use Rattle.ga_source.specs.Made.{IsSoundSource}
+use Rattle.ga_state_expectations.specs.declared.cause.ExpectationFault.{ExpectationFault}
+use Rattle.ga_state_expectations.specs.Sources.{HasFaultyExpectations}
 use Rattle.ga_text.specs.Lines.{Bytes, lines_of}
 use Rattle.ga_explorer.specs.Opening.{ExplorerState, begins_as_image, OpensSource}
 use Rattle.ga_dap_queries.specs.declared.debuggee.Debuggee.{Debuggee}
@@ -26,10 +28,14 @@ OpensText text limit lab source = ((begins_as_image text ≡ true) × OpensImage
 abbrev pub OpensProgram : Bytes → ℕ → Debuggee → Type 0
 OpensProgram text limit p = OpensText text limit p.lab p.source
 
--- a text is no program: an image with a fault, or source that isn't plain words which give each cell once
+-- a source isn't plain words which give each cell once, or what it expects of its programs has a fault
+abbrev pub IsRefusedSource : Bytes → Type 0
+IsRefusedSource source = (IsSoundSource source → ⊥) ⊎ ((faults : List ExpectationFault) × HasFaultyExpectations source faults)
+
+-- a text is no program: an image with a fault, or source that is refused
 abbrev pub IsNoProgram : Bytes → Type 0
 IsNoProgram text = ((begins_as_image text ≡ true) × (fault : ImageFault) × IsFirstFault (lines_of text) fault)
-    ⊎ ((begins_as_image text ≡ false) × (IsSoundSource text → ⊥))
+    ⊎ ((begins_as_image text ≡ false) × IsRefusedSource text)
 
 -- the nodes that have a program in the source; of an image none
 abbrev pub AreNodesOfSource : Bytes → List NodeId → Type 0

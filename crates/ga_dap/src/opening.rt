@@ -11,7 +11,7 @@ ghost use Rattle.ga_text.specs.Lines.{lines_of};
 ghost use Rattle.ga_lab.specs.Machine.{initial_state};
 ghost use Rattle.ga_console.specs.Run.{IsOpenedOnImage as OpensImage};
 ghost use Rattle.ga_explorer.specs.Opening.{begins_as_image, OpensSource};
-ghost use Rattle.ga_dap.specs.Opening.{OpensProgram, OpensText, IsNoProgram, AreProgramNodes, AreNodesOfSource, program_explorer_state};
+ghost use Rattle.ga_dap.specs.Opening.{OpensProgram, OpensText, IsNoProgram, IsRefusedSource, AreProgramNodes, AreNodesOfSource, program_explorer_state};
 ghost use Rattle.ga_dap.specs.inner.Unopened.{IfFault};
 
 use ga_console::{open_image, refuse};
@@ -22,6 +22,9 @@ use ga_image::{ImageCause, ImageFault};
 use ga_lab::{Lab, LabFault};
 use ga_source::{
     Program as NodeProgram, SourceCause, SourceFault, Store, assemble, stores_over_code,
+};
+use ga_state_expectations::{
+    ExpectationFault, ExpectationsError, check_source_expectations, format_expectation_faults,
 };
 use std::alloc::{AllocError, Global};
 use thiserror::Error;
@@ -136,7 +139,7 @@ fn contents_of(alloc: Global, text: Vec<u8>, limit: u32) -> Result<Contents, Lau
     if is_image(text.as_slice()) {
         return image_contents(alloc, text, limit);
     }
-    source_contents(alloc, text.as_slice(), limit)
+    accepted_contents(alloc, text.as_slice(), limit)
 }
 
 fn image_contents(alloc: Global, text: Vec<u8>, limit: u32) -> Result<Contents, LaunchError>
@@ -172,6 +175,27 @@ fn image_refused(alloc: Global, fault: ImageFault) -> LaunchError
 fn told(alloc: Global, text: &[u8]) -> LaunchError {
     match String::from_utf8_lossy(alloc, text.trim_ascii_end()) {
         Ok(text) => LaunchError::SourceFault(text),
+        Err(_) => LaunchError::Memory,
+    }
+}
+
+/// What a source is opened as, unless what it expects of its programs has a fault.
+fn accepted_contents(alloc: Global, source: &[u8], limit: u32) -> Result<Contents, LaunchError>
+    ensures ok { IfOk result (λ c. OpensSource source.now limit (program_explorer_state c.lab c.source)) }
+    ensures nodes { IfOk result (λ c. AreNodesOfSource source.now c.nodes.items) }
+    ensures err { IfErr result (λ why. IfFault why (IsRefusedSource source.now)) }
+{
+    match check_source_expectations(alloc, source) {
+        Ok(()) => source_contents(alloc, source, limit),
+        Err(ExpectationsError::Memory) => Err(LaunchError::Memory),
+        Err(ExpectationsError::Faulty(faults)) => Err(faults_told(alloc, faults.as_slice())),
+    }
+}
+
+/// The text of faults in what a source expects.
+fn faults_told(alloc: Global, faults: &[ExpectationFault]) -> LaunchError {
+    match format_expectation_faults(alloc, b"", faults) {
+        Ok(text) => told(alloc, text.as_slice()),
         Err(_) => LaunchError::Memory,
     }
 }

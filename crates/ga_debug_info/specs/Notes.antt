@@ -12,6 +12,7 @@ use Rattle.ga_source.specs.declared.program.AssembledChip.{AssembledChip}
 use Rattle.ga_parser.specs.declared.scan.Token.{Token}
 use Rattle.ga_parser.specs.Saying.{token_contents, token_columns}
 use Rattle.ga_parser.specs.Words.{source_tokens, source_columns}
+use Rattle.ga_parser.specs.Expectations.{expectation_content, expectation_lines}
 use Rattle.ga_source.specs.Recovery.{with_numbers, IsAssemblyOfWords}
 use Rattle.ga_debug_info.specs.declared.wording.SlotWord.{SlotWord}
 use Rattle.ga_debug_info.specs.declared.wording.DisplayedWord.{DisplayedWord}
@@ -213,9 +214,10 @@ label_address_of names node text = optional_label_address (option_and_then (slic
 
 -- ---- the notes of a source
 
--- The notes are those that the source and its programs give: the names of the labels, of each cell what the source says of it, and of
--- each slot its word.
+-- The notes are those that the source and its programs give: the names of the labels, of each cell what the source says of it, of
+-- each slot its word, and the expectations.
 pub record IsDebugInfoOfSource (source : List ℕ) (programs : List Program) (notes : DebugInfo) : Type 0 where
   pub labels : map label_address_content notes.names.items ≡ all_label_names programs
   pub cells : map cell_source_content notes.notes.items ≡ debug_info_of source programs
   pub slots : AreSlotWords source notes.words.items
+  pub expected : map expectation_content notes.expectations.items ≡ expectation_lines source

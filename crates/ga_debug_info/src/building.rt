@@ -15,7 +15,7 @@ use crate::wording::slot_words;
 use ga_grid::NodeId;
 use ga_image::GivenWords;
 use ga_ports::advance_p;
-use ga_source::{CellGroup, Item, Label, Program};
+use ga_source::{CellGroup, Item, Label, Program, expectation_lines};
 use ga_word::Word18;
 use std::alloc::{AllocError, Global};
 
@@ -27,7 +27,8 @@ struct CellAt {
     line: u32,
 }
 
-/// What a source says of each cell that it gives and of each slot, the names of its labels, and which words at load it gives.
+/// What a source says of each cell that it gives and of each slot, the names of its labels, which words at load it gives, and what it
+/// expects of its programs.
 ///
 /// # Errors
 /// Memory is wanting.
@@ -48,11 +49,13 @@ pub fn debug_info_of(
     }
     let words = slot_words(alloc, source)?;
     let given = GivenWords::Ranges(source_ranges(alloc, programs, notes.as_slice())?);
+    let expectations = expectation_lines(alloc, source)?;
     Ok(DebugInfo {
         notes,
         names,
         words,
         given,
+        expectations,
     })
 }
 

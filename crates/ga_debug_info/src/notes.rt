@@ -7,6 +7,7 @@ use crate::wording::{DisplayedWord, SlotWord};
 use ga_grid::NodeId;
 use ga_image::GivenWords;
 use ga_node::Place;
+use ga_source::ExpectationLine;
 use std::alloc::Global;
 
 /// What the source says of a cell that it gives.
@@ -36,7 +37,7 @@ pub struct LabelAddress {
     pub address: u32,
 }
 
-/// What the text of a chip gives, and what a source says of its cells. An image says nothing of them.
+/// What the text of a chip gives, and what a source says of its cells and expects of its programs. An image says nothing of these.
 #[derive(Drop)]
 pub struct DebugInfo {
     pub notes: Vec<CellSource>,
@@ -45,6 +46,8 @@ pub struct DebugInfo {
     pub words: Vec<DisplayedWord>,
     /// The words at load that the text gives.
     pub given: GivenWords,
+    /// The lines of the source that say what is expected of its programs; none of an image.
+    pub expectations: Vec<ExpectationLine>,
 }
 
 impl DebugInfo {
@@ -59,6 +62,7 @@ impl DebugInfo {
         ensures names { result.names.items ≡ [] }
         ensures words { result.words.items ≡ [] }
         ensures given { result.given ≡ All }
+        ensures expectations { result.expectations.items ≡ [] }
     {
         DebugInfo::of_image(alloc, GivenWords::All)
     }
@@ -69,12 +73,14 @@ impl DebugInfo {
         ensures names { result.names.items ≡ [] }
         ensures words { result.words.items ≡ [] }
         ensures given { result.given ≡ given }
+        ensures expectations { result.expectations.items ≡ [] }
     {
         DebugInfo {
             notes: Vec::new(alloc),
             names: Vec::new(alloc),
             words: Vec::new(alloc),
             given,
+            expectations: Vec::new(alloc),
         }
     }
 

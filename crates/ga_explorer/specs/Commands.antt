@@ -15,7 +15,8 @@ use Rattle.ga_scheduler.specs.declared.condition.Condition.{Condition}
 use Rattle.ga_scheduler.specs.declared.running.RunEnd.{RunEnd}
 use Rattle.ga_debug_info.specs.declared.notes.DebugInfo.{DebugInfo}
 use Rattle.ga_explorer_text.specs.Texts.{run_text, back_text, link_words_text, chip_text}
-use Rattle.ga_explorer_text.specs.Telling.{IsEffectsAnswer, IsWhoAnswer}
+use Rattle.ga_explorer_text.specs.Effects.{IsEffectsAnswer}
+use Rattle.ga_explorer_text.specs.Telling.{IsWhoAnswer}
 use Rattle.ga_explorer_text.specs.Saved.{saved_text}
 use Rattle.ga_explorer_text.specs.Writing.{writes_text}
 use Rattle.ga_explorer_text.specs.Around.{steps_around_text}
@@ -141,7 +142,7 @@ pub record IsRunResult (s : State) (schedule : Schedule) (most : ℕ) (until : L
 
 -- the text of a query's answer
 abbrev pub AnswersQuery : ExplorerState → Query → Text → Type 0
-AnswersQuery e (told.Effects node which) answer = IsEffectsAnswer e.lab node (selected_step e.lab node which) answer
+AnswersQuery e (told.Effects node which) answer = IsEffectsAnswer e.notes e.lab node (selected_step e.lab node which) answer
 AnswersQuery e (told.Words from to) answer = answer ≡ link_words_text e.lab from to
 AnswersQuery e (told.Writes node address) answer = answer ≡ writes_text e.lab node address
 AnswersQuery e (told.At node which around) answer = answer ≡ steps_around_text e.notes e.lab node (selected_step e.lab node which) around

@@ -53,7 +53,8 @@ pub record OpensSource (source : Text) (limit : ℕ) (begun : ExplorerState) : T
 abbrev pub HasImageWords : Text → DebugInfo → Type 0
 HasImageWords image notes = ranges_of notes.given ≡ image_ranges (lines_of image)
 
--- The machine has the chip of an image as its load. Known is which words the image gives, and nothing of its cells.
+-- The machine has the chip of an image as its load. Known is which words the image gives, and nothing of its cells; and nothing is
+-- expected of it.
 pub record ExploresImage (image : Text) (limit : ℕ) (begun : ExplorerState) : Type 0 where
   pub notes : DebugInfo
   pub opens : OpensImage image limit begun.lab
@@ -61,6 +62,7 @@ pub record ExploresImage (image : Text) (limit : ℕ) (begun : ExplorerState) : 
   pub labels : notes.names.items ≡ []
   pub cells : notes.notes.items ≡ []
   pub slots : notes.words.items ≡ []
+  pub expected : notes.expectations.items ≡ []
   pub gives : HasImageWords image notes
 
 -- the machine has the text's chip as its load

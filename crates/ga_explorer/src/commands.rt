@@ -212,7 +212,7 @@ pub(crate) fn answer_query<W: Write>(
     match asked {
         Query::Effects { node, which } => {
             let step = which.resolve(lab, node);
-            write_effects(alloc, lab, node, step, writer)
+            write_effects(alloc, lab, notes, node, step, writer)
         }
         Query::Words { from, to } => write_words(lab, from, to, writer),
         Query::Writes { node, address } => write_writes(lab, node, address, writer),

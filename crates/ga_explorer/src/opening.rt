@@ -15,6 +15,7 @@ use ga_debug_info::{
 use ga_image::{GivenWords, ImageCause, ImageFault, given_words};
 use ga_lab::Lab;
 use ga_source::assemble;
+use ga_state_expectations::{check_source_expectations, report_expectations_error};
 use ga_text::write_all;
 use std::alloc::Global;
 use std::io::Write;
@@ -111,12 +112,14 @@ fn with_words(notes: DebugInfo, given: GivenWords) -> DebugInfo
         names,
         words,
         given: _,
+        expectations,
     } = notes;
     DebugInfo {
         notes: cells,
         names,
         words,
         given,
+        expectations,
     }
 }
 
@@ -153,6 +156,10 @@ fn tell_chip<E: Write>(errors: &mut E) {
 fn note_source<E: Write>(alloc: Global, errors: &mut E, source: &[u8]) -> Option<DebugInfo>
     ensures { IfSome result (λ notes. IsDebugInfoOf source.now notes) }
 {
+    if let Err(why) = check_source_expectations(alloc, source) {
+        let _written = report_expectations_error(alloc, errors, &why);
+        return None;
+    }
     match assemble(alloc, source) {
         Ok(assembled) => {
             if report_code_stores(alloc, errors, &assembled).is_ok() {
@@ -210,6 +217,10 @@ fn open_source<E: Write>(
 ) -> Option<Explorer>
     ensures { IfSome result (λ begun. OpensSource source.now limit begun) }
 {
+    if let Err(why) = check_source_expectations(alloc, source) {
+        let _written = report_expectations_error(alloc, errors, &why);
+        return None;
+    }
     match assemble(alloc, source) {
         Ok(assembled) => {
             if report_code_stores(alloc, errors, &assembled).is_ok() {

@@ -40,8 +40,8 @@ use Rattle.ga_race_detector.specs.Races.{requested_races, has_looks, first_ready
 use Rattle.ga_race_detector.specs.declared.readings.LookRace.{LookRace}
 use Rattle.ga_race_detector.specs.Readings.{IsReportedLookRace, HasAllNearLookRaces}
 use Rattle.ga_explorer_text.specs.Races.{listed_races_text, IsRacesAnswer}
-use Rattle.ga_explorer_text.specs.Texts.{effects_text, effects_answer}
-use Rattle.ga_explorer_text.specs.Telling.{IsEffectsAnswer, IsWhoAnswer}
+use Rattle.ga_explorer_text.specs.Effects.{effects_text, effects_answer, IsEffectsAnswer}
+use Rattle.ga_explorer_text.specs.Telling.{IsWhoAnswer}
 
 -- ---- A text that was said, under another name
 
@@ -293,17 +293,17 @@ last_is m n capped last e f fits = lesser_is m n last (λ l. omega (arith, e, f,
 
 -- ---- what a call means for the answer to a command
 
-pub effects_found : (s : State) (node : NodeId) (step events : ℕ) (nodes : List RollbackEffect) (text : List ℕ) → rewind_answer s node.number step ≡ Ok events
-    → nodes ≡ rollback_effects s node.number step → text ≡ effects_text events nodes → IsEffectsAnswer s node step text
-effects_found s node step events nodes text answer is t =
-    inl (t ∙ ap (effects_text events) is ∙ ap (λ (r : Result ℕ LabFault). effects_answer (rollback_effects s node.number step) r) (sym answer))
+pub effects_found : (notes : Option DebugInfo) (s : State) (node : NodeId) (step events : ℕ) (nodes : List RollbackEffect) (text : List ℕ) → rewind_answer s node.number step ≡ Ok events
+    → nodes ≡ rollback_effects s node.number step → text ≡ effects_text notes s events nodes → IsEffectsAnswer notes s node step text
+effects_found notes s node step events nodes text answer is t =
+    inl (t ∙ ap (effects_text notes s events) is ∙ ap (λ (r : Result ℕ LabFault). effects_answer notes s (rollback_effects s node.number step) r) (sym answer))
 
-pub effects_refused : (s : State) (node : NodeId) (step : ℕ) (why : LabFault) (text : List ℕ)
+pub effects_refused : (notes : Option DebugInfo) (s : State) (node : NodeId) (step : ℕ) (why : LabFault) (text : List ℕ)
     → (rewind_answer s node.number step ≡ Err why) ⊎ ((why ≡ Memory) × IsOk (rewind_answer s node.number step))
-    → text ≡ advised_refusal_text why → IsEffectsAnswer s node step text
-effects_refused s node step why text (inl answer) t =
-    inl (t ∙ ap (λ (r : Result ℕ LabFault). effects_answer (rollback_effects s node.number step) r) (sym answer))
-effects_refused s node step why text (inr wanting) t = inr (wanting.1, t ∙ ap advised_refusal_text wanting.0)
+    → text ≡ advised_refusal_text why → IsEffectsAnswer notes s node step text
+effects_refused notes s node step why text (inl answer) t =
+    inl (t ∙ ap (λ (r : Result ℕ LabFault). effects_answer notes s (rollback_effects s node.number step) r) (sym answer))
+effects_refused notes s node step why text (inr wanting) t = inr (wanting.1, t ∙ ap advised_refusal_text wanting.0)
 
 pub who_told : (s : State) (chip : List NodeRecord) (marks ended over idle : ℕ → Bool) (first second third last : List ℕ) → chip ≡ chip_of s → AreDeadlocked chip marks
     → ((others : ℕ → Bool) → AreDeadlocked chip others → IsSubset others marks) → AreEnded chip ended → ((n : ℕ) → n < 144 → over n ≡ (marks n && ended n))

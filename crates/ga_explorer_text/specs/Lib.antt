@@ -2,6 +2,7 @@ pub mod Texts
 pub mod Deeds
 pub mod Writing
 pub mod SourceSuffix
+pub mod Effects
 pub mod Around
 pub mod Whence
 pub mod Because

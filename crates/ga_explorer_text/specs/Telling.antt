@@ -1,22 +1,11 @@
--- What `effects` and `who` tell (docs/REFERENCE.md, "Exploring"; this project's own).
-use Rattle.std.specs.Prelude.{◌≡◌, ℕ, ◌<◌, ◌⊎◌, Bool, ◌&&◌, IsOk}
+-- What `who` prints (docs/REFERENCE.md, "Exploring"; this project's own).
+use Rattle.std.specs.Prelude.{◌≡◌, ℕ, ◌<◌, Bool, ◌&&◌}
 use Rattle.ga_text.specs.Lines.{Text}
-use Rattle.ga_grid.specs.declared.node_id.NodeId.{NodeId}
-use Rattle.ga_lab.specs.Machine.{State, chip_of, rewind_answer}
-use Rattle.ga_lab.specs.declared.fault.LabFault.TheVariants.{Memory}
-use Rattle.ga_scheduler.specs.Effects.{rollback_effects}
+use Rattle.ga_lab.specs.Machine.{State, chip_of}
 use Rattle.ga_races.specs.Acts.{AreDeadlocked, IsSubset}
 use Rattle.ga_scheduler.specs.Idle.{AreIdleMarks}
-use Rattle.ga_display.specs.Texts.{advised_refusal_text}
-use Rattle.ga_explorer_text.specs.Texts.{effects_answer}
 use Rattle.ga_explorer_text.specs.Ended.{AreEnded}
 use Rattle.ga_explorer_text.specs.Waiting.{who_text}
-
--- The answer is what a rollback would remove, or out of memory if one is possible.
-abbrev pub IsEffectsAnswer : State → NodeId → ℕ → Text → Type 0
-IsEffectsAnswer s node step answer =
-    (answer ≡ effects_answer (rollback_effects s node.number step) (rewind_answer s node.number step))
-    ⊎ (IsOk (rewind_answer s node.number step) × (answer ≡ advised_refusal_text Memory))
 
 -- For each node that waits, unless it is idle, the answer has for whom it waits; which nodes are deadlocked: the greatest set of
 -- such nodes; and which of these have ended.

@@ -1,5 +1,5 @@
 -- The texts of exploring's answers, each line ended by a line feed (docs/REFERENCE.md, "Exploring"; this project's own).
-use Rattle.std.specs.Prelude.{ℕ, zero, suc, ◌+◌, ◌*◌, ◌==◌, nat_lt, if◌then◌else◌, List, [], ◌++◌, length, flat_map, codes, decimal, Option, Some, None, Result, Ok, Err}
+use Rattle.std.specs.Prelude.{ℕ, zero, suc, ◌+◌, ◌*◌, ◌==◌, nat_lt, if◌then◌else◌, List, [], ◌++◌, flat_map, codes, decimal, Option, Some, None}
 use Rattle.ga_text.specs.Lines.{Text}
 use Rattle.ga_word.specs.Word.{hex6_of}
 use Rattle.ga_ports.specs.Address.{only}
@@ -13,11 +13,10 @@ use Rattle.ga_lab.specs.declared.fault.LabFault.{LabFault}
 use Rattle.ga_lab.specs.declared.fault.LabFault.TheVariants.{Waiting, Stopped, Full, Memory, Empty, NoStep, Spent}
 use Rattle.ga_races.specs.HappensBefore.{are_neighbours}
 use Rattle.ga_scheduler.specs.Words.{words_of, link_transfer_count}
-use Rattle.ga_scheduler.specs.declared.effects.RollbackEffect.{RollbackEffect}
 use Rattle.ga_scheduler.specs.declared.words.Transfer.{Transfer}
 use Rattle.ga_scheduler.specs.declared.running.RunEnd.{RunEnd}
 use Rattle.ga_scheduler.specs.declared.running.RunEnd.TheVariants.{Reached, Made, Quiet, Refused}
-use Rattle.ga_display.specs.Texts.{event_text, removed_text, advice_text, advised_refusal_text}
+use Rattle.ga_display.specs.Texts.{event_text, removed_text, advice_text}
 use Rattle.ga_text.specs.Digits.{name_of_node, step_text}
 
 -- ---- `run`
@@ -83,24 +82,6 @@ rows_text s (suc row) = row_text s row ++ rows_text s row
 
 abbrev pub chip_text : State → Text
 chip_text s = rows_text s 8
-
--- ---- `effects`
-
--- what would go of a node: its first step that would, and how many would
-abbrev pub effect_text : RollbackEffect → Text
-effect_text effect = step_text effect.node effect.first ++ codes " " ++ decimal effect.steps ++ codes "\n"
-
--- how many events would go, and of how many nodes
-abbrev pub effects_head : ℕ → ℕ → Text
-effects_head events nodes = codes "effects " ++ decimal events ++ codes " " ++ decimal nodes ++ codes "\n"
-
-abbrev pub effects_text : ℕ → List RollbackEffect → Text
-effects_text events effects = effects_head events (length effects) ++ flat_map effect_text effects
-
--- the text about a rollback, by what `rewind` would answer
-abbrev pub effects_answer : List RollbackEffect → Result ℕ LabFault → Text
-effects_answer effects (Ok events) = effects_text events effects
-effects_answer effects (Err why) = advised_refusal_text why
 
 -- ---- `back until`
 

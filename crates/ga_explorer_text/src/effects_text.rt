@@ -2,10 +2,11 @@
 
 ghost use Rattle.std.specs.Prelude.{◌≡◌};
 ghost use Rattle.ga_text.specs.Output.{WritesSome, WritesExactly};
-ghost use Rattle.ga_explorer_text.specs.Texts.{effect_text, effects_head, effects_text};
-ghost use Rattle.ga_explorer_text.specs.Telling.{IsEffectsAnswer};
+ghost use Rattle.ga_explorer_text.specs.Effects.{effect_text, effect_front, effects_head, effects_text, IsEffectsAnswer};
 
+use crate::source_suffix::StepContext;
 use arrayvec::ArrayVec;
+use ga_debug_info::DebugInfo;
 use ga_display::advised_refusal_text;
 use ga_grid::NodeId;
 use ga_lab::Lab;
@@ -14,54 +15,72 @@ use ga_text::{TextBuffer, WriteResult, Writer, push_number, push_step, push_text
 use std::alloc::Global;
 use std::io::Write;
 
-/// `effects NNN K`: writes what `rewind NNN K` would remove. Nothing is removed.
+/// `effects NNN K`: writes what `rewind NNN K` would remove, with what the source has for the first such step of each node.
+/// Nothing is removed. Takes memory for the list of these nodes. A node is walked back to its first such step only where the
+/// entries of its steps don't determine the text.
 ///
 /// # Errors
 /// A write failed.
 pub fn write_effects<W: Write>(
     alloc: Global,
     lab: &mut Lab,
+    notes: &Option<DebugInfo>,
     node: NodeId,
     step: u32,
     writer: &mut Writer<'_, W>,
 ) -> WriteResult
-    ensures said { WritesSome result (IsEffectsAnswer lab.old node step) W.contents writer.old writer.new }
+    ensures said { WritesSome result (IsEffectsAnswer notes.now lab.old node step) W.contents writer.old writer.new }
     ensures same { lab.new ≡ lab.old }
 {
     match find_rollback_effects(alloc, lab, node, step) {
-        Ok(effects) => say_found(&effects, writer),
+        Ok(effects) => say_found(lab, notes, &effects, writer),
         Err(fault) => writer.write_text(advised_refusal_text(fault)),
     }
 }
 
 /// Says how many events would go, then what would go of each node.
-fn say_found<W: Write>(effects: &Effects, writer: &mut Writer<'_, W>) -> WriteResult
-    ensures { WritesSome result (λ text. text ≡ effects_text effects.now.events effects.now.nodes.items)
+fn say_found<W: Write>(
+    lab: &Lab,
+    notes: &Option<DebugInfo>,
+    effects: &Effects,
+    writer: &mut Writer<'_, W>,
+) -> WriteResult
+    ensures { WritesSome result (λ text. text ≡ effects_text notes.now lab.now effects.now.events effects.now.nodes.items)
         W.contents writer.old writer.new }
 {
-    say_nodes(effects.events, effects.nodes.as_slice(), writer)
+    say_nodes(lab, notes, effects.events, effects.nodes.as_slice(), writer)
 }
 
 fn say_nodes<W: Write>(
+    lab: &Lab,
+    notes: &Option<DebugInfo>,
     events: u32,
     nodes: &[RollbackEffect],
     writer: &mut Writer<'_, W>,
 ) -> WriteResult
-    ensures { WritesSome result (λ text. text ≡ effects_text events nodes.now)
+    ensures { WritesSome result (λ text. text ≡ effects_text notes.now lab.now events nodes.now)
         W.contents writer.old writer.new }
 {
     writer.write_blocks(head_line(events, nodes.len()).as_slice())?;
     'nodes: for effect in nodes {
-        say_effect(*effect, writer)?;
+        say_effect(lab, notes, *effect, writer)?;
     }
     Ok(())
 }
 
-/// Says what would go of a node.
-fn say_effect<W: Write>(effect: RollbackEffect, writer: &mut Writer<'_, W>) -> WriteResult
-    ensures { WritesExactly result (effect_text effect) W.contents writer.old writer.new }
+/// Says what would go of a node, and what the source has for its first step that would.
+fn say_effect<W: Write>(
+    lab: &Lab,
+    notes: &Option<DebugInfo>,
+    effect: RollbackEffect,
+    writer: &mut Writer<'_, W>,
+) -> WriteResult
+    ensures { WritesExactly result (effect_text notes.now lab.now effect) W.contents writer.old writer.new }
 {
-    writer.write_blocks(effect_line(effect).as_slice())
+    writer.write_blocks(effect_front(effect).as_slice())?;
+    let newest = lab.steps(effect.node);
+    let context = StepContext::new(lab, notes, effect.node, newest);
+    context.write_step_suffix(effect.node, effect.first, writer)
 }
 
 /// How many events would go, and of how many nodes.
@@ -77,14 +96,13 @@ fn head_line(events: u32, nodes: usize) -> TextBuffer
     out
 }
 
-/// What would go of a node.
-fn effect_line(effect: RollbackEffect) -> TextBuffer
-    ensures { result.items ≡ effect_text effect }
+/// What would go of a node, without the end of the line.
+fn effect_front(effect: RollbackEffect) -> TextBuffer
+    ensures { result.items ≡ effect_front effect }
 {
     let mut out = ArrayVec::new();
     push_step(&mut out, effect.node, effect.first);
     push_text(&mut out, b" ");
     push_number(&mut out, u64::from(effect.steps));
-    push_text(&mut out, b"\n");
     out
 }

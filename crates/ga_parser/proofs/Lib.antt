@@ -9,3 +9,4 @@ pub mod Recovering
 pub mod Placing
 pub mod Resolving
 pub mod Grouping
+pub mod Expecting

@@ -1,12 +1,29 @@
 -- What a text says, and in which columns, as it is read line by line and word by word.
-use Rattle.std.proofs.Common.{◌≡◌, ◌∙◌, ℕ, zero, suc, ◌+◌, ◌<◌, ◌≤◌, inl, inr, Bool, true, false, not, cond, ltb, List, [], ◌∷◌, ◌++◌, length, take, drop, get_or, arith, ap, sym, refl, add-one, append_assoc, append-nil, ◌-◌}
+use Rattle.std.proofs.Common.{◌≡◌, ◌∙◌, ℕ, zero, suc, ◌+◌, ◌<◌, ◌≤◌, Bool, true, false, not, cond, ltb, List, [], ◌∷◌, ◌++◌, length, map, take, drop, get_or, arith, ap, sym, refl, add-one, append_assoc, append-nil, ◌-◌}
 use Rattle.std.specs.Prelude.{◌==◌, if◌then◌else◌, codes, bytes_eq, filter}
 use Rattle.std.specs.List.{list_all}
-use Rattle.std.proofs.lemmas.Bool.{cond-true, cond-false, both_ways, and_parts, cases_Bool, le-ltb, lt-ltb}
+use Rattle.std.proofs.lemmas.Bool.{cond-true, cond-false, both_ways, le-ltb, lt-ltb}
 use Rattle.ga_text.specs.Lines.{with_byte, lines_of}
+use Rattle.ga_parser.specs.declared.scan.Token.{Token}
 use Rattle.ga_parser.specs.declared.scan.TokenKind.TheVariants.{LongLine, OpenComment}
-use Rattle.ga_parser.specs.Saying.{parts_ended_by, is_blank, source_lines, has_bytes, source_words, max_source_line_bytes, stripped_source_line, TokenContent, word_token, line_fault_token, is_word, is_comment_end, tokens_of_words, tokens_of_line, tokens_until_fault, next_line_number, tokens_of_lines, part_column, columns_of_parts, columns_of_line, columns_of_lines}
+use Rattle.ga_parser.specs.Saying.{parts_ended_by, is_blank, source_lines, has_bytes, source_words, max_source_line_bytes, stripped_source_line, TokenContent, word_token, line_fault_token, is_word, is_comment_end, tokens_of_words, all_tokens_of_line, begins_expectation, expectation_tokens, tokens_of_line, token_content, token_contents, token_columns, next_line_number, tokens_of_lines, part_column, columns_of_parts, all_columns_of_line, expectation_columns, columns_of_line, columns_of_lines}
 use Rattle.ga_parser.specs.inner.Drafting.{IsTold}
+
+-- ---- what was added to a list
+
+-- what was added
+pub added_last : {X Y : Type 0} (f : X → Y) (old new : List X) (more : List Y) → map f new ≡ map f old ++ more → map f (drop (length old) new) ≡ more
+added_last f [] new more e = e
+added_last f (x ∷ old) [] more e = cc
+added_last f (x ∷ old) (y ∷ new) more e = added_last f old new more (ap (drop 1) e)
+
+-- what was there before
+pub added_front : {X Y : Type 0} (f : X → Y) (old new : List X) (more : List Y) → map f new ≡ map f old ++ more → map f (take (length old) new) ≡ map f old
+added_front f [] new more e = refl
+added_front f (x ∷ old) [] more e = cc
+added_front f (x ∷ old) (y ∷ new) more e =
+    ap (λ z. z ∷ map f (take (length old) new)) (ap (λ l. get_or l 0 (f x)) e)
+    ∙ ap (λ l. f x ∷ l) (added_front f old new more (ap (drop 1) e))
 
 -- ---- parts
 
@@ -92,38 +109,6 @@ hear_word line rest (b ∷ part) behind e some no_remark no_opening =
     ∙ (cond-false (bytes_eq (b ∷ part) (codes "\\")) [] _ no_remark
     ∙ cond-false (bytes_eq (b ∷ part) (codes "(")) (tokens_of_words line true (source_words behind)) _ no_opening)
 
--- ---- faults of lines
-
--- nothing is left out where there is no fault
-whole_front : (front rest : List TokenContent) → list_all is_word front ≡ true → tokens_until_fault (front ++ rest) ≡ front ++ tokens_until_fault rest
-unfolding tokens_until_fault
-whole_front [] rest whole = refl
-whole_front (said ∷ front) rest whole =
-    let parts = and_parts (is_word said) (list_all is_word front) whole in
-    ap (λ (tail : List TokenContent). said ∷ tail) (cond-true (is_word said) (tokens_until_fault (front ++ rest)) [] parts.0 ∙ whole_front front rest parts.1)
-
--- a fault comes last in the tokens of words
-fault_last : (line : ℕ) (is_open : Bool) (words : List (List ℕ)) (rest : List TokenContent) → list_all is_word (tokens_of_words line is_open words) ≡ false → tokens_until_fault (tokens_of_words line is_open words ++ rest) ≡ tokens_of_words line is_open words
-unfolding tokens_of_words tokens_until_fault
-fault_last line false [] rest faulty = absurd (both_ways true faulty refl)
-fault_last line true [] rest faulty = refl
-fault_last line true (word ∷ words) rest faulty = fault_last line (not (is_comment_end word)) words rest faulty
-fault_last line false (word ∷ words) rest faulty = elim (cases_Bool (bytes_eq word (codes "\\"))) [
-  | inl remark ↦ absurd (both_ways true (rw remark at faulty) refl)
-  | inr other ↦ elim (cases_Bool (bytes_eq word (codes "("))) [
-    | inl opening ↦ rw (other, opening) (fault_last line true words rest (rw (other, opening) at faulty))
-    | inr plain ↦ rw (other, plain) (ap (λ (tail : List TokenContent). word_token line word ∷ tail) (fault_last line false words rest (rw (other, plain) at faulty)))
-  ]
-]
-
--- and so in what a line says
-line_fault_last : (line : ℕ) (text : List ℕ) (rest : List TokenContent) → list_all is_word (tokens_of_line line text) ≡ false → tokens_until_fault (tokens_of_line line text ++ rest) ≡ tokens_of_line line text
-unfolding tokens_until_fault
-line_fault_last line text rest faulty = elim (cases_Bool (ltb max_source_line_bytes (length text))) [
-  | inl long ↦ rw long refl
-  | inr short ↦ rw short (fault_last line false (source_words text) rest (rw short at faulty))
-]
-
 -- ---- one line after another
 
 module _ (line : ℕ) (rest whole first behind : List ℕ) (e : source_lines rest ≡ whole ∷ source_lines behind) (without : first ≡ stripped_source_line line whole) where
@@ -135,10 +120,6 @@ module _ (line : ℕ) (rest whole first behind : List ℕ) (e : source_lines res
       ∙ ap (λ (text : List ℕ). if bytes_eq text (codes "end") then [] else tokens_of_line line text ++ tokens_of_lines (next_line_number line) (source_lines behind)) (sym without)
 
   -- a line `end`
-  pub at_end_line : bytes_eq first (codes "end") ≡ true → tokens_until_fault (tokens_of_lines line (source_lines rest)) ≡ []
-  unfolding tokens_until_fault
-  at_end_line is = ap tokens_until_fault (line_said ∙ cond-true (bytes_eq first (codes "end")) [] (tokens_of_line line first ++ tokens_of_lines (next_line_number line) (source_lines behind)) is)
-
   pub ends_here : bytes_eq first (codes "end") ≡ true → tokens_of_lines line (source_lines rest) ≡ []
   ends_here is = line_said ∙ cond-true (bytes_eq first (codes "end")) [] (tokens_of_line line first ++ tokens_of_lines (next_line_number line) (source_lines behind)) is
 
@@ -146,25 +127,11 @@ module _ (line : ℕ) (rest whole first behind : List ℕ) (e : source_lines res
   pub other_line : bytes_eq first (codes "end") ≡ false → tokens_of_lines line (source_lines rest) ≡ tokens_of_line line first ++ tokens_of_lines (next_line_number line) (source_lines behind)
   other_line other = line_said ∙ cond-false (bytes_eq first (codes "end")) [] (tokens_of_line line first ++ tokens_of_lines (next_line_number line) (source_lines behind)) other
 
-  -- a line with a fault
-  pub at_faulty_line : bytes_eq first (codes "end") ≡ false → list_all is_word (tokens_of_line line first) ≡ false → tokens_until_fault (tokens_of_lines line (source_lines rest)) ≡ tokens_of_line line first
-  at_faulty_line other faulty = ap tokens_until_fault (other_line other) ∙ line_fault_last line first (tokens_of_lines (next_line_number line) (source_lines behind)) faulty
-
-  -- a line without
-  pub at_whole_line : bytes_eq first (codes "end") ≡ false → list_all is_word (tokens_of_line line first) ≡ true → tokens_until_fault (tokens_of_lines line (source_lines rest)) ≡ tokens_of_line line first ++ tokens_until_fault (tokens_of_lines (next_line_number line) (source_lines behind))
-  at_whole_line other whole_line = ap tokens_until_fault (other_line other) ∙ whole_front (tokens_of_line line first) (tokens_of_lines (next_line_number line) (source_lines behind)) whole_line
-
 -- no line is left
 pub no_line_left : (line : ℕ) (rest : List ℕ) → length rest ≡ 0 → tokens_of_lines line (source_lines rest) ≡ []
 unfolding parts_ended_by tokens_of_lines
 no_line_left line [] none = refl
 no_line_left line (b ∷ rest) none = absurd (omega arith)
-
--- so none is left up to a fault
-pub nothing_left : (line : ℕ) (rest : List ℕ) → length rest ≡ 0 → tokens_until_fault (tokens_of_lines line (source_lines rest)) ≡ []
-unfolding parts_ended_by tokens_of_lines tokens_until_fault
-nothing_left line [] none = refl
-nothing_left line (b ∷ rest) none = absurd (omega arith)
 
 -- ---- joined with what was said before
 
@@ -208,20 +175,65 @@ unfolding tokens_of_words
 open_left line rest none = ap (tokens_of_words line true) (no_words rest none)
 
 -- a line that isn't too long says what its words say
-pub short_line : (line : ℕ) (text : List ℕ) → length text ≤ 200 → tokens_of_line line text ≡ tokens_of_words line false (source_words text)
+pub short_line : (line : ℕ) (text : List ℕ) → length text ≤ 200 → all_tokens_of_line line text ≡ tokens_of_words line false (source_words text)
 short_line line text short = cond-false (ltb max_source_line_bytes (length text)) (line_fault_token line LongLine ∷ []) (tokens_of_words line false (source_words text)) (le-ltb max_source_line_bytes (length text) short)
 
-pub long_line : (line : ℕ) (text : List ℕ) → 200 < length text → tokens_of_line line text ≡ line_fault_token line LongLine ∷ []
+pub long_line : (line : ℕ) (text : List ℕ) → 200 < length text → all_tokens_of_line line text ≡ line_fault_token line LongLine ∷ []
 long_line line text long = cond-true (ltb max_source_line_bytes (length text)) (line_fault_token line LongLine ∷ []) (tokens_of_words line false (source_words text)) (lt-ltb max_source_line_bytes (length text) long)
 
-pub line_told : (line : ℕ) (text : List ℕ) (before now new left : List TokenContent) (is_open : Bool) (rest : List ℕ) → length text ≤ 200 → IsTold line text before now is_open rest → tokens_of_words line is_open (source_words rest) ≡ left → new ≡ now ++ left → new ≡ before ++ tokens_of_line line text
+pub line_told : (line : ℕ) (text : List ℕ) (before now new left : List TokenContent) (is_open : Bool) (rest : List ℕ) → length text ≤ 200 → IsTold line text before now is_open rest → tokens_of_words line is_open (source_words rest) ≡ left → new ≡ now ++ left → new ≡ before ++ all_tokens_of_line line text
 line_told line text before now new left is_open rest short told e pushed =
     said_last now (tokens_of_words line is_open (source_words rest)) (before ++ tokens_of_words line false (source_words text)) new left pushed e told.says
     ∙ ap (λ (l : List TokenContent). before ++ l) (sym (short_line line text short))
 
-pub line_whole : (line : ℕ) (text : List ℕ) (before now left : List TokenContent) (is_open : Bool) (rest : List ℕ) → length text ≤ 200 → IsTold line text before now is_open rest → tokens_of_words line is_open (source_words rest) ≡ left → list_all is_word left ≡ list_all is_word (tokens_of_line line text)
+pub line_whole : (line : ℕ) (text : List ℕ) (before now left : List TokenContent) (is_open : Bool) (rest : List ℕ) → length text ≤ 200 → IsTold line text before now is_open rest → tokens_of_words line is_open (source_words rest) ≡ left → list_all is_word left ≡ list_all is_word (all_tokens_of_line line text)
 line_whole line text before now left is_open rest short told e =
     ap (list_all is_word) (sym e) ∙ (told.whole ∙ ap (list_all is_word) (sym (short_line line text short)))
+
+-- ---- expectations
+
+-- what follows the tokens that were there is what the line has
+pub begins_added : (line : ℕ) (text : List ℕ) (old new rest : List Token) (before : ℕ) (begins : Bool) → token_contents new ≡ token_contents old ++ all_tokens_of_line line text → before ≡ length old → rest ≡ drop before new → begins ≡ begins_expectation (token_contents rest)
+    → begins_expectation (all_tokens_of_line line text) ≡ begins
+begins_added line text old new rest before begins says size back is =
+    let same : token_contents (drop before new) ≡ all_tokens_of_line line text = ap (λ (n : ℕ). token_contents (drop n new)) size ∙ added_last token_content old new (all_tokens_of_line line text) says in
+    sym (is ∙ (ap (λ (r : List Token). begins_expectation (token_contents r)) back ∙ ap begins_expectation same))
+
+-- and without it the tokens are those that were there
+pub truncated_tokens : (old new left : List Token) (before : ℕ) (more : List TokenContent) → token_contents new ≡ token_contents old ++ more → before ≡ length old → left ≡ take before new → token_contents left ≡ token_contents old
+truncated_tokens old new left before more says size front = ap token_contents (front ∙ ap (λ (n : ℕ). take n new) size) ∙ added_front token_content old new more says
+
+pub truncated_columns : (old new left : List Token) (before : ℕ) (more : List ℕ) → token_columns new ≡ token_columns old ++ more → before ≡ length old → left ≡ take before new → token_columns left ≡ token_columns old
+truncated_columns old new left before more says size front = ap token_columns (front ∙ ap (λ (n : ℕ). take n new) size) ∙ added_front (λ (token : Token). token.column) old new more says
+
+module _ (line : ℕ) (text : List ℕ) where
+  -- a line that is no expectation
+  pub plain_line : begins_expectation (all_tokens_of_line line text) ≡ false → tokens_of_line line text ≡ all_tokens_of_line line text
+  plain_line other = cond-false (begins_expectation (all_tokens_of_line line text)) (expectation_tokens line (all_tokens_of_line line text)) (all_tokens_of_line line text) other
+
+  pub plain_columns : begins_expectation (all_tokens_of_line line text) ≡ false → columns_of_line line text ≡ all_columns_of_line text
+  plain_columns other = cond-false (begins_expectation (all_tokens_of_line line text)) (expectation_columns (all_tokens_of_line line text)) (all_columns_of_line text) other
+
+  module _ (begins : begins_expectation (all_tokens_of_line line text) ≡ true) where
+    expected_line : tokens_of_line line text ≡ expectation_tokens line (all_tokens_of_line line text)
+    expected_line = cond-true (begins_expectation (all_tokens_of_line line text)) (expectation_tokens line (all_tokens_of_line line text)) (all_tokens_of_line line text) begins
+
+    expected_columns : columns_of_line line text ≡ expectation_columns (all_tokens_of_line line text)
+    expected_columns = cond-true (begins_expectation (all_tokens_of_line line text)) (expectation_columns (all_tokens_of_line line text)) (all_columns_of_line text) begins
+
+    -- an expectation without a fault
+    pub whole_expectation : list_all is_word (all_tokens_of_line line text) ≡ true → tokens_of_line line text ≡ []
+    whole_expectation whole = expected_line ∙ cond-true (list_all is_word (all_tokens_of_line line text)) [] (line_fault_token line OpenComment ∷ []) whole
+
+    pub whole_columns : list_all is_word (all_tokens_of_line line text) ≡ true → columns_of_line line text ≡ []
+    whole_columns whole = expected_columns ∙ cond-true (list_all is_word (all_tokens_of_line line text)) [] (1 ∷ []) whole
+
+    -- one in which a comment is left open
+    pub open_expectation : list_all is_word (all_tokens_of_line line text) ≡ false → tokens_of_line line text ≡ line_fault_token line OpenComment ∷ []
+    open_expectation faulty = expected_line ∙ cond-false (list_all is_word (all_tokens_of_line line text)) [] (line_fault_token line OpenComment ∷ []) faulty
+
+    pub open_columns : list_all is_word (all_tokens_of_line line text) ≡ false → columns_of_line line text ≡ 1 ∷ []
+    open_columns faulty = expected_columns ∙ cond-false (list_all is_word (all_tokens_of_line line text)) [] (1 ∷ []) faulty
 
 -- ---- joined with what was listed before
 
@@ -316,14 +328,14 @@ columns_left_open column [] none = refl
 columns_left_open column (b ∷ rest) none = absurd (omega arith)
 
 -- a line that isn't too long
-pub columns_short : (text : List ℕ) → length text ≤ 200 → columns_of_line text ≡ columns_of_parts 1 false (parts_ended_by is_blank text)
+pub columns_short : (text : List ℕ) → length text ≤ 200 → all_columns_of_line text ≡ columns_of_parts 1 false (parts_ended_by is_blank text)
 columns_short text short = cond-false (ltb max_source_line_bytes (length text)) (1 ∷ []) (columns_of_parts 1 false (parts_ended_by is_blank text)) (le-ltb max_source_line_bytes (length text) short)
 
-pub columns_long : (text : List ℕ) → 200 < length text → columns_of_line text ≡ 1 ∷ []
+pub columns_long : (text : List ℕ) → 200 < length text → all_columns_of_line text ≡ 1 ∷ []
 columns_long text long = cond-true (ltb max_source_line_bytes (length text)) (1 ∷ []) (columns_of_parts 1 false (parts_ended_by is_blank text)) (lt-ltb max_source_line_bytes (length text) long)
 
 -- the rest of the line has been listed
-pub columns_line : (text told left all new part : List ℕ) → length text ≤ 200 → new ≡ told ++ part → left ≡ part → told ++ left ≡ all ++ columns_of_parts 1 false (parts_ended_by is_blank text) → new ≡ all ++ columns_of_line text
+pub columns_line : (text told left all new part : List ℕ) → length text ≤ 200 → new ≡ told ++ part → left ≡ part → told ++ left ≡ all ++ columns_of_parts 1 false (parts_ended_by is_blank text) → new ≡ all ++ all_columns_of_line text
 columns_line text told left all new part short pushed is e =
     columns_last told left (all ++ columns_of_parts 1 false (parts_ended_by is_blank text)) new part pushed is e
     ∙ ap (λ (l : List ℕ). all ++ l) (sym (columns_short text short))
@@ -331,19 +343,19 @@ columns_line text told left all new part short pushed is e =
 -- ---- one line after another
 
 module _ (line : ℕ) (rest whole first behind : List ℕ) (e : source_lines rest ≡ whole ∷ source_lines behind) (without : first ≡ stripped_source_line line whole) where
-  columns_here : columns_of_lines line (source_lines rest) ≡ (if bytes_eq first (codes "end") then [] else columns_of_line first ++ columns_of_lines (next_line_number line) (source_lines behind))
+  columns_here : columns_of_lines line (source_lines rest) ≡ (if bytes_eq first (codes "end") then [] else columns_of_line line first ++ columns_of_lines (next_line_number line) (source_lines behind))
   unfolding columns_of_lines
   columns_here =
       ap (columns_of_lines line) e
-      ∙ ap (λ (text : List ℕ). if bytes_eq text (codes "end") then [] else columns_of_line text ++ columns_of_lines (next_line_number line) (source_lines behind)) (sym without)
+      ∙ ap (λ (text : List ℕ). if bytes_eq text (codes "end") then [] else columns_of_line line text ++ columns_of_lines (next_line_number line) (source_lines behind)) (sym without)
 
   -- a line `end`
   pub columns_end_here : bytes_eq first (codes "end") ≡ true → columns_of_lines line (source_lines rest) ≡ []
-  columns_end_here is = columns_here ∙ cond-true (bytes_eq first (codes "end")) [] (columns_of_line first ++ columns_of_lines (next_line_number line) (source_lines behind)) is
+  columns_end_here is = columns_here ∙ cond-true (bytes_eq first (codes "end")) [] (columns_of_line line first ++ columns_of_lines (next_line_number line) (source_lines behind)) is
 
   -- any other
-  pub columns_other_line : bytes_eq first (codes "end") ≡ false → columns_of_lines line (source_lines rest) ≡ columns_of_line first ++ columns_of_lines (next_line_number line) (source_lines behind)
-  columns_other_line other = columns_here ∙ cond-false (bytes_eq first (codes "end")) [] (columns_of_line first ++ columns_of_lines (next_line_number line) (source_lines behind)) other
+  pub columns_other_line : bytes_eq first (codes "end") ≡ false → columns_of_lines line (source_lines rest) ≡ columns_of_line line first ++ columns_of_lines (next_line_number line) (source_lines behind)
+  columns_other_line other = columns_here ∙ cond-false (bytes_eq first (codes "end")) [] (columns_of_line line first ++ columns_of_lines (next_line_number line) (source_lines behind)) other
 
 -- no line is left
 pub no_columns_left : (line : ℕ) (rest : List ℕ) → length rest ≡ 0 → columns_of_lines line (source_lines rest) ≡ []

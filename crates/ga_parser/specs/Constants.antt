@@ -137,6 +137,10 @@ with_missing_name_fault so_far (Name number constant) = with_added_token so_far 
 abbrev pub end_resolution : ConstantResolution → ConstantResolution
 end_resolution so_far = with_missing_name_fault so_far so_far.awaited
 
+-- what came of all words
+abbrev pub constant_resolution : List PlacedToken → ConstantResolution
+constant_resolution words = end_resolution (resolve_from initial_resolution words)
+
 -- the words without definitions
 abbrev pub without_definitions : List PlacedToken → List PlacedToken
-without_definitions words = (end_resolution (resolve_from initial_resolution words)).words
+without_definitions words = (constant_resolution words).words

@@ -52,6 +52,7 @@ foreign_words =
     ∷ (codes "equ", codes "N constant NAME")
     ∷ (codes ",", codes "N ,")
     ∷ (codes "end", codes "end on a line of its own")
+    ∷ (codes "expect", codes "expect begins a line of its own")
     ∷ (codes "//", codes "\\")
     ∷ (codes "#", codes "\\")
     ∷ (codes "--", codes "\\")
@@ -115,7 +116,7 @@ known_words =
     ∷ codes "inv" ∷ codes "invert" ∷ codes "nop" ∷ codes "ex" ∷ codes "a" ∷ codes "a!" ∷ codes "b!" ∷ codes "begin"
     ∷ codes "for" ∷ codes "next" ∷ codes "unext" ∷ codes "*next" ∷ codes "again" ∷ codes "until" ∷ codes "-until" ∷ codes "while"
     ∷ codes "-while" ∷ codes "repeat" ∷ codes "if" ∷ codes "-if" ∷ codes "ahead" ∷ codes "else" ∷ codes "then" ∷ codes "org"
-    ∷ codes "node" ∷ codes "constant" ∷ codes "right" ∷ codes "down" ∷ codes "left" ∷ codes "up" ∷ codes "io"
+    ∷ codes "node" ∷ codes "expect" ∷ codes "constant" ∷ codes "right" ∷ codes "down" ∷ codes "left" ∷ codes "up" ∷ codes "io"
     ∷ []
 
 unfoldable pub find_probable_word : List ℕ → Option (List ℕ)

@@ -7,6 +7,7 @@ pub mod Asking
 pub mod Constants
 pub mod Groups
 pub mod Words
+pub mod Expectations
 pub mod Requests
 pub mod Recovery
 pub mod inner

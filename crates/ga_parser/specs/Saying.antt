@@ -2,6 +2,7 @@
 -- project's own). Where the tokens are in their lines (docs/REFERENCE.md, "Source"; this project's own). A column is that of a
 -- word's first byte, counted in bytes from 1 on, after a byte order mark. A fault of a line has column 1.
 use Rattle.std.specs.Prelude.{ℕ, ◌+◌, ◌-◌, ◌^◌, ◌==◌, nat_lt, Bool, true, false, ◌||◌, ◌&&◌, not, if◌then◌else◌, List, [], ◌∷◌, ◌++◌, length, map, min, filter, take, drop, slice_index, codes, bytes_eq}
+use Rattle.std.specs.List.{list_all}
 use Rattle.ga_text.specs.Lines.{with_byte}
 use Rattle.ga_parser.specs.declared.scan.TokenKind.{TokenKind}
 use Rattle.ga_parser.specs.declared.scan.TokenKind.TheVariants.{Word, LongLine, OpenComment, NoNumber, Missing, Taken}
@@ -94,8 +95,22 @@ tokens_of_words line false (word ∷ words) =
     else word_token line word ∷ tokens_of_words line false words
 tokens_of_words line true (word ∷ words) = tokens_of_words line (not (is_comment_end word)) words
 
+-- all tokens of a line, also of an expectation
+abbrev pub all_tokens_of_line : ℕ → List ℕ → List TokenContent
+all_tokens_of_line line text = if nat_lt max_source_line_bytes (length text) then line_fault_token line LongLine ∷ [] else tokens_of_words line false (source_words text)
+
+-- a line with these tokens is an expectation: its first word is `expect`
+abbrev pub begins_expectation : List TokenContent → Bool
+begins_expectation [] = false
+begins_expectation (said ∷ rest) = bytes_eq said.text (codes "expect")
+
+-- an expectation makes no token, but for its fault if a comment is left open in it
+abbrev pub expectation_tokens : ℕ → List TokenContent → List TokenContent
+expectation_tokens line said = if list_all is_word said then [] else line_fault_token line OpenComment ∷ []
+
+-- the tokens that a line makes
 abbrev pub tokens_of_line : ℕ → List ℕ → List TokenContent
-tokens_of_line line text = if nat_lt max_source_line_bytes (length text) then line_fault_token line LongLine ∷ [] else tokens_of_words line false (source_words text)
+tokens_of_line line text = if begins_expectation (all_tokens_of_line line text) then expectation_tokens line (all_tokens_of_line line text) else all_tokens_of_line line text
 
 -- ---- what a text says
 
@@ -139,15 +154,23 @@ columns_of_parts column false (part ∷ parts) =
     else part_column column part ++ columns_of_parts (column + length part + 1) false parts
 columns_of_parts column true (part ∷ parts) = columns_of_parts (column + length part + 1) (not (is_comment_end part)) parts
 
--- the columns of what a line says
-abbrev pub columns_of_line : List ℕ → List ℕ
-columns_of_line text = if nat_lt max_source_line_bytes (length text) then 1 ∷ [] else columns_of_parts 1 false (parts_ended_by is_blank text)
+-- the columns of all tokens of a line
+abbrev pub all_columns_of_line : List ℕ → List ℕ
+all_columns_of_line text = if nat_lt max_source_line_bytes (length text) then 1 ∷ [] else columns_of_parts 1 false (parts_ended_by is_blank text)
+
+-- the columns of the tokens that an expectation makes
+abbrev pub expectation_columns : List TokenContent → List ℕ
+expectation_columns said = if list_all is_word said then [] else 1 ∷ []
+
+-- the columns of the tokens that a line makes
+abbrev pub columns_of_line : ℕ → List ℕ → List ℕ
+columns_of_line line text = if begins_expectation (all_tokens_of_line line text) then expectation_columns (all_tokens_of_line line text) else all_columns_of_line text
 
 -- the columns of what the lines say up to one that is `end`, numbered from here on
 unfoldable pub columns_of_lines : ℕ → List (List ℕ) → List ℕ
 columns_of_lines line [] = []
 columns_of_lines line (text ∷ texts) =
-    if bytes_eq (stripped_source_line line text) (codes "end") then [] else columns_of_line (stripped_source_line line text) ++ columns_of_lines (next_line_number line) texts
+    if bytes_eq (stripped_source_line line text) (codes "end") then [] else columns_of_line line (stripped_source_line line text) ++ columns_of_lines (next_line_number line) texts
 
 -- the columns of words that were read
 abbrev pub token_columns : List Token → List ℕ

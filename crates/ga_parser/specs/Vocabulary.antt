@@ -182,9 +182,9 @@ is_a_number (Of _) = true
 is_a_number OutOfRange = true
 is_a_number Nothing = false
 
--- the word begins a node, defines a constant, ends a cell or begins a comment, or has an apostrophe in front
+-- the word begins a node or an expectation, defines a constant, ends a cell or begins a comment, or has an apostrophe in front
 abbrev pub is_syntax_word : List ℕ → Bool
-is_syntax_word word = bytes_eq word (codes "node") || bytes_eq word (codes "constant") || bytes_eq word (codes ",") || bytes_eq word (codes "\\") || bytes_eq word (codes "(") || has_prefix word (codes "'")
+is_syntax_word word = bytes_eq word (codes "node") || bytes_eq word (codes "expect") || bytes_eq word (codes "constant") || bytes_eq word (codes ",") || bytes_eq word (codes "\\") || bytes_eq word (codes "(") || has_prefix word (codes "'")
 
 -- The word says something of itself, so that no label has this name: an opcode, with an address or without, a control word, a number,
 -- a port, a directive, or a sign.

@@ -6,3 +6,4 @@ pub mod Recovering
 pub mod Placing
 pub mod Resolving
 pub mod Grouping
+pub mod Expecting

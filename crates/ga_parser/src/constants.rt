@@ -1,8 +1,9 @@
 //! Words without the definitions of constants, which are read as their numbers.
 
 ghost use Rattle.std.specs.Prelude.{◌≡◌, IfOk};
-ghost use Rattle.ga_parser.specs.Constants.{begins_definition as defines_by, begins_label as begins_label_in, without_definitions, fault_token as fault_token_for, number_or_word as or_word_in};
+ghost use Rattle.ga_parser.specs.Constants.{begins_definition as defines_by, begins_label as begins_label_in, constant_resolution, without_definitions, fault_token as fault_token_for, number_or_word as or_word_in};
 ghost use Rattle.ga_parser.specs.inner.Placing.{placed, placed_all};
+ghost use Rattle.ga_parser.specs.inner.Resolving.{resolving_of};
 
 use super::draft::text_at;
 use super::labels::Labels;
@@ -76,7 +77,7 @@ impl<'s> Resolving<'s> {
     }
 
     /// What a word is read as: a constant as its number.
-    fn resolved_word_text(&self, word: &'s [u8]) -> &'s [u8]
+    pub(crate) fn resolved_word_text(&self, word: &'s [u8]) -> &'s [u8]
         ensures { result.now ≡ read_as_in (known_of self.now) word.now }
     {
         match self.names.find(word) {
@@ -219,14 +220,25 @@ fn number_or_word<'s>(number: &'s [u8], word: &'s [u8]) -> &'s [u8]
     if number.is_empty() { word } else { number }
 }
 
-/// The words without the definitions of constants, which are read as their numbers from there on.
-pub(crate) fn resolve<'s>(alloc: Global, words: &[Token<'s>]) -> Result<Vec<Token<'s>>, AllocError>
-    ensures { IfOk result (λ all. placed_all all.items ≡ without_definitions (placed_all words.now)) }
+/// The words without the definitions of constants, which are read as their numbers from there on; and all constants.
+pub(crate) fn resolve_constants<'s>(
+    alloc: Global,
+    words: &[Token<'s>],
+) -> Result<Resolving<'s>, AllocError>
+    ensures { IfOk result (λ all. resolving_of all ≡ constant_resolution (placed_all words.now)) }
 {
     let mut all = Resolving::new(alloc);
     for (i, word) in words.iter().enumerate() {
         all.take(*word, text_at(words, i + 1))?;
     }
     all.end()?;
+    Ok(all)
+}
+
+/// The words without the definitions of constants, which are read as their numbers from there on.
+pub(crate) fn resolve<'s>(alloc: Global, words: &[Token<'s>]) -> Result<Vec<Token<'s>>, AllocError>
+    ensures { IfOk result (λ all. placed_all all.items ≡ without_definitions (placed_all words.now)) }
+{
+    let all = resolve_constants(alloc, words)?;
     Ok(all.words)
 }

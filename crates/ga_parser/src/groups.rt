@@ -22,21 +22,21 @@ pub(crate) enum Naming<'s> {
 }
 
 /// Whether the word is `node`.
-fn begins(word: &Token<'_>) -> bool
+pub(crate) fn begins(word: &Token<'_>) -> bool
     ensures { result ≡ begins_by (placed word.now) }
 {
     word.text == b"node".as_slice()
 }
 
 /// Whether a word after a name is a name too: three digits on the line of `node`.
-fn is_further_node_name(node: Token<'_>, word: &Token<'_>) -> bool
+pub(crate) fn is_further_node_name(node: Token<'_>, word: &Token<'_>) -> bool
     ensures { result ≡ is_further_by (placed node.entry) (placed word.now) }
 {
     word.kind == TokenKind::Word && word.line == node.line && parse_node_name(word.text).is_some()
 }
 
 /// What comes before the next word.
-fn naming_after_word<'s>(begun: Naming<'s>, word: Token<'s>) -> Naming<'s>
+pub(crate) fn naming_after_word<'s>(begun: Naming<'s>, word: Token<'s>) -> Naming<'s>
     ensures { begun_of result ≡ begun_by (begun_of begun.entry) (placed word.entry) }
 {
     if begins(&word) {

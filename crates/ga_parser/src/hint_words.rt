@@ -178,6 +178,10 @@ static OTHER_WORDS: &[ForeignWord] = &[
         here: b"end on a line of its own",
     },
     ForeignWord {
+        word: b"expect",
+        here: b"expect begins a line of its own",
+    },
+    ForeignWord {
         word: b"//",
         here: b"\\",
     },
@@ -225,6 +229,7 @@ static KNOWN_WORDS: &[KnownWord] = &[
     KnownWord { name: b"then" },
     KnownWord { name: b"org" },
     KnownWord { name: b"node" },
+    KnownWord { name: b"expect" },
     KnownWord { name: b"constant" },
     KnownWord { name: b"right" },
     KnownWord { name: b"down" },

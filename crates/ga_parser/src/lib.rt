@@ -6,6 +6,7 @@
 mod constants;
 mod controls;
 mod draft;
+mod expectations;
 mod fault;
 mod groups;
 mod hint;
@@ -20,6 +21,7 @@ mod scan;
 mod vocabulary;
 
 pub use draft::{read_requests, with_carry_bit};
+pub use expectations::{ExpectationLine, expectation_lines};
 pub use fault::{NumberRange, SourceCause, SourceFault, fault_at};
 pub use hint::{Hint, hint_for};
 pub use item::{

@@ -2,7 +2,7 @@
 
 ghost use Rattle.std.specs.Prelude.{◌≡◌, ◌<◌, ◌+◌, ◌-◌, [], ◌∷◌, ◌++◌, length, IsOkAnd, IsErrAnd, IfOk, OnOk};
 ghost use Rattle.std.specs.List.{list_all};
-ghost use Rattle.ga_parser.specs.Saying.{is_blank as is_blank_byte, parts_ended_by, is_comment_end as closes_comment, strip_bom as without_mark, stripped_source_line as bare_line, without_carriage_return as without_end, tokens_of_line, is_word, is_word_kind, tokens_of_lines, source_lines, tokens_until_fault as up_to_fault_in, token_content, token_contents, columns_of_line, columns_of_lines, token_columns};
+ghost use Rattle.ga_parser.specs.Saying.{is_blank as is_blank_byte, parts_ended_by, is_comment_end as closes_comment, strip_bom as without_mark, stripped_source_line as bare_line, without_carriage_return as without_end, all_tokens_of_line, begins_expectation as begins_by, tokens_of_line, is_word, is_word_kind, tokens_of_lines, source_lines, tokens_until_fault as up_to_fault_in, token_content, token_contents, all_columns_of_line, columns_of_line, columns_of_lines, token_columns};
 ghost use Rattle.ga_parser.specs.Words.{source_tokens, source_columns, source_tokens_without_copies};
 ghost use Rattle.ga_parser.specs.declared.scan.TokenKind.TheVariants.{Word, LongLine, OpenComment, NoNumber, Missing, Taken};
 ghost use Rattle.ga_parser.specs.declared.fault.SourceCause.TheVariants.{LongLine as TooLong, OpenComment as LeftOpen, NoNumber as NumberLeftOut, Missing as NameLeftOut, Taken as IsTaken};
@@ -97,11 +97,15 @@ fn first_part(text: &[u8]) -> (&[u8], &[u8])
     (text, &[])
 }
 
-/// Adds the words of a line, and then its fault where it has one. True where it has none.
-fn scan_line<'s>(tokens: &mut Vec<Token<'s>>, line: u32, text: &'s [u8]) -> Result<bool, AllocError>
-    ensures says { OnOk result (token_contents tokens.new.items ≡ token_contents tokens.old.items ++ tokens_of_line line text.now) }
-    ensures columns { OnOk result (token_columns tokens.new.items ≡ token_columns tokens.old.items ++ columns_of_line text.now) }
-    ensures whole { IfOk result (λ whole. whole ≡ list_all is_word (tokens_of_line line text.now)) }
+/// Adds all words of a line, also of an expectation, and then its fault where it has one. True where it has none.
+pub(crate) fn scan_all_of_line<'s>(
+    tokens: &mut Vec<Token<'s>>,
+    line: u32,
+    text: &'s [u8],
+) -> Result<bool, AllocError>
+    ensures says { OnOk result (token_contents tokens.new.items ≡ token_contents tokens.old.items ++ all_tokens_of_line line text.now) }
+    ensures columns { OnOk result (token_columns tokens.new.items ≡ token_columns tokens.old.items ++ all_columns_of_line text.now) }
+    ensures whole { IfOk result (λ whole. whole ≡ list_all is_word (all_tokens_of_line line text.now)) }
 {
     if text.len() > LONGEST {
         push(tokens, line, 1, &[], TokenKind::LongLine)?;
@@ -128,6 +132,34 @@ fn scan_line<'s>(tokens: &mut Vec<Token<'s>>, line: u32, text: &'s [u8]) -> Resu
         return Ok(false);
     }
     Ok(true)
+}
+
+/// Whether a line with these words is an expectation.
+pub(crate) fn begins_expectation(words: &[Token<'_>]) -> bool
+    ensures { result ≡ begins_by (token_contents words.now) }
+{
+    match words {
+        [first, ..] => first.text == b"expect".as_slice(),
+        [] => false,
+    }
+}
+
+/// Adds the words of a line, and then its fault where it has one; of an expectation the fault alone.
+fn scan_line<'s>(tokens: &mut Vec<Token<'s>>, line: u32, text: &'s [u8]) -> Result<(), AllocError>
+    ensures says { OnOk result (token_contents tokens.new.items ≡ token_contents tokens.old.items ++ tokens_of_line line text.now) }
+    ensures columns { OnOk result (token_columns tokens.new.items ≡ token_columns tokens.old.items ++ columns_of_line line text.now) }
+{
+    let before = tokens.len();
+    let is_whole = scan_all_of_line(tokens, line, text)?;
+    if !begins_expectation(tokens.as_slice().split_at(before).1) {
+        return Ok(());
+    }
+    tokens.truncate(before);
+    if is_whole {
+        return Ok(());
+    }
+    push(tokens, line, 1, &[], TokenKind::OpenComment)?;
+    Ok(())
 }
 
 /// Adds a word or a fault.
@@ -171,14 +203,14 @@ fn without_carriage_return(text: &[u8]) -> &[u8]
 }
 
 /// A line without what some editors write before or after it.
-fn stripped_source_line(line: u32, text: &[u8]) -> &[u8]
+pub(crate) fn stripped_source_line(line: u32, text: &[u8]) -> &[u8]
     ensures { result.now ≡ bare_line line text.now }
 {
     without_carriage_return(strip_bom(line, text))
 }
 
 /// The words of a text as they are written, up to its end or to a line `end`. What follows a line with a fault is read too.
-fn scanned_words(alloc: Global, source: &[u8]) -> Result<Vec<Token<'_>>, AllocError>
+pub(crate) fn scanned_words(alloc: Global, source: &[u8]) -> Result<Vec<Token<'_>>, AllocError>
     ensures says { IfOk result (λ words. token_contents words.items ≡ tokens_of_lines 1 (source_lines source.now)) }
     ensures columns { IfOk result (λ words. token_columns words.items ≡ columns_of_lines 1 (source_lines source.now)) }
 {
@@ -191,7 +223,7 @@ fn scanned_words(alloc: Global, source: &[u8]) -> Result<Vec<Token<'_>>, AllocEr
         if first == b"end".as_slice() {
             return Ok(words);
         }
-        let _is_whole = scan_line(&mut words, line, first)?;
+        scan_line(&mut words, line, first)?;
         rest = behind;
         line = line.saturating_add(1);
     }

@@ -106,11 +106,13 @@ pub(crate) fn is_number(number: Number) -> bool
     }
 }
 
-/// Whether the word begins a node, defines a constant, ends a cell of data, begins a comment, or has an apostrophe in front.
+/// Whether the word begins a node or an expectation, defines a constant, ends a cell of data, begins a comment, or has an apostrophe in
+/// front.
 fn is_syntax_word(text: &[u8]) -> bool
     ensures { result ≡ is_sign_word text.now }
 {
     text == b"node".as_slice()
+        || text == b"expect".as_slice()
         || text == b"constant".as_slice()
         || text == b",".as_slice()
         || text == b"\\".as_slice()

@@ -14,9 +14,9 @@ mod recovery;
 mod stores;
 
 pub use ga_parser::{
-    AssemblyRequest, Hint, InitialRegisters, Item, Label, LocatedRequest, NumberRange, Operand,
-    RegisterValue, SourceCause, SourceFault, Token, TokenKind, hint_for, source_words,
-    source_words_without_copies, strip_bom,
+    AssemblyRequest, ExpectationLine, Hint, InitialRegisters, Item, Label, LocatedRequest,
+    NumberRange, Operand, RegisterValue, SourceCause, SourceFault, Token, TokenKind,
+    expectation_lines, hint_for, source_words, source_words_without_copies, strip_bom,
 };
 pub use group::CellGroup;
 pub use program::{AssembledChip, Program, assemble, assemble_words};

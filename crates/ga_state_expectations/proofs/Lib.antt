@@ -1,3 +1,5 @@
 pub mod Ends
 pub mod Interleavings
+pub mod Sides
+pub mod Sources
 pub mod Unmet

@@ -75,7 +75,7 @@ fn holds_value(node: &Node, test: &ValueTest) -> bool
 }
 
 /// Whether the value is the number of steps.
-fn is_step_count(value: NodeValue) -> bool
+pub(crate) fn is_step_count(value: NodeValue) -> bool
     ensures { result ≡ is_step_count value }
 {
     value == NodeValue::Step

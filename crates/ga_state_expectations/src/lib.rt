@@ -1,12 +1,27 @@
-//! What a node should hold or do at each end of a program, whatever order its nodes run in.
+//! What a program should do, whatever order its nodes run in: what a line of source says of it, and what nodes hold or do at each end.
 #![tactic(auto)]
 
+mod cause;
+mod checking;
 mod expectation;
+mod faults;
 mod finding;
 pub mod laws;
+mod lines;
+mod parsing;
+mod requirement;
+mod source;
 
+pub use cause::{ExpectationCause, ExpectationFault, ExpectationsError};
+pub use checking::check_source_expectations;
 pub use expectation::{NodeExpectation, NodeRequirement};
+pub use faults::{format_expectation_faults, report_expectations_error};
 pub use finding::find_unmet;
+pub use lines::parse_expectations;
+pub use parsing::parse_expectation;
+pub use source::{Expectation, LineExpectation};
 
 #[cfg(test)]
 mod tests;
+#[cfg(test)]
+mod tests_of_text;

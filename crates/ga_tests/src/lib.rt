@@ -9,6 +9,8 @@ mod common;
 #[cfg(test)]
 mod events;
 #[cfg(test)]
+mod expectations;
+#[cfg(test)]
 mod image;
 #[cfg(test)]
 mod messages;

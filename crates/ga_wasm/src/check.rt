@@ -2,17 +2,17 @@
 
 ghost use Rattle.std.specs.Prelude.{◌≡◌, ◌++◌, length, take, false};
 ghost use Rattle.ga_text.specs.Lines.{Bytes};
-ghost use Rattle.ga_check_report.specs.Checking.{IsCheckOutcome};
+ghost use Rattle.ga_check_report.specs.Expected.{IsProgramOutcome};
 ghost use Rattle.ga_check_report.specs.declared.report.Verdict.{Verdict as Found};
 
 use crate::buffer::{put_front, streams};
-use ga_check_report::{CheckBounds, check_ends};
+use ga_check_report::{CheckBounds, check_program};
 use ga_state_search::SearchControl;
 use std::alloc::Global;
 
-/// The kinds of ends of a program, an image or source, in whatever order its nodes run, of at most `most` stored states. If `asked` isn't
-/// 0, the lines `step NNN` that lead to the first end of the kind of this number, of at most `limit` events. As far as there is room for
-/// them; returns how many bytes they have.
+/// The expectations of a program, an image or source, or else its kinds of ends, in whatever order its nodes run, of at most `most` stored
+/// states. If `asked` isn't 0, the lines `step NNN` that lead to what breaks the expectation of this number, or to the first end of that kind,
+/// of at most `limit` events. As far as there is room for them; returns how many bytes they have.
 #[unsafe(no_mangle)]
 pub extern "C" fn ga_check(
     alloc: Global,
@@ -23,13 +23,13 @@ pub extern "C" fn ga_check(
     asked: u32,
 ) -> usize
     ensures { (read rest text : Bytes) × (found : Found) × (input.now ≡ read ++ rest)
-        × IsCheckOutcome (record { most = most; seconds = 0 }) limit false asked read rest text found
+        × IsProgramOutcome (record { most = most; seconds = 0 }) limit false asked read rest text found
         × (result ≡ length text) × (take result output.new ≡ take (length output.old) text) }
 {
     let (mut reader, mut answer, mut errors) = streams(alloc, input);
     let bounds = CheckBounds { most, seconds: 0 };
     let watch = SearchControl::new();
-    let _verdict = check_ends(
+    let _verdict = check_program(
         alloc,
         &mut reader,
         &mut answer,

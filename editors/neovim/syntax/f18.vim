@@ -9,7 +9,7 @@ syntax keyword f18Opcode ; ex @p @+ @b @ !p !+ !b ! +* 2* 2/ - inv invert + and 
 syntax keyword f18Opcode over a . nop push b! a!
 syntax keyword f18Control begin for again until -until next *next unext while -while repeat if -if
 syntax keyword f18Control ahead else then
-syntax keyword f18Directive : org /p /a /b .. +cy -cy node constant ,
+syntax keyword f18Directive : org /p /a /b .. +cy -cy node constant expect ,
 syntax keyword f18Port right down left up io
 syntax match f18Port "\%(\S\)\@1<!\%(----\)\@![r-][d-][l-][u-]\S\@!"
 syntax match f18Number "\S\@1<!-\?\%(0x\x\+\|\d\+\)\S\@!"

@@ -4,7 +4,7 @@ use clap::{Arg, ArgAction, Command, value_parser};
 use std::alloc::{AllocError, Global};
 
 /// What `ga144 --version` writes after the name: the version, and the kit that proves it.
-const VERSION: &str = "1.0 (rattle-kit-13f logic dac8208d650f15bf)";
+const VERSION: &str = "1.0 (rattle-kit-13b logic dac8208d650f15bf)";
 
 /// What `ga144 debug --help` writes after the options.
 const COMMANDS: &str = "\
@@ -68,6 +68,10 @@ const ENDS: &str = "\
 Reads an image or source as explore does, and nothing after its line `end`. Searches the states that its nodes reach, in whatever order they
 run. The program need not end.
 
+Of source with lines `expect ..` it prints, for each, whether it holds in every order, is broken, or isn't known; with --session K instead
+the lines `step NNN` that lead to what breaks the Kth; with --ends its ends, as without such lines. Of several files it prints each answer
+after a line `FILE:`.
+
 An end is a state in which no node has an event, or states that lead to each other and to no other: some nodes go on for ever there, and the
 others make no further step. Prints the number of states and, for each kind of end, what the nodes do there, and which of them are not
 clean: stopped, waiting to write, or waiting to read from a node that isn't clean, that goes on, or that waits for them in turn.
@@ -78,9 +82,9 @@ it found, with the number of events up to it; with --session 1 instead the lines
 no further step, whatever comes. A state counts neither steps nor words, so `step NNN K`, `NNN step OP N` and `pass NNN MMM J` are none.
 With --settled the idle nodes wait before the first step, so that a look sees them wait. A session has these steps first.
 
-Exit status: 0 each end is clean, or a session is written, 1 image or source refused, or no such kind, 2 a stream failed,
-3 command line refused, 5 an end isn't clean, 6 a bound was met, and what was found is clean. With --never: 0 never, 5 reached, 6 a bound
-was met.";
+Exit status: 0 each end is clean, or each expectation holds, or a session is written, 1 image or source refused, or no such kind or session,
+2 a stream failed, 3 command line refused, 5 an end isn't clean, or an expectation is broken, 6 a bound was met, and what was found is
+clean. With --never: 0 never, 5 reached, 6 a bound was met. Of several files: the first 1 or 2, else 5 before 6 before 0.";
 
 /// What `ga144 dap --help` says.
 const EDITOR: &str = "\
@@ -133,6 +137,8 @@ const SETTLED: &str = "Let each node whose first event is to wait for code make 
 const SESSION: &str = "Write the session of the Kth kind of end, counted from 1";
 
 const NEVER: &str = "Find an event after which COND holds: COND or COND .., as of run until";
+
+const SHOWN_ENDS: &str = "Show the ends of source that has expectations, too";
 
 const PROGRESS: &str = "Print on standard error, each second, how many states there are";
 
@@ -213,8 +219,9 @@ fn check_line<'a>(alloc: Global) -> Result<Command<'a>, AllocError> {
         .arg(flag(alloc, "settled", SETTLED))?
         .arg(number_option(alloc, "session", SESSION, u32::MAX).value_name("K"))?
         .arg(named_option(alloc, "never", NEVER).value_name("COND"))?
+        .arg(flag(alloc, "ends", SHOWN_ENDS))?
         .arg(flag(alloc, "progress", PROGRESS))?
-        .arg(file_argument(alloc, "An image or source"))
+        .arg(files_argument(alloc, "An image or source"))
 }
 
 fn editor_line<'a>(alloc: Global) -> Result<Command<'a>, AllocError> {
@@ -312,4 +319,9 @@ fn numbers_to<'a>(greatest: u32) -> ValueParser<'a> {
 /// A file that is read before standard input.
 fn file_argument<'a>(alloc: Global, help: &'a str) -> Arg<'a> {
     Arg::new(alloc, "FILE").help(help)
+}
+
+/// Files that are read one after another.
+fn files_argument<'a>(alloc: Global, help: &'a str) -> Arg<'a> {
+    file_argument(alloc, help).num_args(0..)
 }

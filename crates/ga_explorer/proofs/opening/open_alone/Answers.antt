@@ -18,6 +18,7 @@ returns-in-Ok-clause-ok g c =
         labels = c.of_image.ensures.names;
         cells = c.of_image.ensures.notes;
         slots = c.of_image.ensures.words;
+        expected = c.of_image.ensures.expectations;
         gives = ap ranges_of c.of_image.ensures.given ∙ c.in-Ok.ensures.given;
       },
     )

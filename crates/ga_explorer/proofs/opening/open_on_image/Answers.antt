@@ -5,6 +5,7 @@ use Rattle.ga_console.specs.Run.{IsOpenedOnImage}
 use Rattle.ga_image.specs.Given.{ranges_of}
 use Rattle.ga_debug_info.specs.Source.{label_address_content, cell_source_content}
 use Rattle.ga_debug_info.specs.Notes.{AreSlotWords}
+use Rattle.ga_parser.specs.Expectations.{expectation_content}
 use Rattle.ga_explorer.specs.Opening.{ExplorerState}
 use Rattle.ga_explorer.proofs.opening.open_on_image.Goals as goal
 
@@ -25,6 +26,7 @@ returns-in-Ok-clause-ok g c = record {
       labels = ap (λ (notes : DebugInfo). map label_address_content notes.names.items) c.with_words.ensures ∙ known.says.labels;
       cells = ap (λ (notes : DebugInfo). map cell_source_content notes.notes.items) c.with_words.ensures ∙ known.says.cells;
       slots = subst (λ (notes : DebugInfo). AreSlotWords c.args.source.now notes.words.items) (sym c.with_words.ensures) known.says.slots;
+      expected = ap (λ (notes : DebugInfo). map expectation_content notes.expectations.items) c.with_words.ensures ∙ known.says.expected;
     };
   };
   gives = ap (λ (notes : DebugInfo). ranges_of notes.given) c.with_words.ensures ∙ c.in-Ok.ensures.given;

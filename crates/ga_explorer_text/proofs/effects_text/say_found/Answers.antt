@@ -1,5 +1,5 @@
 use Rattle.std.proofs.Common.{rules, ap, ◌∙◌}
-use Rattle.ga_explorer_text.specs.Texts.{effects_text}
+use Rattle.ga_explorer_text.specs.Effects.{effects_text}
 use Rattle.ga_explorer_text.proofs.effects_text.say_found.Goals as goal
 
 pub returns : goal.returns
@@ -7,5 +7,5 @@ returns g c = (
   search rules,
   λ before said h.
       let done = c.say_nodes.ensures.1 before said h in
-      (done.0, done.1 ∙ ap (effects_text c.args.effects.now.events) c.as_slice.ensures.value, done.2),
+      (done.0, done.1 ∙ ap (effects_text c.args.notes.now c.args.lab.now c.args.effects.now.events) c.as_slice.ensures.value, done.2),
 )

@@ -1,4 +1,6 @@
-use Rattle.std.proofs.Common.{rules}
+use Rattle.std.proofs.Common.{rules, ap, ◌∙◌}
+use Rattle.ga_lab.specs.Machine.{State}
+use Rattle.ga_explorer_text.specs.Effects.{effects_text}
 use Rattle.ga_explorer_text.proofs.Saying.{effects_found, effects_refused}
 use Rattle.ga_explorer_text.proofs.effects_text.write_effects.Goals as goal
 
@@ -8,8 +10,9 @@ returns-in-Ok-clause-said g c = (
   λ before said h.
       let done = c.say_found.ensures.1 before said h in (
         done.0,
-        effects_found c.args.lab.now c.args.node c.args.step c.in-Ok.effects.events c.in-Ok.effects.nodes.items done.0
-            c.in-Ok.ensures.events c.in-Ok.ensures.nodes done.1,
+        effects_found c.args.notes.now c.args.lab.now c.args.node c.args.step c.in-Ok.effects.events c.in-Ok.effects.nodes.items done.0
+            c.in-Ok.ensures.events c.in-Ok.ensures.nodes
+            (done.1 ∙ ap (λ (s : State). effects_text c.args.notes.now s c.in-Ok.effects.events c.in-Ok.effects.nodes.items) c.find_rollback_effects.ensures.same),
         done.2,
       ),
 )
@@ -19,7 +22,7 @@ returns-in-Err-clause-said g c = (
   search rules,
   λ before said h. (
     c.advised_refusal_text.result.now,
-    effects_refused c.args.lab.now c.args.node c.args.step c.in-Err.fault c.advised_refusal_text.result.now c.in-Err.ensures.err c.advised_refusal_text.ensures.text,
+    effects_refused c.args.notes.now c.args.lab.now c.args.node c.args.step c.in-Err.fault c.advised_refusal_text.result.now c.in-Err.ensures.err c.advised_refusal_text.ensures.text,
     c.write_text.ensures.1 before said h,
   ),
 )

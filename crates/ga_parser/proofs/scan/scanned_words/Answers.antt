@@ -24,10 +24,10 @@ pub loop-rest-preserved : goal.loop-rest-preserved
 loop-rest-preserved c =
     let same = rw c.as_slice.ensures at c.eq.ensures in
     rw c.saturating_add-line.ensures (record {
-      says = with_added_token _ _ _ _ _ _ c.in_ok-_is_whole.ensures.says
+      says = with_added_token _ _ _ _ _ _ c.in_ok-scan_line.ensures.says
           (other_line c.loop-rest.line c.loop-rest.rest.now c.first_line.result.0.now c.stripped_source_line-first.result.now c.first_line.result.1.now (first_split c.loop-rest.rest.now c.first_line.result.0.now c.first_line.result.1.now c.first_line.ensures.splits) c.stripped_source_line-first.ensures (sym same ∙ c.if-eq.false))
           c.loop-rest.invariant.says;
-      columns = columns_more _ _ _ _ _ _ c.in_ok-_is_whole.ensures.columns
+      columns = columns_more _ _ _ _ _ _ c.in_ok-scan_line.ensures.columns
           (columns_other_line c.loop-rest.line c.loop-rest.rest.now c.first_line.result.0.now c.stripped_source_line-first.result.now c.first_line.result.1.now (first_split c.loop-rest.rest.now c.first_line.result.0.now c.first_line.result.1.now c.first_line.ensures.splits) c.stripped_source_line-first.ensures (sym same ∙ c.if-eq.false))
           c.loop-rest.invariant.columns;
     })

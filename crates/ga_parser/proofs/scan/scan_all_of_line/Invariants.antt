@@ -1,7 +1,7 @@
 use Rattle.std.proofs.Common.{◌≡◌, ◌≤◌, ◌+◌, ◌-◌, ◌++◌, false, length}
 use Rattle.ga_parser.specs.Saying.{parts_ended_by, is_blank, token_contents, columns_of_parts, token_columns}
 use Rattle.ga_parser.specs.inner.Drafting.{IsTold}
-use Rattle.ga_parser.proofs.scan.scan_line.Given as goal
+use Rattle.ga_parser.proofs.scan.scan_all_of_line.Given as goal
 
 abbrev pub invariant-loop-rest : goal.invariant-loop-rest
 invariant-loop-rest l = record {

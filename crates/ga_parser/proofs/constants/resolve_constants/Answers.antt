@@ -1,9 +1,9 @@
 use Rattle.std.proofs.Common.{◌∙◌, sym, ap}
 use Rattle.std.proofs.lemmas.List.{drop_all}
-use Rattle.ga_parser.specs.Constants.{ConstantResolution, end_resolution}
+use Rattle.ga_parser.specs.Constants.{end_resolution}
 use Rattle.ga_parser.specs.inner.Resolving.{resolving_of}
 use Rattle.ga_parser.proofs.Resolving.{one_resolved, none_resolved}
-use Rattle.ga_parser.proofs.constants.resolve.Goals as goal
+use Rattle.ga_parser.proofs.constants.resolve_constants.Goals as goal
 
 pub loop-i-preserved : goal.loop-i-preserved
 loop-i-preserved c =
@@ -12,5 +12,5 @@ loop-i-preserved c =
 
 pub returns : goal.returns
 returns c =
-    ap (λ (r : ConstantResolution). r.words) (c.in_ok-end.ensures
-    ∙ ap end_resolution (sym (none_resolved (resolving_of c.loop-i.all) _ (drop_all c.loop-i.i c.args.words.now c.loop-i-test.false)) ∙ c.loop-i.invariant))
+    c.in_ok-end.ensures
+    ∙ ap end_resolution (sym (none_resolved (resolving_of c.loop-i.all) _ (drop_all c.loop-i.i c.args.words.now c.loop-i-test.false)) ∙ c.loop-i.invariant)

@@ -1,0 +1,225 @@
+-- What an outcome and a verdict about expectations say of every interleaving.
+use Rattle.std.proofs.Common.{◌≡◌, ◌∙◌, inl, inr, ℕ, zero, suc, ◌+◌, ◌-◌, ◌<◌, ◌≤◌, Bool, true, false, cond, List, [], ◌∷◌, ◌++◌, length, get_or, Option, Some, None, true≢false, refl, sym, ap, subst, arith}
+use Rattle.std.specs.Prelude.{slice_get, map}
+use Rattle.std.specs.List.{list_any}
+use Rattle.std.proofs.lemmas.Option.{same_Some, slice_get_within}
+use Rattle.std.proofs.lemmas.List.Elements.{All-contains}
+use Rattle.ga_node.specs.Record.{NodeRecord}
+use Rattle.ga_event.specs.declared.event.Event.{Event}
+use Rattle.ga_event.specs.Apply.{after, replay}
+use Rattle.ga_races.proofs.Independence.{replay_more}
+use Rattle.ga_lab.specs.Machine.{State, chip_of}
+use Rattle.ga_explorer_text.specs.Saved.{saved_text}
+use Rattle.ga_console.specs.declared.run.Status.TheVariants.{ImageRefused}
+use Rattle.ga_state_store.specs.declared.edges.Edge.{Edge}
+use Rattle.ga_state_search.specs.Searching.{StoredSearch, IsStoredSearch}
+use Rattle.ga_state_search.proofs.Reaching.{reachable}
+use Rattle.ga_state_graph.specs.Paths.{IsEdge, IsStatePath}
+use Rattle.ga_state_graph.proofs.Numbering.{has_list, in_list}
+use Rattle.ga_state_ends.specs.Ends.{EndSearchResult, AreEndsOfChip}
+use Rattle.ga_state_ends.specs.declared.end_kind.StoredEnd.{StoredEnd}
+use Rattle.ga_state_ends.proofs.Counting.{some_at}
+use Rattle.ga_state_ends.proofs.Making.{edge_enabled}
+use Rattle.ga_state_ends.proofs.Events.{in_place}
+use Rattle.ga_state_ends.proofs.Whole.{end_reachable, end_bound}
+use Rattle.ga_state_conditions.proofs.Whole.{none_met}
+use Rattle.ga_state_expectations.specs.declared.source.Expectation.{Expectation}
+use Rattle.ga_state_expectations.specs.declared.source.Expectation.TheVariants.{AtEnds, Never, EveryOrderEnds, OneEnd}
+use Rattle.ga_state_expectations.specs.declared.source.LineExpectation.{LineExpectation}
+use Rattle.ga_state_expectations.proofs.Interleavings.{met_there, unmet_there}
+use Rattle.ga_check_report.specs.declared.ends_text.CheckBounds.{CheckBounds}
+use Rattle.ga_check_report.specs.declared.outcome.Breach.{Breach}
+use Rattle.ga_check_report.specs.declared.outcome.ExpectationOutcome.{ExpectationOutcome}
+use Rattle.ga_check_report.specs.declared.outcome.ExpectationOutcome.TheVariants.{Holds, Broken}
+use Rattle.ga_check_report.specs.declared.outcome.ExpectationOutcome.TheVariants as outcome
+use Rattle.ga_check_report.specs.declared.report.Verdict.TheVariants.{Clean, Unclean, Unknown, Saved, Ended}
+use Rattle.ga_check_report.specs.Outcomes.{HasNoBreach, IsBreach, IsOutcome, AreOutcomes, is_broken, is_unknown, HoldsInEveryOrder, IsBrokenInSomeOrder}
+use Rattle.ga_check_report.specs.Expected.{LeadsToBreach, WritesExpectationsReport}
+use Rattle.ga_check_report.specs.Expected.WritesExpectationsReport.{all, led, unbroken, missing, no_memory, too_long}
+
+-- ---- a path of states
+
+edge_leads : (searched : StoredSearch) (state : ℕ) (chip : List NodeRecord) (edge : Edge) → IsStoredSearch searched → slice_get searched.chips state ≡ Some chip
+    → IsEdge searched.edges state edge → slice_get searched.chips edge.state ≡ Some (after chip edge.event).0
+edge_leads searched state chip edge is at is_edge =
+    let list = some_at searched.edges state (has_list searched.edges state edge is_edge) in
+    let here = in_list searched.edges state is_edge.0 list.0 edge list.1 is_edge.1 in
+    let all = is.explored state chip list.0 at list.1 in
+    All-contains (λ (it : Edge). slice_get searched.chips it.state ≡ Some (after chip it.event).0) list.0 edge all.successors (in_place list.0 is_edge.0 edge here)
+
+abbrev path_events : List Edge → List Event
+path_events path = map (λ (edge : Edge). edge.event) path
+
+path_replayed : (searched : StoredSearch) (path : List Edge) (from to : ℕ) (chip there : List NodeRecord) → IsStoredSearch searched → IsStatePath searched.edges from path to
+    → slice_get searched.chips from ≡ Some chip → slice_get searched.chips to ≡ Some there → replay chip (path_events path) ≡ Some there
+path_replayed searched [] from to chip there is on at last = sym at ∙ ap (slice_get searched.chips) on ∙ last
+path_replayed searched (edge ∷ path) from to chip there is on at last =
+    replay_more chip edge.event (path_events path) (edge_enabled searched from chip edge is at on.0)
+    ∙ path_replayed searched path edge.state to (after chip edge.event).0 there is on.1 (edge_leads searched from chip edge is at on.0) last
+
+-- ---- what holds
+
+only_end : (ends : List StoredEnd) (one other : ℕ) (end more : StoredEnd) → length ends ≤ 1 → slice_get ends one ≡ Some end → slice_get ends other ≡ Some more → end ≡ more
+only_end ends one other end more few at there =
+    let first : one < length ends = slice_get_within ends one end at in
+    let second : other < length ends = slice_get_within ends other more there in
+    let same : one ≡ other = omega arith in
+    same_Some end more (sym at ∙ ap (slice_get ends) same ∙ there)
+
+pub held : (s : State) (found : EndSearchResult) (expectation : Expectation) → AreEndsOfChip (chip_of s) found → found.fault ≡ None → HasNoBreach found expectation
+    → HoldsInEveryOrder (chip_of s) expectation
+held s found (AtEnds expectation) are whole met = λ last events led returns. met_there (chip_of s) found are whole expectation met last events led returns
+held s found (Never conditions) are whole none = λ last events event place condition at led can met.
+    none_met (chip_of s) found are whole conditions.items none place condition at last events event led can met
+held s found EveryOrderEnds are whole none = (length found.searched.chips, λ last events led. end_bound (chip_of s) found are whole none last events led)
+held s found OneEnd are whole few =
+    let first = end_reachable (chip_of s) found are whole (chip_of s) [] refl in (
+      first.1,
+      λ last events led.
+          let it = end_reachable (chip_of s) found are whole last events led in
+          let same : it.3 ≡ first.3 = only_end found.ends it.2 first.2 it.3 first.3 few it.5 first.5 in
+          (it.0, it.4 ∙ sym it.6 ∙ ap (λ (e : StoredEnd). slice_get found.searched.chips e.state) same ∙ first.6),
+    )
+
+pub outcome_held : (s : State) (found : EndSearchResult) (expectation : Expectation) → AreEndsOfChip (chip_of s) found → IsOutcome s found expectation Holds
+    → HoldsInEveryOrder (chip_of s) expectation
+outcome_held s found expectation are it = held s found expectation are it.0 it.1
+
+-- ---- what is broken
+
+pub outcome_broken : (s : State) (found : EndSearchResult) (expectation : Expectation) (breach : Breach) → AreEndsOfChip (chip_of s) found → IsBreach s found expectation breach
+    → IsBrokenInSomeOrder s found expectation
+outcome_broken s found (AtEnds expectation) breach are it =
+    let there = unmet_there (chip_of s) found are expectation it.0 it.1 it.2 it.3 in
+    (it.1, there.0.0, there.0.1, there.1, there.2)
+outcome_broken s found (Never conditions) breach are it = (it.0, it.1, it.2, it.3)
+outcome_broken s found EveryOrderEnds breach are it =
+    let cycle = are.cycle.0 it.1 in
+    let size = are.is_search.explored_size in
+    let below : cycle.0 < length found.searched.edges = has_list found.searched.edges cycle.0 cycle.1 cycle.3.0 in
+    let chip = some_at found.searched.chips cycle.0 (omega arith) in
+    let way = reachable found.searched (chip_of s) cycle.0 chip.0 are.is_search are.initial chip.1 in
+    (chip.0, way.0, cycle.1.event, path_events cycle.2, way.1, path_replayed found.searched (cycle.1 ∷ cycle.2) cycle.0 cycle.0 chip.0 chip.0 are.is_search cycle.3 chip.1 chip.1)
+outcome_broken s found OneEnd breach are it = it.1
+
+-- ---- verdicts
+
+clean_by : (broken unknown : Bool) → Clean ≡ cond broken Unclean (cond unknown Unknown Clean) → (broken ≡ false) × (unknown ≡ false)
+clean_by true unknown is = absurd (cc)
+clean_by false true is = absurd (cc)
+clean_by false false is = (refl, refl)
+
+unclean_by : (broken unknown : Bool) → Unclean ≡ cond broken Unclean (cond unknown Unknown Clean) → broken ≡ true
+unclean_by true unknown is = refl
+unclean_by false true is = absurd (cc)
+unclean_by false false is = absurd (cc)
+
+not_saved : (broken unknown : Bool) → Saved ≡ cond broken Unclean (cond unknown Unknown Clean) → ⊥
+not_saved true unknown is = cc
+not_saved false true is = cc
+not_saved false false is = cc
+
+clean_not_unbroken : (unknown : Bool) → Clean ≡ cond unknown Unknown (Ended ImageRefused) → ⊥
+clean_not_unbroken true is = cc
+clean_not_unbroken false is = cc
+
+unclean_not_unbroken : (unknown : Bool) → Unclean ≡ cond unknown Unknown (Ended ImageRefused) → ⊥
+unclean_not_unbroken true is = cc
+unclean_not_unbroken false is = cc
+
+saved_not_unbroken : (unknown : Bool) → Saved ≡ cond unknown Unknown (Ended ImageRefused) → ⊥
+saved_not_unbroken true is = cc
+saved_not_unbroken false is = cc
+
+each_holds : (outcomes : List ExpectationOutcome) (place : ℕ) → place < length outcomes → list_any is_broken outcomes ≡ false → list_any is_unknown outcomes ≡ false
+    → get_or outcomes place outcome.Unknown ≡ Holds
+each_holds [] place below broken unknown = absurd (omega arith)
+each_holds (Holds ∷ outcomes) zero below broken unknown = refl
+each_holds (Holds ∷ outcomes) (suc place) below broken unknown = each_holds outcomes place (omega arith) broken unknown
+each_holds (Broken breach ∷ outcomes) place below broken unknown = absurd (true≢false broken)
+each_holds (outcome.Unknown ∷ outcomes) place below broken unknown = absurd (true≢false unknown)
+
+abbrev HasBroken : List ExpectationOutcome → Type 0
+HasBroken outcomes = (place : ℕ) × (breach : Breach) × (place < length outcomes) × (get_or outcomes place outcome.Unknown ≡ Broken breach)
+
+one_later : (first : ExpectationOutcome) (outcomes : List ExpectationOutcome) → HasBroken outcomes → HasBroken (first ∷ outcomes)
+one_later first outcomes it = let below = it.2 in (suc it.0, it.1, omega arith, it.3)
+
+some_broken : (outcomes : List ExpectationOutcome) → list_any is_broken outcomes ≡ true → HasBroken outcomes
+some_broken [] is = absurd (true≢false (sym is))
+some_broken (Holds ∷ outcomes) is = one_later Holds outcomes (some_broken outcomes is)
+some_broken (Broken breach ∷ outcomes) is = (0, breach, omega arith, refl)
+some_broken (outcome.Unknown ∷ outcomes) is = one_later outcome.Unknown outcomes (some_broken outcomes is)
+
+abbrev EachHolds : List LineExpectation → State → Type 0
+EachHolds expectations s = (place : ℕ) (one : LineExpectation) → slice_get expectations place ≡ Some one → HoldsInEveryOrder (chip_of s) one.expectation
+
+all_held : (s : State) (found : EndSearchResult) (expectations : List LineExpectation) (outcomes : List ExpectationOutcome) → AreEndsOfChip (chip_of s) found
+    → AreOutcomes s found expectations outcomes → list_any is_broken outcomes ≡ false → list_any is_unknown outcomes ≡ false → EachHolds expectations s
+all_held s found expectations outcomes are known broken unknown = λ place one at.
+    let within : place < length expectations = slice_get_within expectations place one at in
+    let size = known.size in
+    let holds : get_or outcomes place outcome.Unknown ≡ Holds = each_holds outcomes place (omega arith) broken unknown in
+    outcome_held s found one.expectation are (subst (IsOutcome s found one.expectation) holds (known.known place one at))
+
+abbrev OneIsBroken : List LineExpectation → State → Type 0
+OneIsBroken expectations s =
+    (found : EndSearchResult) × (place : ℕ) × (one : LineExpectation) × AreEndsOfChip (chip_of s) found × (slice_get expectations place ≡ Some one)
+    × IsBrokenInSomeOrder s found one.expectation
+
+one_broken : (s : State) (found : EndSearchResult) (expectations : List LineExpectation) (outcomes : List ExpectationOutcome) → AreEndsOfChip (chip_of s) found
+    → AreOutcomes s found expectations outcomes → list_any is_broken outcomes ≡ true → OneIsBroken expectations s
+one_broken s found expectations outcomes are known broken =
+    let it = some_broken outcomes broken in
+    let below = it.2 in
+    let size = known.size in
+    let one = some_at expectations it.0 (omega arith) in
+    (found, it.0, one.0, are, one.1, outcome_broken s found one.0.expectation it.1 are (subst (IsOutcome s found one.0.expectation) it.3 (known.known it.0 one.0 one.1)))
+
+pub clean_told : (bounds : CheckBounds) (expectations : List LineExpectation) (asked : ℕ) (s : State) (text : List ℕ) → WritesExpectationsReport bounds expectations asked s text Clean
+    → EachHolds expectations s
+clean_told bounds expectations asked s text (all found outcomes are known start (inl out)) =
+    let parts = clean_by (list_any is_broken outcomes) (list_any is_unknown outcomes) out.1 in
+    all_held s found expectations outcomes are known parts.0 parts.1
+clean_told bounds expectations asked s text (all found outcomes are known start (inr out)) = absurd (let q = out.1 in cc)
+clean_told bounds expectations asked s text (led one last at leads (inl out)) = absurd (let q = out.1 in cc)
+clean_told bounds expectations asked s text (led one last at leads (inr out)) = absurd (let q = out.1 in cc)
+clean_told bounds expectations asked s text (unbroken found one it are at known (inl out)) = absurd (clean_not_unbroken (is_unknown it) out.1)
+clean_told bounds expectations asked s text (unbroken found one it are at known (inr out)) = absurd (let q = out.1 in cc)
+clean_told bounds expectations asked s text (missing past (inl out)) = absurd (let q = out.1 in cc)
+clean_told bounds expectations asked s text (missing past (inr out)) = absurd (let q = out.1 in cc)
+clean_told bounds expectations asked s text (no_memory (inl out)) = absurd (let q = out.1 in cc)
+clean_told bounds expectations asked s text (no_memory (inr out)) = absurd (let q = out.1 in cc)
+clean_told bounds expectations asked s text (too_long (inl out)) = absurd (let q = out.1 in cc)
+clean_told bounds expectations asked s text (too_long (inr out)) = absurd (let q = out.1 in cc)
+
+pub unclean_told : (bounds : CheckBounds) (expectations : List LineExpectation) (asked : ℕ) (s : State) (text : List ℕ) → WritesExpectationsReport bounds expectations asked s text Unclean
+    → OneIsBroken expectations s
+unclean_told bounds expectations asked s text (all found outcomes are known start (inl out)) =
+    one_broken s found expectations outcomes are known (unclean_by (list_any is_broken outcomes) (list_any is_unknown outcomes) out.1)
+unclean_told bounds expectations asked s text (all found outcomes are known start (inr out)) = absurd (let q = out.1 in cc)
+unclean_told bounds expectations asked s text (led one last at leads (inl out)) = absurd (let q = out.1 in cc)
+unclean_told bounds expectations asked s text (led one last at leads (inr out)) = absurd (let q = out.1 in cc)
+unclean_told bounds expectations asked s text (unbroken found one it are at known (inl out)) = absurd (unclean_not_unbroken (is_unknown it) out.1)
+unclean_told bounds expectations asked s text (unbroken found one it are at known (inr out)) = absurd (let q = out.1 in cc)
+unclean_told bounds expectations asked s text (missing past (inl out)) = absurd (let q = out.1 in cc)
+unclean_told bounds expectations asked s text (missing past (inr out)) = absurd (let q = out.1 in cc)
+unclean_told bounds expectations asked s text (no_memory (inl out)) = absurd (let q = out.1 in cc)
+unclean_told bounds expectations asked s text (no_memory (inr out)) = absurd (let q = out.1 in cc)
+unclean_told bounds expectations asked s text (too_long (inl out)) = absurd (let q = out.1 in cc)
+unclean_told bounds expectations asked s text (too_long (inr out)) = absurd (let q = out.1 in cc)
+
+pub session_told : (bounds : CheckBounds) (expectations : List LineExpectation) (asked : ℕ) (s : State) (text : List ℕ) → WritesExpectationsReport bounds expectations asked s text Saved
+    → (one : LineExpectation) × (last : State) × (slice_get expectations (asked - 1) ≡ Some one) × LeadsToBreach s one.expectation last × (text ≡ saved_text last)
+session_told bounds expectations asked s text (all found outcomes are known start (inl out)) = absurd (not_saved (list_any is_broken outcomes) (list_any is_unknown outcomes) out.1)
+session_told bounds expectations asked s text (all found outcomes are known start (inr out)) = absurd (let q = out.1 in cc)
+session_told bounds expectations asked s text (led one last at leads (inl out)) = (one, last, at, leads, out.0)
+session_told bounds expectations asked s text (led one last at leads (inr out)) = absurd (let q = out.1 in cc)
+session_told bounds expectations asked s text (unbroken found one it are at known (inl out)) = absurd (saved_not_unbroken (is_unknown it) out.1)
+session_told bounds expectations asked s text (unbroken found one it are at known (inr out)) = absurd (let q = out.1 in cc)
+session_told bounds expectations asked s text (missing past (inl out)) = absurd (let q = out.1 in cc)
+session_told bounds expectations asked s text (missing past (inr out)) = absurd (let q = out.1 in cc)
+session_told bounds expectations asked s text (no_memory (inl out)) = absurd (let q = out.1 in cc)
+session_told bounds expectations asked s text (no_memory (inr out)) = absurd (let q = out.1 in cc)
+session_told bounds expectations asked s text (too_long (inl out)) = absurd (let q = out.1 in cc)
+session_told bounds expectations asked s text (too_long (inr out)) = absurd (let q = out.1 in cc)

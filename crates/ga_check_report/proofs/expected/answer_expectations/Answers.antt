@@ -1,0 +1,21 @@
+use Rattle.std.proofs.Common.{◌≡◌, ◌∙◌, List, Option, Ok, refl, sym, ap, subst}
+use Rattle.std.specs.Prelude.{map}
+use Rattle.ga_debug_info.specs.declared.notes.DebugInfo.{DebugInfo}
+use Rattle.ga_lab.specs.Machine.{State}
+use Rattle.ga_state_expectations.specs.declared.source.LineExpectation.{LineExpectation}
+use Rattle.ga_state_expectations.specs.Lines.{expectations_of, expected_content}
+use Rattle.ga_check_report.specs.Expected.{WritesProgramReport}
+use Rattle.ga_check_report.specs.Expected.WritesForNotes.{parsed, unparsed, faulty}
+use Rattle.ga_check_report.specs.Settled.{check_start}
+use Rattle.ga_check_report.proofs.expected.answer_expectations.Goals as goal
+
+pub returns-in-Ok : goal.returns-in-Ok
+returns-in-Ok g c = λ before held.
+    let sent = c.settle_and_judge.ensures before held in
+    let spelled : expectations_of c.args.begun.notes ≡ Ok (map expected_content c.in-Ok.expectations.items) =
+    ap (λ (notes : Option DebugInfo). expectations_of notes) (sym c.notes.ensures) ∙ c.in-Ok.ensures in
+    let Written : List LineExpectation → Type 0 =
+    λ list. WritesProgramReport c.args.bounds list c.args.asked (check_start c.args.settles c.into_lab.result) sent.0 c.settle_and_judge.result in
+    let Begun : State → Type 0 =
+    λ s. WritesProgramReport c.args.bounds c.in-Ok.expectations.items c.args.asked (check_start c.args.settles s) sent.0 c.settle_and_judge.result in
+    (sent.0, sent.1, parsed c.in-Ok.expectations.items spelled (subst Begun c.into_lab.ensures (subst Written c.as_slice.ensures.value sent.2)))

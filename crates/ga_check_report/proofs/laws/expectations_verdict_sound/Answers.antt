@@ -1,0 +1,8 @@
+use Rattle.ga_check_report.proofs.ExpectationTelling.{clean_told, unclean_told}
+use Rattle.ga_check_report.proofs.laws.expectations_verdict_sound.Goals as goal
+
+pub returns-clause-clean : goal.returns-clause-clean
+returns-clause-clean c = clean_told
+
+pub returns-clause-unclean : goal.returns-clause-unclean
+returns-clause-unclean c = unclean_told

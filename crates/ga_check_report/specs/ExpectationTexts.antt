@@ -1,0 +1,98 @@
+-- What `ga144 check` prints of the expectations of a program (docs/REFERENCE.md, "Every expectation"; this project's own): the numbers of states and
+-- of expectations, the line of each, and which bound was met.
+use Rattle.std.specs.Prelude.{ℕ, ◌+◌, Bool, true, false, List, [], ◌∷◌, ◌++◌, length, codes, decimal, slice_index_or, Option, Some, None}
+use Rattle.ga_word.specs.Word.{hex6_of}
+use Rattle.ga_ports.specs.Address.{only, has_side}
+use Rattle.ga_ports.specs.declared.side.Side.TheVariants as side
+use Rattle.ga_text.specs.Lines.{Text}
+use Rattle.ga_state_search.specs.declared.fault.SearchFault.{SearchFault}
+use Rattle.ga_state_ends.specs.Ends.{EndSearchResult}
+use Rattle.ga_state_expectations.specs.declared.source.LineExpectation.{LineExpectation}
+use Rattle.ga_check_report.specs.declared.ends_text.CheckBounds.{CheckBounds}
+use Rattle.ga_check_report.specs.declared.outcome.NodeObservation.{NodeObservation}
+use Rattle.ga_check_report.specs.declared.outcome.NodeObservation.TheVariants.{Is, Runs, AwaitsCode, Reads, Writes, Stopped}
+use Rattle.ga_check_report.specs.declared.outcome.Breach.{Breach}
+use Rattle.ga_check_report.specs.declared.outcome.Breach.TheVariants.{Unmet, Reached, Endless, SeveralEnds}
+use Rattle.ga_check_report.specs.declared.outcome.ExpectationOutcome.{ExpectationOutcome}
+use Rattle.ga_check_report.specs.declared.outcome.ExpectationOutcome.TheVariants.{Holds, Broken, Unknown}
+use Rattle.ga_check_report.specs.DecisionTexts.{made_text}
+use Rattle.ga_check_report.specs.EndTexts.{counted_noun_text, at_least_text, is_fully_explored, search_stop_text}
+
+-- ---- what a node holds or does
+
+abbrev pub optional_side_text : Bool → Text → Text
+optional_side_text true name = name
+optional_side_text false name = []
+
+-- the sides of a set, each after a blank
+abbrev pub side_words : ℕ → Text
+side_words sides =
+    optional_side_text (has_side sides side.Right) (codes " right") ++ optional_side_text (has_side sides side.Down) (codes " down")
+    ++ optional_side_text (has_side sides side.Left) (codes " left") ++ optional_side_text (has_side sides side.Up) (codes " up")
+
+abbrev pub observation_text : NodeObservation → Text
+observation_text (Is word) = codes "is " ++ hex6_of word
+observation_text Runs = codes "runs"
+observation_text AwaitsCode = codes "waits for code"
+observation_text (Reads sides) = codes "waits to read" ++ side_words sides
+observation_text (Writes side) = codes "waits to write" ++ side_words (only side)
+observation_text (Stopped stop) = codes "stop " ++ decimal stop
+
+-- ---- the line of an expectation, which has this number, from 1 on
+
+abbrev pub session_option_text : ℕ → Text
+session_option_text number = codes ": --session " ++ decimal number
+
+-- what breaks it; if not each state was explored, there may be more ends
+abbrev pub breach_text : Bool → ℕ → Breach → Text
+breach_text whole number (Unmet state observation) = observation_text observation ++ session_option_text number
+breach_text whole number (Reached made) = made_text made ++ session_option_text number
+breach_text whole number Endless = codes "some order goes on for ever"
+breach_text whole number (SeveralEnds ends) = at_least_text whole ++ decimal ends ++ codes " ends"
+
+-- what is known of it
+abbrev pub outcome_text : Bool → ℕ → ExpectationOutcome → Text
+outcome_text whole number Holds = codes ": holds in every order\n"
+outcome_text whole number (Broken breach) = codes ": broken, " ++ breach_text whole number breach ++ codes "\n"
+outcome_text whole number Unknown = codes ": not known\n"
+
+abbrev pub expectation_front : ℕ → Text
+expectation_front line = codes "line " ++ decimal line ++ codes ": "
+
+-- where it is, its words and what is known of it
+abbrev pub expectation_line : Bool → ℕ → LineExpectation → ExpectationOutcome → Text
+expectation_line whole number one outcome = expectation_front one.line ++ one.text.items ++ outcome_text whole number outcome
+
+-- the lines of the expectations from this place on
+abbrev pub expectations_lines_text : Bool → List ExpectationOutcome → ℕ → List LineExpectation → Text
+expectations_lines_text whole outcomes place [] = []
+expectations_lines_text whole outcomes place (one ∷ others) =
+    expectation_line whole (place + 1) one (slice_index_or outcomes place Unknown) ++ expectations_lines_text whole outcomes (place + 1) others
+
+-- ---- the whole answer
+
+-- the numbers of states and of expectations
+abbrev pub expectations_header : Bool → ℕ → ℕ → Text
+expectations_header whole states expectations =
+    at_least_text whole ++ counted_noun_text states (codes " state") ++ codes ", " ++ counted_noun_text expectations (codes " expectation") ++ codes "\n"
+
+-- why the search stopped before its end, if it did
+abbrev pub optional_stop_text : CheckBounds → Option SearchFault → Text
+optional_stop_text bounds None = []
+optional_stop_text bounds (Some fault) = search_stop_text bounds fault
+
+abbrev pub expectations_text : CheckBounds → EndSearchResult → List LineExpectation → List ExpectationOutcome → Text
+expectations_text bounds found expectations outcomes =
+    expectations_header (is_fully_explored found.fault) (length found.searched.chips) (length expectations)
+    ++ expectations_lines_text (is_fully_explored found.fault) outcomes 0 expectations ++ optional_stop_text bounds found.fault
+
+-- ---- no session
+
+-- there are fewer expectations
+abbrev pub missing_session_text : ℕ → ℕ → Text
+missing_session_text asked expectations =
+    codes "no session " ++ decimal asked ++ codes ": " ++ counted_noun_text expectations (codes " expectation") ++ codes "\n"
+
+-- nothing breaks the expectation of this number that a session leads to: its line
+abbrev pub unbroken_text : Bool → ℕ → LineExpectation → ExpectationOutcome → Text
+unbroken_text whole asked one outcome = codes "no session " ++ decimal asked ++ codes ": " ++ expectation_line whole asked one outcome

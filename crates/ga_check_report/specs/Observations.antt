@@ -1,0 +1,36 @@
+-- What a node holds or does on a chip on which an expectation isn't met (F18A Technology Reference DB001, registers, memory map and ports; the
+-- stops are this project's own).
+use Rattle.std.specs.Prelude.{ℕ, zero, suc, ◌%◌}
+use Rattle.ga_word.specs.Word.{words}
+use Rattle.ga_node.specs.Record.{NodeRecord}
+use Rattle.ga_node.specs.declared.wait.Wait.{Wait}
+use Rattle.ga_node.specs.declared.wait.Wait.TheVariants.{Nothing, Fetch, Read, Write}
+use Rattle.ga_scheduler.specs.Values.{node_value}
+use Rattle.ga_state_expectations.specs.declared.expectation.NodeRequirement.{NodeRequirement}
+use Rattle.ga_state_expectations.specs.declared.expectation.NodeRequirement.TheVariants as required
+use Rattle.ga_check_report.specs.declared.outcome.NodeObservation.{NodeObservation}
+use Rattle.ga_check_report.specs.declared.outcome.NodeObservation.TheVariants.{Is, Runs, AwaitsCode, Reads, Writes, Stopped}
+
+-- what a node does that waits so and isn't stopped
+abbrev pub observation_by_wait : Wait → NodeObservation
+observation_by_wait Nothing = Runs
+observation_by_wait (Fetch sides) = AwaitsCode
+observation_by_wait (Read sides) = Reads sides
+observation_by_wait (Write side) = Writes side
+
+-- the same by the number of its stop, which is 0 if it isn't stopped
+abbrev pub observation_by_stop : ℕ → Wait → NodeObservation
+observation_by_stop zero wait = observation_by_wait wait
+observation_by_stop (suc k) wait = Stopped (suc k)
+
+-- what a node does
+abbrev pub observed_action : NodeRecord → NodeObservation
+observed_action node = observation_by_stop node.stop node.wait
+
+-- what it has of what is required: the value that is tested, as a word, or else what it does
+abbrev pub observation_of : NodeRequirement → NodeRecord → NodeObservation
+observation_of (required.Holds test) node = Is (node_value node 0 test.value % words)
+observation_of (required.Reads sides) node = observed_action node
+observation_of (required.Writes side) node = observed_action node
+observation_of required.AwaitsCode node = observed_action node
+observation_of (required.Stopped number) node = observed_action node

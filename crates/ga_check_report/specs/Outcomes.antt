@@ -1,0 +1,116 @@
+-- What a search of states shows of an expectation (docs/REFERENCE.md, "Every expectation"; this project's own), what that says of each interleaving,
+-- and the verdict about several.
+use Rattle.std.specs.Prelude.{ℕ, ◌≡◌, ◌+◌, ◌<◌, ◌≤◌, Bool, true, false, if◌then◌else◌, List, ◌∷◌, length, slice_get, slice_index_or, Some, None}
+use Rattle.std.specs.List.{list_any}
+use Rattle.ga_node.specs.Record.{NodeRecord}
+use Rattle.ga_grid.specs.Chip.{record_at}
+use Rattle.ga_event.specs.declared.event.Event.{Event}
+use Rattle.ga_event.specs.declared.made.Made.{Made}
+use Rattle.ga_event.specs.Apply.{replay}
+use Rattle.ga_races.specs.Orders.{IsEnabled}
+use Rattle.ga_lab.specs.Machine.{State, chip_of}
+use Rattle.ga_state_ends.specs.Ends.{EndSearchResult}
+use Rattle.ga_state_conditions.specs.declared.condition.StateCondition.{StateCondition}
+use Rattle.ga_state_conditions.specs.Reached.{IsConditionMet, HasNoReachedEvent}
+use Rattle.ga_state_expectations.specs.declared.expectation.NodeExpectation.{NodeExpectation}
+use Rattle.ga_state_expectations.specs.declared.source.Expectation.{Expectation}
+use Rattle.ga_state_expectations.specs.declared.source.Expectation.TheVariants.{AtEnds, Never, EveryOrderEnds, OneEnd}
+use Rattle.ga_state_expectations.specs.declared.source.LineExpectation.{LineExpectation}
+use Rattle.ga_state_expectations.specs.Expectations.{is_met_on}
+use Rattle.ga_state_expectations.specs.Recurrent.{IsRecurrent}
+use Rattle.ga_state_expectations.specs.Unmet.{IsUnmetAt, IsMetAtEnds}
+use Rattle.ga_check_report.specs.declared.outcome.Breach.{Breach}
+use Rattle.ga_check_report.specs.declared.outcome.Breach.TheVariants.{Unmet, Reached, Endless, SeveralEnds}
+use Rattle.ga_check_report.specs.declared.outcome.ExpectationOutcome.{ExpectationOutcome}
+use Rattle.ga_check_report.specs.declared.outcome.ExpectationOutcome.TheVariants.{Holds, Broken, Unknown}
+use Rattle.ga_check_report.specs.declared.report.Verdict.{Verdict}
+use Rattle.ga_check_report.specs.declared.report.Verdict.TheVariants as verdict
+use Rattle.ga_check_report.specs.EndTexts.{is_fully_explored}
+use Rattle.ga_check_report.specs.Never.{HasReachedEvent}
+use Rattle.ga_check_report.specs.Observations.{observation_of}
+
+-- ---- what was found
+
+-- the state is one of an end on whose chip the expectation isn't met, and the node has this there
+abbrev pub IsUnmetBreach : EndSearchResult → NodeExpectation → Breach → Type 0
+IsUnmetBreach found expectation breach =
+    (state : ℕ) × (chip : List NodeRecord) × IsUnmetAt found expectation state × (slice_get found.searched.chips state ≡ Some chip)
+    × (breach ≡ Unmet state (observation_of expectation.requirement (record_at chip expectation.node.number)))
+
+-- events led the machine to one on which the event was enabled, and it made the event, after which one of the conditions holds
+abbrev pub IsReachedBreach : State → List StateCondition → Breach → Type 0
+IsReachedBreach s conditions breach = (which : ℕ) × (last : State) × (made : Made) × HasReachedEvent conditions which s last made × (breach ≡ Reached made)
+
+-- what breaks an expectation of a machine
+abbrev pub IsBreach : State → EndSearchResult → Expectation → Breach → Type 0
+IsBreach s found (AtEnds expectation) breach = IsUnmetBreach found expectation breach
+IsBreach s found (Never conditions) breach = IsReachedBreach s conditions.items breach
+IsBreach s found EveryOrderEnds breach = (breach ≡ Endless) × (found.has_cycle ≡ true)
+IsBreach s found OneEnd breach = (breach ≡ SeveralEnds (length found.ends)) × (1 < length found.ends)
+
+-- nothing that was found breaks it
+abbrev pub HasNoBreach : EndSearchResult → Expectation → Type 0
+HasNoBreach found (AtEnds expectation) = IsMetAtEnds found expectation
+HasNoBreach found (Never conditions) = HasNoReachedEvent found conditions.items
+HasNoBreach found EveryOrderEnds = found.has_cycle ≡ false
+HasNoBreach found OneEnd = length found.ends ≤ 1
+
+-- what is known where this says that nothing was found, and that what breaks it: that it holds, if each state was explored
+abbrev pub IsOutcomeBy : EndSearchResult → Type 0 → (Breach → Type 0) → ExpectationOutcome → Type 0
+IsOutcomeBy found none is_breach Holds = (found.fault ≡ None) × none
+IsOutcomeBy found none is_breach (Broken breach) = is_breach breach
+IsOutcomeBy found none is_breach Unknown = (is_fully_explored found.fault ≡ false) × none
+
+-- what is known of an expectation
+abbrev pub IsOutcome : State → EndSearchResult → Expectation → ExpectationOutcome → Type 0
+IsOutcome s found expectation outcome = IsOutcomeBy found (HasNoBreach found expectation) (IsBreach s found expectation) outcome
+
+-- Each expectation has its outcome.
+pub record AreOutcomes (s : State) (found : EndSearchResult) (expectations : List LineExpectation) (outcomes : List ExpectationOutcome) : Type 0 where
+  pub size : length outcomes ≡ length expectations
+  pub known : (place : ℕ) (one : LineExpectation) → slice_get expectations place ≡ Some one
+      → IsOutcome s found one.expectation (slice_index_or outcomes place Unknown)
+
+-- ---- the verdict
+
+abbrev pub is_broken : ExpectationOutcome → Bool
+is_broken Holds = false
+is_broken (Broken breach) = true
+is_broken Unknown = false
+
+abbrev pub is_unknown : ExpectationOutcome → Bool
+is_unknown Holds = false
+is_unknown (Broken breach) = false
+is_unknown Unknown = true
+
+-- one is broken; or one isn't known; or each holds
+abbrev pub outcomes_verdict : List ExpectationOutcome → Verdict
+outcomes_verdict outcomes =
+    if list_any is_broken outcomes then verdict.Unclean else if list_any is_unknown outcomes then verdict.Unknown else verdict.Clean
+
+-- ---- what that says of every interleaving
+
+-- On each chip to which the program can always come back, the node has what is required; after no event that comes does one of the conditions
+-- hold; no list of events is longer than some number; one chip can still be reached from wherever a list leads.
+abbrev pub HoldsInEveryOrder : List NodeRecord → Expectation → Type 0
+HoldsInEveryOrder load (AtEnds expectation) =
+    (last : List NodeRecord) (events : List Event) → replay load events ≡ Some last → IsRecurrent last → is_met_on expectation last ≡ true
+HoldsInEveryOrder load (Never conditions) =
+    (last : List NodeRecord) (events : List Event) (event : Event) (place : ℕ) (condition : StateCondition) → slice_get conditions.items place ≡ Some condition
+    → replay load events ≡ Some last → IsEnabled last event → IsConditionMet condition last event → ⊥
+HoldsInEveryOrder load EveryOrderEnds =
+    (bound : ℕ) × ((last : List NodeRecord) (events : List Event) → replay load events ≡ Some last → length events ≤ bound)
+HoldsInEveryOrder load OneEnd =
+    (there : List NodeRecord) × ((last : List NodeRecord) (events : List Event) → replay load events ≡ Some last → (more : List Event) × (replay last more ≡ Some there))
+
+-- Some events lead to a chip to which the program can always come back, on which the node doesn't have what is required; or to one from which
+-- further events lead back to it. Or they led the machine to one on which an event was enabled, after which one of the conditions holds. Or the
+-- search found two ends.
+abbrev pub IsBrokenInSomeOrder : State → EndSearchResult → Expectation → Type 0
+IsBrokenInSomeOrder s found (AtEnds expectation) =
+    (chip : List NodeRecord) × (events : List Event) × (replay (chip_of s) events ≡ Some chip) × IsRecurrent chip × (is_met_on expectation chip ≡ false)
+IsBrokenInSomeOrder s found (Never conditions) = (which : ℕ) × (last : State) × (made : Made) × HasReachedEvent conditions.items which s last made
+IsBrokenInSomeOrder s found EveryOrderEnds =
+    (chip : List NodeRecord) × (events : List Event) × (event : Event) × (more : List Event) × (replay (chip_of s) events ≡ Some chip)
+    × (replay chip (event ∷ more) ≡ Some chip)
+IsBrokenInSomeOrder s found OneEnd = 1 < length found.ends

@@ -1,0 +1,296 @@
+//! The expectations of a program, and the text about them.
+
+ghost use Rattle.std.specs.Prelude.{◌≡◌, ◌≤◌, ◌-◌, Some, slice_get, slice_index_or, length};
+ghost use Rattle.ga_text.specs.Output.{WritesExactly, WritesText, ReadsAndWrites};
+ghost use Rattle.ga_lab.specs.Machine.{chip_of};
+ghost use Rattle.ga_console.specs.declared.run.Status.TheVariants.{ImageRefused};
+ghost use Rattle.ga_state_ends.specs.Ends.{AreEndsOfChip};
+ghost use Rattle.ga_check_report.specs.declared.outcome.ExpectationOutcome.TheVariants.{Unknown};
+ghost use Rattle.ga_check_report.specs.declared.report.Verdict.TheVariants.{Ended};
+ghost use Rattle.ga_check_report.specs.Checking.{IsReportOutput};
+ghost use Rattle.ga_check_report.specs.ExpectationTexts.{expectations_lines_text, expectations_text, missing_session_text, optional_stop_text};
+ghost use Rattle.ga_check_report.specs.Outcomes.{AreOutcomes, outcomes_verdict};
+ghost use Rattle.ga_check_report.specs.Expected.{WritesForNotes, WritesExpectationsReport, WritesProgramReport, IsProgramOutcome};
+ghost use Rattle.ga_check_report.specs.Settled.{check_start};
+
+use crate::breach_session::tell_one;
+use crate::ends_text::{CheckBounds, is_fully_explored, stopped_line};
+use crate::judging::judge_all;
+use crate::outcome::{ExpectationOutcome, OutcomeParts, outcomes_verdict};
+use crate::outcome_text::{expectations_header, missing_session_text, write_expectation};
+use crate::report::{Verdict, sent, tell_ends, tell_refused};
+use crate::settling::settle_waiting_nodes;
+use ga_console::Status;
+use ga_explorer::{Explorer, open_lab};
+use ga_lab::{Lab, LabFault};
+use ga_state_ends::{FoundEnds, find_ends};
+use ga_state_expectations::{ExpectationsError, LineExpectation, parse_expectations};
+use ga_state_search::SearchControl;
+use ga_text::{Input, WriteResult, Writer};
+use std::alloc::Global;
+use std::io::{Read, Write};
+
+/// Reads an image or source as [`crate::check_ends`] does. Writes of each expectation of the source whether it holds in every order; or, if one is
+/// named by its number, from 1 on, the lines `step NNN` that lead to what breaks it. Without expectations it does what [`crate::check_ends`] does.
+/// The verdict is `Clean` where each holds, `Unclean` where one is broken.
+pub fn check_program<R: Read, W: Write, E: Write>(
+    alloc: Global,
+    reader: &mut R,
+    writer: &mut W,
+    errors: &mut E,
+    bounds: CheckBounds,
+    limit: u32,
+    settles: bool,
+    asked: u32,
+    watch: &SearchControl,
+) -> Verdict
+    // If the streams report their bytes: what was read, and what was written for it by the verdict.
+    ensures { ReadsAndWrites (λ read rest text. IsProgramOutcome bounds limit settles asked read rest text result)
+        (R.remaining reader.old) (R.remaining reader.new) (W.contents writer.old) (W.contents writer.new) }
+{
+    let mut input = Input::new();
+    match open_lab(alloc, &mut input, reader, writer, errors, None, limit) {
+        Ok(begun) => answer_expectations(alloc, begun, bounds, settles, asked, watch, writer),
+        Err(status) => Verdict::Ended(status),
+    }
+}
+
+/// Writes what is known of the expectations of a source.
+fn answer_expectations<W: Write>(
+    alloc: Global,
+    begun: Explorer,
+    bounds: CheckBounds,
+    settles: bool,
+    asked: u32,
+    watch: &SearchControl,
+    writer: &mut W,
+) -> Verdict
+    ensures { WritesText (λ text. WritesForNotes begun.notes bounds asked (check_start settles begun.lab) text result) (W.contents writer.old) (W.contents writer.new) }
+{
+    match parse_expectations(alloc, begun.notes()) {
+        Ok(expectations) => settle_and_judge(
+            alloc,
+            &mut begun.into_lab(),
+            bounds,
+            settles,
+            expectations.as_slice(),
+            asked,
+            watch,
+            writer,
+        ),
+        Err(ExpectationsError::Memory) => tell_refused(LabFault::Memory, writer),
+        Err(ExpectationsError::Faulty(_)) => Verdict::Ended(Status::ImageRefused),
+    }
+}
+
+/// Writes what is known of the expectations of a lab's program, from where its idle nodes wait if they are to.
+fn settle_and_judge<W: Write>(
+    alloc: Global,
+    lab: &mut Lab,
+    bounds: CheckBounds,
+    settles: bool,
+    expectations: &[LineExpectation],
+    asked: u32,
+    watch: &SearchControl,
+    writer: &mut W,
+) -> Verdict
+    ensures { WritesText (λ text. WritesProgramReport bounds expectations.now asked (check_start settles lab.old) text result)
+        (W.contents writer.old) (W.contents writer.new) }
+{
+    match settle_waiting_nodes(lab, settles) {
+        Ok(()) => tell_program(alloc, lab, bounds, expectations, asked, watch, writer),
+        Err(_) => tell_refused(LabFault::Memory, writer),
+    }
+}
+
+/// Writes what is known of the expectations of a lab's program; without any what its ends are.
+fn tell_program<W: Write>(
+    alloc: Global,
+    lab: &mut Lab,
+    bounds: CheckBounds,
+    expectations: &[LineExpectation],
+    asked: u32,
+    watch: &SearchControl,
+    writer: &mut W,
+) -> Verdict
+    ensures { WritesText (λ text. WritesProgramReport bounds expectations.now asked lab.old text result) (W.contents writer.old) (W.contents writer.new) }
+{
+    let count = expectations.len();
+    if count == 0 {
+        tell_ends(alloc, lab, bounds, asked, watch, writer)
+    } else {
+        search_and_judge(alloc, lab, bounds, expectations, asked, watch, writer)
+    }
+}
+
+/// Searches the states of a lab's chip, and writes what is known of the expectations.
+fn search_and_judge<W: Write>(
+    alloc: Global,
+    lab: &mut Lab,
+    bounds: CheckBounds,
+    expectations: &[LineExpectation],
+    asked: u32,
+    watch: &SearchControl,
+    writer: &mut W,
+) -> Verdict
+    ensures { WritesText (λ text. WritesExpectationsReport bounds expectations.now asked lab.old text result) (W.contents writer.old) (W.contents writer.new) }
+{
+    match find_ends(alloc, lab.chip(), bounds.most, watch) {
+        Ok(mut found) => {
+            tell_expectations(alloc, lab, &mut found, bounds, expectations, asked, writer)
+        }
+        Err(_) => tell_refused(LabFault::Memory, writer),
+    }
+}
+
+/// Writes what is known of the expectations, or the session of one.
+fn tell_expectations<W: Write>(
+    alloc: Global,
+    lab: &mut Lab,
+    found: &mut FoundEnds,
+    bounds: CheckBounds,
+    expectations: &[LineExpectation],
+    asked: u32,
+    writer: &mut W,
+) -> Verdict
+    requires { AreEndsOfChip (chip_of lab.old) found.old }
+    ensures { WritesText (λ text. WritesExpectationsReport bounds expectations.now asked lab.old text result) (W.contents writer.old) (W.contents writer.new) }
+{
+    if asked == 0 {
+        tell_each(alloc, lab, found, bounds, expectations, writer)
+    } else if asked as usize <= expectations.len() {
+        tell_one(
+            alloc,
+            lab,
+            found,
+            expectation_at(expectations, asked),
+            asked,
+            writer,
+        )
+    } else {
+        tell_missing(expectations.len(), asked, writer)
+    }
+}
+
+/// The expectation with this number, from 1 on.
+fn expectation_at(expectations: &[LineExpectation], asked: u32) -> &LineExpectation
+    requires asked { 1 ≤ asked }
+    requires within { asked ≤ length expectations.now }
+    ensures { slice_get expectations.now (asked - 1) ≡ Some result.now }
+{
+    &expectations[asked as usize - 1]
+}
+
+// ---- each expectation
+
+/// Writes what is known of each expectation.
+fn tell_each<W: Write>(
+    alloc: Global,
+    lab: &mut Lab,
+    found: &mut FoundEnds,
+    bounds: CheckBounds,
+    expectations: &[LineExpectation],
+    writer: &mut W,
+) -> Verdict
+    requires { AreEndsOfChip (chip_of lab.old) found.old }
+    ensures { WritesText (λ text. WritesExpectationsReport bounds expectations.now 0 lab.old text result) (W.contents writer.old) (W.contents writer.new) }
+{
+    let _parts: Option<OutcomeParts> = None;
+    match judge_all(alloc, lab, found, expectations) {
+        Ok(outcomes) => tell_outcomes(bounds, found, expectations, outcomes.as_slice(), writer),
+        Err(LabFault::Full) => tell_refused(LabFault::Full, writer),
+        Err(_) => tell_refused(LabFault::Memory, writer),
+    }
+}
+
+/// Writes the expectations with what is known of them, and what is pending.
+fn tell_outcomes<W: Write>(
+    bounds: CheckBounds,
+    found: &FoundEnds,
+    expectations: &[LineExpectation],
+    outcomes: &[ExpectationOutcome],
+    writer: &mut W,
+) -> Verdict
+    ensures { WritesText (λ text. IsReportOutput (expectations_text bounds found.now expectations.now outcomes.now) (outcomes_verdict outcomes.now) text result)
+        (W.contents writer.old) (W.contents writer.new) }
+{
+    let mut out = Writer::new(writer);
+    let said = write_expectations(bounds, found, expectations, outcomes, &mut out);
+    sent(said, outcomes_verdict(outcomes), &mut out)
+}
+
+/// Writes the numbers of states and of expectations, the line of each, and which bound was met.
+///
+/// # Errors
+/// A write failed.
+fn write_expectations<W: Write>(
+    bounds: CheckBounds,
+    found: &FoundEnds,
+    expectations: &[LineExpectation],
+    outcomes: &[ExpectationOutcome],
+    writer: &mut Writer<'_, W>,
+) -> WriteResult
+    ensures { WritesExactly result (expectations_text bounds found.now expectations.now outcomes.now) W.contents writer.old writer.new }
+{
+    let whole = is_fully_explored(found);
+    let header = expectations_header(whole, found.count_states(), expectations.len());
+    writer.write_blocks(header.as_slice())?;
+    write_lines(whole, expectations, outcomes, writer)?;
+    write_stop(bounds, found, writer)
+}
+
+/// Writes the line of each expectation.
+///
+/// # Errors
+/// A write failed.
+fn write_lines<W: Write>(
+    whole: bool,
+    expectations: &[LineExpectation],
+    outcomes: &[ExpectationOutcome],
+    writer: &mut Writer<'_, W>,
+) -> WriteResult
+    ensures { WritesExactly result (expectations_lines_text whole outcomes.now 0 expectations.now) W.contents writer.old writer.new }
+{
+    'expectations: for place in 0..expectations.len() {
+        let outcome = outcome_at(outcomes, place);
+        write_expectation(whole, place + 1, &expectations[place], outcome, writer)?;
+    }
+    Ok(())
+}
+
+/// The outcome at a place.
+fn outcome_at(outcomes: &[ExpectationOutcome], place: usize) -> ExpectationOutcome
+    ensures { result ≡ slice_index_or outcomes.now place Unknown }
+{
+    match outcomes.get(place) {
+        Some(outcome) => *outcome,
+        None => ExpectationOutcome::Unknown,
+    }
+}
+
+/// Writes which bound was met, if one was.
+///
+/// # Errors
+/// A write failed.
+fn write_stop<W: Write>(
+    bounds: CheckBounds,
+    found: &FoundEnds,
+    writer: &mut Writer<'_, W>,
+) -> WriteResult
+    ensures { WritesExactly result (optional_stop_text bounds found.now.fault) W.contents writer.old writer.new }
+{
+    match found.fault() {
+        None => writer.write_text(b""),
+        Some(fault) => writer.write_blocks(stopped_line(bounds, fault).as_slice()),
+    }
+}
+
+/// Writes that there are fewer expectations.
+fn tell_missing<W: Write>(expectations: usize, asked: u32, writer: &mut W) -> Verdict
+    ensures { WritesText (λ text. IsReportOutput (missing_session_text asked expectations) (Ended ImageRefused) text result)
+        (W.contents writer.old) (W.contents writer.new) }
+{
+    let mut out = Writer::new(writer);
+    let said = out.write_blocks(missing_session_text(asked, expectations).as_slice());
+    sent(said, Verdict::Ended(Status::ImageRefused), &mut out)
+}

@@ -1,0 +1,106 @@
+//! What a search shows of an expectation.
+
+ghost use Rattle.std.specs.Prelude.{◌≡◌};
+ghost use Rattle.std.specs.List.{list_any};
+ghost use Rattle.ga_check_report.specs.Outcomes.{is_broken, is_unknown, outcomes_verdict};
+
+use crate::report::Verdict;
+use ga_lab::Made;
+use ga_ports::{PortSet, Side};
+use ga_word::Word18;
+
+/// What a node holds or does at one moment.
+#[derive(Clone, Copy, PartialEq, Eq, Debug)]
+pub(crate) enum NodeObservation {
+    /// A value of it is this word.
+    Is(Word18),
+    /// It neither waits nor is stopped.
+    Runs,
+    /// It waits for code.
+    AwaitsCode,
+    /// It waits to read a word from these sides.
+    Reads(PortSet),
+    /// It waits to write a word to this side.
+    Writes(Side),
+    /// It is stopped, by the stop of this number.
+    Stopped(u8),
+}
+
+/// What breaks an expectation.
+#[derive(Clone, Copy, PartialEq, Eq, Debug)]
+pub(crate) enum Breach {
+    /// A state of an end, and what the node has there.
+    Unmet {
+        state: u32,
+        observation: NodeObservation,
+    },
+    /// An event after which one of the conditions holds.
+    Reached(Made),
+    /// Some order goes on for ever.
+    Endless,
+    /// The program has this number of ends, two or more.
+    SeveralEnds(usize),
+}
+
+/// What is known of an expectation.
+#[derive(Clone, Copy, PartialEq, Eq, Debug)]
+pub(crate) enum ExpectationOutcome {
+    /// It holds in every order.
+    Holds,
+    /// It doesn't in some order.
+    Broken(Breach),
+    /// A bound was met before either was found.
+    Unknown,
+}
+
+/// The types within an outcome: where outcomes are in a `Vec`, this kit's borrow checker has to meet them in the function.
+pub(crate) type OutcomeParts = (Breach, NodeObservation, Made);
+
+/// Whether the expectation doesn't hold in some order.
+fn is_broken(outcome: ExpectationOutcome) -> bool
+    ensures { result ≡ is_broken outcome }
+{
+    match outcome {
+        ExpectationOutcome::Holds => false,
+        ExpectationOutcome::Broken(_) => true,
+        ExpectationOutcome::Unknown => false,
+    }
+}
+
+/// Whether it isn't known.
+pub(crate) fn is_unknown(outcome: ExpectationOutcome) -> bool
+    ensures { result ≡ is_unknown outcome }
+{
+    match outcome {
+        ExpectationOutcome::Holds => false,
+        ExpectationOutcome::Broken(_) => false,
+        ExpectationOutcome::Unknown => true,
+    }
+}
+
+/// Whether one of the expectations doesn't hold in some order.
+fn has_broken(outcomes: &[ExpectationOutcome]) -> bool
+    ensures { result ≡ list_any is_broken outcomes.now }
+{
+    outcomes.iter().any(|outcome| is_broken(*outcome))
+}
+
+/// Whether one of them isn't known.
+fn has_unknown(outcomes: &[ExpectationOutcome]) -> bool
+    ensures { result ≡ list_any is_unknown outcomes.now }
+{
+    outcomes.iter().any(|outcome| is_unknown(*outcome))
+}
+
+/// Whether an expectation is broken; or else one isn't known; or each holds.
+pub(crate) fn outcomes_verdict(outcomes: &[ExpectationOutcome]) -> Verdict
+    ensures { result ≡ outcomes_verdict outcomes.now }
+{
+    if has_broken(outcomes) {
+        Verdict::Unclean
+    } else if has_unknown(outcomes) {
+        Verdict::Unknown
+    } else {
+        Verdict::Clean
+    }
+}

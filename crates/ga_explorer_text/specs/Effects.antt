@@ -1,0 +1,40 @@
+-- The texts of `effects`: what a rollback would remove, with what the source has for it (docs/REFERENCE.md, "Exploring"; this
+-- project's own).
+use Rattle.std.specs.Prelude.{◌≡◌, ℕ, ◌⊎◌, List, ◌++◌, length, flat_map, codes, decimal, Option, Result, Ok, Err, IsOk}
+use Rattle.ga_text.specs.Lines.{Text}
+use Rattle.ga_text.specs.Digits.{step_text}
+use Rattle.ga_grid.specs.declared.node_id.NodeId.{NodeId}
+use Rattle.ga_lab.specs.Machine.{State, rewind_answer}
+use Rattle.ga_lab.specs.declared.fault.LabFault.{LabFault}
+use Rattle.ga_lab.specs.declared.fault.LabFault.TheVariants.{Memory}
+use Rattle.ga_scheduler.specs.Effects.{rollback_effects}
+use Rattle.ga_scheduler.specs.declared.effects.RollbackEffect.{RollbackEffect}
+use Rattle.ga_display.specs.Texts.{advised_refusal_text}
+use Rattle.ga_debug_info.specs.declared.notes.DebugInfo.{DebugInfo}
+use Rattle.ga_explorer_text.specs.SourceSuffix.{step_suffix_text}
+
+-- what would go of a node: its first step that would, and how many would
+abbrev pub effect_front : RollbackEffect → Text
+effect_front effect = step_text effect.node effect.first ++ codes " " ++ decimal effect.steps
+
+-- its line, which the source of its first step that would go ends
+abbrev pub effect_text : Option DebugInfo → State → RollbackEffect → Text
+effect_text notes s effect = effect_front effect ++ step_suffix_text notes s effect.node effect.first
+
+-- how many events would go, and of how many nodes
+abbrev pub effects_head : ℕ → ℕ → Text
+effects_head events nodes = codes "effects " ++ decimal events ++ codes " " ++ decimal nodes ++ codes "\n"
+
+abbrev pub effects_text : Option DebugInfo → State → ℕ → List RollbackEffect → Text
+effects_text notes s events effects = effects_head events (length effects) ++ flat_map (effect_text notes s) effects
+
+-- the text about a rollback, by what `rewind` would answer
+abbrev pub effects_answer : Option DebugInfo → State → List RollbackEffect → Result ℕ LabFault → Text
+effects_answer notes s effects (Ok events) = effects_text notes s events effects
+effects_answer notes s effects (Err why) = advised_refusal_text why
+
+-- The answer is what a rollback would remove, or out of memory if one is possible.
+abbrev pub IsEffectsAnswer : Option DebugInfo → State → NodeId → ℕ → Text → Type 0
+IsEffectsAnswer notes s node step answer =
+    (answer ≡ effects_answer notes s (rollback_effects s node.number step) (rewind_answer s node.number step))
+    ⊎ (IsOk (rewind_answer s node.number step) × (answer ≡ advised_refusal_text Memory))

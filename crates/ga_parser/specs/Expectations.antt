@@ -1,0 +1,101 @@
+-- Expectations: the lines of a source that begin with `expect` (docs/REFERENCE.md, "Source"; this project's own).
+use Rattle.std.specs.Prelude.{ℕ, nat_lt, Bool, true, false, ◌&&◌, if◌then◌else◌, List, [], ◌∷◌, ◌++◌, map, flat_map, codes, bytes_eq, option_map}
+use Rattle.std.specs.List.{list_all}
+use Rattle.std.specs.Option.{option_to_list}
+use Rattle.ga_grid.specs.declared.node_id.NodeId.{NodeId}
+use Rattle.ga_grid.specs.Grid.{node_id}
+use Rattle.ga_parser.specs.declared.expectations.ExpectationLine.{ExpectationLine}
+use Rattle.ga_parser.specs.Constants.{Names, resolved_word_text, ConstantResolution, constant_resolution}
+use Rattle.ga_parser.specs.Groups.{NodeNaming, begins_node, is_further_node_name, naming_after_word}
+use Rattle.ga_parser.specs.Groups.NodeNaming.{Nothing, Node, Name}
+use Rattle.ga_parser.specs.Plain.{named_node_number}
+use Rattle.ga_parser.specs.Saying.{source_lines, stripped_source_line, TokenContent, PlacedToken, is_word, all_tokens_of_line, begins_expectation, next_line_number, scanned_tokens}
+
+-- ---- the nodes whose program a line is in
+
+-- the node of a name, if there is one
+abbrev pub named_nodes : List ℕ → List NodeId
+named_nodes text = option_to_list (option_map node_id (named_node_number text))
+
+-- what comes before a word, and the nodes that the words after the last `node` name
+pub record NodeGroup : Type 0 where
+  pub naming : NodeNaming
+  pub nodes : List NodeId
+
+-- no `node` yet
+abbrev pub no_group : NodeGroup
+no_group = record { naming = Nothing; nodes = [] }
+
+-- the word names a node: it comes after `node`, or is a further name
+abbrev pub is_node_name : NodeNaming → PlacedToken → Bool
+is_node_name Nothing one = false
+is_node_name (Node node) one = true
+is_node_name (Name node) one = is_further_node_name node one
+
+-- the nodes with one word more
+abbrev pub nodes_after_word : NodeGroup → PlacedToken → List NodeId
+nodes_after_word group one =
+    if begins_node one then []
+    else if is_node_name group.naming one then group.nodes ++ named_nodes one.said.text
+    else group.nodes
+
+abbrev pub group_after_word : NodeGroup → PlacedToken → NodeGroup
+group_after_word group one = record { naming = naming_after_word group.naming one; nodes = nodes_after_word group one }
+
+-- after the words before a line
+unfoldable pub group_before : ℕ → NodeGroup → List PlacedToken → NodeGroup
+group_before line group [] = group
+group_before line group (one ∷ rest) = if nat_lt one.said.line line then group_before line (group_after_word group one) rest else group
+
+-- the nodes that the last `node` before a line names
+abbrev pub nodes_before : ℕ → List PlacedToken → List NodeId
+nodes_before line words = (group_before line no_group words).nodes
+
+-- ---- what an expectation says
+
+-- texts with a blank between two
+abbrev pub spaced : List (List ℕ) → List ℕ
+spaced [] = []
+spaced (text ∷ texts) = text ++ flat_map (λ next. 32 ∷ next) texts
+
+-- the texts of words, with constants as their numbers
+abbrev pub resolved_texts : Names → List TokenContent → List (List ℕ)
+resolved_texts known words = map (λ said. resolved_word_text known said.text) words
+
+-- the words after `expect`
+abbrev pub expectation_text : Names → List TokenContent → List ℕ
+expectation_text known [] = []
+expectation_text known (expect ∷ words) = spaced (resolved_texts known words)
+
+-- an expectation: its line, the nodes of its program, and its text
+pub record ExpectationContent : Type 0 where
+  pub line : ℕ
+  pub nodes : List NodeId
+  pub text : List ℕ
+
+abbrev pub expectation_content : ExpectationLine → ExpectationContent
+expectation_content one = record { line = one.line; nodes = one.nodes.items; text = one.text.items }
+
+-- ---- the expectations of a source
+
+-- the line has no fault, and is an expectation
+abbrev pub is_expectation : List TokenContent → Bool
+is_expectation said = list_all is_word said && begins_expectation said
+
+-- the expectation of a line with these tokens, if it is one, in the program of these nodes
+abbrev pub expectation_of_tokens : Names → List NodeId → ℕ → List TokenContent → List ExpectationContent
+expectation_of_tokens known nodes line said = if is_expectation said then record { line = line; nodes = nodes; text = expectation_text known said } ∷ [] else []
+
+-- those of the lines up to one that is `end`, numbered from here on
+unfoldable pub expectations_of_lines : Names → List PlacedToken → ℕ → List (List ℕ) → List ExpectationContent
+expectations_of_lines known words line [] = []
+expectations_of_lines known words line (text ∷ texts) =
+    if bytes_eq (stripped_source_line line text) (codes "end") then []
+    else expectation_of_tokens known (nodes_before line words) line (all_tokens_of_line line (stripped_source_line line text)) ++ expectations_of_lines known words (next_line_number line) texts
+
+abbrev pub expectations_of_resolution : ConstantResolution → List (List ℕ) → List ExpectationContent
+expectations_of_resolution resolved lines = expectations_of_lines resolved.known resolved.words 1 lines
+
+-- The expectations of a source, with the constants and the words of all of it.
+unfoldable pub expectation_lines : List ℕ → List ExpectationContent
+expectation_lines source = expectations_of_resolution (constant_resolution (scanned_tokens source)) (source_lines source)

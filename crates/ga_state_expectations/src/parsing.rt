@@ -1,0 +1,123 @@
+//! What a line of source expects of a program, as text.
+
+ghost use Rattle.std.specs.Prelude.{◌≡◌};
+ghost use Rattle.ga_conditions.specs.Conditions.{labels_in};
+ghost use Rattle.ga_state_conditions.specs.Asked.{state_conditions_in};
+ghost use Rattle.ga_state_expectations.specs.Spelling.{node_expectation_in, expected_never, whole_expectation_in, is_of_whole, begins_as_node, expectation_of_words, expectation_in};
+
+use crate::cause::ExpectationCause;
+use crate::expectation::NodeExpectation;
+use crate::requirement::{has_no_words, parse_requirement, split_word};
+use crate::source::Expectation;
+use ga_debug_info::{DebugInfo, LabelAddress};
+use ga_grid::NodeId;
+use ga_state_conditions::parse_state_conditions;
+use ga_text::parse_node;
+
+/// The labels of a program, where there is source.
+fn labels_of(notes: &Option<DebugInfo>) -> &[LabelAddress]
+    ensures { result.now ≡ labels_in notes.now }
+{
+    match notes {
+        Some(notes) => notes.names.as_slice(),
+        None => &[],
+    }
+}
+
+/// What is expected of a node, if there is one.
+fn parse_node_expectation(
+    notes: &Option<DebugInfo>,
+    node: Option<NodeId>,
+    cause: ExpectationCause,
+    text: &[u8],
+) -> Result<Expectation, ExpectationCause>
+    ensures { result ≡ node_expectation_in notes.now node cause text.now }
+{
+    let Some(node) = node else {
+        return Err(cause);
+    };
+    match parse_requirement(labels_of(notes), node, text) {
+        Ok(requirement) => Ok(Expectation::AtEnds(NodeExpectation { node, requirement })),
+        Err(cause) => Err(cause),
+    }
+}
+
+/// `COND or COND ..` after `never`.
+fn parse_never(notes: &Option<DebugInfo>, text: &[u8]) -> Result<Expectation, ExpectationCause>
+    ensures { result ≡ expected_never (state_conditions_in notes.now text.now) }
+{
+    match parse_state_conditions(notes, text) {
+        Ok(conditions) => Ok(Expectation::Never(conditions)),
+        Err(fault) => Err(ExpectationCause::Never(fault)),
+    }
+}
+
+/// `every order ends` and `one end`.
+fn parse_whole_expectation(text: &[u8]) -> Result<Expectation, ExpectationCause>
+    ensures { result ≡ whole_expectation_in text.now }
+{
+    if text == b"every order ends".as_slice() {
+        Ok(Expectation::EveryOrderEnds)
+    } else if text == b"one end".as_slice() {
+        Ok(Expectation::OneEnd)
+    } else {
+        Err(ExpectationCause::NoSuchWhole)
+    }
+}
+
+/// Whether the word is that of an expectation of all nodes together.
+pub(crate) fn is_of_whole(word: &[u8]) -> bool
+    ensures { result ≡ is_of_whole word.now }
+{
+    word == b"every".as_slice() || word == b"one".as_slice()
+}
+
+/// Whether the word begins with a digit, as a node's name and no value does.
+pub(crate) fn begins_as_node(word: &[u8]) -> bool
+    ensures { result ≡ begins_as_node word.now }
+{
+    match word {
+        [byte, ..] => *byte >= b'0' && *byte <= b'9',
+        [] => false,
+    }
+}
+
+/// What is expected, by the first word of a text and the others; the node is that of the line's program.
+fn parse_words(
+    notes: &Option<DebugInfo>,
+    node: Option<NodeId>,
+    text: &[u8],
+    word: &[u8],
+    rest: &[u8],
+) -> Result<Expectation, ExpectationCause>
+    ensures { result ≡ expectation_of_words notes.now node text.now word.now rest.now }
+{
+    if word == b"never".as_slice() {
+        parse_never(notes, rest)
+    } else if is_of_whole(word) {
+        parse_whole_expectation(text)
+    } else if begins_as_node(word) {
+        parse_node_expectation(notes, parse_node(word), ExpectationCause::NoSuchNode, rest)
+    } else {
+        parse_node_expectation(notes, node, ExpectationCause::NoNode, text)
+    }
+}
+
+/// What the words after `expect` say, of this node if they name no other.
+///
+/// # Errors
+/// What is wrong with them.
+#[tactic(auto, unfolding(crate::specs::Spelling::expectation_in))]
+pub fn parse_expectation(
+    notes: &Option<DebugInfo>,
+    node: Option<NodeId>,
+    text: &[u8],
+) -> Result<Expectation, ExpectationCause>
+    ensures { result ≡ expectation_in notes.now node text.now }
+{
+    if has_no_words(text) {
+        return Err(ExpectationCause::Nothing);
+    }
+    let (word, rest) = split_word(text);
+    parse_words(notes, node, text, word, rest)
+}

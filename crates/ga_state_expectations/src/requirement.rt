@@ -1,0 +1,239 @@
+//! What is required of a node, as text.
+
+ghost use Rattle.std.specs.Prelude.{◌≡◌, ◌<◌};
+ghost use Rattle.ga_ports.specs.Address.{has_side};
+ghost use Rattle.ga_state_expectations.specs.Spelling.{split_word, has_no_words, side_in, with_side, sides_in, write_in, wait_in, stop_in, possible_test, number_in, comparison_after, requirement_of_words, requirement_in};
+
+use crate::cause::ExpectationCause;
+use crate::expectation::{NodeRequirement, is_step_count};
+use ga_conditions::{parse_comparison, parse_operand, parse_value};
+use ga_debug_info::LabelAddress;
+use ga_grid::NodeId;
+use ga_ports::{PortSet, Side};
+use ga_scheduler::{Comparison, NodeValue, ValueTest};
+use ga_text::split_at_space;
+
+/// The maximum number of sides that are named.
+const MAX_SIDES: usize = 4;
+
+/// The first word of a text, and those after it.
+pub(crate) fn split_word(text: &[u8]) -> (&[u8], &[u8])
+    ensures { (result.0.now, result.1.now) ≡ split_word text.now }
+{
+    match split_at_space(text) {
+        Some(parts) => parts,
+        None => (text, &[]),
+    }
+}
+
+/// Whether a text has no words.
+pub(crate) fn has_no_words(text: &[u8]) -> bool
+    ensures { result ≡ has_no_words text.now }
+{
+    text.is_empty()
+}
+
+/// The side of this name.
+fn parse_side(word: &[u8]) -> Option<Side>
+    ensures { result ≡ side_in word.now }
+{
+    if word == b"right".as_slice() {
+        Some(Side::Right)
+    } else if word == b"down".as_slice() {
+        Some(Side::Down)
+    } else if word == b"left".as_slice() {
+        Some(Side::Left)
+    } else if word == b"up".as_slice() {
+        Some(Side::Up)
+    } else {
+        None
+    }
+}
+
+/// Whether a set of sides, or of none, has the side.
+fn has_side(sides: u8, side: Side) -> bool
+    ensures { result ≡ has_side sides side }
+{
+    match side {
+        Side::Right => sides / 8 % 2 == 1,
+        Side::Down => sides / 4 % 2 == 1,
+        Side::Left => sides / 2 % 2 == 1,
+        Side::Up => sides % 2 == 1,
+    }
+}
+
+/// A set of sides, or of none, with one more.
+fn with_side(sides: u8, side: Side) -> u8
+    requires { sides < 16 }
+    ensures value { result ≡ with_side sides side }
+    ensures in_range { (0 < result) × (result < 16) }
+{
+    if has_side(sides, side) {
+        sides
+    } else {
+        sides + side.bit()
+    }
+}
+
+/// The sides that a text names.
+fn parse_sides(text: &[u8]) -> Result<PortSet, ExpectationCause>
+    ensures { result ≡ sides_in text.now }
+{
+    if has_no_words(text) {
+        return Err(ExpectationCause::NoSide);
+    }
+    let mut sides = 0;
+    let mut left = text;
+    'words: for _place in 0..MAX_SIDES {
+        let (word, rest) = split_word(left);
+        match parse_side(word) {
+            Some(side) => sides = with_side(sides, side),
+            None => return Err(ExpectationCause::NoSuchSide),
+        }
+        if has_no_words(rest) {
+            return Ok(PortSet::of(sides));
+        }
+        left = rest;
+    }
+    Err(ExpectationCause::ManySides)
+}
+
+/// `SIDE` after `writes`.
+fn parse_write(text: &[u8]) -> Result<NodeRequirement, ExpectationCause>
+    ensures { result ≡ write_in text.now }
+{
+    if has_no_words(text) {
+        return Err(ExpectationCause::NoSide);
+    }
+    let (word, rest) = split_word(text);
+    if !has_no_words(rest) {
+        return Err(ExpectationCause::ManySides);
+    }
+    match parse_side(word) {
+        Some(side) => Ok(NodeRequirement::Writes(side)),
+        None => Err(ExpectationCause::NoSuchSide),
+    }
+}
+
+/// `code` after `awaits`.
+fn parse_wait(text: &[u8]) -> Result<NodeRequirement, ExpectationCause>
+    ensures { result ≡ wait_in text.now }
+{
+    if text == b"code".as_slice() {
+        Ok(NodeRequirement::AwaitsCode)
+    } else {
+        Err(ExpectationCause::NotCode)
+    }
+}
+
+/// `N` after `stops`.
+fn parse_stop(text: &[u8]) -> Result<NodeRequirement, ExpectationCause>
+    ensures { result ≡ stop_in text.now }
+{
+    if text == b"1".as_slice() {
+        Ok(NodeRequirement::Stopped(1))
+    } else if text == b"2".as_slice() {
+        Ok(NodeRequirement::Stopped(2))
+    } else if text == b"3".as_slice() {
+        Ok(NodeRequirement::Stopped(3))
+    } else {
+        Err(ExpectationCause::NoSuchStop)
+    }
+}
+
+/// The test, if its number is a word.
+fn possible_test(test: ValueTest) -> Result<NodeRequirement, ExpectationCause>
+    ensures { result ≡ possible_test test }
+{
+    if test.is_possible() {
+        Ok(NodeRequirement::Holds(test))
+    } else {
+        Err(ExpectationCause::OutOfRange)
+    }
+}
+
+/// `NUMBER` after a value and a sign.
+fn parse_number(
+    names: &[LabelAddress],
+    node: NodeId,
+    value: NodeValue,
+    comparison: Option<Comparison>,
+    text: &[u8],
+) -> Result<NodeRequirement, ExpectationCause>
+    ensures { result ≡ number_in names.now node value comparison text.now }
+{
+    let Some(comparison) = comparison else {
+        return Err(ExpectationCause::NoSuchComparison);
+    };
+    if has_no_words(text) {
+        return Err(ExpectationCause::NoNumber);
+    }
+    match parse_operand(names, node, text) {
+        Some(number) => possible_test(ValueTest {
+            value,
+            comparison,
+            number,
+        }),
+        None => Err(ExpectationCause::NoSuchNumber),
+    }
+}
+
+/// `OP NUMBER` after a value, which isn't the number of steps.
+fn parse_comparison_after(
+    names: &[LabelAddress],
+    node: NodeId,
+    value: Option<NodeValue>,
+    text: &[u8],
+) -> Result<NodeRequirement, ExpectationCause>
+    ensures { result ≡ comparison_after names.now node value text.now }
+{
+    let Some(value) = value else {
+        return Err(ExpectationCause::NoSuchValue);
+    };
+    if is_step_count(value) {
+        return Err(ExpectationCause::CountsSteps);
+    }
+    let (sign, number) = split_word(text);
+    parse_number(names, node, value, parse_comparison(sign), number)
+}
+
+/// What is required by a first word and the others.
+fn parse_words(
+    names: &[LabelAddress],
+    node: NodeId,
+    word: &[u8],
+    text: &[u8],
+) -> Result<NodeRequirement, ExpectationCause>
+    ensures { result ≡ requirement_of_words names.now node word.now text.now }
+{
+    if word == b"reads".as_slice() {
+        match parse_sides(text) {
+            Ok(sides) => Ok(NodeRequirement::Reads(sides)),
+            Err(cause) => Err(cause),
+        }
+    } else if word == b"writes".as_slice() {
+        parse_write(text)
+    } else if word == b"awaits".as_slice() {
+        parse_wait(text)
+    } else if word == b"stops".as_slice() {
+        parse_stop(text)
+    } else {
+        parse_comparison_after(names, node, parse_value(word), text)
+    }
+}
+
+/// What a text requires of a node, with the labels of a program.
+#[tactic(auto, unfolding(crate::specs::Spelling::requirement_in))]
+pub(crate) fn parse_requirement(
+    names: &[LabelAddress],
+    node: NodeId,
+    text: &[u8],
+) -> Result<NodeRequirement, ExpectationCause>
+    ensures { result ≡ requirement_in names.now node text.now }
+{
+    if has_no_words(text) {
+        return Err(ExpectationCause::Nothing);
+    }
+    let (word, rest) = split_word(text);
+    parse_words(names, node, word, rest)
+}

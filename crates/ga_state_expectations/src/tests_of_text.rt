@@ -1,0 +1,110 @@
+//! Texts of expectations, and what is said of wrong ones.
+
+use crate::{
+    Expectation, ExpectationCause, ExpectationFault, NodeRequirement, format_expectation_faults,
+    parse_expectation,
+};
+use ga_grid::NodeId;
+use ga_ports::{PortSet, Side};
+use ga_scheduler::{Comparison, Condition, NodeValue, ValueTest};
+use ga_state_conditions::{ConditionFault, StateCondition};
+use std::process::Abort;
+use std::test::Fail;
+
+// What a text requires, of which node: that of the line's program is the eighth.
+fn required(text: &[u8]) -> Result<Option<(u8, NodeRequirement)>, ExpectationCause> {
+    match parse_expectation(&None, Some(NodeId::new(7)), text) {
+        Ok(Expectation::AtEnds(it)) => Ok(Some((it.node.number, it.requirement))),
+        Ok(Expectation::Never(_)) => Ok(None),
+        Ok(Expectation::EveryOrderEnds) => Ok(None),
+        Ok(Expectation::OneEnd) => Ok(None),
+        Err(cause) => Err(cause),
+    }
+}
+
+// Whether a text has this fault.
+fn refuses(rt: &impl Abort, text: &[u8], cause: ExpectationCause) {
+    assert!(rt; required(text) == Err(cause));
+}
+
+// The cell 20 is less than 0x123.
+fn cell_below() -> NodeRequirement {
+    NodeRequirement::Holds(ValueTest {
+        value: NodeValue::Cell(0x20),
+        comparison: Comparison::Less,
+        number: 0x123,
+    })
+}
+
+#[test]
+fn what_a_node_holds_or_does(rt: HostRuntime) -> Result<(), Fail> {
+    assert!(rt; required(b"[20] < 0x123") == Ok(Some((7, cell_below()))));
+    assert!(rt; required(b"100 [20] < 0x123") == Ok(Some((18, cell_below()))));
+    let sides = NodeRequirement::Reads(PortSet::of(10));
+    assert!(rt; required(b"reads right left right") == Ok(Some((7, sides))));
+    assert!(rt; required(b"001 writes up") == Ok(Some((1, NodeRequirement::Writes(Side::Up)))));
+    assert!(rt; required(b"awaits code") == Ok(Some((7, NodeRequirement::AwaitsCode))));
+    assert!(rt; required(b"717 stops 3") == Ok(Some((143, NodeRequirement::Stopped(3)))));
+    Ok(())
+}
+
+#[test]
+fn what_all_nodes_do(rt: HostRuntime) -> Result<(), Fail> {
+    match parse_expectation(&None, None, b"never stop or stuck 001") {
+        Ok(Expectation::Never(conditions)) => {
+            assert!(rt; conditions.len() == 2);
+            assert!(rt; conditions[0] == StateCondition::After(Condition::Stops));
+            assert!(rt; conditions[1] == StateCondition::Stuck(NodeId::new(1)));
+        }
+        _ => rt.abort(),
+    }
+    assert!(rt;
+        parse_expectation(&None, None, b"every order ends") == Ok(Expectation::EveryOrderEnds)
+    );
+    assert!(rt; parse_expectation(&None, None, b"one end") == Ok(Expectation::OneEnd));
+    Ok(())
+}
+
+#[test]
+fn what_has_a_fault(rt: HostRuntime) -> Result<(), Fail> {
+    refuses(&rt, b"100", ExpectationCause::Nothing);
+    refuses(&rt, b"one", ExpectationCause::NoSuchWhole);
+    refuses(&rt, b"118 t = 3", ExpectationCause::NoSuchNode);
+    refuses(&rt, b"d1 = 3", ExpectationCause::NoSuchValue);
+    refuses(&rt, b"step = 3", ExpectationCause::CountsSteps);
+    refuses(&rt, b"t is 3", ExpectationCause::NoSuchComparison);
+    refuses(&rt, b"t =", ExpectationCause::NoNumber);
+    refuses(&rt, b"t = 3 4", ExpectationCause::NoSuchNumber);
+    refuses(&rt, b"t = 262144", ExpectationCause::OutOfRange);
+    refuses(&rt, b"reads", ExpectationCause::NoSide);
+    refuses(&rt, b"reads left io", ExpectationCause::NoSuchSide);
+    refuses(&rt, b"writes left up", ExpectationCause::ManySides);
+    refuses(&rt, b"awaits word", ExpectationCause::NotCode);
+    refuses(&rt, b"stops 4", ExpectationCause::NoSuchStop);
+    refuses(
+        &rt,
+        b"never step 001 3",
+        ExpectationCause::Never(ConditionFault::CountsSteps),
+    );
+    let cause = match parse_expectation(&None, None, b"t = 3") {
+        Ok(_) => None,
+        Err(cause) => Some(cause),
+    };
+    assert!(rt; cause == Some(ExpectationCause::NoNode));
+    Ok(())
+}
+
+#[test]
+fn faults_as_they_are_reported(rt: HostRuntime) -> Result<(), Fail> {
+    let fault = |line| ExpectationFault {
+        line,
+        cause: ExpectationCause::NoNumber,
+    };
+    let text = format_expectation_faults(rt.alloc(), b"ga144: ", &[fault(3), fault(12)])?;
+    let told =
+        b"ga144: line 3: a number is missing: VALUE OP NUMBER\nga144: line 12: a number is missing: VALUE OP NUMBER\n";
+    assert!(rt; text.as_slice() == told.as_slice());
+    let many = format_expectation_faults(rt.alloc(), b"", &[fault(1); 23])?;
+    assert!(rt; many.as_slice().ends_with(b"\nand 3 more\n"));
+    Ok(())
+}
