@@ -315,7 +315,7 @@ WRONG = (
     (EXPLORE, "return own and event[2] == kind and (not words or event[0] == words[0])", "return own and event[2] == kind"),
     (EXPLORE, "return len(self.sent(*map(number_of, words[:2]))) == int(words[2])", "return len(self.sent(*map(number_of, words[:2]))) > int(words[2])"),
     (EXPLORE, "return self.chip[node].p == self.address(*words)", "return self.chip[node].p % 8 == self.address(*words)"),
-    (EXPLORE, "{left[at] + 1} {self.steps[at] - left[at]}", "{left[at]} {self.steps[at] - left[at]}"),
+    (EXPLORE, "{name(at)} {first} {self.steps[at]", "{name(at)} {first - 1} {self.steps[at]"),
     (EXPLORE, "for node, others in awaited.items() if len(others) == 1", "for node, others in awaited.items() if others"),
     (EXPLORE, "if after.get(ring[-1]) == first and min(ring) == first", "if after.get(ring[-1]) == first"),
     (EXPLORE, "if event == (writer, reader)]", "if set(event) == {writer, reader}]"),
