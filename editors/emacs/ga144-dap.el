@@ -23,7 +23,7 @@
 (dap-register-debug-provider "ga144" #'ga144-dap--filled)
 (dap-register-debug-template "GA144" (list :type "ga144" :request "launch" :name "GA144" :program nil))
 
-;; what a step back takes along is told on the console
+;; the console prints the steps that a step back removes
 (setq dap-output-buffer-filter (append '("console") dap-output-buffer-filter))
 
 (defun ga144-step-back (session)

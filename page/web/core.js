@@ -65,7 +65,7 @@ class Core {
     return said && text_of(said.bytes);
   }
 
-  // Of each event that these nodes make in turn, how it stands to the one at a place: 2 depends on it, 1 leads to it, 0 neither.
+  // For each event that these nodes make in turn, its relation to the one at a place: 2 depends on it, 1 is a cause of it, 0 neither.
   shades(image, nodes, place) {
     const front = bytes_of(image), input = new Uint8Array(front.length + nodes.length);
     input.set(front); input.set(nodes, front.length);

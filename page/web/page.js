@@ -189,7 +189,7 @@ class Page {
   // The next step of the same word.
   next_of_word() { const row = this.chosen && this.session.places.row(...this.chosen); if (row && row.key) this.choose_word(row.key); }
 
-  // Goes where a part of an answer leads.
+  // Follows the link of a part of an answer.
   follow({ step, node, line, column, kind }) {
     if (kind) return this.lead_to(kind);
     if (line) return find("editor").hidden ? this.mark_place(line, column) : this.select_line(line);
@@ -198,7 +198,7 @@ class Page {
     if (!this.is_chosen(step)) this.show(step);
   }
 
-  // Shows the other outcome of a step that races: what goes for it, and the chip after it. Shown once more, it is made.
+  // Shows the other outcome of a step that races: the steps that it removes, and the chip after it. A second call makes it.
   turn(race) {
     if (this.race === race) return this.take();
     const marks = this.session.marks(race.back), outcome = marks && this.session.outcome(race), [name] = race.step;

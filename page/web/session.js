@@ -16,7 +16,7 @@ const cells_of = name => Array.from({ length: 64 }, (_, i) => `mem ${name} ${i.t
 class Session {
   constructor(core, limit = 1000000) { this.core = core; this.limit = limit; }
 
-  // Opens source or an image, up to its line `end`. Says why it is refused, or null; `told` has the assembler's warnings.
+  // Opens source or an image, up to its line `end`. Returns why it is refused, or null; `told` has the assembler's warnings.
   open(load) {
     let image = load, told = "", listing = null;
     const source = is_source(load);
@@ -61,8 +61,8 @@ class Session {
     return answers;
   }
 
-  // Steps and undos together. What is asked after them is answered in `more`; where there is no memory for that, and for some
-  // more after a step, nothing is kept: so the session can be asked on, and steps taken back.
+  // Steps and undos together. `more` has the answers to the queries after them; without memory for these, and for some
+  // more after a step, nothing is kept: so later queries and undos have memory.
   step(lines, questions = []) {
     const reserve = lines.some(it => it.startsWith("step")) ? NODES : [], all = this.ask([...lines, ...questions, ...reserve], this.named), kept = [], said = [];
     if (!all) return { answers: lines.map(() => [NO_MEMORY]), more: null };
@@ -90,7 +90,7 @@ class Session {
     return ended ? [told, NO_MEMORY] : [told];
   }
 
-  // A rollback. `effects` names what it removes. What is asked after it is answered in `more`, where there is memory for that.
+  // A rollback. `effects` names what it removes. `more` has the answers to the queries after it, if there is memory for them.
   rewind(line, questions = []) {
     const all = this.ask([line.replace("rewind", "effects"), line, ...questions], this.named);
     if (!all && questions.length) return this.rewind(line);
