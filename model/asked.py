@@ -1,4 +1,4 @@
-"""Generated sessions of an editor: requests by a seed, each with the messages that come of it by the second reading."""
+"""Generated sessions of an editor: requests by a seed, each with the messages in answer by the reference model."""
 
 import random
 
@@ -120,7 +120,7 @@ ASKED = (
 
 
 def asked_of(number, path, can):
-    """The requests of a generated session with the messages of each, as this reading answers them; and what the nodes did on lines that were
+    """The requests of a generated session with the messages of each, as this model answers them; and what the nodes did on lines that were
     then undone. `can` says which requests are allowed. Each third session has only such lines."""
     make, session, found, mirrored = Generator(number), Session(), [], set()
 
@@ -209,5 +209,5 @@ def done(told):
 
 
 def messages_of(session, command, arguments):
-    """What this reading answers, as texts."""
+    """The answers of this model, as texts."""
     return [text_of(it) for it in session.answer(command, arguments)]

@@ -1,5 +1,5 @@
 #!/usr/bin/env python3
-"""Lines of sessions that are changed by a byte, or cut, each answered by the program as by the second reading.
+"""Lines of sessions that are changed by a byte, or cut, each answered by the program as by the reference model.
 
 changed.py PROGRAM: after an empty chip, of `debug` and of `explore`: each of COMMANDS with each byte of STRANGE more in each place, and
 cut at each; each byte in each place of the two lines of PAIRS; and the longest line, and one a byte longer.
@@ -53,7 +53,7 @@ def said(machine, line):
 
 
 def session(mode):
-    """The lines, and what is answered to each. Between the texts all that was made is taken back."""
+    """The lines, and the answer to each. Between the texts all events are undone."""
     machine = (Explorer if mode == "explore" else Machine)(load_of(IMAGE), DEFAULT_LIMIT)
     for chunk in chunks(mode):
         for line in chunk.removesuffix("\n").split("\n"):

@@ -1,4 +1,4 @@
-"""The language of conditions: a second reading of docs/REFERENCE.md, "Conditions" and "In an editor"."""
+"""The language of conditions. Part of the reference model, for docs/REFERENCE.md, "Conditions" and "In an editor"."""
 
 import re
 

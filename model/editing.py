@@ -1,4 +1,4 @@
-"""A session of `ga144 dap`: a second reading of what is answered to each request, over the replay machine. shown.py has what is shown."""
+"""A session of `ga144 dap`: the answers to requests over the replay machine. Part of the reference model. shown.py has what is shown."""
 
 import re
 
@@ -138,7 +138,7 @@ class Session:
         self.tell("terminated")
 
     def do_pause(self):
-        """Nothing runs between two requests of this reading."""
+        """Nothing runs between two requests in this model."""
         self.respond()
 
     # ---- breakpoints
@@ -208,8 +208,8 @@ class Session:
         return self.respond(where | {"accessTypes": ["write"], "canPersist": True})
 
     def does(self, point, node, step):
-        """Whether a step of a node is one by which it comes to a breakpoint (a slot that it carried out, a word that went over, or
-        its first fetch: it stood there at load), or writes a watched cell."""
+        """Whether a step of a node is one by which it comes to a breakpoint (a slot that it executed, a transferred word, or
+        its first fetch: it was there at load), or writes a watched cell."""
         told, kept = self.machine.kept[node][step][0], self.machine.kept[node]
         if point["node"] != node:
             return False

@@ -360,7 +360,7 @@ class Explorer(Machine):
         return ended
 
     def rings(self, stuck):
-        """The rings among some nodes, each of which awaits the next alone: each from its node of the lowest number on."""
+        """The wait cycles of some nodes, each of which awaits only the next: each from its node of the lowest number on."""
         awaited = {node: [other for _, other in self.awaited(node)] for node in stuck}
         after = {node: others[0] for node, others in awaited.items() if len(others) == 1}
         for first in stuck:
@@ -536,7 +536,7 @@ class Explorer(Machine):
         return "\n".join(reversed(lines[-most:] if most else [])) if lines else "none"
 
     def offers(self, node, step):
-        """The neighbours that a step of each would make give a node a word, were a step of it taken back, with that word."""
+        """The neighbours whose step would transfer a word to a node after the rollback of its step, with that word."""
         again = Explorer(self.load, self.limit)
         again.events = [event for event, gone in zip(self.events, self.dependents(self.place(node, step))) if not gone]
         again.replay()
@@ -562,7 +562,7 @@ class Explorer(Machine):
         return words, changes
 
     def near(self):
-        """The looks and the changes of what is shown to them between which nothing happens, each pair by the places of both. Sets of
+        """The looks and the changes that they observe with nothing between them in happens-before, each pair by the places of both. Sets of
         places are the bits of a number."""
         words, changes = self.seen()
         touching, changing, looking = ([0] * NODES for _ in range(3))
@@ -620,7 +620,7 @@ class Explorer(Machine):
         "races N, and for each of N steps the other word, and two commands that lead there", "races 001", 40,
     )  # fmt: skip
     def answer_races(self, only):
-        """The steps that could have come out otherwise, of a node or of all, and what holds of other orders."""
+        """The races, of a node or of all, and the last line about other interleavings."""
         lines = []
         for node in range(NODES) if only is None else [only]:
             for told in [told for event, told in zip(self.events, self.told) if event[1:] == (node,)]:

@@ -1,4 +1,4 @@
-"""What a client of `ga144 dap` is shown: a second reading of the Debug Adapter Protocol over the replay machine, apart from the crates.
+"""What a client of `ga144 dap` is shown. Part of the reference model, for the Debug Adapter Protocol over the replay machine.
 
 A node is a thread, and the numbers that a client gives back mean something by themselves. Each function here gives the body of a
 response; editing.py has the session around them.

@@ -499,7 +499,7 @@ def run(folder, wrong, program, first, count):
     ran = subprocess.run(words, capture_output=True, text=True)
     said = (ran.stdout + ran.stderr).strip().split("\n")[-1]
     if ran.returncode != 1:
-        return f"not told: {said}", None
+        return f"not detected: {said}", None
     number = re.match(r"(?:session|source|picture|program) (\d+): ", said)
     return "answer" if number else "replay", number and number[1]
 
@@ -513,7 +513,7 @@ def told(room, number, program, count, before, is_written):
     with open(f"{folder}/{file}", encoding="utf-8") as text:
         right = text.read()
     if right.count(old) != 1:
-        return f"its text stands {right.count(old)} times, and not once", None
+        return f"its text occurs {right.count(old)} times, not once", None
     with open(f"{folder}/{file}", "w", encoding="utf-8") as text:
         text.write(right.replace(old, new))
     first = before.get(sum_of(wrong))
@@ -547,7 +547,7 @@ def main():
     left = [f"{wrong}: {what}" for wrong, what in zip(WRONG, answers) if what not in ("answer", "replay")]
     if left:
         sys.exit("\n".join(left))
-    print(f"{len(WRONG)} wrong definitions: each is told, {answers.count('replay')} of them by a replay that can't go on")
+    print(f"{len(WRONG)} mutants of the model: each is detected, {answers.count('replay')} of them by a replay that fails")
 
 
 if __name__ == "__main__":

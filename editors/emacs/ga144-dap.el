@@ -27,12 +27,12 @@
 (setq dap-output-buffer-filter (append '("console") dap-output-buffer-filter))
 
 (defun ga144-step-back (session)
-  "Take back the last line of the thread's node in SESSION, with all that depends on it."
+  "Roll back the last line of the thread's node in SESSION, with all that depends on it."
   (interactive (list (dap--cur-session-or-die)))
   (dap--step "stepBack" session))
 
 (defun ga144-reverse-continue (session)
-  "Take the thread's node in SESSION back to its newest breakpoint, with all that depends on what it did since."
+  "Roll the thread's node in SESSION back to its newest breakpoint, with all that depends on its later steps."
   (interactive (list (dap--cur-session-or-die)))
   (dap--step "reverseContinue" session))
 

@@ -41,7 +41,7 @@ class Core {
     return said.more !== CUT || told.endsWith("no 33 input\n") ? told : null;
   }
 
-  // The nodes that made the events kept at a session's end, in their order. Null where there are none, or for want of memory.
+  // The nodes that made the events kept at a session's end, in their order. Null if there are none, or if memory ran out.
   kept(text, limit) {
     const said = this.question(bytes_of(text), (core, count) => core.kept(count, limit));
     return said && said.bytes.length ? said.bytes.slice() : null;
@@ -59,7 +59,7 @@ class Core {
     return said ? text_of(said.bytes) : "";
   }
 
-  // How the program of a session can end, in whatever order its nodes run; or the steps that lead to a kind of end. Null for want of memory.
+  // How the program of a session can end, in whatever order its nodes run; or the steps that lead to a kind of end. Null if memory ran out.
   check(load, most, limit, kind) {
     const said = this.question(bytes_of(load), (core, count) => core.check(count, most, limit, kind));
     return said && text_of(said.bytes);

@@ -148,7 +148,7 @@ class Page {
 
   is_chosen([name, step]) { return !this.race && !!this.chosen && this.chosen[0] === name && this.chosen[1] === step; }
 
-  // Chooses a step; chosen once more, it is taken back.
+  // Chooses a step; a second call rolls it back.
   choose(step) { if (this.session.event_at(step)) return this.is_chosen(step) ? this.take() : this.show(step); }
 
   // Chooses a step: what led to it, what would go with it, and the chip as it would be then.
@@ -226,7 +226,7 @@ class Page {
     return said;
   }
 
-  // Makes again what was taken back last: the session is what it was before.
+  // Makes again the events that were removed last: the session is the earlier one.
   redo() {
     const last = this.undone.pop();
     if (!last) return [];

@@ -40,7 +40,7 @@ class Session {
   get script() { return this.image + (this.is_plain ? this.commands : lines_of(saved(this.events))); }
 
   // Asks on a second run of the session; with `load` on the same program as a text with other remarks. The last answer has all lines
-  // that are left. Null for want of memory.
+  // that are left. Null if memory ran out.
   ask(lines, load = this.load) {
     const all = this.core.answer(load + this.commands + lines_of(lines), this.limit);
     if (all === null || !all.startsWith(this.said)) return null;
@@ -154,7 +154,7 @@ class Session {
   // Whether a node did more than come to wait.
   is_busy(name) { const [first, second] = this.traces[name] || []; return !!first && (!!second || first.label !== "wait"); }
 
-  // Of each kept event, how it relates to that of a step: 2 would go with it, 1 leads to it, 0 neither. Null for want of memory.
+  // The relation of each event of the history to that of a step: 2 depends on it, 1 is a cause of it, 0 neither. Null if memory ran out.
   marks(step) {
     return this.core.shades(this.image, this.numbers.first, this.event_at(step).place);
   }
@@ -186,7 +186,7 @@ class Session {
 
   learn(rows, name, answers) { this.places.learn(answers.slice(0, rows)); return this.seen(name, answers.slice(rows)); }
 
-  // The answer of `races`; null for want of memory.
+  // The answer of `races`; null if memory ran out.
   races() { const answer = (this.ask(["races"]) || [[NO_MEMORY]])[0]; return is_out_of_memory(answer[0]) ? null : answer.slice(1); }
 
   // The other outcome of such a step: what its rollback takes, what is made then, and the chip after that.
