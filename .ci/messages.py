@@ -61,8 +61,8 @@ def request(seq, command, **arguments):
 
 
 def wrong_inputs(room):
-    """Wrong input by its name: the bytes, the status, and in a few words the messages that come of it; behind a status the last is what
-    standard error says."""
+    """Wrong input by its name: the bytes, the status, and in a few words the messages in answer; if the status isn't 0, the last is the line on
+    standard error."""
     start, end = request(1, "initialize", adapterID="ga144"), request(9, "disconnect")
     stands = start + request(2, "launch", program=f"{ROOT}/examples/fault.f18") + request(3, "configurationDone")
     begun = ["initialize", "launch", "initialized", "configurationDone", "thread", "thread", "thread", "stopped"]
@@ -85,7 +85,7 @@ def wrong_inputs(room):
         "cut behind a request": (start + end[:40], "initialize", cut),
         "no frame behind a request": (start + b"\n" + end, "initialize", field),
     }
-    # content that is no request: the session goes on
+    # content that is no request: the session continues
     content = {
         "length 0": ("", no_json),
         "no JSON": ("{", no_json),
@@ -154,9 +154,9 @@ def wrong_inputs(room):
     return found | {name: (stands + request(4, name, **given) + end, 0, [*begun, f"{name}: {why}", "disconnect"]) for name, (given, why) in refused.items()}
 
 
-# ---- refused growths of memory
+# ---- allocation failures
 
-# A session of which each growth is refused in turn, with a message that is no request, and its requests behind which the chip stands again.
+# A session in which each allocation fails in turn, with a message that is no request; and its requests after which the chip no longer runs.
 REFUSED = [
     ("initialize", {"adapterID": "ga144"}), (None, {}), ("launch", {"program": PROGRAM, "limit": 3000}), ("setBreakpoints", LINES | {"breakpoints": [{"line": 6}, {"line": 4}]}),
     ("setDataBreakpoints", {"breakpoints": [{"dataId": "0x001005"}]}), ("configurationDone", {}), ("threads", {}), ("continue", {"threadId": 1000}), ("stackTrace", {"threadId": 1000}),
@@ -169,9 +169,10 @@ NO_ANSWER, NO_EVENT = '"result":"no 4 memory', "memory was refused to the next e
 
 
 class Growths:
-    """What comes of a session where a growth is refused: the same messages; or those without a request, which was refused, in the place of its
-    own, and so too where the growth behind it is refused, since the refusal was made before. Or one says so: an answer of `explore`, and all others are the same, or the end of a run, and each request behind it is answered. Before
-    the first message the program may end with status 1, and the command line may be refused. No session ends by it."""
+    """The messages of a session in which an allocation fails: the same messages; or those of the session without one request, with the refusal of
+    this request, also if the next allocation fails too, since the refusal was built before. Or one message reports it: an answer of `explore`, and
+    all others are the same, or the end of a run, and each later request is answered. Before the first message the program may end with status 1,
+    and the command line may be refused. No session ends by it."""
 
     def __init__(self, words, library):
         self.words, self.library = words, library

@@ -1,4 +1,4 @@
-"""Generated sessions of an editor: requests by a seed, each with the messages that come of it by the second reading."""
+"""Generated sessions of an editor: requests by a seed, each with the messages in answer by the reference model."""
 
 import random
 
@@ -111,7 +111,7 @@ class Generator:
         ))
 
 
-# Breakpoints of a generated session, but for those on lines: the request, how one is asked for, and some that are.
+# Breakpoints of a generated session, except those on lines: the request, the member that names one, and some names.
 ASKED = (
     ("setFunctionBreakpoints", "name", ("one", "000 main", "001:two", "102 one", "foo")),
     ("setDataBreakpoints", "dataId", ("0x000005", "0x001043", "0x102000", "0x001080")),
@@ -120,8 +120,8 @@ ASKED = (
 
 
 def asked_of(number, path, can):
-    """The requests of a generated session with the messages of each, as this reading answers them; and what the nodes did on lines that were
-    gone back over. `can` says which requests may be asked. In each third session such lines are all that is asked for."""
+    """The requests of a generated session with the messages of each, as this model answers them; and what the nodes did on lines that were
+    then undone. `can` says which requests are allowed. Each third session has only such lines."""
     make, session, found, mirrored = Generator(number), Session(), [], set()
 
     def ask(command, arguments=None):
@@ -176,8 +176,8 @@ def ask_for_breakpoints(path, ask, draw):
 
 
 def mirror(session, ask, node, count):
-    """Some lines of a node forward, and back: what stands there has to be the same, as long as calls are left by `;` alone, and none that was
-    open. Gives what the node did on the lines that were gone back over."""
+    """Some lines of a node forward, and back: the place must be the same, as long as calls are left by `;` alone, and none that was
+    open. Returns what the node did on the lines that were undone."""
     machine, shown, stood, did = session.machine, session.shown, [], set()
     open_calls = machine.calls(node)
     if machine.steps[node] and not shown.begins(node, machine.steps[node]):
@@ -209,5 +209,5 @@ def done(told):
 
 
 def messages_of(session, command, arguments):
-    """What this reading answers, as texts."""
+    """The answers of this model, as texts."""
     return [text_of(it) for it in session.answer(command, arguments)]

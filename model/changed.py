@@ -1,7 +1,7 @@
 #!/usr/bin/env python3
-"""Lines of sessions that are changed by a byte, or cut, each answered by the program as by the second reading.
+"""Lines of sessions that are changed by a byte, or cut, each answered by the program as by the reference model.
 
-changed.py PROGRAM: behind an empty chip, of `debug` and of `explore`: each of COMMANDS with each byte of STRANGE more in each place, and
+changed.py PROGRAM: after an empty chip, of `debug` and of `explore`: each of COMMANDS with each byte of STRANGE more in each place, and
 cut at each; each byte in each place of the two lines of PAIRS; and the longest line, and one a byte longer.
 """
 
@@ -25,7 +25,7 @@ COMMANDS = {
         "run 5 until stop or step 000 5 or change 000 00", "back until stop", "back 000 until wait 000 or stop", "step 000", "why 000 1 001 5",
     ],
 }  # fmt: skip
-# what stands in these for a word of a form
+# an example of each word of a form
 WORDS = {"NNN": "000", "MMM": "001", "K": "1", "HH": "00", "N": "2", "COMMAND": "why", VALUE: "[00]", "L": "1"}
 OWN = [form for name, form in FORMS.items() if hasattr(Explorer, f"answer_{name}")]
 COMMANDS["explore"] += [" ".join(WORDS.get(word, word) for word in parts_of(form) if not word.startswith("[")) for form in OWN]
@@ -38,7 +38,7 @@ def chunks(mode):
     for line in COMMANDS[mode]:
         for place in range(len(line) + 1):
             yield from (line[:place] + byte + line[place:] for byte in STRANGE)
-            # (behind `quit` nothing is read)
+            # (nothing is read after `quit`)
             yield from [line[:place]] * (line[:place] != "quit")
     pair = PAIRS[mode]
     for place in range(len(pair)):
@@ -53,7 +53,7 @@ def said(machine, line):
 
 
 def session(mode):
-    """The lines, and what is answered to each. Between the texts all that was made is taken back."""
+    """The lines, and the answer to each. Between the texts all events are undone."""
     machine = (Explorer if mode == "explore" else Machine)(load_of(IMAGE), DEFAULT_LIMIT)
     for chunk in chunks(mode):
         for line in chunk.removesuffix("\n").split("\n"):

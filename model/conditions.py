@@ -1,4 +1,4 @@
-"""The language of conditions: a second reading of docs/REFERENCE.md, "Conditions" and "In an editor"."""
+"""The language of conditions. Part of the reference model, for docs/REFERENCE.md, "Conditions" and "In an editor"."""
 
 import re
 
@@ -27,7 +27,7 @@ def number_in(text, label):
 
 
 def value_of(it, step, name):
-    """A value of a node that made so many steps."""
+    """A value of a node that made `step` steps."""
     if name == "step":
         return step
     if name[0] == "[":
@@ -37,7 +37,7 @@ def value_of(it, step, name):
 
 
 def test_in(text, label=lambda name: None):
-    """What a condition asks of a node that made so many steps, and what can't be read of it."""
+    """The test of a condition, a function of a node and its number of steps, or None and the message about a text that is no condition."""
     said = isinstance(text, str) and re.fullmatch(f"{VALUE} {SIGN} (.+)", text, re.DOTALL)
     number = number_in(said[3], label) if said else None
     if number is None:

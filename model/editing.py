@@ -1,4 +1,4 @@
-"""A session of `ga144 dap`: a second reading of what is answered to each request, over the replay machine. shown.py has what is shown."""
+"""A session of `ga144 dap`: the answers to requests over the replay machine. Part of the reference model. shown.py has what is shown."""
 
 import re
 
@@ -138,7 +138,7 @@ class Session:
         self.tell("terminated")
 
     def do_pause(self):
-        """Nothing runs between two requests of this reading."""
+        """Nothing runs between two requests in this model."""
         self.respond()
 
     # ---- breakpoints
@@ -165,7 +165,7 @@ class Session:
         self.set_points("data", "no such cell of RAM", self.of_cell)
 
     def set_points(self, kind, why, place):
-        """The breakpoints of a kind are those that are asked for, with a number each. `place` says where one stands, and what is told."""
+        """Replaces the breakpoints of a kind by the requested ones, with a number each. `place` gives the place of one, and its response."""
         self.points, told = [it for it in self.points if it["set"] != kind], []
         for asked in self.arguments.get("breakpoints", []):
             self.ids += 1
@@ -208,8 +208,8 @@ class Session:
         return self.respond(where | {"accessTypes": ["write"], "canPersist": True})
 
     def does(self, point, node, step):
-        """Whether a step of a node is one by which it comes to a breakpoint (a slot that it carried out, a word that went over, or
-        its first fetch: it stood there at load), or writes a watched cell."""
+        """Whether a step of a node is one by which it comes to a breakpoint (a slot that it executed, a transferred word, or
+        its first fetch: it was there at load), or writes a watched cell."""
         told, kept = self.machine.kept[node][step][0], self.machine.kept[node]
         if point["node"] != node:
             return False
@@ -219,15 +219,15 @@ class Session:
         return (told.startswith("pass ") or " run " in told or begins) and self.machine.spot(node, step) == point["spot"]
 
     def meets(self, point, node, step):
-        """Whether that step hits the breakpoint: the node meets its condition behind it."""
+        """Whether that step hits the breakpoint: the node meets its condition after it."""
         return self.does(point, node, step) and point["test"](self.machine.kept[node][step][1], step)
 
     def halts(self, point, node, step):
-        """Whether that hit is asked for, by how many kept steps hit the breakpoint up to it."""
+        """Whether the hit condition selects that hit, by the number of steps of the history that hit the breakpoint up to it."""
         return self.meets(point, node, step) and point["count"](lambda: sum(self.meets(point, node, it) for it in range(1, step + 1)))
 
     def hits(self, touched):
-        """The breakpoints that the newest event hits as they are asked for."""
+        """The breakpoints that the newest event hits, by their hit conditions."""
         return [it for it in self.points if any(self.halts(it, node, self.machine.steps[node]) for node in touched)]
 
     # ---- what is shown
@@ -268,7 +268,7 @@ class Session:
     # ---- moves
 
     def event(self, first=None):
-        """The next event, of one node while it has one: what is told of it, or why there is none."""
+        """The next event, of one node while it has one: its text and nodes, or None and why there is none."""
         machine = self.machine
         node = first if first is not None and machine.next(first) else next_node(machine, self.order, self.turn, self.state)
         if node is None:
@@ -283,8 +283,8 @@ class Session:
         return told, machine.events[-1]
 
     def go(self, first, reached):
-        """Makes events up to a breakpoint, a stop, the end of a move, or until there is none, and tells why it ends there. It makes none where
-        a node is stuck of which wasn't told."""
+        """Makes events up to a breakpoint, a stop, the end of a move, or until there is none, and reports why it ends there. It makes none if
+        a deadlock wasn't reported."""
         made, before = 0, set(self.machine.stuck())
         if self.tells_stuck(self.reported):
             return None
@@ -314,7 +314,7 @@ class Session:
         return self.stands(self.first(), "pause", "quiet: no node has an event" if touched == "quiet" else FULL)
 
     def tells_stuck(self, known):
-        """Tells of the first node with something to show that can never go on, isn't stopped, and is not among those known, if there is one."""
+        """Reports the first shown node that is deadlocked, isn't stopped, and is not among those known, if there is one."""
         found = self.machine.stuck() if "stuck" in self.filters else []
         node = next((it for it in found if it not in known and self.shown.has_thread(it) and not self.machine.chip[it].stop), None)
         if node is None:
@@ -371,7 +371,7 @@ class Session:
         self.go(node, lambda told, touched: calls[0] not in self.machine.calls(node))
 
     def gone_back(self, node, keeps, reason=None):
-        """Takes back what a node did past some of its steps, and tells what goes with it."""
+        """Rolls back the steps of a node after the first `keeps`, and reports all removed steps."""
         before = list(self.machine.steps)
         said = self.machine.rewind(node, keeps + 1) if keeps < before[node] else f"removed 0 kept {len(self.machine.events)}"
         lines = [f"rewind {name(node)} {self.machine.steps[node] + 1}: {said}\n"]
@@ -387,7 +387,7 @@ class Session:
         self.gone_back(node, self.shown.line_back(node) if self.by_line() else max(self.machine.steps[node] - 1, 0), "step")
 
     def do_reverseContinue(self):
-        """To behind the newest step but the last by which the node came to a breakpoint, or to before one by which it wrote a watched cell."""
+        """To after the newest step but the last by which the node came to a breakpoint, or to before one by which it wrote a watched cell."""
         node, keeps = self.node(), 0
         for step in range(1, self.machine.steps[node] + 1):
             for point in (it for it in self.points if self.halts(it, node, step)):

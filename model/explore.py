@@ -40,7 +40,7 @@ FEW = 3
 
 
 def parts_of(form):
-    """The command of a form, and its arguments. One in brackets may be missing; a word in lower case stands for itself."""
+    """The command of a form, and its arguments. One in brackets may be missing; a word in lower case is literal."""
     return re.findall(r"\[[^]]*\]|[^ ]+", form)
 
 
@@ -92,12 +92,12 @@ def waiting(number):
 
 
 def cell_of(part):
-    """The cell that the name of a part tells, or None."""
+    """The cell that a part names, or None."""
     return target_of(int(part, 16)) if re.fullmatch("[0-9a-f]{2}", part) else None
 
 
 def mixed(state):
-    """A word of SplitMix64, and the state behind it."""
+    """A word of SplitMix64, and the state after it."""
     state = (state + 0x9E3779B97F4A7C15) % (1 << 64)
     word = state
     word = (word ^ word >> 30) * 0xBF58476D1CE4E5B9 % (1 << 64)
@@ -218,7 +218,7 @@ class Explorer(Machine):
         return f"made {most}"
 
     def holds(self, condition, told, before):
-        """Whether a condition holds right behind an event of which this is told, where some nodes were so before."""
+        """Whether a condition holds right after the event with this text; `before` has some nodes as they were before it."""
         kind, *words = condition.split(" ")
         event = told.split(" ")
         own = event[0] != "pass"
@@ -256,13 +256,13 @@ class Explorer(Machine):
         return bool(store) and address < 0x80 and target_of(getattr(before, store[1])) == ("ram", address % 64)
 
     def address(self, node, word, line=None):
-        """The address that a word, a label of the node or a line of its source tells, or None."""
+        """The address that a word, a label of the node or a line of its source names, or None."""
         if line is not None:
             return self.notes.begun(number_of(node), int(line))
         return int(word, 16) if re.fullmatch(W, word) else self.notes.address(number_of(node), word)
 
     def back_until(self, only, conditions):
-        """Takes back up to right before the newest event, of one node where that is asked, behind which one of the conditions held."""
+        """Undoes the newest event, of one node if one is named, after which one of the conditions held, and all later ones."""
         again, newest = Explorer(self.load, self.limit), None
         again.notes = self.notes
         for place, event in enumerate(self.events):
@@ -360,7 +360,7 @@ class Explorer(Machine):
         return ended
 
     def rings(self, stuck):
-        """The rings among some nodes, each of which awaits the next alone: each from its node of the lowest number on."""
+        """The wait cycles of some nodes, each of which awaits only the next: each from its node of the lowest number on."""
         awaited = {node: [other for _, other in self.awaited(node)] for node in stuck}
         after = {node: others[0] for node, others in awaited.items() if len(others) == 1}
         for first in stuck:
@@ -386,7 +386,7 @@ class Explorer(Machine):
         return "\n".join([f"effects {sum(goes)} {len(lines)}"] + lines)
 
     def sent(self, writer, reader):
-        """What is told of the events by which words went from one node to another."""
+        """The texts of the transfers from one node to another."""
         return [told for event, told in zip(self.events, self.told) if event == (writer, reader)]
 
     @command(
@@ -401,7 +401,7 @@ class Explorer(Machine):
         return "\n".join([f"words {name(writer)} {name(reader)} {len(lines)}"] + lines)
 
     def passed_through(self, node):
-        """Of each step of a node what is told of it, and the node before and behind it."""
+        """The text of each step of a node, and the node before and after it."""
         again = Explorer(self.load, self.limit)
         for event in self.events:
             before = again.chip[node].copy()
@@ -457,7 +457,7 @@ class Explorer(Machine):
         return "\n".join(lines)
 
     def followed(self):
-        """The events with what is told of each and its nodes before it; of each step of a node what it did; and the nodes after their
+        """The events, each with its text and its nodes before it; what each step of a node did; and the nodes after their
         steps, from the load on."""
         again, passed, deeds = Explorer(self.load, self.limit), [], {}
         behind = {(number, 0): it.copy() for number, it in enumerate(again.chip)}
@@ -536,7 +536,7 @@ class Explorer(Machine):
         return "\n".join(reversed(lines[-most:] if most else [])) if lines else "none"
 
     def offers(self, node, step):
-        """The neighbours that a step of each would make give a node a word, were a step of it taken back, with that word."""
+        """The neighbours whose step would transfer a word to a node after the rollback of its step, with that word."""
         again = Explorer(self.load, self.limit)
         again.events = [event for event, gone in zip(self.events, self.dependents(self.place(node, step))) if not gone]
         again.replay()
@@ -551,7 +551,7 @@ class Explorer(Machine):
         return bool(looks)
 
     def seen(self):
-        """Of each kept event the word that it read in `io`, if it looks, and the nodes that read another word there behind it."""
+        """For each event of the history the word that it read from `io`, if it looks, and the nodes that would read another word there after it."""
         again, words, changes = Explorer(self.load, self.limit), [], []
         for event, looked in zip(self.events, self.looked):
             words.append(again.io_word(event[0], []) if looked else None)
@@ -562,7 +562,7 @@ class Explorer(Machine):
         return words, changes
 
     def near(self):
-        """The looks and the changes of what is shown to them between which nothing happens, each pair by the places of both. Sets of
+        """The looks and the changes that they observe with nothing between them in happens-before, each pair by the places of both. Sets of
         places are the bits of a number."""
         words, changes = self.seen()
         touching, changing, looking = ([0] * NODES for _ in range(3))
@@ -620,7 +620,7 @@ class Explorer(Machine):
         "races N, and for each of N steps the other word, and two commands that lead there", "races 001", 40,
     )  # fmt: skip
     def answer_races(self, only):
-        """The steps that could have come out otherwise, of a node or of all, and what holds of other orders."""
+        """The races, of a node or of all, and the last line about other interleavings."""
         lines = []
         for node in range(NODES) if only is None else [only]:
             for told in [told for event, told in zip(self.events, self.told) if event[1:] == (node,)]:

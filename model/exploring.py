@@ -1,7 +1,7 @@
 #!/usr/bin/env python3
-"""Generates sessions of `ga144 explore` and compares what the program answers with what the second reading does.
+"""Generates sessions of `ga144 explore` and compares the program's answers with those of the reference model.
 
-exploring.py PROGRAM FIRST COUNT: so many sessions, each generated from its number, from FIRST on. Every other one begins with source.
+exploring.py PROGRAM FIRST COUNT: COUNT sessions, each generated from its number, from FIRST on. Every other one begins with source.
 exploring.py --write FOLDER FIRST COUNT: writes those of them as files that have no limit of their own, with their answers.
 """
 
@@ -132,12 +132,12 @@ class Session:
         return self.random.choice(self.base.nodes), self.random.choice(self.base.nodes)
 
     def places(self, node):
-        """What else tells an address of a node, with that address: its labels, and the lines that begin its instruction words."""
+        """The names of addresses of a node, with the addresses: its labels, and the lines that begin its instruction words."""
         notes = self.machine.notes
         return notes.labels.get(node, []) + [(f"line {line}", address) for (its, line), address in notes.begins.items() if its == node]
 
     def ahead(self, order):
-        """Conditions that hold behind some event that such a run would make."""
+        """Conditions that hold after some event that such a run would make."""
         machine, pick = pickle.loads(pickle.dumps(self.machine)), self.random.choice
         machine.run(order and order.split(" ")[1], int(order.split(" ")[-1]) if "random" in order else None, pick((1, 20, 200)), [])
         made = machine.told[len(self.machine.told) :] or ["000 1 fetch"]
@@ -186,7 +186,7 @@ class Session:
         return f"run{order} {self.random.choice((1, 5, 30, 200, 400))}" + (f" until {self.conditions(order)}" if self.random.random() < 0.6 else "")
 
     def back(self):
-        """Back to where conditions hold, such as held behind some kept event; or to any."""
+        """`back until` conditions that held after some event of the history, or any."""
         machine, draw = self.machine, self.random
         if draw.random() < 0.7:
             self.machine = pickle.loads(pickle.dumps(machine))

@@ -1,4 +1,4 @@
-"""A second reading of "Source" in docs/REFERENCE.md: what `ga144 list` and `ga144 dis` write."""
+"""Part of the reference model, for "Source" in docs/REFERENCE.md: what `ga144 list` and `ga144 dis` write."""
 
 from machine import name as name_of
 from node import Node, advanced, target_of
@@ -30,7 +30,7 @@ def cell_lines(cell, layout, line):
 
 
 def listed(source):
-    """What `list` writes, and tells, and its status."""
+    """Standard output and standard error of `list`, and its status."""
     lines = [it.strip(" \t\r\f") for it in lines_of(source)]
     words, line_of = numbered(source)
     try:
@@ -57,7 +57,7 @@ def listed(source):
 
 
 def slots_of(word, address):
-    """The opcodes of a word, up to one behind which nothing is run; P behind it and the literals so far; and where a jump leads."""
+    """The opcodes of a word, up to the last that is run; P after it and the literals so far; and where a jump leads."""
     held, p = word ^ 0x15555, advanced(address)
     for slot, code in enumerate((held >> 13, held >> 8 & 31, held >> 3 & 31, (held & 7) << 2)):
         text = NAMES[code]
@@ -109,7 +109,7 @@ def port_text(address):
 
 
 def remark(node, roles, word, address):
-    """What is said of a cell."""
+    """The remark about a cell."""
     code, labels, literals = roles
     here = target_of(address)
     if here not in code and here in literals:
@@ -129,7 +129,7 @@ def unsaid(node):
 
 
 def disassembled(nodes):
-    """What `dis` writes for these nodes, and what it tells."""
+    """What `dis` writes for these nodes on standard output and on standard error."""
     text = []
     for node in nodes:
         load, lines, following = Node(node.number), [], 0

@@ -1,4 +1,4 @@
-"""What a client of `ga144 dap` is shown: a second reading of the Debug Adapter Protocol over the replay machine, apart from the crates.
+"""What a client of `ga144 dap` is shown. Part of the reference model, for the Debug Adapter Protocol over the replay machine.
 
 A node is a thread, and the numbers that a client gives back mean something by themselves. Each function here gives the body of a
 response; editing.py has the session around them.
@@ -20,7 +20,7 @@ STOPS = ("runs", "stopped: a write to several ports", "stopped: an address that 
 WAITS = {"fetch": "waits for code from", "read": "waits to read from", "write": "waits to write to"}
 JUMPS = {CODE[it] for it in ("jump", "call", "next", "if", "-if")}
 ENDS = JUMPS | {CODE[";"], CODE["ex"]}
-# what a line may begin anew behind: each that doesn't stay in its cell
+# the opcodes after which a line may begin anew: those that leave their cell
 JUMP_OPS = ENDS
 FIELDS = (0x3FF, 0xFF, 7)
 REGISTERS = ("state", "step", "p", "t", "s", "r", "a", "b", "i", "slot", "carry", "io")
@@ -62,7 +62,7 @@ def op_of(told):
 
 
 class Places(Notes):
-    """What a source says of cells by their numbers. Of an image it says nothing."""
+    """What a source gives for cells, by their numbers; an image gives nothing."""
 
     def __init__(self, source=None):
         super().__init__(source)
@@ -74,7 +74,7 @@ class Places(Notes):
                 self.give(node, group)
 
     def give(self, node, group):
-        """The words of the slots of a cell and of its literals: the last word has the slots behind it too."""
+        """Stores the words of the slots of a cell and of its literals: the last word also has the later slots."""
         address, words = group.address, [it for it, *_ in group.slots]
         for place, word in enumerate([words[0]] + [it for it, _ in group.literals]):
             cell, is_code = cell_of(address), not place and not group.data
@@ -88,7 +88,7 @@ class Places(Notes):
             address = advanced(address)
 
     def stands(self, line):
-        """Where a breakpoint on a line stands: its line, node and spot, those of the next line that has code; or None."""
+        """The place of a breakpoint on a line: the line, node and spot of this or the next line that has code; or None."""
         return min((it for it in self.slots if it[0] >= line), key=lambda it: it[0], default=None)
 
     def word(self, node, spot):
@@ -96,7 +96,7 @@ class Places(Notes):
         return self.words.get((node, spot))
 
     def named(self, node, cell):
-        """The first label that stands at a cell."""
+        """The first label at a cell."""
         return next((it for it, other in self.names.get(node, []) if other == cell), None)
 
     def near(self, node, cell):
@@ -113,8 +113,8 @@ class Places(Notes):
 
 
 class Watched(Explorer):
-    """The machine with what each step of a node did: what is told of it, the node behind it, the cell from which its word was
-    fetched, and of each entry of the return stack the call that put it there."""
+    """The machine with what each step of a node did: its text, the node after it, the cell from which its word was
+    fetched, and for each entry of the return stack the call that pushed it."""
 
     def replay(self):
         self.kept = [[("", it.copy(), None, [None] * 9)] for it in self.load]
@@ -141,7 +141,7 @@ class Watched(Explorer):
         return told, behind, cell, calls
 
     def spot(self, node, step):
-        """Where a node stands behind a step: the cell and the slot that it carries out next, or None outside of its memory."""
+        """The spot of a node after a step: the cell and slot that it executes next, or None outside of its memory."""
         _, it, cell, _ = self.kept[node][step]
         if it.slot == FETCH_DUE:
             cell = cell_of(it.p)
@@ -254,7 +254,7 @@ class Shown:
         return f"{address % 512:03x}" if label is None else label
 
     def instruction(self, node, address):
-        """The opcodes of a cell, up to one behind which nothing is carried out."""
+        """The opcodes of a cell, up to the last that is executed."""
         cell = cell_of(address)
         it = self.machine.chip[node]
         word = (it.ram if cell < 128 else it.rom)[cell % 64]
@@ -287,12 +287,12 @@ class Shown:
     # ---- lines
 
     def place_back(self, node, step, began=0):
-        """The step before one; before the call, where that one came back from a call that was made behind so many steps."""
+        """The step before one; if that one returned from a call that was made after step `began`, the step before the call."""
         call = self.machine.kept[node][step - 1][3][0] or 0
         return call - 1 if op_of(self.machine.kept[node][step][0]) == CODE[";"] and call > began else step - 1
 
     def begins(self, node, step, began=0):
-        """Whether a line begins behind a step: the node came to it from another, over calls that it made behind so many steps, or by a jump
+        """Whether a line begins after a step: the node came to it from another, over calls that it made after step `began`, or by a jump
         to its first slot."""
         spot = self.machine.spot(node, step)
         line = self.notes.word(node, spot)

@@ -1,4 +1,4 @@
-"""A second reading of "Source" in docs/REFERENCE.md, apart from the crates: what `ga144 asm` writes and tells for a source."""
+"""Part of the reference model, for "Source" in docs/REFERENCE.md: what `ga144 asm` writes for a source, also on standard error."""
 
 import re
 
@@ -21,7 +21,7 @@ class Cell:
         self.is_moved = self.is_ended = False
 
     def p(self):
-        """P behind the word and its literals."""
+        """P after the word and its literals."""
         p = advanced(self.address)
         for _ in self.literals:
             p = advanced(p)
@@ -199,7 +199,7 @@ def numbered(source, is_whole=True):
 
 
 def with_gap(words, number):
-    """The words with gaps in place of the one of a number, of a directive right before it and of each `,` right behind it."""
+    """The words with gaps in place of the one of a number, of a directive right before it and of each `,` right after it."""
     at = next(place for place, (it, _) in enumerate(words) if it == number)
     assert words[at][1] != GAP, "a gap has a fault"
     first = at - 1 if at and words[at - 1][1] in LEADING else at
@@ -232,7 +232,7 @@ def stands(read, label):
 
 
 def node_left(node, line, body):
-    """A node with the cells that are not at fault, and the faults. Cells that go on behind one past the end are left out."""
+    """A node with the cells that are not at fault, and the faults. Cells that continue after one past the end are left out."""
     read, faults = words_left(line, body)
     read.asked = [(at, kind, *what) for at, kind, *what in read.asked if stands(read, label_in(kind, what))]
     layout, given, left, past = Layout(read.asked), {}, [], None
@@ -282,12 +282,12 @@ def faults_of(source):
 
 
 def on_line(error, lines):
-    """A fault that is told of the number of a word, told of its line."""
+    """A fault of a word, given by its number, as a fault of its line."""
     return Fault(lines[error.line], re.sub("(?<=before on line )[0-9]+", lambda found: str(lines[int(found[0])]), error.text))
 
 
 def told_of(faults):
-    """What standard error is told of faults: the first ones, and how many more there are; not twice in a row the same."""
+    """The lines of faults on standard error: the first ones, and the number of the others; no text twice in succession."""
     faults = [it for at, it in enumerate(faults) if not at or str(faults[at - 1]) != str(it)]
     more = [f"and {len(faults) - MOST_TOLD} more"] if len(faults) > MOST_TOLD else []
     return "".join(f"ga144: {it}\n" for it in [*faults[:MOST_TOLD], *more])

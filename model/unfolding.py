@@ -11,7 +11,7 @@ import explore
 import files
 from whence import asked_of, lines_of
 
-# every how many steps one is asked, and how many lines are the first
+# the distance of the queried steps, and the lengths of the first lines
 EVERY, FIRST = 7, (1, 3, 10, 50)
 ALL = 1 << 30
 

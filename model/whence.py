@@ -1,6 +1,6 @@
-"""Where values come from: a second reading of `whence` in docs/REFERENCE.md. Beside each word stands a tag, and goes where it goes.
+"""Provenance: part of the reference model, for `whence` in docs/REFERENCE.md. Each word has a tag, which moves with it.
 
-A tag is a node, its step that made the word (0 where the word was loaded), and the name of the part in which it left it. `made` has
+A tag is a node, its step that made the word (0 if the word was loaded), and the name of the part in which it left it. `made` has
 the tags from which each was made.
 """
 
@@ -11,10 +11,10 @@ from conditions import value_of
 from node import pop, push, target_of
 
 MOST = 100
-# the register by which each of the first opcodes decides where its node goes on; a jump and a call only by a word that came over a port
+# the register by which each of the first opcodes decides where its node continues; a jump and a call only by a word that came over a port
 TESTED = ("r", "r", "i", "i", "r", "r", "t", "t")
 LOADED = ("a", "b", "p", "i", "io", "carry", "slot", "wait", "stop")
-# the registers by which those opcodes decide that are asked for as they were before, and those in which others leave a word that they moved
+# the registers by which those opcodes decide, queried as they were before, and those in which others leave a word that they moved
 ASKED_BEFORE = {"jump": "i", "call": "i", "unext": "r", "next": "r", "if": "t", "-if": "t"}
 MOVED_TO = {"!p": "io", "!+": "io", "!b": "io", "!": "io", "push": "r", "a!": "a"}
 WAITS, SIDE_BITS = {"fetch": 16, "read": 32, "write": 48}, {"r": 8, "d": 4, "l": 2, "u": 1}
@@ -157,8 +157,8 @@ class Tags:
 
 
 def asked_of(passed, nodes):
-    """The tag for which each step of a node asks, and from which tags each tag was made. `passed` has the events, each with what is
-    told of it and its nodes before it."""
+    """The tag that each step of a node selects, and from which tags each tag was made. `passed` has the events, each with its
+    text and its nodes before it."""
     asked, made = {}, {}
     for _ in followed(passed, nodes, asked, made):
         pass
@@ -229,7 +229,7 @@ def next_in_run(tag, made, deeds):
 
 
 def run_of(tag, made, deeds, told):
-    """A tag and those after it in a run, up to one that was told, whose steps are all as far apart as the first two."""
+    """A tag and those after it in a run, up to one that is listed already, whose steps are all as far apart as the first two."""
     run, after = [tag], next_in_run(tag, made, deeds)
     while after and after not in told and (len(run) == 1 or run[-1][1] - after[1] == run[0][1] - run[1][1]):
         run.append(after)

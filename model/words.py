@@ -1,4 +1,4 @@
-"""A second reading of "Source" in docs/REFERENCE.md, apart from the crates: the words of a source, and what those of a node ask for."""
+"""Part of the reference model, for "Source" in docs/REFERENCE.md: the words of a source, and the requests of those of a node."""
 
 import re
 
@@ -29,7 +29,7 @@ MEANT += "if -if ahead else then org node expect constant right down left up io"
 
 
 class Fault(Exception):
-    """What is told of a source, with its line."""
+    """A fault of a source, with its line."""
 
     def __init__(self, line, text):
         super().__init__(f"line {line}: {text}")
@@ -64,7 +64,7 @@ def lines_of(source):
 
 
 def shown(word):
-    """A word as standard error is told it."""
+    """A word as standard error has it."""
     return "".join(it if " " <= it <= "~" else f"\\x{ord(it):02x}" for it in word)
 
 
@@ -235,7 +235,7 @@ class Words:
         return open_ones + [unknown(line, label) for line, label in self.named if label not in self.marked]
 
     def take(self, line):
-        """The word behind a directive."""
+        """The word after a directive."""
         demand(self.words, line, "a name or a value is missing")
         line, word = self.words.pop(0)
         if isinstance(word, Fault):

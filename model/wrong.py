@@ -1,13 +1,13 @@
 #!/usr/bin/env python3
-"""Plants wrong definitions into the second reading and sees that generated sessions, or sources, tell each of them.
+"""Plants faults into the reference model and checks that generated sessions, or sources, detect each mutant.
 
-wrong.py PROGRAM COUNT: each wrong definition has to be told within so many sessions, by an answer that differs or by a
-replay that can't go on; one of source within so many sources and as many that are cut or changed, one of pictures within so many of
-these, one of ends or expectations within so many programs. A definition is wrong in one place: its file, a text that stands there once, and
-what takes its place.
+wrong.py PROGRAM COUNT: one of COUNT sessions must detect each mutant, by an answer that differs or by a replay that fails; a mutant of
+source one of COUNT sources and as many that are cut or changed, one of pictures one of COUNT pictures, one of ends or expectations one of
+COUNT programs. A mutant has a file, a text that occurs there once, and its replacement.
 
-The file `told` beside this says which session told a definition when `wrong.py --write PROGRAM COUNT` wrote it, by a sum of the
-definition. That one is tried first; where it tells nothing, or a definition has no line there, all are.
+The file `told` in this folder has for each mutant, by a digest, the number of the session that detected it when
+`wrong.py --write PROGRAM COUNT` wrote the file. That session is tried first; if it doesn't detect the mutant, or the mutant has no line
+there, all are.
 """
 
 import hashlib
@@ -22,7 +22,7 @@ from concurrent.futures import ThreadPoolExecutor
 NODE, MACHINE, WORDS, SOURCE, LISTING = "node.py", "machine.py", "words.py", "source.py", "listing.py"
 EXPLORE, WHENCE, NOTES, PICTURES, ENDS = "explore.py", "whence.py", "notes.py", "pictures.py", "ends.py"
 EXPECTATIONS = "expectations.py"
-# Which generator tells a wrong definition in a file; the others `sessions`.
+# Which generator detects a mutant of a file; the others `sessions`.
 GENERATORS = {WORDS: "sources", SOURCE: "sources", LISTING: "sources", EXPLORE: "exploring", WHENCE: "exploring", NOTES: "exploring"}
 GENERATORS |= {PICTURES: "pictures", ENDS: "ends", EXPECTATIONS: "expectations"}
 WRONG = (
@@ -306,7 +306,7 @@ WRONG = (
     (LISTING, '("p", 0 if cells else load.p)', '("p", load.p)'),
     (LISTING, '("a", load.a), ("b", load.b)):', '("a", load.a)):'),
     (LISTING, "if address != following:", "if address > following + 1:"),
-    # exploring: runs, conditions, and what is asked of what is kept
+    # exploring: runs, conditions, and queries of the history
     (EXPLORE, "state = (state + 0x9E3779B97F4A7C15) % (1 << 64)", "state = (state + 0x9E3779B97F4A7C14) % (1 << 64)"),
     (EXPLORE, "turn = node if order == \"greedy\" else (node + 1) % NODES", "turn = (node + 1) % NODES"),
     (EXPLORE, "turn = node if order == \"greedy\" else (node + 1) % NODES", "turn = node"),
@@ -315,7 +315,7 @@ WRONG = (
     (EXPLORE, "return own and event[2] == kind and (not words or event[0] == words[0])", "return own and event[2] == kind"),
     (EXPLORE, "return len(self.sent(*map(number_of, words[:2]))) == int(words[2])", "return len(self.sent(*map(number_of, words[:2]))) > int(words[2])"),
     (EXPLORE, "return self.chip[node].p == self.address(*words)", "return self.chip[node].p % 8 == self.address(*words)"),
-    (EXPLORE, "{name(at)} {first} {self.steps[at]", "{name(at)} {first - 1} {self.steps[at]"),
+    (EXPLORE, "{name(at)} {first} {self.steps[at] - left[at]}", "{name(at)} {first - 1} {self.steps[at] - left[at]}"),
     (EXPLORE, "for node, others in awaited.items() if len(others) == 1", "for node, others in awaited.items() if others"),
     (EXPLORE, "if after.get(ring[-1]) == first and min(ring) == first", "if after.get(ring[-1]) == first"),
     (EXPLORE, "if event == (writer, reader)]", "if set(event) == {writer, reader}]"),
@@ -485,7 +485,7 @@ def sum_of(wrong):
 
 
 def told_before():
-    """Which session told a definition, by its sum, when that was written."""
+    """The session that detected each mutant, by its digest, when the file was written."""
     if not os.path.isfile(f"{HERE}/told"):
         return {}
     with open(f"{HERE}/told", encoding="utf-8") as text:
@@ -493,19 +493,19 @@ def told_before():
 
 
 def run(folder, wrong, program, first, count):
-    """How so many sessions tell a wrong definition that is planted in a folder ('answer' or 'replay'), or what they say, and which does."""
+    """How `count` sessions detect a mutant that is planted in a folder ('answer' or 'replay'), or what they print, and which does."""
     generator, *options = GENERATORS.get(wrong[0], "sessions").split()
     words = [sys.executable, "-B", f"{folder}/{generator}.py", *options, program, str(first), str(count)]
     ran = subprocess.run(words, capture_output=True, text=True)
     said = (ran.stdout + ran.stderr).strip().split("\n")[-1]
     if ran.returncode != 1:
-        return f"not told: {said}", None
+        return f"not detected: {said}", None
     number = re.match(r"(?:session|source|picture|program) (\d+): ", said)
     return "answer" if number else "replay", number and number[1]
 
 
 def told(room, number, program, count, before, is_written):
-    """How the sessions tell a wrong definition, or why they don't, and which session does, where that is to be written."""
+    """How the sessions detect a mutant, or why they don't, and which session does, if that is to be written."""
     wrong = WRONG[number]
     file, old, new = wrong
     folder = f"{room}/{number}"
@@ -513,7 +513,7 @@ def told(room, number, program, count, before, is_written):
     with open(f"{folder}/{file}", encoding="utf-8") as text:
         right = text.read()
     if right.count(old) != 1:
-        return f"its text stands {right.count(old)} times, and not once", None
+        return f"its text occurs {right.count(old)} times, not once", None
     with open(f"{folder}/{file}", "w", encoding="utf-8") as text:
         text.write(right.replace(old, new))
     first = before.get(sum_of(wrong))
@@ -547,7 +547,7 @@ def main():
     left = [f"{wrong}: {what}" for wrong, what in zip(WRONG, answers) if what not in ("answer", "replay")]
     if left:
         sys.exit("\n".join(left))
-    print(f"{len(WRONG)} wrong definitions: each is told, {answers.count('replay')} of them by a replay that can't go on")
+    print(f"{len(WRONG)} mutants of the model: each is detected, {answers.count('replay')} of them by a replay that fails")
 
 
 if __name__ == "__main__":

@@ -1,6 +1,6 @@
 ;;; drive.el --- drives `ga144 dap' by dap-mode in batch -*- lexical-binding: t -*-
 
-;; SOURCE=FILE LINE=NUMBER emacs -Q --batch -l drive.el: sets a breakpoint, makes a step, undoes it, and goes back to the load. The start-up
+;; SOURCE=FILE LINE=NUMBER emacs -Q --batch -l drive.el: sets a breakpoint, makes a step, undoes it, and returns to the load. The start-up
 ;; file is that of docs/EDITORS.md, in an empty home; `ga144' is on the PATH. The last line is `dap: ended 0' if all is well.
 
 ;;; Code:

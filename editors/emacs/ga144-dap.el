@@ -23,16 +23,16 @@
 (dap-register-debug-provider "ga144" #'ga144-dap--filled)
 (dap-register-debug-template "GA144" (list :type "ga144" :request "launch" :name "GA144" :program nil))
 
-;; what a step back takes along is told on the console
+;; the console prints the steps that a step back removes
 (setq dap-output-buffer-filter (append '("console") dap-output-buffer-filter))
 
 (defun ga144-step-back (session)
-  "Take back the last line of the thread's node in SESSION, with all that depends on it."
+  "Roll back the last line of the thread's node in SESSION, with all that depends on it."
   (interactive (list (dap--cur-session-or-die)))
   (dap--step "stepBack" session))
 
 (defun ga144-reverse-continue (session)
-  "Take the thread's node in SESSION back to its newest breakpoint, with all that depends on what it did since."
+  "Roll the thread's node in SESSION back to its newest breakpoint, with all that depends on its later steps."
   (interactive (list (dap--cur-session-or-die)))
   (dap--step "reverseContinue" session))
 

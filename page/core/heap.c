@@ -1,4 +1,4 @@
-// The heap of the page's module, behind Rattle's `Global`: blocks of powers of two from 32 bytes on, each behind 16 bytes that
+// The heap of the page's module, which Rattle's `Global` uses: blocks of powers of two from 32 bytes on, each after 16 bytes that
 // hold its power. Freed blocks are kept by size. Nothing proves this file.
 typedef unsigned long Size;
 extern unsigned char __heap_base[];

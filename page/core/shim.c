@@ -1,5 +1,5 @@
-// What the page calls. `room` gives a buffer for the input, a question answers it, `answer` is where the answer is,
-// `ended` how a session ended, and `told` what the assembler says. A question says how many bytes it answered, -1 where there is no
+// What the page calls. `room` returns a buffer for the input, a query answers it, `answer` is where the answer is,
+// `ended` how a session ended, and `told` the assembler's faults. A query returns the number of bytes of its answer, -1 if there is no
 // memory for them.
 typedef unsigned long Size;
 typedef unsigned char Byte;
@@ -49,5 +49,5 @@ PAGE(assemble) Size assemble(Size count) {
 }
 PAGE(check) Size check(Size count, unsigned most, unsigned limit, unsigned asked) { ANSWER(ga_check(input, count, output, output_room, most, limit, asked)) }
 PAGE(list) Size list(Size count) { ANSWER(ga_list(input, count, output, output_room)) }
-// The input is an image, and behind it the numbers of the nodes.
+// The input is an image, followed by the numbers of the nodes.
 PAGE(shades) Size shades(Size image, Size nodes, unsigned place) { ANSWER(ga_shades(input, image, input + image, nodes, place, output, output_room)) }

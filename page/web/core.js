@@ -41,7 +41,7 @@ class Core {
     return said.more !== CUT || told.endsWith("no 33 input\n") ? told : null;
   }
 
-  // The nodes that made the events kept at a session's end, in their order. Null where there are none, or for want of memory.
+  // The nodes that made the events kept at a session's end, in their order. Null if there are none, or if memory ran out.
   kept(text, limit) {
     const said = this.question(bytes_of(text), (core, count) => core.kept(count, limit));
     return said && said.bytes.length ? said.bytes.slice() : null;
@@ -59,13 +59,13 @@ class Core {
     return said ? text_of(said.bytes) : "";
   }
 
-  // How the program of a session can end, in whatever order its nodes run; or the steps that lead to a kind of end. Null for want of memory.
+  // How the program of a session can end, in whatever order its nodes run; or the steps that lead to a kind of end. Null if memory ran out.
   check(load, most, limit, kind) {
     const said = this.question(bytes_of(load), (core, count) => core.check(count, most, limit, kind));
     return said && text_of(said.bytes);
   }
 
-  // Of each event that these nodes make in turn, how it stands to the one at a place: 2 depends on it, 1 leads to it, 0 neither.
+  // For each event that these nodes make in turn, its relation to the one at a place: 2 depends on it, 1 is a cause of it, 0 neither.
   shades(image, nodes, place) {
     const front = bytes_of(image), input = new Uint8Array(front.length + nodes.length);
     input.set(front); input.set(nodes, front.length);

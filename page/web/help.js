@@ -34,7 +34,7 @@ function help_table(rows) {
   return table;
 }
 
-// Opens the page, at the commands if these are asked for.
+// Opens the help, at the commands if these are requested.
 function show_help(answer, at = "") {
   const box = find("helptext"), { commands, remarks } = help_of(answer);
   box.textContent = "";

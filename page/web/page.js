@@ -148,7 +148,7 @@ class Page {
 
   is_chosen([name, step]) { return !this.race && !!this.chosen && this.chosen[0] === name && this.chosen[1] === step; }
 
-  // Chooses a step; chosen once more, it is taken back.
+  // Chooses a step; a second call rolls it back.
   choose(step) { if (this.session.event_at(step)) return this.is_chosen(step) ? this.take() : this.show(step); }
 
   // Chooses a step: what led to it, what would go with it, and the chip as it would be then.
@@ -189,7 +189,7 @@ class Page {
   // The next step of the same word.
   next_of_word() { const row = this.chosen && this.session.places.row(...this.chosen); if (row && row.key) this.choose_word(row.key); }
 
-  // Goes where a part of an answer leads.
+  // Follows the link of a part of an answer.
   follow({ step, node, line, column, kind }) {
     if (kind) return this.lead_to(kind);
     if (line) return find("editor").hidden ? this.mark_place(line, column) : this.select_line(line);
@@ -198,7 +198,7 @@ class Page {
     if (!this.is_chosen(step)) this.show(step);
   }
 
-  // Shows the other outcome of a step that races: what goes for it, and the chip after it. Shown once more, it is made.
+  // Shows the other outcome of a step that races: the steps that it removes, and the chip after it. A second call makes it.
   turn(race) {
     if (this.race === race) return this.take();
     const marks = this.session.marks(race.back), outcome = marks && this.session.outcome(race), [name] = race.step;
@@ -226,7 +226,7 @@ class Page {
     return said;
   }
 
-  // Makes again what was taken back last: the session is what it was before.
+  // Makes again the events that were removed last: the session is the earlier one.
   redo() {
     const last = this.undone.pop();
     if (!last) return [];

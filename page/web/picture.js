@@ -1,6 +1,6 @@
 // The space-time picture: nodes are lines, time runs to the right. What would go is a cross, a cause a diamond, others are dots.
 
-// Events in the order of their depth: 1 behind the deepest of the events before it on its nodes. For drawing alone.
+// Events in the order of their depth: 1 more than the deepest of the events before it on its nodes. Only for drawing.
 function placed(events) {
   const depth = new Uint32Array(NODES.length), xs = new Uint32Array(events.length);
   let deepest = 0;
@@ -38,7 +38,7 @@ class Picture {
     const wide = Math.max(8, Math.min(this.wide * by, this.whole(30)));
     this.from = Math.max(0, this.from + (this.wide - wide) * around); this.wide = wide;
   }
-  // The beginning, so that its events can be told apart; and all of it.
+  // The beginning, with its events distinguishable; and all of it.
   begin() { this.from = 0; this.wide = Math.max(this.events.length ? 16 : 30, Math.min(this.deepest + 4, this.canvas.clientWidth / 9)); }
   fit() { this.from = 0; this.wide = this.whole(16); }
   // All events, and room for the frame round the last.
@@ -116,7 +116,7 @@ class Picture {
     }
   }
 
-  // From afar the picture is cut into columns, and each tells what is in it: of a node how many steps of its own, whether it came to
+  // From afar the picture is cut into columns, and each sums up what is in it: for a node the number of its own steps, whether it came to
   // wait, and a stop; of two nodes how many words went from one to the other. What has most weight gives the colour.
   draw_far(g, marks, from, upto, line, left, unit, colours) {
     const { nodes, links } = this.summed(marks, from, upto, line, unit), { column: wide } = this, across = column => left + column * wide, busy = this.names.length && Math.abs(line[this.names[0]] - line[this.names[1] || this.names[0]]) || 22;
@@ -139,7 +139,7 @@ class Picture {
     g.textAlign = "left";
   }
 
-  // What draw_far tells, of the events of a part of the order: column by column, since the order is by depth.
+  // The sums that draw_far shows, of the events of a part of the order: column by column, since the order is by depth.
   summed(marks, from, upto, line, unit) {
     const nodes = [], links = [], drawn = NAMES.map(n => n in line);
     let column = -1, told = null;

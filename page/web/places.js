@@ -1,5 +1,5 @@
-// Which word of the program each step came from. `at` names it for steps that are shown; for all steps of a node the cells are asked
-// that it fetched from, and of each slot of a cell the word once. A word's key is that of the program's text (source.js).
+// Which word of the program each step came from. `at` names it for steps that are shown; for all steps of a node a query gives the cells
+// from which it fetched, and once the word of each slot of a cell. A word's key is that of the program's text (source.js).
 
 // The image and the kept events, step by step, with a question before each of these: lines of one length, as bytes, since a text of so
 // many lines would be garbage at each click.
@@ -53,8 +53,8 @@ class Places {
   row(name, step) { return this.rows[name] && this.rows[name].get(step) || null; }
 
   // Of a node's steps from one to another: the cell that each one's instruction word was fetched from, which is that at P right
-  // before the fetch or the wait for one, and its slot, -1 for the fetch itself. No cell is -1. The machine is asked at each place
-  // where it isn't plain: at a fetch, a wait, a stop and after `unext`.
+  // before the fetch or the wait for one, and its slot, -1 for the fetch itself. No cell is -1. A query gives them at each place
+  // where they aren't known: at a fetch, a wait, a stop and after `unext`.
   fetched(name, from, upto) {
     const { session } = this, trace = session.traces[name] || [], start = Math.max(1, from - 40), end = Math.min(upto, trace.length), asked = [];
     for (let k = start; k <= end; k++) {

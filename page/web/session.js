@@ -16,7 +16,7 @@ const cells_of = name => Array.from({ length: 64 }, (_, i) => `mem ${name} ${i.t
 class Session {
   constructor(core, limit = 1000000) { this.core = core; this.limit = limit; }
 
-  // Opens source or an image, up to its line `end`. Says why it is refused, or null; `told` has the assembler's warnings.
+  // Opens source or an image, up to its line `end`. Returns why it is refused, or null; `told` has the assembler's warnings.
   open(load) {
     let image = load, told = "", listing = null;
     const source = is_source(load);
@@ -40,7 +40,7 @@ class Session {
   get script() { return this.image + (this.is_plain ? this.commands : lines_of(saved(this.events))); }
 
   // Asks on a second run of the session; with `load` on the same program as a text with other remarks. The last answer has all lines
-  // that are left. Null for want of memory.
+  // that are left. Null if memory ran out.
   ask(lines, load = this.load) {
     const all = this.core.answer(load + this.commands + lines_of(lines), this.limit);
     if (all === null || !all.startsWith(this.said)) return null;
@@ -61,8 +61,8 @@ class Session {
     return answers;
   }
 
-  // Steps and undos together. What is asked after them is answered in `more`; where there is no memory for that, and for some
-  // more after a step, nothing is kept: so the session can be asked on, and steps taken back.
+  // Steps and undos together. `more` has the answers to the queries after them; without memory for these, and for some
+  // more after a step, nothing is kept: so later queries and undos have memory.
   step(lines, questions = []) {
     const reserve = lines.some(it => it.startsWith("step")) ? NODES : [], all = this.ask([...lines, ...questions, ...reserve], this.named), kept = [], said = [];
     if (!all) return { answers: lines.map(() => [NO_MEMORY]), more: null };
@@ -90,7 +90,7 @@ class Session {
     return ended ? [told, NO_MEMORY] : [told];
   }
 
-  // A rollback. `effects` names what it removes. What is asked after it is answered in `more`, where there is memory for that.
+  // A rollback. `effects` names what it removes. `more` has the answers to the queries after it, if there is memory for them.
   rewind(line, questions = []) {
     const all = this.ask([line.replace("rewind", "effects"), line, ...questions], this.named);
     if (!all && questions.length) return this.rewind(line);
@@ -154,7 +154,7 @@ class Session {
   // Whether a node did more than come to wait.
   is_busy(name) { const [first, second] = this.traces[name] || []; return !!first && (!!second || first.label !== "wait"); }
 
-  // Of each kept event, how it relates to that of a step: 2 would go with it, 1 leads to it, 0 neither. Null for want of memory.
+  // The relation of each event of the history to that of a step: 2 depends on it, 1 is a cause of it, 0 neither. Null if memory ran out.
   marks(step) {
     return this.core.shades(this.image, this.numbers.first, this.event_at(step).place);
   }
@@ -186,7 +186,7 @@ class Session {
 
   learn(rows, name, answers) { this.places.learn(answers.slice(0, rows)); return this.seen(name, answers.slice(rows)); }
 
-  // The answer of `races`; null for want of memory.
+  // The answer of `races`; null if memory ran out.
   races() { const answer = (this.ask(["races"]) || [[NO_MEMORY]])[0]; return is_out_of_memory(answer[0]) ? null : answer.slice(1); }
 
   // The other outcome of such a step: what its rollback takes, what is made then, and the chip after that.

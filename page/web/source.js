@@ -11,7 +11,7 @@ function parted(text) {
   return { load: text.slice(0, at) + "\n", commands: text.slice(at).match(/[^\n]+/g) || [] };
 }
 
-// Source is what doesn't begin as an image does, as `ga144 explore` tells them apart.
+// Source is what doesn't begin as an image does, as for `ga144 explore`.
 function is_source(text) { return !text.startsWith("ga144"); }
 
 const is_plain = text => !/[^\x00-\x7f]/.test(text);

@@ -39,7 +39,7 @@ function shape(g, kind, x, y, size, hollow) {
   g.lineWidth = 1; if (hollow) g.stroke(); else g.fill();
 }
 
-// A text with an outline in the colour of what is behind it, so that lines don't cross it.
+// A text with an outline in the colour of its background, so that lines don't cross it.
 function lettered(g, text, x, y, colour, back) {
   g.lineJoin = "round"; g.lineWidth = 4; g.strokeStyle = back; g.strokeText(text, x, y);
   g.fillStyle = colour; g.fillText(text, x, y);
