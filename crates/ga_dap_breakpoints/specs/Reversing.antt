@@ -41,7 +41,7 @@ abbrev pub hits_among : State → NodeId → Breakpoint → ℕ → ℕ
 hits_among s node one zero = 0
 hits_among s node one (suc k) = hits_among s node one k + from_bool (is_hit_step s node one k)
 
--- ---- how often each breakpoint was hit, where its hits are asked for by their numbers
+-- ---- the number of hits of each breakpoint with a hit condition
 
 abbrev pub counted_by : Option HitCondition → State → Breakpoint → ℕ
 counted_by None s one = 0

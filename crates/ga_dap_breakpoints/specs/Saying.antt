@@ -5,7 +5,7 @@ use Rattle.ga_text.specs.Parsing.{split_at_space, parse_number}
 use Rattle.ga_dap_breakpoints.specs.declared.condition.HitCondition.{HitCondition}
 use Rattle.ga_dap_breakpoints.specs.declared.condition.HitCondition.TheVariants.{Only, From, Each}
 
--- ---- the hits that are asked for: N, >= N or % N, with N from 1 on
+-- ---- hit conditions: N, >= N or % N, with N from 1 on
 
 abbrev pub positive_number : ℕ → Option ℕ
 positive_number number = if number == 0 then None else Some number

@@ -82,7 +82,7 @@ is_text_value name d = equals_text name (as_str d)
 abbrev pub is_filter : Data → Bool
 is_filter d = is_text_value (codes "stop") d || is_text_value (codes "stuck") d
 
--- the filters that are asked for are set, where each is one
+-- the requested filters are set, if each is one
 abbrev pub SetsFiltersIfKnown : Bool → List Data → Configuration → ClientRequest → Message → Configuration → Type 0
 SetsFiltersIfKnown true names set request message new =
     (message ≡ bare_success_response request) × (new ≡ record set { stops = list_any (is_text_value (codes "stop")) names; stuck = list_any (is_text_value (codes "stuck")) names })

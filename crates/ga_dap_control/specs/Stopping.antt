@@ -31,7 +31,7 @@ stopped_message reason description n = event_message (codes "stopped") (stopped_
 abbrev pub hit : Text → Text → ℕ → List ℕ → Message
 hit reason description n ids = event_message (codes "stopped") (breakpoint_stopped_body reason description n ids)
 
--- the numbers of those breakpoints that what was made hit as they are asked for
+-- the numbers of the breakpoints that the made event hits, by their hit conditions
 unfoldable pub is_one_hit : Made → State → PlacedBreakpoint → Bool
 is_one_hit told s one = is_hit_by_newest_event told s one.breakpoint
 

@@ -86,7 +86,7 @@ pub fn set_line_breakpoints(
     }
 }
 
-/// How many breakpoints are asked for.
+/// The number of requested breakpoints.
 #[tactic(auto, using(crate::proofs::Placed::counted))]
 fn count_asked(arguments: &Value) -> usize
     ensures { result ≡ length (member_values (codes "breakpoints") (view arguments.now)) }
@@ -116,7 +116,7 @@ fn placing_new(alloc: Global, placed: Vec<PlacedBreakpoint>, next: u64) -> Placi
     }
 }
 
-/// What comes of the breakpoints that are asked for.
+/// The response for each requested breakpoint.
 #[tactic(auto, using(crate::proofs::Placed::placed_so))]
 fn placing_of(
     alloc: Global,
@@ -157,7 +157,7 @@ fn set_placing(
     Ok(())
 }
 
-/// The breakpoints that one request set are replaced by those that are asked for.
+/// Replaces the breakpoints of one request by the requested ones.
 #[tactic(auto, using(ga_dap_queries::proofs::Sent::ok_then))]
 pub fn replace_breakpoints(
     alloc: Global,
@@ -216,7 +216,7 @@ fn has_filter(items: &[Value], name: &str) -> bool
     one_is_text(items, name)
 }
 
-/// Sets the filters that are asked for, where each item is the name of one.
+/// Sets the requested filters, if each item is the name of one.
 fn set_filters_if(
     settings: &mut Configuration,
     filters: &[Value],

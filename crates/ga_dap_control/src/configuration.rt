@@ -138,7 +138,7 @@ impl BreakpointSet {
         Ok(list)
     }
 
-    /// The breakpoints that what was made, the newest event, hit as they are asked for.
+    /// The breakpoints that the newest event hits, by their hit conditions.
     fn hits(
         &self,
         alloc: Global,
@@ -156,7 +156,7 @@ impl BreakpointSet {
         Ok(list)
     }
 
-    /// The numbers of the breakpoints that what was made, the newest event, hit as they are asked for.
+    /// The numbers of the breakpoints that the newest event hits, by their hit conditions.
     pub fn hit_breakpoint_ids(
         &self,
         alloc: Global,

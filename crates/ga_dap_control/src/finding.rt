@@ -172,7 +172,7 @@ fn with_parsed_hit_condition(
     }
 }
 
-/// A breakpoint at a place, with the hits that are asked for, where any are.
+/// A breakpoint at a place, with its hit condition, if any.
 fn with_hit_condition(
     place: BreakpointLocation,
     before: usize,

@@ -38,7 +38,7 @@ abbrev pub IsFrameArgument : Data → Option NodeId → Type 0
 IsFrameArgument d (Some node) = (level : ℕ) × (level < 16) × (member_number (codes "frameId") d ≡ Some (frame_id node.number level))
 IsFrameArgument d None = (n level : ℕ) → n < 144 → level < 16 → member_number (codes "frameId") d ≢ Some (frame_id n level)
 
--- the node and the scope whose variables are asked for, or that there are none
+-- the node and the scope of the requested variables, or none
 abbrev pub IsScopeArgument : Data → Option (NodeId × Scope) → Type 0
 IsScopeArgument d (Some at) = member_number (codes "variablesReference") d ≡ Some (variables_reference at.0.number at.1)
 IsScopeArgument d None = (n : ℕ) (scope : Scope) → n < 144 → member_number (codes "variablesReference") d ≢ Some (variables_reference n scope)

@@ -77,7 +77,7 @@ fn node_framed(frame: u64) -> Option<NodeId>
     }
 }
 
-/// The node and the scope whose variables are asked for.
+/// The node and the scope of the requested variables.
 pub fn scope_argument(arguments: &Value) -> Option<(NodeId, Scope)>
     ensures { IsScopeArgument (view arguments.now) result }
 {

@@ -88,7 +88,7 @@ pub fn respond_variables(
     }
 }
 
-/// Whether those of a memory are asked for, which are indexed, or all others, which are named.
+/// Whether the filter selects the variables of the scope: those of a memory are indexed, all others named.
 fn matches_variables_filter(of: Scope, filter: Option<&str>) -> bool
     ensures { result ≡ matches_variables_filter of (option_map (λ text. text.now) filter.entry) }
 {
@@ -119,7 +119,7 @@ fn no_variables(alloc: Global) -> Result<Value, AllocError>
     json!(in alloc; {"variables": []})
 }
 
-/// The variables of a scope, where they are asked for.
+/// The variables of a scope that the request selects.
 fn filtered_variables(
     alloc: Global,
     lab: &Lab,

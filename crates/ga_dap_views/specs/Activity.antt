@@ -28,7 +28,7 @@ append_side_name sides side (c ∷ text) = if has_side sides side then (c ∷ te
 abbrev pub side_names : ℕ → Text
 side_names sides = append_side_name sides Up (append_side_name sides Left (append_side_name sides Down (append_side_name sides Right [])))
 
--- a stop by its number (docs/REFERENCE.md, "Events")
+-- a stop by its number (docs/REFERENCE.md, "Steps, dependence and rollback")
 abbrev pub stop_text : ℕ → Text
 stop_text stop =
     if stop == 0 then codes "runs"

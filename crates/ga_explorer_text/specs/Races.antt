@@ -1,5 +1,5 @@
 -- The texts of `races`: the steps that could have come out otherwise, and what holds of other orders (docs/REFERENCE.md, "Exploring";
--- this project's own). What the last line means is law `every_order` and law `race_free_within_steps` of ga_race_detector.
+-- this project's own). The laws `reported_race_free_end_is_unique` and `race_free_within_steps` of ga_race_detector are about the last line.
 use Rattle.std.specs.Prelude.{◌≡◌, ◌+◌, ◌⊎◌, Bool, true, false, is_none, List, [], ◌∷◌, ◌++◌, length, flat_map, codes, decimal, ℕ, Option, Some, None}
 use Rattle.std.specs.List.{All}
 use Rattle.ga_text.specs.Lines.{Text}

@@ -16,8 +16,7 @@ const RUN_ROOM: usize = 2 * MAX_LINE_BYTES;
 /// The text of a run's line.
 pub type RunText = ArrayVec<u8, RUN_ROOM>;
 
-/// How many events a run made, and why no more: where several conditions are asked for, which of them held first; where there is no room,
-/// what to do.
+/// The number of events of a run, and why it ended: of several conditions, which held first; if the history is full, what to do.
 pub fn run_result_text(ran: &RunResult, conditions: usize) -> RunText
     ensures { result.items ≡ run_text conditions ran.now.events ran.now.end }
 {

@@ -57,7 +57,7 @@ fn part_cell(part: NodePart) -> Option<u8>
     }
 }
 
-/// The place by which a part is given: that of T stands for all that is given only with all words.
+/// The place by which a part is given: that of T represents all parts that only an image of format 2 gives.
 fn listed_place(part: NodePart) -> Place
     ensures { result ≡ listed_place part }
 {

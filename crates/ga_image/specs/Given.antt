@@ -38,7 +38,7 @@ abbrev pub is_p : Place → Bool
 is_p P = true
 is_p _ = false
 
--- a cell is one of so many from the first on
+-- a cell is one of `count` from the first on
 abbrev pub is_in_row : ℕ → ℕ → Option ℕ → Bool
 is_in_row first count (Some cell) = nat_le first cell && nat_lt cell (first + count)
 is_in_row first count None = false

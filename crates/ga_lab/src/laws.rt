@@ -84,7 +84,7 @@ pub fn local_histories_determine_machine()
 /// that a step followed by its undo cancels and independent steps swap, exactly if they end alike. Equivalent sequences from
 /// any reached machine end alike. The other direction is for sequences from the load, and requires that no rollback removes a
 /// look: what a neighbour did after the look stays, and then the rollback is no sequence of undos
-/// (`rfc_8259_examples/debug/programs/look_again`). It makes as many steps and undos again, which have to be counted: hence less than
+/// (`examples/debug/programs/look_again`). It makes as many steps and undos again, which have to be counted: hence less than
 /// half of 2^64 calls.
 #[tactic(auto, using(crate::proofs::Sequences::sound, crate::proofs::Again::runs_reached, crate::proofs::Causal::related))]
 pub fn calls_causally_consistent()

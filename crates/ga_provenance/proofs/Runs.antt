@@ -127,11 +127,11 @@ first_period s value = steps_to value (next_in_run s value)
 abbrev pub all_followers : State → List ProvenanceLine → Value → ℕ
 all_followers s lines value = count_followers s lines (first_period s value) value.step value
 
--- the value that is so many periods before another
+-- the value `n` periods before another
 abbrev pub steps_before : Value → ℕ → Value
 steps_before value back = value_of_step value.node (value.step - back) value.part
 
--- a line of a run that goes on from its oldest value
+-- a line of a run that continues from its oldest value
 pub record IsGrowing (s : State) (lines : List ProvenanceLine) (value : Value) (count period : ℕ) (oldest : Value) : Type 0 where
   pub places : ℕ
   pub counts : count ≡ suc places

@@ -52,7 +52,7 @@ is_repetition s value next =
 abbrev pub are_among : Value → List Value → List Value → Bool
 are_among value others values = list_all (λ it. is_same_value it value || list_any (is_same_value it) others) values
 
--- Whether the run of a value goes on with another: that is an earlier repetition, and was made from all the other values from which
+-- Whether the run of a value continues with another: that is an earlier repetition, and was made from all the other values from which
 -- the first one was made. So what a run was made from is among that from which its oldest value was made.
 abbrev pub is_next_in_run : State → Value → Value → Bool
 is_next_in_run s value next = is_repetition s value next && are_among next (source_origins s next) (source_origins s value)
@@ -70,7 +70,7 @@ run_value line at = value_of_step line.value.node (line.value.step - at * line.p
 abbrev pub oldest_value : ProvenanceLine → Value
 oldest_value line = run_value line (line.count - 1)
 
--- whether a value that is so many steps before the newest is in the run of a line: at a whole number of periods
+-- whether a value this number of steps before the newest is in the run of a line: at a whole number of periods
 abbrev pub is_at_period : ProvenanceLine → ℕ → Bool
 is_at_period line back = if line.period == 0 then back == 0 else (back % line.period == 0) && nat_lt (back / line.period) line.count
 
@@ -83,7 +83,7 @@ is_in_run line value =
 abbrev pub is_value_listed : List ProvenanceLine → Value → Bool
 is_value_listed lines value = list_any (λ (line : ProvenanceLine). is_in_run line value) lines
 
--- the number of values that follow one in a run, each so many steps before the last and not listed: at most `most`
+-- the number of values that follow one in a run, each a period before the last and not listed: at most `most`
 abbrev pub is_follower : List ProvenanceLine → ℕ → Value → Value → Bool
 is_follower lines period value next = (value.step - next.step == period) && not (is_value_listed lines next)
 
@@ -133,7 +133,7 @@ is_unlisted s lines usage = not (is_value_listed lines (origin_of s usage.used))
 abbrev pub next_use : State → Value → List ProvenanceLine → Option UsedValue
 next_use s value lines = find (is_unlisted s lines) (values_to_list s value lines)
 
--- So many lines of a value: each next one is the line of the first value that is used and isn't listed. So lines of values that are
+-- The first `count` lines of a value: each next one is the line of the first value that is used and isn't listed. So lines of values that are
 -- fewer steps of provenance away come first.
 abbrev pub with_next_line : State → List ProvenanceLine → Option UsedValue → List ProvenanceLine
 with_next_line s lines usage = lines ++ option_to_list (option_map (line_of s lines) usage)

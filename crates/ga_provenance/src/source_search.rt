@@ -225,7 +225,7 @@ impl<'l, 'n> SourceSearch<'l, 'n> {
         (search, traced)
     }
 
-    /// The value with which the run of a value goes on.
+    /// The value with which the run of a value continues.
     pub fn next_in_run(self, traced: &TracedValue) -> (Self, Option<TracedValue>)
         requires { IsTraced self.lab.now traced.now }
         ensures lab { result.0.lab.now ≡ self.entry.lab.now }

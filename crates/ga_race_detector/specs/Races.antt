@@ -1,6 +1,6 @@
 -- Races: a node took a word, and another neighbour could have given it one in its place. Which it was depended on the order in
 -- which nodes happened to run (after Netzer and Miller, "Optimal tracing and replay for debugging message-passing parallel
--- programs", 1992, who speak of messages). Without looks these are all races of the history: laws `every_order` and
+-- programs", 1992, who speak of messages). Without looks these are all races of the history: laws `reported_race_free_end_is_unique` and
 -- `race_free_within_steps`.
 use Rattle.ga_event.specs.declared.event.Event.TheVariants as event
 use Rattle.ga_event.specs.declared.made.Made.TheVariants as made

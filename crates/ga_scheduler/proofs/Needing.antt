@@ -18,7 +18,7 @@ use Rattle.ga_scheduler.specs.declared.condition.Condition.TheVariants.{Never, P
 use Rattle.ga_scheduler.specs.declared.watching.Needs.{Needs}
 use Rattle.ga_scheduler.specs.inner.{AreCounted, is_one_of, may_fetch, lacks, Covers, IsNeeded}
 
--- ---- which of some conditions holds first, and which are asked for
+-- ---- which of some conditions holds first, and which are active
 
 -- if none of the first `n` passes a test, nor the next one, none of one more does
 pub none_more : (test : Condition → Bool) (until : List Condition) (n : ℕ) (next : Condition) → slice_get until n ≡ Some next → test next ≡ false

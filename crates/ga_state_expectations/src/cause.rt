@@ -7,7 +7,7 @@ use thiserror::Error;
 /// What is wrong with the words after `expect`.
 #[derive(Clone, Copy, PartialEq, Eq, Debug, Error)]
 pub enum ExpectationCause {
-    /// Nothing is said, or nothing of the node that is named.
+    /// There is no expectation, or none of the named node.
     #[error("nothing is expected")]
     Nothing,
     /// The first word is `every` or `one`, and the others aren't those of `every order ends` or `one end`.

@@ -1,4 +1,4 @@
-//! Texts of expectations, and what is said of wrong ones.
+//! Texts of expectations, and the faults of wrong ones.
 
 use crate::{
     Expectation, ExpectationCause, ExpectationFault, NodeRequirement, format_expectation_faults,

@@ -200,7 +200,7 @@ fn found(word: Option<SlotWord>) -> Option<(u8, usize, usize, u32, u32)> {
     Some((word.cell, word.first, word.last, word.line, word.column))
 }
 
-// The answers for these words are in the folder `rfc_8259_examples/explore` at the top.
+// The answers for these words are in `examples/explore`.
 #[test]
 fn lines_have_words(rt: HostRuntime) -> Result<(), Fail> {
     let (_, notes) = lab_after_steps(&rt, rt.alloc(), LONG_LINE, 0)?;
