@@ -1,6 +1,6 @@
 //! A session that may end at its first refused command.
 
-ghost use Rattle.std.specs.Prelude.{◌≡◌, ◌≤◌, ◌++◌, Some, OnOk, IfOk, take, length, true};
+ghost use Rattle.std.specs.Prelude.{◌≡◌, ◌≢◌, ◌≤◌, [], Some, IfOk, take, length, true};
 ghost use Rattle.ga_text.specs.Lines.{Bytes};
 ghost use Rattle.ga_text.specs.Output.{IsWritten, IsWrittenOrTruncated, WritesExactly, WritesSome};
 ghost use Rattle.ga_console.specs.Session.{AnswersOrEnds};
@@ -12,11 +12,13 @@ use crate::explorer::Explorer;
 use ga_console::{Command, CommandsEnd, LineAction, Responder, Status, status_of};
 use ga_lab::Lab;
 use ga_text::{
-    LineBuffer, TextBuffer, WriteError, WriteResult, Writer, append_bounded, push_number,
-    push_text, write_all,
+    LineBuffer, TextBuffer, WriteError, WriteResult, Writer, push_number, push_text, write_all,
 };
 use std::alloc::Global;
 use std::io::Write;
+
+/// The most bytes of a refusal that are noted. None has more.
+const MAX_REFUSAL: usize = 201;
 
 /// A lab that is explored, and whether the session ends at the first refused command.
 #[derive(Drop)]
@@ -98,7 +100,8 @@ fn answer_strictly<W: Write>(
     line: &[u8],
     writer: &mut Writer<'_, W>,
 ) -> Result<LineAction, WriteError>
-    ensures { WritesSome result (AnswersOrEnds (AnswersOn true) (AnswersLast true) explorer.old line.now explorer.new result) W.contents writer.old writer.new }
+    ensures answered { WritesSome result (AnswersOrEnds (AnswersOn true) (AnswersLast true) explorer.old line.now explorer.new result) W.contents writer.old writer.new }
+    ensures quit { result ≡ Ok LineAction.Quit → refusal.new ≡ refusal.old }
 {
     let mut long = Vec::new(alloc);
     let mut held = Writer::new(&mut long);
@@ -140,10 +143,11 @@ fn pass_on<W: Write>(
     refusal: &mut LineBuffer,
     writer: &mut Writer<'_, W>,
 ) -> Result<LineAction, WriteError>
-    ensures { (answer : Bytes) → IsWritten (Some held.old.stream.now.items) [] answer held.old.pending.items →
+    ensures answer { (answer : Bytes) → IsWritten (Some held.old.stream.now.items) [] answer held.old.pending.items →
         WritesExactly result answer W.contents writer.old writer.new
         × IfOk result (λ turn. turn ≡ turn_after answer)
         × IfOk result (λ turn. IsNoted turn answer refusal.new.items) }
+    ensures goes_on { result ≢ Ok LineAction.Quit }
 {
     if held.stream.is_empty() {
         return write_answer(held.pending.as_slice(), refusal, writer);
@@ -164,14 +168,27 @@ fn write_answer<W: Write>(
     ensures written { WritesExactly result answer.now W.contents writer.old writer.new }
     ensures turn { IfOk result (λ turn. turn ≡ turn_after answer.now) }
     ensures noted { IfOk result (λ turn. IsNoted turn answer.now refusal.new.items) }
+    ensures goes_on { result ≢ Ok LineAction.Quit }
 {
     writer.write_blocks(answer)?;
     if !is_refusal(answer) {
         return Ok(LineAction::Answered);
     }
     refusal.clear();
-    append_bounded(refusal, answer);
+    push_text(refusal, front_of(answer));
     Ok(LineAction::Refused)
+}
+
+/// The first bytes of an answer.
+#[tactic(auto, using(std::proofs::lemmas::List::take_all))]
+fn front_of(answer: &[u8]) -> &[u8]
+    ensures { result.now ≡ take MAX_REFUSAL answer.now }
+{
+    if answer.len() <= MAX_REFUSAL {
+        answer
+    } else {
+        answer.split_at(MAX_REFUSAL).0
+    }
 }
 
 /// Whether an answer is a refusal.
@@ -207,7 +224,7 @@ pub(crate) fn end_session<E: Write>(
 
 /// Reports that the command of this line was refused.
 fn report_refusal<E: Write>(errors: &mut E, number: u32, refusal: &[u8]) -> WriteResult
-    requires { length refusal.now ≤ 201 }
+    requires { length refusal.now ≤ MAX_REFUSAL }
     ensures { (before : Bytes) → E.contents errors.old ≡ Some before →
         IsWrittenOrTruncated result (E.contents errors.new) before (refused_line_text number refusal.now) [] }
 {

@@ -7,7 +7,7 @@ use Rattle.ga_lab.specs.declared.fault.LabFault.TheVariants.{Memory, Waiting, St
 use Rattle.ga_text.specs.Input.{input_limit}
 use Rattle.ga_text.specs.Output.{TextHasPrefix}
 use Rattle.ga_console.specs.Run.{status_of}
-use Rattle.ga_console.specs.Session.{ServesCommands, IsWrittenOrPrefix, AnswerRelation}
+use Rattle.ga_console.specs.Session.{ServesCommands, EndsAtNoAnswer, IsWrittenOrPrefix, AnswerRelation}
 use Rattle.ga_display.specs.Texts.{refusal_text, advised_refusal_text}
 use Rattle.ga_console.specs.declared.commands.CommandsEnd.{CommandsEnd}
 use Rattle.ga_text.specs.declared.output.WriteError.{WriteError}
@@ -42,7 +42,7 @@ pub record IsSilentSession (A : AnswerRelation ExplorerState) (chip : Option Tex
   pub splits : read ≡ text ++ commands
   pub front : IsLeadingText text (commands ++ rest)
   pub opens : OpensLeadingText chip text limit machine
-  pub serves : ServesCommands A (input_limit - length text) machine commands rest said last ending
+  pub serves : ServesCommands A EndsAtNoAnswer (input_limit - length text) machine commands rest said last ending
   pub out : IsWrittenOrPrefix ending said written
 
 -- a refusal was written whole, or that failed
