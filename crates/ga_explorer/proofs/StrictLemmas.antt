@@ -1,6 +1,8 @@
 -- A session that may end at its first refused command.
-use Rattle.std.proofs.Common.{◌≡◌, ℕ, List, [], Bool, true, false, inl, inr, refl, sym, ap, subst, ◌∙◌}
-use Rattle.std.specs.Prelude.{◌⊎◌, if◌then◌else◌, Result, Ok, Err}
+use Rattle.std.proofs.Common.{◌≡◌, ℕ, List, [], ◌++◌, Some, append-nil, Bool, true, false, inl, inr, refl, sym, ap, subst, ◌∙◌}
+use Rattle.std.specs.Prelude.{◌⊎◌, if◌then◌else◌, IfOk, Result, Ok, Err}
+use Rattle.std.proofs.lemmas.Option.{same_Some}
+use Rattle.ga_text.specs.Output.{IsWritten}
 use Rattle.ga_text.specs.declared.output.WriteError.{WriteError}
 use Rattle.ga_console.specs.Session.{AnswersLine, AnswersOrEnds, EndsAtNoAnswer}
 use Rattle.ga_console.specs.inner.Run.{AnswersCommand, ObeysCommand}
@@ -34,6 +36,10 @@ module _ (e new : ExplorerState) (line answer : List ℕ) (h : AnswersLine Answe
     go true is = inr (ended is)
     go false is = inl (went_on is)
 
+  pub line_result : (result : Result LineAction WriteError) → IfOk result (λ t. t ≡ turn_after answer) → AnswersOrEnds (AnswersOn true) (AnswersLast true) e line new result answer
+  line_result (Ok t) same = line_turn t same
+  line_result (Err why) same = line_fails
+
 module _ (e new : ExplorerState) (asked : Command) (answer : List ℕ) (h : AnswersCommand AnswersExplorerLine e asked new answer) where
   obeyed_on : is_refusal answer ≡ false → AnswersCommand (AnswersOn true) e asked new answer
   obeyed_on is = λ line short spelled. (h line short spelled, is)
@@ -52,6 +58,21 @@ module _ (e new : ExplorerState) (asked : Command) (answer : List ℕ) (h : Answ
     go : (b : Bool) → is_refusal answer ≡ b → AnswersCommand (AnswersOn true) e asked new answer ⊎ AnswersCommand (AnswersLast true) e asked new answer
     go true is = inr (obeyed_last is)
     go false is = inl (obeyed_on is)
+
+  pub command_result : (result : Result LineAction WriteError) → IfOk result (λ t. t ≡ turn_after answer) → ObeysCommand (AnswersOn true) (AnswersLast true) e asked new result answer
+  command_result (Ok t) same = command_turn t same
+  command_result (Err why) same = command_fails
+
+-- ---- an answer that was held back
+
+-- all of it is pending
+pub held_short : (items answer pending : List ℕ) → IsWritten (Some items) [] answer pending → items ≡ [] → pending ≡ answer
+held_short items answer pending h e = sym (h.splits ∙ ap (λ (t : List ℕ). t ++ pending) (sym (same_Some items h.sent h.held) ∙ e))
+
+-- or nothing
+pub held_long : (items answer pending : List ℕ) → IsWritten (Some items) [] answer pending → pending ≡ [] → items ≡ answer
+held_long items answer pending h e =
+    same_Some items h.sent h.held ∙ sym (h.splits ∙ ap (λ (t : List ℕ). h.sent ++ t) e ∙ append-nil h.sent)
 
 -- ---- a session that isn't strict
 

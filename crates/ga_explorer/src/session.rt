@@ -39,7 +39,7 @@ pub fn explore<R: Read, W: Write, E: Write>(
                 is_prompted,
             };
             let ending = serve_explorer(alloc, &mut input, reader, &mut said, &mut session);
-            end_session(errors, ending, &session.explorer)
+            end_session(errors, ending, is_strict, &session.explorer.refusal)
         }
         Err(status) => status,
     }

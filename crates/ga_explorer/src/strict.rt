@@ -202,17 +202,18 @@ fn is_refusal(answer: &[u8]) -> bool
 pub(crate) fn end_session<E: Write>(
     errors: &mut E,
     ending: Result<CommandsEnd, WriteError>,
-    session: &StrictExplorer,
+    is_strict: bool,
+    refusal: &LineBuffer,
 ) -> Status
-    ensures { result ≡ session_status session.now.is_strict ending }
+    ensures { result ≡ session_status is_strict ending }
 {
     match ending {
         Ok(CommandsEnd::Refused(number)) => {
-            let _told = report_refusal(errors, number, session.refusal.as_slice());
+            let _told = report_refusal(errors, number, refusal.as_slice());
             Status::CommandRefused
         }
         Ok(CommandsEnd::Past(number)) => {
-            if session.is_strict {
+            if is_strict {
                 let _told = report_refusal(errors, number, b"no 33 input\n");
                 return Status::CommandRefused;
             }

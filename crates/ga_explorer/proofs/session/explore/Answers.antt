@@ -26,7 +26,7 @@ returns-in-Ok g c = λ left before known held.
       begun.4.2 ∙ ap (λ (l : List ℕ). text ++ l) done.4 ∙ sym (append_assoc text done.0 done.1),
       done.5,
       search rules,
-      served c.serve_explorer-ending.result END_STATUS (record {
+      served c.serve_explorer-ending.result c.end_session.ensures (record {
         text = text;
         commands = done.0;
         begun = c.in-Ok.begun;
