@@ -6,7 +6,7 @@ files.py --compare FILE..: compares the answers with FILE.stdout. A file is skip
 `ga144 debug`, a line that is no command. Exactly these files must be refused here too.
 
 The limit is N for a file in a folder limit-N. A session in a folder explore is one of `ga144 explore`, which may begin with source. In a
-folder chip, FILE.image has the chip.
+folder chip, FILE.image has the chip. In a folder strict the session ends at the first refused command.
 """
 
 import os
@@ -149,8 +149,13 @@ def opened(path):
 def answers_of(path):
     """The answers to a session. Raises Unread."""
     machine, commands = opened(path)
+    answers = ["ready"]
+    for it in commands:
+        answers.append(answer(machine, it))
+        if "strict" in path.split(os.sep) and answers[-1].startswith("no "):
+            break
     # with an empty history, `save` prints nothing
-    return "".join(line + "\n" for line in ["ready"] + [answer(machine, it) for it in commands] if line)
+    return "".join(line + "\n" for line in answers if line)
 
 
 def difference(path):

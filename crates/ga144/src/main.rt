@@ -81,9 +81,14 @@ fn main(rt: HostRuntime) -> ExitCode {
             Ok((mut reader, mut arrivals)) => serve_editor(&rt, &mut reader, &mut arrivals),
             Err(_) => report_adapter_out_of_memory(&rt),
         },
-        Ok(Settings::Explore { limit, chip, file }) => {
-            served(&rt, Work::Explore { limit }, &chip, &file)
-        }
+        Ok(
+            Settings::Explore {
+                limit,
+                strict,
+                chip,
+                file,
+            },
+        ) => served(&rt, Work::Explore { limit, strict }, &chip, &file),
         Ok(Settings::Assemble { file }) => served(&rt, Work::Assemble, &None, &file),
         Ok(Settings::List { file }) => served(&rt, Work::List, &None, &file),
         Ok(Settings::Disassemble { file }) => served(&rt, Work::Disassemble, &None, &file),
@@ -150,7 +155,7 @@ fn debug(rt: &HostRuntime, limit: u32) -> ExitCode {
 /// What is done with a file, if one is named, followed by standard input.
 #[derive(Clone, Copy)]
 enum Work {
-    Explore { limit: u32 },
+    Explore { limit: u32, strict: bool },
     Assemble,
     List,
     Disassemble,
@@ -172,9 +177,16 @@ fn served(rt: &HostRuntime, work: Work, chip: &Option<String>, file: &Option<Str
     let alloc = rt.alloc();
     let (input, output, told) = (&mut reader, &mut writer, &mut errors);
     let status = match work {
-        Work::Explore { limit } => {
-            explore(alloc, input, output, told, chip, limit, is_at_terminal(rt))
-        }
+        Work::Explore { limit, strict } => explore(
+            alloc,
+            input,
+            output,
+            told,
+            chip,
+            limit,
+            is_at_terminal(rt),
+            strict,
+        ),
         Work::Assemble => assemble_source(alloc, input, output, told),
         Work::List => list_source(alloc, input, output, told),
         Work::Disassemble => disassemble(alloc, input, output, told),
@@ -325,6 +337,7 @@ fn status_of(rt: &HostRuntime, status: Status) -> u8 {
             let _ = eprintln!(rt; "ga144: race not finished");
             4
         }
+        Status::CommandRefused => 7,
     }
 }
 

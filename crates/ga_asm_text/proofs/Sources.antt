@@ -17,7 +17,7 @@ use Rattle.ga_text.specs.Output.{IsReadWhole}
 use Rattle.ga_asm_text.specs.inner.{Assembly, IsListed, with_fault, behind_listing, Listing, Disassembly, IsUnread}
 use Rattle.ga_asm_text.proofs.FaultListing.{first_alone}
 use Rattle.ga_console.specs.declared.run.Status.{Status}
-use Rattle.ga_console.specs.declared.run.Status.TheVariants.{Done, ImageRefused, StreamFault, NotFinished}
+use Rattle.ga_console.specs.declared.run.Status.TheVariants.{Done, ImageRefused, StreamFault, NotFinished, CommandRefused}
 use Rattle.ga_console.proofs.RunLemmas.{refused_in}
 
 -- the image was written, or a front of it
@@ -26,6 +26,7 @@ assembly_written source whole text Done image written = subst (IsAssembledImage 
 assembly_written source whole text StreamFault image written = record { whole = whole; is_text = image; front = written }
 assembly_written source whole text ImageRefused image written = absurd written
 assembly_written source whole text NotFinished image written = absurd written
+assembly_written source whole text CommandRefused image written = absurd written
 
 -- what was written for the source that was read
 pub assembles : (source ahead read rest text : List ℕ) (status : Status) → read ≡ source ++ ahead → IsReadWhole source ahead rest → Assembly source text status → WritesAssembly read rest text status
@@ -33,6 +34,7 @@ assembles source ahead read rest text Done e part written = (source, ahead, e, p
 assembles source ahead read rest text ImageRefused e part written = written
 assembles source ahead read rest text StreamFault e part written = inr (source, ahead, e, part, written)
 assembles source ahead read rest text NotFinished e part written = written
+assembles source ahead read rest text CommandRefused e part written = written
 
 -- and where it wasn't read whole
 pub assembles_nothing : (read rest : List ℕ) (status : Status) → IsUnread read status → WritesAssembly read rest [] status
@@ -40,6 +42,7 @@ assembles_nothing read rest Done unread = absurd unread
 assembles_nothing read rest ImageRefused unread = refl
 assembles_nothing read rest StreamFault unread = inl (refl, unread)
 assembles_nothing read rest NotFinished unread = unread
+assembles_nothing read rest CommandRefused unread = unread
 
 -- all words of a source were assembled
 pub listed_whole : (source text : List ℕ) (words : List Token) (all : AssembledChip) → token_contents words ≡ source_tokens source → IsAssemblyOfWords (with_numbers 1 words) all → IsListed source false text
@@ -64,12 +67,14 @@ whole_written source whole text Done is written = is
 whole_written source whole text StreamFault is written = tt
 whole_written source whole text ImageRefused is written = absurd written
 whole_written source whole text NotFinished is written = absurd written
+whole_written source whole text CommandRefused is written = absurd written
 
 faulty_written : (source whole text : List ℕ) (status : Status) → IsListed source true whole → Writes whole text status → Listing source text (with_fault status)
 faulty_written source whole text Done faulty written = inr (faulty.0, subst (HasListedFaults source) (sym written) faulty.1)
 faulty_written source whole text StreamFault faulty written = tt
 faulty_written source whole text ImageRefused faulty written = absurd written
 faulty_written source whole text NotFinished faulty written = absurd written
+faulty_written source whole text CommandRefused faulty written = absurd written
 
 status_written : (source whole text : List ℕ) (is_faulty : Bool) (status : Status) → IsListed source is_faulty whole → Writes whole text status → Listing source text (behind_listing status is_faulty)
 status_written source whole text false status is written = whole_written source whole text status is written
@@ -85,12 +90,14 @@ lists source ahead read rest text ImageRefused e part (inl none) = inl none
 lists source ahead read rest text ImageRefused e part (inr faulty) = inr (source, ahead, e, part, faulty)
 lists source ahead read rest text StreamFault e part written = inr (source, ahead, e, part, tt)
 lists source ahead read rest text NotFinished e part written = written
+lists source ahead read rest text CommandRefused e part written = written
 
 pub lists_nothing : (read rest : List ℕ) (status : Status) → IsUnread read status → WritesListing read rest [] status
 lists_nothing read rest Done unread = absurd unread
 lists_nothing read rest ImageRefused unread = inl refl
 lists_nothing read rest StreamFault unread = inl (refl, unread)
 lists_nothing read rest NotFinished unread = unread
+lists_nothing read rest CommandRefused unread = unread
 
 -- source of an image was written, or a front of it
 pub source_written : (image whole text : List ℕ) (status : Status) → IsDisassembly image whole → Writes whole text status → Disassembly image text status
@@ -98,6 +105,7 @@ source_written image whole text Done accepted written = subst (IsDisassembly ima
 source_written image whole text StreamFault accepted written = inl (record { whole = whole; is_text = accepted; front = written })
 source_written image whole text ImageRefused accepted written = absurd written
 source_written image whole text NotFinished accepted written = absurd written
+source_written image whole text CommandRefused accepted written = absurd written
 
 -- an image's refusal was written, or a front of it
 pub refusal_written : (image text : List ℕ) (fault : ImageFault) (status : Status) → IsFaultOfImage image fault → WritesImageRefusal fault text status → Disassembly image text status
@@ -105,6 +113,7 @@ refusal_written image text fault Done is written = absurd written
 refusal_written image text fault ImageRefused is written = (fault, is, written)
 refusal_written image text fault StreamFault is written = inr (fault, is, written)
 refusal_written image text fault NotFinished is written = absurd written
+refusal_written image text fault CommandRefused is written = absurd written
 
 -- an image that was read is refused
 refused_of : (image ahead read rest : List ℕ) (fault : ImageFault) → read ≡ image ++ ahead → ReadsOnlyImage image ahead rest → IsFaultOfImage image fault → Refused read rest fault
@@ -118,6 +127,7 @@ disassembles image ahead read rest text ImageRefused e part written = (written.0
 disassembles image ahead read rest text StreamFault e part (inl accepted) = inr (inl (image, ahead, e, part, accepted))
 disassembles image ahead read rest text StreamFault e part (inr refused) = inr (inr (refused.0, refused_of image ahead read rest refused.0 e part refused.1, refused.2))
 disassembles image ahead read rest text NotFinished e part written = written
+disassembles image ahead read rest text CommandRefused e part written = written
 
 -- memory was wanting while an image was read
 pub disassembles_nothing : (read rest text : List ℕ) (status : Status) → WritesImageRefusal memory_fault text status → WritesDisassembly read rest text status
@@ -125,3 +135,4 @@ disassembles_nothing read rest text Done written = absurd written
 disassembles_nothing read rest text ImageRefused written = (memory_fault, inl refl, written)
 disassembles_nothing read rest text StreamFault written = inr (inr (memory_fault, inl refl, written))
 disassembles_nothing read rest text NotFinished written = absurd written
+disassembles_nothing read rest text CommandRefused written = absurd written

@@ -23,7 +23,7 @@ use Rattle.ga_display.specs.Texts.{image_fault_text}
 use Rattle.ga_console.specs.Run.{Refused}
 use Rattle.ga_console.specs.Race.{HoldsOfImage, IsTruncationOf}
 use Rattle.ga_console.specs.declared.run.Status.{Status}
-use Rattle.ga_console.specs.declared.run.Status.TheVariants.{Done, ImageRefused, StreamFault, NotFinished}
+use Rattle.ga_console.specs.declared.run.Status.TheVariants.{Done, ImageRefused, StreamFault, NotFinished, CommandRefused}
 
 -- The text is the image, as it is dumped, of a chip with programs that the source makes; and what reads images accepts it with
 -- this chip.
@@ -47,6 +47,7 @@ WritesAssembly read rest text Done = HoldsOfSource read rest (λ source. IsAssem
 WritesAssembly read rest text ImageRefused = text ≡ []
 WritesAssembly read rest text StreamFault = ((text ≡ []) × HasNoEndLine read) ⊎ HoldsOfSource read rest (λ source. IsTruncationOf (IsAssembledImage source) text)
 WritesAssembly read rest text NotFinished = ⊥
+WritesAssembly read rest text CommandRefused = ⊥
 
 -- The chip has the programs of all words of the source.
 pub record HasAssembledChip (source : Text) : Type 0 where
@@ -83,6 +84,7 @@ WritesListing read rest text Done = HoldsOfSource read rest (λ source. HasAssem
 WritesListing read rest text ImageRefused = (text ≡ []) ⊎ HoldsOfSource read rest (λ source. IsUnsoundSource source × HasListedFaults source text)
 WritesListing read rest text StreamFault = ((text ≡ []) × HasNoEndLine read) ⊎ HoldsOfSource read rest (λ source. Unit {0})
 WritesListing read rest text NotFinished = ⊥
+WritesListing read rest text CommandRefused = ⊥
 
 -- a node that source made has the memories and A, B and P of this one
 pub record HasSameLoad (node made : NodeState) : Type 0 where
@@ -110,3 +112,4 @@ WritesDisassembly read rest text StreamFault =
     ⊎ HoldsOfImage read rest (λ image. IsTruncationOf (IsDisassembly image) text)
     ⊎ ((fault : ImageFault) × Refused read rest fault × TextHasPrefix (image_fault_text fault) text)
 WritesDisassembly read rest text NotFinished = ⊥
+WritesDisassembly read rest text CommandRefused = ⊥

@@ -19,7 +19,7 @@ use Rattle.ga_display.specs.Texts.{image_fault_text}
 use Rattle.ga_console.specs.Run.{IsFaultOfImage}
 use Rattle.ga_console.specs.Race.{IsTruncationOf}
 use Rattle.ga_console.specs.declared.run.Status.{Status}
-use Rattle.ga_console.specs.declared.run.Status.TheVariants.{Done, ImageRefused, StreamFault, NotFinished}
+use Rattle.ga_console.specs.declared.run.Status.TheVariants.{Done, ImageRefused, StreamFault, NotFinished, CommandRefused}
 use Rattle.ga_asm_text.specs.Source.{IsAssembledImage, IsDisassembly, HasAssembledChip, IsUnsoundSource, listed_fault_text, HasPartsInOrder, HasListedFaults}
 
 -- ---- what the source of an image says, line by line (docs/REFERENCE.md, "Source"; this project's own)
@@ -174,6 +174,7 @@ Assembly source text Done = IsAssembledImage source text
 Assembly source text ImageRefused = text ≡ []
 Assembly source text StreamFault = IsTruncationOf (IsAssembledImage source) text
 Assembly source text NotFinished = ⊥
+Assembly source text CommandRefused = ⊥
 
 -- a listing of the source, with a fault or without
 abbrev pub IsListed : Text → Bool → Text → Type 0
@@ -186,6 +187,7 @@ with_fault Done = ImageRefused
 with_fault ImageRefused = ImageRefused
 with_fault StreamFault = StreamFault
 with_fault NotFinished = NotFinished
+with_fault CommandRefused = CommandRefused
 
 -- the status after a listing with a fault or none
 abbrev pub behind_listing : Status → Bool → Status
@@ -198,6 +200,7 @@ Listing source text Done = HasAssembledChip source
 Listing source text ImageRefused = (text ≡ []) ⊎ (IsUnsoundSource source × HasListedFaults source text)
 Listing source text StreamFault = Unit {0}
 Listing source text NotFinished = ⊥
+Listing source text CommandRefused = ⊥
 
 -- What may be written once an image was read: its source or its refusal.
 abbrev pub Disassembly : Text → Text → Status → Type 0
@@ -205,6 +208,7 @@ Disassembly image text Done = IsDisassembly image text
 Disassembly image text ImageRefused = (fault : ImageFault) × IsFaultOfImage image fault × (text ≡ image_fault_text fault)
 Disassembly image text StreamFault = IsTruncationOf (IsDisassembly image) text ⊎ ((fault : ImageFault) × IsFaultOfImage image fault × TextHasPrefix (image_fault_text fault) text)
 Disassembly image text NotFinished = ⊥
+Disassembly image text CommandRefused = ⊥
 
 -- the status to end with where source wasn't read whole
 abbrev pub IsUnread : Bytes → Status → Type 0
@@ -212,6 +216,7 @@ IsUnread read ImageRefused = Unit {0}
 IsUnread read StreamFault = HasNoEndLine read
 IsUnread read Done = ⊥
 IsUnread read NotFinished = ⊥
+IsUnread read CommandRefused = ⊥
 
 -- ---- a listing with faults, as it is made
 

@@ -2,6 +2,7 @@ pub mod AheadLemmas
 pub mod Spelled
 pub mod Heads
 pub mod ReplyLemmas
+pub mod Ending
 pub mod Heard
 pub mod RunLemmas
 pub mod Races

@@ -23,7 +23,7 @@ use Rattle.ga_display.specs.Texts.{image_fault_text}
 use Rattle.ga_console.specs.Race.{worker_calls, IsRaceOfWorkers, WritesRaceReport, race_report_text}
 use Rattle.ga_console.specs.inner.Run.{Writes, Races}
 use Rattle.ga_console.specs.declared.run.Status.{Status}
-use Rattle.ga_console.specs.declared.run.Status.TheVariants.{Done, ImageRefused, StreamFault, NotFinished}
+use Rattle.ga_console.specs.declared.run.Status.TheVariants.{Done, ImageRefused, StreamFault, NotFinished, CommandRefused}
 
 -- ---- of an input that was read whole nothing was read that its text doesn't need
 
@@ -84,6 +84,7 @@ races_reported limit workers calls image text chip lab count StreamFault accepte
     inl (record { whole = race_report_text count lab.made (length lab.kept); is_text = record { chip = chip; lab = lab; accepted = accepted; race = race; told = ap (λ n. race_report_text n lab.made (length lab.kept)) counted }; front = front })
 races_reported limit workers calls image text chip lab count ImageRefused accepted counted race none = absurd none
 races_reported limit workers calls image text chip lab count NotFinished accepted counted race none = absurd none
+races_reported limit workers calls image text chip lab count CommandRefused accepted counted race none = absurd none
 
 -- a refusal that was written, or not wholly
 pub races_refused : (limit workers calls : ℕ) (image text : List ℕ) (fault : ImageFault) (status : Status) → IsFirstFault (lines_of image) fault → WritesImageRefusal fault text status → Races limit workers calls image text status
@@ -91,6 +92,7 @@ races_refused limit workers calls image text fault Done first none = absurd none
 races_refused limit workers calls image text fault ImageRefused first told = record { fault = fault; first = first; told = told }
 races_refused limit workers calls image text fault StreamFault first front = inr (record { whole = image_fault_text fault; is_text = record { fault = fault; first = first; told = refl }; front = front })
 races_refused limit workers calls image text fault NotFinished first none = absurd none
+races_refused limit workers calls image text fault CommandRefused first none = absurd none
 
 -- the fault of a text that isn't refused for want of memory
 pub first_fault : (image : List ℕ) (fault : ImageFault) → (fault ≡ memory_fault) ⊎ IsFirstFault (lines_of image) fault → fault.cause ≢ Memory → IsFirstFault (lines_of image) fault
@@ -103,3 +105,4 @@ reports limit workers calls image ahead read rest text Done e part races = (imag
 reports limit workers calls image ahead read rest text ImageRefused e part races = (image, ahead, e, part, races)
 reports limit workers calls image ahead read rest text StreamFault e part races = inr (image, ahead, e, part, races)
 reports limit workers calls image ahead read rest text NotFinished e part races = races
+reports limit workers calls image ahead read rest text CommandRefused e part races = races

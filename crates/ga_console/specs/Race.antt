@@ -17,7 +17,7 @@ use Rattle.ga_text.specs.Image.{HasNoEndLine}
 use Rattle.ga_console.specs.Run.{ReadsOnlyImage}
 use Rattle.ga_display.specs.Texts.{image_fault_text}
 use Rattle.ga_console.specs.declared.run.Status.{Status}
-use Rattle.ga_console.specs.declared.run.Status.TheVariants.{Done, ImageRefused, StreamFault, NotFinished}
+use Rattle.ga_console.specs.declared.run.Status.TheVariants.{Done, ImageRefused, StreamFault, NotFinished, CommandRefused}
 
 -- the calls of a worker: a number of steps of the node with its number
 abbrev pub worker_calls : ℕ → ℕ → List Call
@@ -67,3 +67,4 @@ WritesRaceReport limit workers calls read rest text ImageRefused = HoldsOfImage 
 WritesRaceReport limit workers calls read rest text StreamFault = ((text ≡ []) × HasNoEndLine read)
     ⊎ HoldsOfImage read rest (λ image. IsTruncationOf (IsRaceReport limit workers calls image) text ⊎ IsTruncationOf (IsImageRefusal image) text)
 WritesRaceReport limit workers calls read rest text NotFinished = text ≡ []
+WritesRaceReport limit workers calls read rest text CommandRefused = ⊥

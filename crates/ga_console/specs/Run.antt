@@ -1,5 +1,5 @@
 -- What a whole session may write, and how it may end (docs/REFERENCE.md, "Sessions"; this project's own). A is how the session
--- answers a line, and begin its machine on a fresh one.
+-- answers a line, R how it answers one at which it ends, and begin its machine on a fresh one.
 use Rattle.std.specs.Prelude.{◌≡◌, ℕ, ◌-◌, ◌<◌, ◌⊎◌, List, [], ◌++◌, length, Result, Ok, Err}
 use Rattle.ga_node.specs.Record.{NodeState}
 use Rattle.ga_grid.specs.Chip.{records_of}
@@ -12,13 +12,13 @@ use Rattle.ga_text.specs.Output.{TextHasPrefix, ready}
 use Rattle.ga_text.specs.Image.{EndsWithEndLine, HasNoEndLine}
 use Rattle.ga_lab.specs.Machine.{State, initial_state}
 use Rattle.ga_display.specs.Texts.{image_fault_text}
-use Rattle.ga_console.specs.Session.{AnswerRelation, ServesCommands, IsWrittenOrPrefix}
+use Rattle.ga_console.specs.Session.{AnswerRelation, EndsAtNoAnswer, ServesCommands, IsWrittenOrPrefix}
 use Rattle.ga_console.specs.Replies.{IsBriefAnswer}
 use Rattle.ga_console.specs.declared.commands.CommandsEnd.{CommandsEnd}
-use Rattle.ga_console.specs.declared.commands.CommandsEnd.TheVariants.{Ended, Quit, Past, ReadFailed}
+use Rattle.ga_console.specs.declared.commands.CommandsEnd.TheVariants as end
 use Rattle.ga_text.specs.declared.output.WriteError.{WriteError}
 use Rattle.ga_console.specs.declared.run.Status.{Status}
-use Rattle.ga_console.specs.declared.run.Status.TheVariants.{Done, ImageRefused, StreamFault, NotFinished}
+use Rattle.ga_console.specs.declared.run.Status.TheVariants.{Done, ImageRefused, StreamFault, NotFinished, CommandRefused}
 
 -- The image is what was read up to the first line `end`, or all of an input in which none was read, or all that is within the bound.
 abbrev pub IsImageOfInput : Text → Bytes → Bytes → Type 0
@@ -34,7 +34,7 @@ ReadsOnlyImage image ahead rest = (EndsWithEndLine image × (length ahead < bloc
     ⊎ ((length image ≡ input_limit) × (length ahead ≡ 1) × HasNoEndLine image)
 
 -- the image was accepted, and the commands after it were served to this ending
-pub record IsServedSession {M : Type 0} (A : AnswerRelation M) (begin : State → M) (limit : ℕ) (read rest : Bytes) (text : Text) (ending : Result CommandsEnd WriteError) : Type 0 where
+pub record IsServedSession {M : Type 0} (A R : AnswerRelation M) (begin : State → M) (limit : ℕ) (read rest : Bytes) (text : Text) (ending : Result CommandsEnd WriteError) : Type 0 where
   pub image : Text
   pub commands : Bytes
   pub chip : List NodeState
@@ -43,7 +43,7 @@ pub record IsServedSession {M : Type 0} (A : AnswerRelation M) (begin : State �
   pub part : IsImageOfInput image commands rest
   pub accepted : IsImage (lines_of image) chip
   pub last : M
-  pub serves : ServesCommands A (input_limit - length image) (begin (initial_state (records_of chip) limit)) commands rest said last ending
+  pub serves : ServesCommands A R (input_limit - length image) (begin (initial_state (records_of chip) limit)) commands rest said last ending
   pub written : IsWrittenOrPrefix ending (ready ++ said) text
 
 -- the image was refused with its first fault, and nothing was read after it
@@ -59,28 +59,31 @@ abbrev pub Refused : Bytes → Bytes → ImageFault → Type 0
 Refused read rest fault = (fault ≡ memory_fault) ⊎ IsFaultyImageInput read rest fault
 
 abbrev pub status_of : Result CommandsEnd WriteError → Status
-status_of (Ok Ended) = Done
-status_of (Ok Quit) = Done
-status_of (Ok Past) = StreamFault
-status_of (Ok ReadFailed) = StreamFault
+status_of (Ok end.Ended) = Done
+status_of (Ok end.Quit) = Done
+status_of (Ok (end.Refused number)) = CommandRefused
+status_of (Ok (end.Past number)) = StreamFault
+status_of (Ok end.ReadFailed) = StreamFault
 status_of (Err failed) = StreamFault
 
 -- What a session may have written, where read was read of its input and rest is left of it.
-abbrev pub WritesSessionBy : {M : Type 0} → AnswerRelation M → (State → M) → ℕ → Bytes → Bytes → Text → Status → Type 0
-WritesSessionBy A begin limit read rest text Done = (ending : Result CommandsEnd WriteError) × (status_of ending ≡ Done) × IsServedSession A begin limit read rest text ending
-WritesSessionBy A begin limit read rest text ImageRefused = (fault : ImageFault) × Refused read rest fault × (text ≡ image_fault_text fault)
+abbrev pub WritesSessionBy : {M : Type 0} → AnswerRelation M → AnswerRelation M → (State → M) → ℕ → Bytes → Bytes → Text → Status → Type 0
+WritesSessionBy A R begin limit read rest text Done = (ending : Result CommandsEnd WriteError) × (status_of ending ≡ Done) × IsServedSession A R begin limit read rest text ending
+WritesSessionBy A R begin limit read rest text ImageRefused = (fault : ImageFault) × Refused read rest fault × (text ≡ image_fault_text fault)
 -- the command part failed, or a read in the image part, or a write of the refusal
-WritesSessionBy A begin limit read rest text StreamFault =
+WritesSessionBy A R begin limit read rest text StreamFault =
     ((ending : Result CommandsEnd WriteError)
     × (status_of ending ≡ StreamFault)
-    × IsServedSession A begin limit read rest text ending)
+    × IsServedSession A R begin limit read rest text ending)
     ⊎ ((text ≡ []) × HasNoEndLine read)
     ⊎ ((fault : ImageFault) × Refused read rest fault × TextHasPrefix (image_fault_text fault) text)
-WritesSessionBy A begin limit read rest text NotFinished = ⊥
+WritesSessionBy A R begin limit read rest text NotFinished = ⊥
+WritesSessionBy A R begin limit read rest text CommandRefused =
+    (ending : Result CommandsEnd WriteError) × (status_of ending ≡ CommandRefused) × IsServedSession A R begin limit read rest text ending
 
 -- The debugger's session.
 abbrev pub WritesSession : ℕ → Bytes → Bytes → Text → Status → Type 0
-WritesSession limit read rest text status = WritesSessionBy IsBriefAnswer (λ s. s) limit read rest text status
+WritesSession limit read rest text status = WritesSessionBy IsBriefAnswer EndsAtNoAnswer (λ s. s) limit read rest text status
 
 -- a refusal was written whole, or that failed
 abbrev pub WritesImageRefusal : ImageFault → Text → Status → Type 0
@@ -88,6 +91,7 @@ WritesImageRefusal fault text Done = ⊥
 WritesImageRefusal fault text ImageRefused = text ≡ image_fault_text fault
 WritesImageRefusal fault text StreamFault = TextHasPrefix (image_fault_text fault) text
 WritesImageRefusal fault text NotFinished = ⊥
+WritesImageRefusal fault text CommandRefused = ⊥
 
 -- an image was accepted, and the machine has its chip as its load
 abbrev pub IsOpenedOnImage : Text → ℕ → State → Type 0

@@ -1,12 +1,12 @@
 -- What the command part of a session says, how it may end, and to which machine it leads (docs/REFERENCE.md, "Sessions"; this
--- project's own). A is how the session answers a line: of the debugger's it is Answer.
+-- project's own). A is how the session answers a line after which it goes on, and R one at which it ends.
 use Rattle.std.specs.Prelude.{codes, ◌≡◌, ◌≢◌, ℕ, ◌+◌, ◌<◌, ◌≤◌, ◌⊎◌, List, [], ◌∷◌, ◌++◌, length, take, nat_le, if◌then◌else◌, Result, Ok, Err}
 use Rattle.ga_text.specs.Lines.{Text, Line, Bytes, max_input_line, lines_of, terminated_lines}
 use Rattle.std.specs.List.{AllByRecursion}
 use Rattle.ga_text.specs.Output.{TextHasPrefix}
 use Rattle.ga_display.specs.Texts.{input_limit_refusal}
 use Rattle.ga_console.specs.declared.commands.CommandsEnd.{CommandsEnd}
-use Rattle.ga_console.specs.declared.commands.CommandsEnd.TheVariants.{Ended, Quit, Past, ReadFailed}
+use Rattle.ga_console.specs.declared.commands.CommandsEnd.TheVariants.{Ended, Quit, Refused, Past, ReadFailed}
 use Rattle.ga_console.specs.declared.responder.LineAction.{LineAction}
 use Rattle.ga_console.specs.declared.responder.LineAction.TheVariants as turn
 use Rattle.ga_text.specs.declared.output.WriteError.{WriteError}
@@ -17,6 +17,10 @@ use Rattle.ga_text.specs.declared.output.WriteError.{WriteError}
 abbrev pub AnswerRelation : Type 0 → Type 1
 AnswerRelation M = M → Line → Text → M → Type 0
 
+-- no answer ends the session
+abbrev pub EndsAtNoAnswer : {M : Type 0} → AnswerRelation M
+EndsAtNoAnswer m line answer new = ⊥
+
 -- the line that ends a session
 abbrev pub quit_line : Line
 quit_line = codes "quit"
@@ -25,11 +29,19 @@ quit_line = codes "quit"
 abbrev pub AnswersLine : {M : Type 0} → AnswerRelation M → M → Line → Text → M → Type 0
 AnswersLine A m line answer new = (part : Line) → line ≡ take (max_input_line + 1) part → A m part answer new × (part ≢ quit_line)
 
--- a line is answered, as far as the answer can be written, or ends the session
+-- a line is answered, as far as the answer can be written, or is quit
 abbrev pub AnswersOrQuits : {M : Type 0} → AnswerRelation M → M → Line → M → Result LineAction WriteError → Text → Type 0
 AnswersOrQuits A m line new (Ok turn.Answered) answer = AnswersLine A m line answer new
+AnswersOrQuits A m line new (Ok turn.Refused) answer = ⊥
 AnswersOrQuits A m line new (Ok turn.Quit) answer = (line ≡ quit_line) × (new ≡ m) × (answer ≡ [])
 AnswersOrQuits A m line new (Err failed) answer = AnswersLine A m line answer new
+
+-- a line is answered, as far as the answer can be written, and the session goes on or ends; or it is quit
+abbrev pub AnswersOrEnds : {M : Type 0} → AnswerRelation M → AnswerRelation M → M → Line → M → Result LineAction WriteError → Text → Type 0
+AnswersOrEnds A R m line new (Ok turn.Answered) answer = AnswersLine A m line answer new
+AnswersOrEnds A R m line new (Ok turn.Refused) answer = AnswersLine R m line answer new
+AnswersOrEnds A R m line new (Ok turn.Quit) answer = (line ≡ quit_line) × (new ≡ m) × (answer ≡ [])
+AnswersOrEnds A R m line new (Err failed) answer = AnswersLine A m line answer new ⊎ AnswersLine R m line answer new
 
 abbrev pub HasNoQuit : List Line → Type 0
 HasNoQuit lines = AllByRecursion (λ line. line ≢ quit_line) lines
@@ -45,13 +57,27 @@ Answers {M} A m (line ∷ lines) text last =
     × Answers A next lines more last
     × (text ≡ answer ++ more)
 
+-- The same, where the last line is answered so that the session ends.
+abbrev pub AnswersToRefusal : {M : Type 0} → AnswerRelation M → AnswerRelation M → M → List Line → Text → M → Type 0
+AnswersToRefusal {M} A R m lines text last =
+    (before : List Line)
+    × (line : Line)
+    × (said answer : Text)
+    × (next : M)
+    × (lines ≡ before ++ line ∷ [])
+    × Answers A m before said next
+    × R next line answer last
+    × (text ≡ said ++ answer)
+
 -- The lines within the bound of what was read. Where that ends within the bound, a last line without a line feed is one of them.
 abbrev pub lines_within_bound : ℕ → Bytes → List Line
 lines_within_bound room read = if nat_le (length read) room then lines_of read else terminated_lines (take room read)
 
--- All that may be written for these lines: their answers, and, if the input exceeds its bound after them, that it does.
-abbrev pub WritesAnswers : {M : Type 0} → AnswerRelation M → ℕ → M → Bytes → List Line → Text → M → Type 0
-WritesAnswers A room m read lines text last = Answers A m lines text last
+-- All that may be written for these lines: their answers, of which the last may end the session, and, if the input exceeds its bound
+-- after them, that it does.
+abbrev pub WritesAnswers : {M : Type 0} → AnswerRelation M → AnswerRelation M → ℕ → M → Bytes → List Line → Text → M → Type 0
+WritesAnswers A R room m read lines text last = Answers A m lines text last
+    ⊎ AnswersToRefusal A R m lines text last
     ⊎ ((room < length read) × (lines ≡ terminated_lines (take room read)) × (said : Text) × Answers A m lines said last × (text ≡ said ++ input_limit_refusal))
 
 -- A last line without a line feed is heard only where nothing is left to read.
@@ -82,13 +108,28 @@ pub record ServesToQuit {M : Type 0} (A : AnswerRelation M) (room : ℕ) (m : M)
   pub answers : Answers A m heard text last
   pub quits : QuitsAfter read rest heard after
 
--- the input went past its bound: each line within it was answered, and then that was said
-pub record ServesToInputLimit {M : Type 0} (A : AnswerRelation M) (room : ℕ) (m : M) (read rest : Bytes) (text : Text) (last : M) : Type 0 where
+-- these lines come first
+abbrev pub ReadsLines : Bytes → Bytes → List Line → List Line → Type 0
+ReadsLines read rest heard after = (terminated_lines read ≡ heard ++ after) ⊎ ((rest ≡ []) × (lines_of read ≡ heard))
+
+-- the line of this number, counted from 1, was refused: each line up to it was answered, and none after it
+pub record ServesToRefusal {M : Type 0} (A R : AnswerRelation M) (number room : ℕ) (m : M) (read rest : Bytes) (text : Text) (last : M) : Type 0 where
+  pub within : length read ≤ room
+  pub heard : List Line
+  pub after : List Line
+  pub no_quit : HasNoQuit heard
+  pub answers : AnswersToRefusal A R m heard text last
+  pub counts : number ≡ length heard
+  pub front : ReadsLines read rest heard after
+
+-- the input went past its bound in the line of this number: each line within it was answered, and then that was said
+pub record ServesToInputLimit {M : Type 0} (A : AnswerRelation M) (number room : ℕ) (m : M) (read rest : Bytes) (text : Text) (last : M) : Type 0 where
   pub over : length read ≡ room + 1
   pub no_quit : HasNoQuit (terminated_lines (take room read))
   pub said : Text
   pub answers : Answers A m (terminated_lines (take room read)) said last
   pub told : text ≡ said ++ input_limit_refusal
+  pub counts : number ≡ length (terminated_lines (take room read)) + 1
 
 -- a read failed: each line that was read whole was answered
 pub record ServesToReadFailure {M : Type 0} (A : AnswerRelation M) (room : ℕ) (m : M) (read rest : Bytes) (text : Text) (last : M) : Type 0 where
@@ -97,21 +138,22 @@ pub record ServesToReadFailure {M : Type 0} (A : AnswerRelation M) (room : ℕ) 
   pub answers : Answers A m (terminated_lines read) text last
 
 -- a write failed: some lines were answered, of which none was quit
-pub record ServesToWriteFailure {M : Type 0} (A : AnswerRelation M) (room : ℕ) (m : M) (read rest : Bytes) (text : Text) (last : M) : Type 0 where
+pub record ServesToWriteFailure {M : Type 0} (A R : AnswerRelation M) (room : ℕ) (m : M) (read rest : Bytes) (text : Text) (last : M) : Type 0 where
   pub heard : List Line
   pub after : List Line
   pub front : lines_within_bound room read ≡ heard ++ after
   pub no_quit : HasNoQuit heard
-  pub script : WritesAnswers A room m read heard text last
+  pub script : WritesAnswers A R room m read heard text last
   pub whole : ReadsWholeLines room read rest heard
 
 -- This text may have been said at this ending.
-abbrev pub ServesCommands : {M : Type 0} → AnswerRelation M → ℕ → M → Bytes → Bytes → Text → M → Result CommandsEnd WriteError → Type 0
-ServesCommands A room m read rest text last (Ok Ended) = ServesToEnd A room m read rest text last
-ServesCommands A room m read rest text last (Ok Quit) = ServesToQuit A room m read rest text last
-ServesCommands A room m read rest text last (Ok Past) = ServesToInputLimit A room m read rest text last
-ServesCommands A room m read rest text last (Ok ReadFailed) = ServesToReadFailure A room m read rest text last
-ServesCommands A room m read rest text last (Err failed) = ServesToWriteFailure A room m read rest text last
+abbrev pub ServesCommands : {M : Type 0} → AnswerRelation M → AnswerRelation M → ℕ → M → Bytes → Bytes → Text → M → Result CommandsEnd WriteError → Type 0
+ServesCommands A R room m read rest text last (Ok Ended) = ServesToEnd A room m read rest text last
+ServesCommands A R room m read rest text last (Ok Quit) = ServesToQuit A room m read rest text last
+ServesCommands A R room m read rest text last (Ok (Refused number)) = ServesToRefusal A R number room m read rest text last
+ServesCommands A R room m read rest text last (Ok (Past number)) = ServesToInputLimit A number room m read rest text last
+ServesCommands A R room m read rest text last (Ok ReadFailed) = ServesToReadFailure A room m read rest text last
+ServesCommands A R room m read rest text last (Err failed) = ServesToWriteFailure A R room m read rest text last
 
 -- What is written of all that was said: the whole, or where a write failed, a front of it.
 abbrev pub IsWrittenOrPrefix : Result CommandsEnd WriteError → Text → Bytes → Type 0

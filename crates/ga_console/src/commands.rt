@@ -4,6 +4,7 @@ ghost use Rattle.ga_text.specs.Lines.{Bytes};
 ghost use Rattle.ga_text.specs.Input.{IsWithinInputLimit, input_limit};
 ghost use Rattle.ga_text.specs.Output.{IsWritten, IsWrittenOrTruncated, IsSameStream};
 ghost use Rattle.ga_console.specs.Session.{ServesCommands, IsWrittenOrPrefix};
+ghost use Rattle.ga_console.specs.inner.Run.{end_at};
 
 use super::fast_path::{PrefixCommand, parse_prefix_command};
 use super::responder::{LineAction, Responder};
@@ -18,8 +19,10 @@ pub enum CommandsEnd {
     Ended,
     /// A line `quit` came.
     Quit,
-    /// The input went past its bound.
-    Past,
+    /// The line of this number, counted from 1, was refused, and that ends the session.
+    Refused(u32),
+    /// The input went past its bound, in the line of this number, counted from 1.
+    Past(u32),
     /// A read failed.
     ReadFailed,
 }
@@ -42,7 +45,7 @@ pub fn serve_commands<S: Responder, R: Read, W: Write>(
         (read rest text sent : Bytes)
         × (input.old.bytes ++ left ≡ read ++ rest) × (R.remaining reader.new ≡ Some rest)
         × (W.contents writer.new.stream.now ≡ Some (before ++ sent))
-        × ServesCommands S.answers (input_limit - input.old.taken) session.old read rest text session.new result
+        × ServesCommands S.answers S.refuses (input_limit - input.old.taken) session.old read rest text session.new result
         × IsWrittenOrPrefix result (said ++ text) sent }
 {
     let ending = answer_lines(alloc, input, reader, writer, session)?;
@@ -64,47 +67,68 @@ fn answer_lines<S: Responder, R: Read, W: Write>(
         IsWritten (W.contents writer.old.stream.now) before said writer.old.pending.items →
         (read rest text : Bytes)
         × (input.old.bytes ++ left ≡ read ++ rest) × (R.remaining reader.new ≡ Some rest)
-        × ServesCommands S.answers (input_limit - input.old.taken) session.old read rest text session.new result
+        × ServesCommands S.answers S.refuses (input_limit - input.old.taken) session.old read rest text session.new result
         × IsWrittenOrTruncated result (W.contents writer.new.stream.now) before (said ++ text) writer.new.pending.items }
 {
     let mut line = LineBuffer::new();
+    let mut number = 0;
     'lines: loop {
+        number += 1;
         let text = input.unread();
         match parse_prefix_command(text) {
             PrefixCommand::Spelled(command, count) => {
                 input.skip(count);
-                session.obey(alloc, command, writer)?;
-                continue 'lines;
+                let turn = session.obey(alloc, command, writer)?;
+                match end_at(turn, number) {
+                    Some(ending) => return Ok(ending),
+                    None => continue 'lines,
+                }
             }
             PrefixCommand::Other(size) => {
                 let turn = session.answer(alloc, &text[..size], writer)?;
                 input.skip(size);
-                match turn {
-                    LineAction::Quit => return Ok(CommandsEnd::Quit),
-                    LineAction::Answered => continue 'lines,
+                match end_at(turn, number) {
+                    Some(ending) => return Ok(ending),
+                    None => continue 'lines,
                 }
             }
             PrefixCommand::Nothing => {}
         }
         match read_line(input, reader, writer, &mut line)? {
-            LineEnd::Feed => match session.answer(alloc, line.as_slice(), writer)? {
-                LineAction::Quit => return Ok(CommandsEnd::Quit),
-                LineAction::Answered => {}
-            },
+            LineEnd::Feed => {
+                let turn = session.answer(alloc, line.as_slice(), writer)?;
+                match end_at(turn, number) {
+                    Some(ending) => return Ok(ending),
+                    None => {}
+                }
+            }
             LineEnd::Last => {
                 if line.is_empty() {
                     return Ok(CommandsEnd::Ended);
                 }
-                return match session.answer(alloc, line.as_slice(), writer)? {
-                    LineAction::Quit => Ok(CommandsEnd::Quit),
-                    LineAction::Answered => Ok(CommandsEnd::Ended),
+                let turn = session.answer(alloc, line.as_slice(), writer)?;
+                return match end_at(turn, number) {
+                    Some(ending) => Ok(ending),
+                    None => Ok(CommandsEnd::Ended),
                 };
             }
             LineEnd::Past => {
                 writer.write_text(b"no 33 input\n")?;
-                return Ok(CommandsEnd::Past);
+                return Ok(CommandsEnd::Past(number));
             }
             LineEnd::ReadFailed => return Ok(CommandsEnd::ReadFailed),
         }
+    }
+}
+
+/// The end of the command part at a line of this number that was answered so, if it is one.
+#[inline(always)]
+fn end_at(turn: LineAction, number: u32) -> Option<CommandsEnd>
+    ensures { result ≡ end_at turn number }
+{
+    match turn {
+        LineAction::Answered => None,
+        LineAction::Refused => Some(CommandsEnd::Refused(number)),
+        LineAction::Quit => Some(CommandsEnd::Quit),
     }
 }

@@ -4,8 +4,8 @@ ghost use Rattle.std.specs.Prelude.{◌≡◌};
 ghost use Rattle.ga_text.specs.Lines.{Bytes};
 ghost use Rattle.ga_lab.specs.Machine.{State};
 ghost use Rattle.ga_console.specs.Replies.{IsAnswerInWording, IsCommandReply};
-ghost use Rattle.ga_console.specs.Session.{AnswersOrQuits};
-ghost use Rattle.ga_console.specs.inner.Run.{AnswersCommand};
+ghost use Rattle.ga_console.specs.Session.{AnswersOrQuits, AnswersOrEnds, EndsAtNoAnswer};
+ghost use Rattle.ga_console.specs.inner.Run.{ObeysCommand};
 
 use super::changes::{back, rewind, step};
 use super::command::{Command, parse_debugger_command};
@@ -22,14 +22,19 @@ use std::io::Write;
 pub enum LineAction {
     /// An answer, which was said.
     Answered,
+    /// An answer, which was said, and the end of the session, as the command was refused.
+    Refused,
     /// The end of the session.
     Quit,
 }
 
 /// What answers the lines of a session. It knows each command of the debugger, and may know more.
 pub trait Responder: Drop {
-    // The machine before a line, the line, its answer, and the machine after it.
+    // The machine before a line, the line, its answer, and the machine after it, where the session goes on.
     ghost answers: { Self → Bytes → Bytes → Self → Type 0 };
+
+    // The same, where the session ends, as the command was refused.
+    ghost refuses: { Self → Bytes → Bytes → Self → Type 0 } = { EndsAtNoAnswer };
 
     // The session's machine on a lab that was opened.
     ghost begin: { State → Self };
@@ -48,7 +53,7 @@ pub trait Responder: Drop {
         line: &[u8],
         writer: &mut Writer<'_, W>,
     ) -> Result<LineAction, WriteError>
-        ensures { WritesSome result (AnswersOrQuits answers self.old line.now self.new result) W.contents writer.old writer.new };
+        ensures { WritesSome result (AnswersOrEnds answers refuses self.old line.now self.new result) W.contents writer.old writer.new };
 
     /// Answers a line that spells a command of the debugger.
     ///
@@ -59,8 +64,8 @@ pub trait Responder: Drop {
         alloc: Global,
         command: Command,
         writer: &mut Writer<'_, W>,
-    ) -> WriteResult
-        ensures { WritesSome result (AnswersCommand answers self.old command self.new) W.contents writer.old writer.new };
+    ) -> Result<LineAction, WriteError>
+        ensures { WritesSome result (ObeysCommand answers refuses self.old command self.new result) W.contents writer.old writer.new };
 }
 
 impl Responder for Lab {
@@ -89,8 +94,9 @@ impl Responder for Lab {
         alloc: Global,
         command: Command,
         writer: &mut Writer<'_, W>,
-    ) -> WriteResult {
-        execute_in_wording(alloc, self, command, Wording::Brief, writer)
+    ) -> Result<LineAction, WriteError> {
+        execute_in_wording(alloc, self, command, Wording::Brief, writer)?;
+        Ok(LineAction::Answered)
     }
 }
 

@@ -31,6 +31,8 @@ pub enum Status {
     StreamFault,
     /// A race was not finished: memory was wanting, a thread was refused, or the log disagreed (4). No session ends so.
     NotFinished,
+    /// A command was refused, and the session ends at the first refused one (7).
+    CommandRefused,
 }
 
 /// Reads an image and then commands, and answers them. The history has at most `limit` events.
@@ -59,7 +61,7 @@ pub fn session_with_responder<S: Responder, R: Read, W: Write>(
     writer: &mut W,
     limit: u32,
 ) -> Status
-    ensures { ReadsAndWrites (λ read rest text. WritesSessionBy S.answers S.begin limit read rest text result)
+    ensures { ReadsAndWrites (λ read rest text. WritesSessionBy S.answers S.refuses S.begin limit read rest text result)
         (R.remaining reader.old) (R.remaining reader.new) (W.contents writer.old) (W.contents writer.new) }
 {
     let mut input = Input::new();
@@ -90,7 +92,7 @@ fn after_image<S: Responder, R: Read, W: Write>(
     limit: u32,
 ) -> Status
     requires { IsWithinInputLimit input.old }
-    ensures { ReadsAheadAndWrites input.old.bytes (λ read rest text. AfterImage S.answers S.begin limit image.items input.old.taken input.old.bytes read rest text result)
+    ensures { ReadsAheadAndWrites input.old.bytes (λ read rest text. AfterImage S.answers S.refuses S.begin limit image.items input.old.taken input.old.bytes read rest text result)
         (R.remaining reader.old) (R.remaining reader.new) (W.contents writer.old) (W.contents writer.new) }
 {
     match open_image(alloc, image, limit) {
@@ -137,7 +139,8 @@ pub fn status_of(ending: Result<CommandsEnd, WriteError>) -> Status
     match ending {
         Ok(CommandsEnd::Ended) => Status::Done,
         Ok(CommandsEnd::Quit) => Status::Done,
-        Ok(CommandsEnd::Past) => Status::StreamFault,
+        Ok(CommandsEnd::Refused(_)) => Status::CommandRefused,
+        Ok(CommandsEnd::Past(_)) => Status::StreamFault,
         Ok(CommandsEnd::ReadFailed) => Status::StreamFault,
         Err(WriteError) => Status::StreamFault,
     }

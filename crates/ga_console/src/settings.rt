@@ -33,9 +33,11 @@ pub enum Settings {
     Debug {
         limit: u32,
     },
-    /// Serve a session of exploring that keeps up to this many events, 1 to 100000000.
+    /// Serve a session of exploring that keeps up to this many events, 1 to 100000000. Where `strict` is set, it ends at the first refused
+    /// command.
     Explore {
         limit: u32,
+        strict: bool,
         chip: Option<String>,
         file: Option<String>,
     },
@@ -144,6 +146,7 @@ fn chosen(alloc: Global, matches: &ArgMatches<'_>) -> Result<Settings, CommandLi
             let limit = limit(explorer, DEFAULT_EXPLORED, GREATEST_EXPLORED)?;
             Ok(Settings::Explore {
                 limit,
+                strict: explorer.get_flag("strict"),
                 chip: name(alloc, explorer.get_str("chip"))?,
                 file: file(alloc, explorer)?,
             })

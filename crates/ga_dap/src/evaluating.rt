@@ -85,6 +85,7 @@ pub(crate) fn command_text(
             Ok(()) => Ok(Some(answer)),
             Err(_) => Err(AllocError),
         },
+        Ok(LineAction::Refused) => Ok(None),
         Ok(LineAction::Quit) => Ok(None),
         Err(_) => Err(AllocError),
     }

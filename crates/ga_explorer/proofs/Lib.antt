@@ -4,4 +4,5 @@ pub mod Fronts
 pub mod Finding
 pub mod Leading
 pub mod Serving
+pub mod StrictLemmas
 pub mod Prompted

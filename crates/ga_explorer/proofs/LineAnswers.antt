@@ -61,6 +61,7 @@ other_line s line answer new of done = λ part kept.
 pub other_turn : (s : State) (line : List ℕ) (new : State) (result : Result LineAction WriteError) (answer : List ℕ) → IsDebuggerLine line
     → AnswersOrQuits (IsAnswerInWording Advised) s line new result answer → AnswersOrQuits AnswersOutsideExplorer s line new result answer
 other_turn s line new (Ok turn.Answered) answer of done = other_line s line answer new of done
+other_turn s line new (Ok turn.Refused) answer of done = absurd done
 other_turn s line new (Ok turn.Quit) answer of done = done
 other_turn s line new (Err failed) answer of done = other_line s line answer new of done
 
@@ -98,6 +99,7 @@ same_explored s new e f = ap (λ lab. explorer_state lab new.notes) e ∙ ap (ex
 pub debugged_turn : (s : ExplorerState) (line : List ℕ) (new : ExplorerState) (result : Result LineAction WriteError) (answer : List ℕ) → (length line ≤ 200 → command_of_line s.notes line ≡ None)
     → new.notes ≡ s.notes → AnswersOrQuits AnswersOutsideExplorer s.lab line new.lab result answer → AnswersOrQuits AnswersExplorerLine s line new result answer
 debugged_turn s line new (Ok turn.Answered) answer none same done = debugged_line s line answer new none same done
+debugged_turn s line new (Ok turn.Refused) answer none same done = absurd done
 debugged_turn s line new (Ok turn.Quit) answer none same done = (done.0, same_explored s new done.1 same, done.2)
 debugged_turn s line new (Err failed) answer none same done = debugged_line s line answer new none same done
 

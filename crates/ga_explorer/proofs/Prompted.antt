@@ -1,58 +1,116 @@
 -- A prompt after an answer.
-use Rattle.std.proofs.Common.{◌≡◌, ℕ, List, [], ◌++◌, Bool, true, false, take, inl, inr, append_assoc, refl, sym, ap, subst, ◌∙◌, rules, append-nil}
-use Rattle.std.specs.Prelude.{Result, Ok, Err}
+use Rattle.std.proofs.Common.{◌≡◌, ℕ, List, [], ◌++◌, Option, Bool, true, false, take, inl, inr, append_assoc, refl, sym, ap, subst, ◌∙◌, append-nil}
+use Rattle.std.specs.Prelude.{◌⊎◌, Result, Ok}
 use Rattle.std.specs.Result.{IsErr}
 use Rattle.ga_text.specs.declared.output.WriteError.{WriteError}
 use Rattle.ga_text.specs.Lines.{terminated_lines}
-use Rattle.ga_text.specs.Output.{TextHasPrefix}
-use Rattle.ga_console.specs.Session.{AnswersLine, AnswersOrQuits, ServesCommands, ServesToWriteFailure, IsWrittenOrPrefix, lines_within_bound}
+use Rattle.ga_text.specs.Output.{TextHasPrefix, IsTruncated, IsWrittenOrTruncated}
+use Rattle.ga_text.proofs.WriteLemmas.{at_err, truncated_here, truncated_within}
+use Rattle.ga_console.specs.Session.{AnswersLine, AnswersOrEnds, ServesCommands, ServesToWriteFailure, IsWrittenOrPrefix, lines_within_bound}
+use Rattle.ga_console.specs.inner.Run.{AnswersCommand, ObeysCommand}
+use Rattle.ga_console.specs.declared.command.Command.{Command}
 use Rattle.ga_console.specs.declared.commands.CommandsEnd.{CommandsEnd}
 use Rattle.ga_console.specs.declared.responder.LineAction.{LineAction}
 use Rattle.ga_console.specs.declared.responder.LineAction.TheVariants as turn
-use Rattle.ga_explorer.specs.Answers.{AnswersExplorerLine}
 use Rattle.ga_explorer.specs.Opening.{ExplorerState}
-use Rattle.ga_explorer.specs.Session.{prompt, AnswersWithPrompt}
-use Rattle.ga_explorer.specs.inner.{PromptsFor}
+use Rattle.ga_explorer.specs.Session.{prompt, AnswersOn, AnswersLast, AnswersWithPrompt}
+use Rattle.ga_explorer.specs.inner.{PromptsFor, EndsPrompting}
 use Rattle.ga_explorer.specs.declared.prompting.PromptedExplorer.{PromptedExplorer}
+use Rattle.ga_explorer.specs.declared.strict.StrictExplorer.{StrictExplorer}
 use Rattle.ga_explorer.proofs.Serving.{serves_seen}
+use Rattle.ga_explorer.proofs.StrictLemmas.{GoesOn, EndsStrictly}
 
--- how a session that may prompt answers a line
+-- how a session that may prompt answers a line after which it goes on, and one at which it ends
 abbrev pub AnswersPrompted : PromptedExplorer → List ℕ → List ℕ → PromptedExplorer → Type 0
-AnswersPrompted p line written new = PromptsFor p.is_prompted p.explorer line written new.is_prompted new.explorer
+AnswersPrompted p line written new =
+    PromptsFor p.is_prompted p.explorer.is_strict p.explorer.explorer line written new.is_prompted new.explorer.is_strict new.explorer.explorer
 
-pub prompts_after : (prompts : Bool) (e : ExplorerState) (line answer : List ℕ) (new : ExplorerState) → AnswersExplorerLine e line answer new → AnswersWithPrompt prompts e line (answer ++ prompt prompts) new
-prompts_after true e line answer new h = (answer, h, refl)
-prompts_after false e line answer new h = subst (λ (t : List ℕ). AnswersExplorerLine e line t new) (sym (append-nil answer)) h
+abbrev pub EndsPrompted : PromptedExplorer → List ℕ → List ℕ → PromptedExplorer → Type 0
+EndsPrompted p line answer new =
+    EndsPrompting p.is_prompted p.explorer.is_strict p.explorer.explorer line answer new.is_prompted new.explorer.is_strict new.explorer.explorer
 
-pub prompted_line : (p new : PromptedExplorer) (line answer : List ℕ) → new.is_prompted ≡ p.is_prompted → AnswersLine AnswersExplorerLine p.explorer line answer new.explorer
-    → AnswersLine AnswersPrompted p line (answer ++ prompt p.is_prompted) new
-prompted_line p new line answer same h = λ part kept.
-    let one = h part kept in ((prompts_after p.is_prompted p.explorer part answer new.explorer one.0, same), one.1)
+prompts_after : (prompts strict : Bool) (e : ExplorerState) (line answer : List ℕ) (new : ExplorerState) → AnswersOn strict e line answer new
+    → AnswersWithPrompt prompts strict e line (answer ++ prompt prompts) new
+prompts_after true strict e line answer new h = (answer, h, refl)
+prompts_after false strict e line answer new h = subst (λ (t : List ℕ). AnswersOn strict e line t new) (sym (append-nil answer)) h
 
-pub line_err : (p new : PromptedExplorer) (line : List ℕ) (result : Result LineAction WriteError) (text : List ℕ) → IsErr result → AnswersLine AnswersPrompted p line text new
-    → AnswersOrQuits AnswersPrompted p line new result text
-line_err p new line (Ok turn) text is h = absurd (search rules)
-line_err p new line (Err why) text is h = h
+module _ (p : PromptedExplorer) (after : StrictExplorer) where
+  -- the machine after an answer
+  abbrev pub on : PromptedExplorer
+  on = record p { explorer = after }
 
--- what such a session serves is what one of exploring does that prompts as it does at first
-pub serves_prompted : (room : ℕ) (prompts : Bool) (p : PromptedExplorer) (read rest text : List ℕ) (last : PromptedExplorer) (ending : Result CommandsEnd WriteError) → p.is_prompted ≡ prompts
-    → ServesCommands AnswersPrompted room p read rest text last ending → ServesCommands (AnswersWithPrompt prompts) room p.explorer read rest text last.explorer ending
-serves_prompted room prompts p read rest text last ending is h =
-    serves_seen (λ (x : PromptedExplorer). x.explorer) (λ (x : PromptedExplorer). x.is_prompted ≡ prompts) AnswersPrompted (AnswersWithPrompt prompts)
+  one_goes : (line answer : List ℕ) → GoesOn p.explorer line answer after → AnswersPrompted p line (answer ++ prompt p.is_prompted) on
+  one_goes line answer h = (prompts_after p.is_prompted p.explorer.is_strict p.explorer.explorer line answer after.explorer h.0, h.1, refl)
+
+  one_ends : (line answer : List ℕ) → EndsStrictly p.explorer line answer after → EndsPrompted p line answer on
+  one_ends line answer h = (h.0, h.1, refl)
+
+  pub prompted_line : (line answer : List ℕ) → AnswersLine GoesOn p.explorer line answer after → AnswersLine AnswersPrompted p line (answer ++ prompt p.is_prompted) on
+  prompted_line line answer h = λ part kept. (one_goes part answer (h part kept).0, (h part kept).1)
+
+  pub ended_line : (line answer : List ℕ) → AnswersLine EndsStrictly p.explorer line answer after → AnswersLine EndsPrompted p line answer on
+  ended_line line answer h = λ part kept. (one_ends part answer (h part kept).0, (h part kept).1)
+
+  pub prompted_command : (asked : Command) (answer : List ℕ) → AnswersCommand GoesOn p.explorer asked after answer → AnswersCommand AnswersPrompted p asked on (answer ++ prompt p.is_prompted)
+  prompted_command asked answer h = λ line short spelled. one_goes line answer (h line short spelled)
+
+  pub ended_command : (asked : Command) (answer : List ℕ) → AnswersCommand EndsStrictly p.explorer asked after answer → AnswersCommand EndsPrompted p asked on answer
+  ended_command asked answer h = λ line short spelled. one_ends line answer (h line short spelled)
+
+  -- the line `quit`, which gets no prompt
+  pub quit_turn : (line text : List ℕ) → AnswersOrEnds GoesOn EndsStrictly p.explorer line after (Ok turn.Quit) text → AnswersOrEnds AnswersPrompted EndsPrompted p line on (Ok turn.Quit) text
+  quit_turn line text h = (h.0, ap (λ e. record p { explorer = e }) h.1, h.2)
+
+  -- a failed write of an answer
+  pub line_err : (line answer : List ℕ) (result : Result LineAction WriteError) (contents : Option (List ℕ)) (before said pending : List ℕ) → IsErr result
+      → AnswersLine GoesOn p.explorer line answer after ⊎ AnswersLine EndsStrictly p.explorer line answer after → IsTruncated contents before (said ++ answer)
+      → (text : List ℕ) × AnswersOrEnds AnswersPrompted EndsPrompted p line on result text × IsWrittenOrTruncated result contents before (said ++ text) pending
+  line_err line answer result contents before said pending failed (inl h) cut =
+      let text : List ℕ = answer ++ prompt p.is_prompted in (
+        text,
+        at_err (λ r. AnswersOrEnds AnswersPrompted EndsPrompted p line on r text) result failed (λ why. inl (prompted_line line answer h)),
+        truncated_here result contents before (said ++ text) pending failed (truncated_within contents before said answer (prompt p.is_prompted) text refl cut),
+      )
+  line_err line answer result contents before said pending failed (inr h) cut = (
+    answer,
+    at_err (λ r. AnswersOrEnds AnswersPrompted EndsPrompted p line on r answer) result failed (λ why. inr (ended_line line answer h)),
+    truncated_here result contents before (said ++ answer) pending failed cut,
+  )
+
+  pub command_err : (asked : Command) (answer : List ℕ) (result : Result LineAction WriteError) (contents : Option (List ℕ)) (before said pending : List ℕ) → IsErr result
+      → AnswersCommand GoesOn p.explorer asked after answer ⊎ AnswersCommand EndsStrictly p.explorer asked after answer → IsTruncated contents before (said ++ answer)
+      → (text : List ℕ) × ObeysCommand AnswersPrompted EndsPrompted p asked on result text × IsWrittenOrTruncated result contents before (said ++ text) pending
+  command_err asked answer result contents before said pending failed (inl h) cut =
+      let text : List ℕ = answer ++ prompt p.is_prompted in (
+        text,
+        at_err (λ r. ObeysCommand AnswersPrompted EndsPrompted p asked on r text) result failed (λ why. inl (prompted_command asked answer h)),
+        truncated_here result contents before (said ++ text) pending failed (truncated_within contents before said answer (prompt p.is_prompted) text refl cut),
+      )
+  command_err asked answer result contents before said pending failed (inr h) cut = (
+    answer,
+    at_err (λ r. ObeysCommand AnswersPrompted EndsPrompted p asked on r answer) result failed (λ why. inr (ended_command asked answer h)),
+    truncated_here result contents before (said ++ answer) pending failed cut,
+  )
+
+-- what such a session serves is what one of exploring does that prompts, and is strict, as it is at first
+pub serves_prompted : (room : ℕ) (prompts strict : Bool) (p : PromptedExplorer) (read rest text : List ℕ) (last : PromptedExplorer) (ending : Result CommandsEnd WriteError)
+    → p.is_prompted ≡ prompts → p.explorer.is_strict ≡ strict → ServesCommands AnswersPrompted EndsPrompted room p read rest text last ending
+    → ServesCommands (AnswersWithPrompt prompts strict) (AnswersLast strict) room p.explorer.explorer read rest text last.explorer.explorer ending
+serves_prompted room prompts strict p read rest text last ending is tight h =
+    serves_seen (λ (x : PromptedExplorer). x.explorer.explorer) (λ (x : PromptedExplorer). (x.is_prompted ≡ prompts) × (x.explorer.is_strict ≡ strict))
+    AnswersPrompted EndsPrompted (AnswersWithPrompt prompts strict) (AnswersLast strict)
     (record {
-      answer = λ m line answer new k a. subst (λ b. AnswersWithPrompt b m.explorer line answer new.explorer) k a.0;
-      holds = λ m line answer new k a. a.1 ∙ k;
+      answer = λ m line answer new k a. subst (λ b. AnswersWithPrompt b strict m.explorer.explorer line answer new.explorer.explorer) k.0
+          (subst (λ b. AnswersWithPrompt m.is_prompted b m.explorer.explorer line answer new.explorer.explorer) k.1 a.0);
+      holds = λ m line answer new k a. (a.2 ∙ k.0, a.1 ∙ k.1);
+      refusal = λ m line answer new k a. subst (λ b. AnswersLast b m.explorer.explorer line answer new.explorer.explorer) k.1 a.0;
     })
-    room p read rest text last ending is h
-
--- the line `quit`, which gets no prompt
-pub quit_turn : (p : PromptedExplorer) (line : List ℕ) (new : ExplorerState) (text : List ℕ) → AnswersOrQuits AnswersExplorerLine p.explorer line new (Ok turn.Quit) text
-    → AnswersOrQuits AnswersPrompted p line (record p { explorer = new }) (Ok turn.Quit) text
-quit_turn p line new text h = (h.0, ap (λ e. record p { explorer = e }) h.1, h.2)
+    room p read rest text last ending (is, tight) h
 
 -- where nothing was answered yet when a write failed
-pub nothing_served : (prompts : Bool) (room : ℕ) (e : ExplorerState) (read rest : List ℕ) → ServesToWriteFailure (AnswersWithPrompt prompts) room e read rest [] e
-nothing_served prompts room e read rest = record {
+pub nothing_served : (prompts strict : Bool) (room : ℕ) (e : ExplorerState) (read rest : List ℕ)
+    → ServesToWriteFailure (AnswersWithPrompt prompts strict) (AnswersLast strict) room e read rest [] e
+nothing_served prompts strict room e read rest = record {
   heard = [];
   after = lines_within_bound room read;
   front = refl;

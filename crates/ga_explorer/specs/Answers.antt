@@ -8,7 +8,7 @@ use Rattle.ga_console.specs.Replies.{IsAnswerInWording}
 use Rattle.ga_console.specs.Commands.{SpellsCommand}
 use Rattle.ga_console.specs.Session.{quit_line}
 use Rattle.ga_console.specs.declared.responder.LineAction.{LineAction}
-use Rattle.ga_console.specs.declared.responder.LineAction.TheVariants.{Answered, Quit}
+use Rattle.ga_console.specs.declared.responder.LineAction.TheVariants.{Answered, Refused, Quit}
 use Rattle.ga_console.specs.declared.command.Command.{Command}
 use Rattle.ga_explorer.specs.Commands.{command_of_line, AnswersExplorerCommand}
 use Rattle.ga_explorer.specs.NoCommand.{unknown_command_text}
@@ -40,5 +40,6 @@ AnswersLinePrefix e line answer new = (part : Line) → line ≡ take (max_input
 -- a line is answered, as far as the answer can be written, or ends the session
 abbrev pub AnswersLineOrQuits : ExplorerState → Line → ExplorerState → Result LineAction WriteError → Text → Type 0
 AnswersLineOrQuits e line new (Ok Answered) answer = AnswersLinePrefix e line answer new
+AnswersLineOrQuits e line new (Ok Refused) answer = ⊥
 AnswersLineOrQuits e line new (Ok Quit) answer = (line ≡ quit_line) × (new ≡ e) × (answer ≡ [])
 AnswersLineOrQuits e line new (Err failed) answer = AnswersLinePrefix e line answer new

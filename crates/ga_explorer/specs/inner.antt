@@ -1,5 +1,5 @@
 -- What only private contracts and proofs name.
-use Rattle.std.specs.Prelude.{Bool, Option, Some, None, ◌≡◌, ℕ, true, false, [], Result, Ok, Err}
+use Rattle.std.specs.Prelude.{if◌then◌else◌, take, Bool, Option, Some, None, ◌≡◌, ℕ, true, false, [], Result, Ok, Err}
 use Rattle.ga_lab.specs.Machine.{State}
 use Rattle.ga_debug_info.specs.declared.notes.DebugInfo.{DebugInfo}
 use Rattle.ga_explorer.specs.Opening.{ExplorerState, begins_as_image, is_read_as_image, OpensLeadingText}
@@ -16,7 +16,9 @@ use Rattle.ga_text.specs.Output.{WritesSome}
 use Rattle.ga_text.specs.declared.output.Writer.{Writer}
 use Rattle.ga_text.specs.declared.output.WriteError.{WriteError}
 use Rattle.ga_explorer.specs.Commands.{AnswersQuery}
-use Rattle.ga_explorer.specs.Session.{AnswersWithPrompt}
+use Rattle.ga_explorer.specs.Session.{AnswersWithPrompt, AnswersOn, AnswersLast, is_refusal}
+use Rattle.ga_console.specs.declared.responder.LineAction.{LineAction}
+use Rattle.ga_console.specs.declared.responder.LineAction.TheVariants as turn
 use Rattle.ga_explorer.specs.declared.commands.Query.{Query}
 
 -- ---- what is explored, of its two parts
@@ -59,7 +61,29 @@ pub record IsTold {W : Type 0} (result : Result (Unit {0}) WriteError) (e : Expl
   pub is : asked ≡ meant
   pub said : WritesSome result (AnswersQuery e meant) contents old new
 
+-- ---- A session that may end at its first refused command, by what its machine has
+
+abbrev pub GoesOnFor : Bool → ExplorerState → Line → Text → Bool → ExplorerState → Type 0
+GoesOnFor strict e line answer strict_on new = AnswersOn strict e line answer new × (strict_on ≡ strict)
+
+abbrev pub EndsFor : Bool → ExplorerState → Line → Text → Bool → ExplorerState → Type 0
+EndsFor strict e line answer strict_on new = AnswersLast strict e line answer new × (strict_on ≡ strict)
+
+-- what a strict session does after an answer
+abbrev pub turn_after : Text → LineAction
+turn_after answer = if is_refusal answer then turn.Refused else turn.Answered
+
+-- the refusal that ends the session is noted
+abbrev pub IsNoted : LineAction → Text → Text → Type 0
+IsNoted turn.Answered answer noted = Unit {0}
+IsNoted turn.Refused answer noted = noted ≡ take 201 answer
+IsNoted turn.Quit answer noted = Unit {0}
+
 -- ---- A session that may prompt for commands, by what its machine has
 
-abbrev pub PromptsFor : Bool → ExplorerState → Line → Text → Bool → ExplorerState → Type 0
-PromptsFor prompts e line written prompts_on new = AnswersWithPrompt prompts e line written new × (prompts_on ≡ prompts)
+abbrev pub PromptsFor : Bool → Bool → ExplorerState → Line → Text → Bool → Bool → ExplorerState → Type 0
+PromptsFor prompts strict e line written prompts_on strict_on new =
+    AnswersWithPrompt prompts strict e line written new × (strict_on ≡ strict) × (prompts_on ≡ prompts)
+
+abbrev pub EndsPrompting : Bool → Bool → ExplorerState → Line → Text → Bool → Bool → ExplorerState → Type 0
+EndsPrompting prompts strict e line answer prompts_on strict_on new = AnswersLast strict e line answer new × (strict_on ≡ strict) × (prompts_on ≡ prompts)

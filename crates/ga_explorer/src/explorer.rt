@@ -97,8 +97,9 @@ impl Responder for Explorer {
         alloc: Global,
         command: Command,
         writer: &mut Writer<'_, W>,
-    ) -> WriteResult {
-        execute_in_wording(alloc, &mut self.lab, command, Wording::Advised, writer)
+    ) -> Result<LineAction, WriteError> {
+        execute_in_wording(alloc, &mut self.lab, command, Wording::Advised, writer)?;
+        Ok(LineAction::Answered)
     }
 }
 

@@ -14,6 +14,7 @@ mod preload;
 mod prompting;
 mod run_request;
 mod session;
+mod strict;
 mod which;
 
 pub use beginning::open_lab;

@@ -5,10 +5,9 @@ ghost use Rattle.ga_text.specs.Lines.{Bytes};
 ghost use Rattle.ga_text.specs.Input.{IsWithinInputLimit, input_limit};
 ghost use Rattle.ga_text.specs.Output.{IsSameStream, IsWritten, WritesExactly};
 ghost use Rattle.ga_console.specs.Session.{ServesCommands, IsWrittenOrPrefix};
-ghost use Rattle.ga_explorer.specs.Opening.{ExplorerState};
-ghost use Rattle.ga_explorer.specs.Session.{prompt, AnswersWithPrompt};
+ghost use Rattle.ga_explorer.specs.Session.{prompt, AnswersWithPrompt, AnswersLast};
 
-use crate::explorer::Explorer;
+use crate::strict::StrictExplorer;
 use ga_console::{Command, CommandsEnd, LineAction, Responder, serve_commands};
 use ga_lab::Lab;
 use ga_text::{Input, WriteError, WriteResult, Writer};
@@ -19,7 +18,7 @@ use std::io::{Read, Write};
 #[derive(Drop)]
 pub struct PromptedExplorer {
     /// What answers.
-    pub explorer: Explorer,
+    pub explorer: StrictExplorer,
     /// A prompt follows each answer.
     pub is_prompted: bool,
 }
@@ -41,16 +40,18 @@ impl PromptedExplorer {
 }
 
 impl Responder for PromptedExplorer {
-    ghost use Rattle.std.specs.Prelude.{false, None};
-    ghost use Rattle.ga_explorer.specs.inner.{explorer_state, PromptsFor};
+    ghost use Rattle.std.specs.Prelude.{false, None, []};
+    ghost use Rattle.ga_explorer.specs.inner.{explorer_state, PromptsFor, EndsPrompting};
 
-    ghost answers = { λ p line written new. PromptsFor p.is_prompted p.explorer line written new.is_prompted new.explorer };
+    ghost answers = { λ p line written new. PromptsFor p.is_prompted p.explorer.is_strict p.explorer.explorer line written new.is_prompted new.explorer.is_strict new.explorer.explorer };
 
-    ghost begin = { λ s. record { explorer = explorer_state s None; is_prompted = false } };
+    ghost refuses = { λ p line answer new. EndsPrompting p.is_prompted p.explorer.is_strict p.explorer.explorer line answer new.is_prompted new.explorer.is_strict new.explorer.explorer };
+
+    ghost begin = { λ s. record { explorer = record { explorer = explorer_state s None; is_strict = false; refusal = record { items = [] } }; is_prompted = false } };
 
     fn open(lab: Lab) -> Self {
         PromptedExplorer {
-            explorer: Explorer::open(lab),
+            explorer: StrictExplorer::open(lab),
             is_prompted: false,
         }
     }
@@ -63,6 +64,7 @@ impl Responder for PromptedExplorer {
     ) -> Result<LineAction, WriteError> {
         match self.explorer.answer(alloc, line, writer)? {
             LineAction::Quit => Ok(LineAction::Quit),
+            LineAction::Refused => Ok(LineAction::Refused),
             LineAction::Answered => {
                 self.write_prompt(writer)?;
                 Ok(LineAction::Answered)
@@ -76,13 +78,20 @@ impl Responder for PromptedExplorer {
         alloc: Global,
         command: Command,
         writer: &mut Writer<'_, W>,
-    ) -> WriteResult {
-        self.explorer.obey(alloc, command, writer)?;
-        self.write_prompt(writer)
+    ) -> Result<LineAction, WriteError> {
+        match self.explorer.obey(alloc, command, writer)? {
+            LineAction::Quit => Ok(LineAction::Quit),
+            LineAction::Refused => Ok(LineAction::Refused),
+            LineAction::Answered => {
+                self.write_prompt(writer)?;
+                Ok(LineAction::Answered)
+            }
+        }
     }
 }
 
-/// Answers the command lines one by one, until the input ends, with a prompt before each if `is_prompted`.
+/// Answers the command lines one by one, until the input ends or a strict session has a command refused, with a prompt before each if the
+/// session prompts.
 ///
 /// # Errors
 /// A write failed.
@@ -91,23 +100,19 @@ pub(crate) fn serve_explorer<R: Read, W: Write>(
     input: &mut Input,
     reader: &mut R,
     writer: &mut Writer<'_, W>,
-    explorer: Explorer,
-    is_prompted: bool,
+    session: &mut PromptedExplorer,
 ) -> Result<CommandsEnd, WriteError>
     requires { IsWithinInputLimit input.old }
     ensures same { IsSameStream writer.old writer.new }
     ensures serves { (left before said : Bytes) → R.remaining reader.old ≡ Some left →
         IsWritten (W.contents writer.old.stream.now) before said writer.old.pending.items →
-        (read rest text sent : Bytes) × (last : ExplorerState)
+        (read rest text sent : Bytes)
         × (input.old.bytes ++ left ≡ read ++ rest) × (R.remaining reader.new ≡ Some rest)
         × (W.contents writer.new.stream.now ≡ Some (before ++ sent))
-        × ServesCommands (AnswersWithPrompt is_prompted) (input_limit - input.old.taken) explorer read rest text last result
-        × IsWrittenOrPrefix result (said ++ (prompt is_prompted ++ text)) sent }
+        × ServesCommands (AnswersWithPrompt session.old.is_prompted session.old.explorer.is_strict) (AnswersLast session.old.explorer.is_strict)
+            (input_limit - input.old.taken) session.old.explorer.explorer read rest text session.new.explorer.explorer result
+        × IsWrittenOrPrefix result (said ++ (prompt session.old.is_prompted ++ text)) sent }
 {
-    let mut session = PromptedExplorer {
-        explorer,
-        is_prompted,
-    };
     session.write_prompt(writer)?;
-    serve_commands(alloc, input, reader, writer, &mut session)
+    serve_commands(alloc, input, reader, writer, session)
 }

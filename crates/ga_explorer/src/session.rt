@@ -4,8 +4,9 @@ ghost use Rattle.ga_explorer.specs.Opening.{image_text_of};
 ghost use Rattle.ga_explorer.specs.Session.{RunsExplorer};
 
 use crate::beginning::open_lab;
-use crate::prompting::serve_explorer;
-use ga_console::{Status, status_of};
+use crate::prompting::{PromptedExplorer, serve_explorer};
+use crate::strict::{StrictExplorer, end_session};
+use ga_console::Status;
 use ga_text::{Input, Writer};
 use std::alloc::Global;
 use std::io::{Read, Write};
@@ -13,7 +14,8 @@ use std::io::{Read, Write};
 /// Reads an image or source and then commands, and answers them as `ga_console::session` does. It has the debugger's commands
 /// and those of exploring. The history has at most `limit` events. Source with a fault ends the session: `errors` gets the
 /// fault, as from `ga144 asm`, and there is no answer. If an image is given for the `chip`, what is read first is its source. If
-/// `is_prompted`, as at a terminal, a prompt is written before each command is read.
+/// `is_prompted`, as at a terminal, a prompt is written before each command is read. If `is_strict`, the session ends at the first
+/// refused command, which is written to `errors` with the number of its line, counted from 1 after the image or source.
 pub fn explore<R: Read, W: Write, E: Write>(
     alloc: Global,
     reader: &mut R,
@@ -22,17 +24,22 @@ pub fn explore<R: Read, W: Write, E: Write>(
     chip: Option<Vec<u8>>,
     limit: u32,
     is_prompted: bool,
+    is_strict: bool,
 ) -> Status
     // Where the streams tell their bytes: what was read, and what was written for it by the status.
-    ensures { ReadsAndWrites (λ read rest text. RunsExplorer is_prompted (image_text_of chip) limit read rest text result)
+    ensures { ReadsAndWrites (λ read rest text. RunsExplorer is_prompted is_strict (image_text_of chip) limit read rest text result)
         (R.remaining reader.old) (R.remaining reader.new) (W.contents writer.old) (W.contents writer.new) }
 {
     let mut input = Input::new();
     match open_lab(alloc, &mut input, reader, writer, errors, chip, limit) {
         Ok(begun) => {
             let mut said = Writer::ready(writer);
-            let ending = serve_explorer(alloc, &mut input, reader, &mut said, begun, is_prompted);
-            status_of(ending)
+            let mut session = PromptedExplorer {
+                explorer: StrictExplorer::new(begun, is_strict),
+                is_prompted,
+            };
+            let ending = serve_explorer(alloc, &mut input, reader, &mut said, &mut session);
+            end_session(errors, ending, is_strict, &session.explorer.refusal)
         }
         Err(status) => status,
     }

@@ -2,9 +2,11 @@
 use Rattle.std.proofs.Common.{◌≡◌, Option, ℕ, List, [], ◌∷◌, ◌++◌, false, inl, inr, sym, ap, ◌∙◌, Result, Ok, Err, ◌≢◌, refl, subst, ◌-◌, length, ◌↔◌, Bool, true≢false, IsTrue, Some, arith}
 use Rattle.ga_explorer.specs.Opening.{ExplorerState, OpensLeadingText, IsLeadingText}
 use Rattle.ga_console.specs.Run.{status_of}
-use Rattle.ga_console.specs.Session.{Answers, WritesAnswers, ServesCommands, IsWrittenOrPrefix, AnswerRelation, AnswersOrQuits}
+use Rattle.ga_console.specs.Session.{Answers, AnswersToRefusal, WritesAnswers, ServesCommands, EndsAtNoAnswer, IsWrittenOrPrefix, AnswerRelation, AnswersOrEnds}
+use Rattle.ga_console.specs.inner.Run.{ObeysCommand}
+use Rattle.ga_console.specs.declared.command.Command.{Command}
 use Rattle.ga_console.specs.declared.commands.CommandsEnd.{CommandsEnd}
-use Rattle.ga_console.specs.declared.commands.CommandsEnd.TheVariants.{Ended, Quit, Past, ReadFailed}
+use Rattle.ga_console.specs.declared.commands.CommandsEnd.TheVariants.{Ended, Quit, Refused, Past, ReadFailed}
 use Rattle.ga_text.specs.declared.output.WriteError.{WriteError}
 use Rattle.ga_console.specs.declared.run.Status.TheVariants.{Done, StreamFault}
 use Rattle.ga_picture.specs.Following.{IsSilentAnswer, IsCompleteSilentAnswer, WritesRefusal, IsSilentSession, IsSilentSessionResult, IsOutOfMemoryAnswer}
@@ -46,13 +48,14 @@ nothing_said s [] text last h = h.0
 nothing_said s (line ∷ lines) text last h =
     h.5 ∙ ap (λ (t : List ℕ). t ++ h.2) h.3.0 ∙ nothing_said h.1 lines h.2 last h.4
 
-script_heard : (room : ℕ) (m : SilentSession) (read : List ℕ) (lines : List (List ℕ)) (text : List ℕ) (last : SilentSession) → WritesAnswers Silently room m read lines text last
-    → WritesAnswers IsSilentAnswer room m.explorer read lines text last.explorer
+script_heard : (room : ℕ) (m : SilentSession) (read : List ℕ) (lines : List (List ℕ)) (text : List ℕ) (last : SilentSession) → WritesAnswers Silently EndsAtNoAnswer room m read lines text last
+    → WritesAnswers IsSilentAnswer EndsAtNoAnswer room m.explorer read lines text last.explorer
 script_heard room m read lines text last (inl h) = inl (answers_heard m lines text last h)
-script_heard room m read lines text last (inr h) = inr (h.0, h.1, h.2, answers_heard m lines h.2 last h.3, h.4)
+script_heard room m read lines text last (inr (inl h)) = absurd h.7
+script_heard room m read lines text last (inr (inr h)) = inr (inr (h.0, h.1, h.2, answers_heard m lines h.2 last h.3, h.4))
 
-pub serves_heard : (room : ℕ) (m : SilentSession) (read rest text : List ℕ) (last : SilentSession) (ending : Result CommandsEnd WriteError) → ServesCommands Silently room m read rest text last ending
-    → ServesCommands IsSilentAnswer room m.explorer read rest text last.explorer ending
+pub serves_heard : (room : ℕ) (m : SilentSession) (read rest text : List ℕ) (last : SilentSession) (ending : Result CommandsEnd WriteError) → ServesCommands Silently EndsAtNoAnswer room m read rest text last ending
+    → ServesCommands IsSilentAnswer EndsAtNoAnswer room m.explorer read rest text last.explorer ending
 serves_heard room m read rest text last (Ok Ended) h = record {
   within = h.within;
   at_end = h.at_end;
@@ -67,12 +70,14 @@ serves_heard room m read rest text last (Ok Quit) h = record {
   answers = answers_heard m _ text last h.answers;
   quits = h.quits;
 }
-serves_heard room m read rest text last (Ok Past) h = record {
+serves_heard room m read rest text last (Ok (Refused number)) h = absurd h.answers.7
+serves_heard room m read rest text last (Ok (Past number)) h = record {
   over = h.over;
   no_quit = h.no_quit;
   said = h.said;
   answers = answers_heard m _ h.said last h.answers;
   told = h.told;
+  counts = h.counts;
 }
 serves_heard room m read rest text last (Ok ReadFailed) h = record {
   within = h.within;
@@ -90,15 +95,16 @@ serves_heard room m read rest text last (Err failed) h = record {
 
 -- up to the end of the input or to `quit` nothing is written
 pub serves_silent : (room : ℕ) (m : SilentSession) (read rest text : List ℕ) (last : SilentSession) (ending : Result CommandsEnd WriteError) → status_of ending ≡ Done
-    → ServesCommands Silently room m read rest text last ending → text ≡ []
+    → ServesCommands Silently EndsAtNoAnswer room m read rest text last ending → text ≡ []
 serves_silent room m read rest text last (Ok Ended) e h = nothing_said m.explorer _ text last.explorer (answers_heard m _ text last h.answers)
 serves_silent room m read rest text last (Ok Quit) e h = nothing_said m.explorer _ text last.explorer (answers_heard m _ text last h.answers)
-serves_silent room m read rest text last (Ok Past) e h = cc
+serves_silent room m read rest text last (Ok (Refused number)) e h = cc
+serves_silent room m read rest text last (Ok (Past number)) e h = cc
 serves_silent room m read rest text last (Ok ReadFailed) e h = cc
 serves_silent room m read rest text last (Err failed) e h = cc
 
 pub serves_follow : (room : ℕ) (m : SilentSession) (read rest text : List ℕ) (last : SilentSession) (ending : Result CommandsEnd WriteError) → status_of ending ≡ Done → last.short ≡ false
-    → ServesCommands Silently room m read rest text last ending → ServesCommands IsCompleteSilentAnswer room m.explorer read rest text last.explorer ending
+    → ServesCommands Silently EndsAtNoAnswer room m read rest text last ending → ServesCommands IsCompleteSilentAnswer EndsAtNoAnswer room m.explorer read rest text last.explorer ending
 serves_follow room m read rest text last (Ok Ended) e none h = record {
   within = h.within;
   at_end = h.at_end;
@@ -113,7 +119,8 @@ serves_follow room m read rest text last (Ok Quit) e none h = record {
   answers = (answers_follow m _ text last none h.answers).1;
   quits = h.quits;
 }
-serves_follow room m read rest text last (Ok Past) e none h = cc
+serves_follow room m read rest text last (Ok (Refused number)) e none h = cc
+serves_follow room m read rest text last (Ok (Past number)) e none h = cc
 serves_follow room m read rest text last (Ok ReadFailed) e none h = cc
 serves_follow room m read rest text last (Err failed) e none h = cc
 
@@ -125,13 +132,13 @@ sent_none (Err failed) said sent e none written = cc
 
 -- to the end of the input or to `quit`
 pub goes_ended : (room : ℕ) (m : SilentSession) (read rest said sent : List ℕ) (last : SilentSession) (ending : Result CommandsEnd WriteError) → status_of ending ≡ Done
-    → ServesCommands Silently room m read rest said last ending → IsWrittenOrPrefix ending said sent
+    → ServesCommands Silently EndsAtNoAnswer room m read rest said last ending → IsWrittenOrPrefix ending said sent
     → (text : List ℕ) (result : Result ExplorerState Status) → Ends last.explorer last.short text result → Goes room m.explorer read rest (sent ++ text) result
 goes_ended room m read rest said sent last ending e serves written text (Ok s) ends =
     let quiet : said ≡ [] = serves_silent room m read rest said last ending e serves in
     let none : sent ≡ [] = sent_none ending said sent e quiet written in
-    let P : List ℕ → Type 0 = λ t. ServesCommands IsCompleteSilentAnswer room m.explorer read rest t last.explorer ending in
-    let Q : ExplorerState → Type 0 = λ z. ServesCommands IsCompleteSilentAnswer room m.explorer read rest [] z ending in (
+    let P : List ℕ → Type 0 = λ t. ServesCommands IsCompleteSilentAnswer EndsAtNoAnswer room m.explorer read rest t last.explorer ending in
+    let Q : ExplorerState → Type 0 = λ z. ServesCommands IsCompleteSilentAnswer EndsAtNoAnswer room m.explorer read rest [] z ending in (
       ap (λ (t : List ℕ). t ++ text) none ∙ ends.2,
       ending,
       e,
@@ -140,7 +147,7 @@ goes_ended room m read rest said sent last ending e serves written text (Ok s) e
 goes_ended room m read rest said sent last ending e serves written text (Err status) ends =
     let quiet : said ≡ [] = serves_silent room m read rest said last ending e serves in
     let none : sent ≡ [] = sent_none ending said sent e quiet written in
-    let P : List ℕ → Type 0 = λ t. ServesCommands IsSilentAnswer room m.explorer read rest t last.explorer ending in
+    let P : List ℕ → Type 0 = λ t. ServesCommands IsSilentAnswer EndsAtNoAnswer room m.explorer read rest t last.explorer ending in
     let Q : List ℕ → Type 0 = λ t. WritesRefusal Memory t status in (
       last.explorer,
       ending,
@@ -149,22 +156,24 @@ goes_ended room m read rest said sent last ending e serves written text (Err sta
 
 -- not so far
 pub goes_broken : (room : ℕ) (m : SilentSession) (read rest said sent : List ℕ) (last : SilentSession) (ending : Result CommandsEnd WriteError) → status_of ending ≡ StreamFault
-    → ServesCommands Silently room m read rest said last ending → IsWrittenOrPrefix ending said sent → Goes room m.explorer read rest sent (Err StreamFault)
+    → ServesCommands Silently EndsAtNoAnswer room m read rest said last ending → IsWrittenOrPrefix ending said sent → Goes room m.explorer read rest sent (Err StreamFault)
 goes_broken room m read rest said sent last ending e serves written =
     (last.explorer, ending, inl (e, refl, said, serves_heard room m read rest said last ending serves, written))
 
 -- a session that isn't done ends by a fault of a stream
-pub stream_fault : (ending : Result CommandsEnd WriteError) → status_of ending ≢ Done → status_of ending ≡ StreamFault
-stream_fault (Ok Ended) h = absurd (h refl)
-stream_fault (Ok Quit) h = absurd (h refl)
-stream_fault (Ok Past) h = refl
-stream_fault (Ok ReadFailed) h = refl
-stream_fault (Err failed) h = refl
+pub stream_fault : (room : ℕ) (m : SilentSession) (read rest text : List ℕ) (last : SilentSession) (ending : Result CommandsEnd WriteError)
+    → ServesCommands Silently EndsAtNoAnswer room m read rest text last ending → status_of ending ≢ Done → status_of ending ≡ StreamFault
+stream_fault room m read rest text last (Ok Ended) served h = absurd (h refl)
+stream_fault room m read rest text last (Ok Quit) served h = absurd (h refl)
+stream_fault room m read rest text last (Ok (Refused number)) served h = absurd served.answers.7
+stream_fault room m read rest text last (Ok (Past number)) served h = refl
+stream_fault room m read rest text last (Ok ReadFailed) served h = refl
+stream_fault room m read rest text last (Err failed) served h = refl
 
 -- ---- from the parts of a session whose answers are dropped to the whole
 
 followed_in : (A : AnswerRelation ExplorerState) (chip : Option (List ℕ)) (limit : ℕ) (text commands rest said written : List ℕ) (machine last : ExplorerState) (ending : Result CommandsEnd WriteError) → IsLeadingText text (commands ++ rest)
-    → OpensLeadingText chip text limit machine → ServesCommands A (input_limit - length text) machine commands rest said last ending → IsWrittenOrPrefix ending said written
+    → OpensLeadingText chip text limit machine → ServesCommands A EndsAtNoAnswer (input_limit - length text) machine commands rest said last ending → IsWrittenOrPrefix ending said written
     → IsSilentSession A chip limit (text ++ commands) rest written last ending
 followed_in A chip limit text commands rest said written machine last ending front opens serves out = record {
   text = text;
@@ -218,7 +227,14 @@ same_silent m n e f =
     let B : Bool → SilentSession = λ b. record { explorer = m.explorer; short = b } in
     ap A e ∙ ap B f
 
-pub silent_turn : (m n : SilentSession) (line answer : List ℕ) (turn : LineAction) → AnswersOrQuits AnswersExplorerLine m.explorer line n.explorer (Ok turn) answer → Notes m.short answer n.short
-    → (turn ≡ turns.Quit → n.short ≡ m.short) → AnswersOrQuits Silently m line n (Ok turn) []
+pub silent_turn : (m n : SilentSession) (line answer : List ℕ) (turn : LineAction) → AnswersOrEnds AnswersExplorerLine EndsAtNoAnswer m.explorer line n.explorer (Ok turn) answer → Notes m.short answer n.short
+    → (turn ≡ turns.Quit → n.short ≡ m.short) → AnswersOrEnds Silently EndsAtNoAnswer m line n (Ok turn) []
 silent_turn m n line answer turns.Answered h noted ends = λ part kept. ((refl, answer, (h part kept).0, noted), (h part kept).1)
+silent_turn m n line answer turns.Refused h noted ends = λ part kept. h part kept
 silent_turn m n line answer turns.Quit h noted ends = (h.0, same_silent m n h.1 (ends refl), refl)
+
+pub silent_command : (m n : SilentSession) (asked : Command) (answer : List ℕ) (turn : LineAction) → ObeysCommand AnswersExplorerLine EndsAtNoAnswer m.explorer asked n.explorer (Ok turn) answer → Notes m.short answer n.short
+    → ObeysCommand Silently EndsAtNoAnswer m asked n (Ok turn) []
+silent_command m n asked answer turns.Answered h noted = λ line short spelled. (refl, answer, h line short spelled, noted)
+silent_command m n asked answer turns.Refused h noted = λ line short spelled. h line short spelled
+silent_command m n asked answer turns.Quit h noted = h

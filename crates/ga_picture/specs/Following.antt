@@ -7,12 +7,12 @@ use Rattle.ga_lab.specs.declared.fault.LabFault.TheVariants.{Memory, Waiting, St
 use Rattle.ga_text.specs.Input.{input_limit}
 use Rattle.ga_text.specs.Output.{TextHasPrefix}
 use Rattle.ga_console.specs.Run.{status_of}
-use Rattle.ga_console.specs.Session.{ServesCommands, IsWrittenOrPrefix, AnswerRelation}
+use Rattle.ga_console.specs.Session.{ServesCommands, EndsAtNoAnswer, IsWrittenOrPrefix, AnswerRelation}
 use Rattle.ga_display.specs.Texts.{refusal_text, advised_refusal_text}
 use Rattle.ga_console.specs.declared.commands.CommandsEnd.{CommandsEnd}
 use Rattle.ga_text.specs.declared.output.WriteError.{WriteError}
 use Rattle.ga_console.specs.declared.run.Status.{Status}
-use Rattle.ga_console.specs.declared.run.Status.TheVariants.{Done, ImageRefused, StreamFault, NotFinished}
+use Rattle.ga_console.specs.declared.run.Status.TheVariants.{Done, ImageRefused, StreamFault, NotFinished, CommandRefused}
 use Rattle.ga_explorer.specs.Answers.{AnswersExplorerLine}
 use Rattle.ga_lab.specs.Machine.{State}
 use Rattle.ga_picture.specs.Picture.{IsPictureText, has_requested_steps}
@@ -42,7 +42,7 @@ pub record IsSilentSession (A : AnswerRelation ExplorerState) (chip : Option Tex
   pub splits : read ≡ text ++ commands
   pub front : IsLeadingText text (commands ++ rest)
   pub opens : OpensLeadingText chip text limit machine
-  pub serves : ServesCommands A (input_limit - length text) machine commands rest said last ending
+  pub serves : ServesCommands A EndsAtNoAnswer (input_limit - length text) machine commands rest said last ending
   pub out : IsWrittenOrPrefix ending said written
 
 -- a refusal was written whole, or that failed
@@ -51,6 +51,7 @@ WritesRefusal fault text Done = ⊥
 WritesRefusal fault text ImageRefused = text ≡ refusal_text fault
 WritesRefusal fault text StreamFault = TextHasPrefix (refusal_text fault) text
 WritesRefusal fault text NotFinished = ⊥
+WritesRefusal fault text CommandRefused = ⊥
 
 -- Why no machine was reached: no session began; in the commands a read failed, or they went past the bound of the input; or
 -- memory was wanting for one of them.
@@ -85,6 +86,7 @@ IsPictureOutput picture text Done = text ≡ picture
 IsPictureOutput picture text ImageRefused = ⊥
 IsPictureOutput picture text StreamFault = TextHasPrefix picture text
 IsPictureOutput picture text NotFinished = ⊥
+IsPictureOutput picture text CommandRefused = ⊥
 
 -- a picture of the machine was written, or why there is none
 abbrev pub WritesPicture : State → PictureView → Text → Status → Type 0

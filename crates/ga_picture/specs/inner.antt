@@ -10,7 +10,7 @@ use Rattle.ga_text.specs.Lines.{Bytes, Text, Line}
 use Rattle.ga_explorer.specs.Opening.{ExplorerState}
 use Rattle.ga_lab.specs.declared.fault.LabFault.TheVariants.{Memory}
 use Rattle.ga_console.specs.Run.{status_of}
-use Rattle.ga_console.specs.Session.{ServesCommands, IsWrittenOrPrefix}
+use Rattle.ga_console.specs.Session.{ServesCommands, EndsAtNoAnswer, IsWrittenOrPrefix}
 use Rattle.ga_console.specs.declared.commands.CommandsEnd.{CommandsEnd}
 use Rattle.ga_text.specs.declared.output.WriteError.{WriteError}
 use Rattle.ga_console.specs.declared.run.Status.{Status}
@@ -96,10 +96,10 @@ HearsLine s before line said new after = (said ≡ []) × (answer : Text) × Ans
 -- From this machine the commands are executed, up to `room` bytes of them.
 abbrev pub Goes : ℕ → ExplorerState → Bytes → Bytes → Text → Result ExplorerState Status → Type 0
 Goes room s read rest text (Ok last) =
-    (text ≡ []) × (ending : Result CommandsEnd WriteError) × (status_of ending ≡ Done) × ServesCommands IsCompleteSilentAnswer room s read rest [] last ending
+    (text ≡ []) × (ending : Result CommandsEnd WriteError) × (status_of ending ≡ Done) × ServesCommands IsCompleteSilentAnswer EndsAtNoAnswer room s read rest [] last ending
 Goes room s read rest text (Err status) = (last : ExplorerState) × (ending : Result CommandsEnd WriteError)
-    × (((status_of ending ≡ StreamFault) × (status ≡ StreamFault) × (said : Text) × ServesCommands IsSilentAnswer room s read rest said last ending × IsWrittenOrPrefix ending said text)
-    ⊎ ((status_of ending ≡ Done) × ServesCommands IsSilentAnswer room s read rest [] last ending × WritesRefusal Memory text status))
+    × (((status_of ending ≡ StreamFault) × (status ≡ StreamFault) × (said : Text) × ServesCommands IsSilentAnswer EndsAtNoAnswer room s read rest said last ending × IsWrittenOrPrefix ending said text)
+    ⊎ ((status_of ending ≡ Done) × ServesCommands IsSilentAnswer EndsAtNoAnswer room s read rest [] last ending × WritesRefusal Memory text status))
 
 -- What comes of a machine that was reached.
 abbrev pub Ends : ExplorerState → Bool → Text → Result ExplorerState Status → Type 0

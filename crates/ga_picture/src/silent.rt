@@ -3,8 +3,8 @@ ghost use Rattle.std.specs.Prelude.{◌≡◌, ◌↔◌, [], Some, Ok, IsTrue};
 ghost use Rattle.ga_text.specs.Lines.{Bytes};
 ghost use Rattle.ga_text.specs.Output.{IsWritten};
 ghost use Rattle.ga_console.specs.declared.responder.LineAction.TheVariants.{Quit};
-ghost use Rattle.ga_console.specs.Session.{AnswersOrQuits};
-ghost use Rattle.ga_console.specs.inner.Run.{AnswersCommand};
+ghost use Rattle.ga_console.specs.Session.{AnswersOrEnds, EndsAtNoAnswer};
+ghost use Rattle.ga_console.specs.inner.Run.{ObeysCommand};
 ghost use Rattle.ga_picture.specs.Following.{IsOutOfMemoryAnswer};
 ghost use Rattle.ga_picture.specs.inner.{Notes};
 ghost use Rattle.ga_explorer.specs.Answers.{AnswersExplorerLine};
@@ -13,7 +13,7 @@ use ga_console::{Command, LineAction, Responder};
 use ga_display::advised_refusal_text;
 use ga_explorer::Explorer;
 use ga_lab::{Lab, LabFault};
-use ga_text::{WriteError, WriteResult, Writer};
+use ga_text::{WriteError, Writer};
 use std::alloc::Global;
 use std::io::Write;
 
@@ -29,7 +29,7 @@ pub struct SilentSession {
 impl SilentSession {
     /// Answers a line, of which at least the first 201 bytes are here, and says nothing.
     fn hear(&mut self, alloc: Global, line: &[u8]) -> LineAction
-        ensures heard { (answer : Bytes) × AnswersOrQuits AnswersExplorerLine self.old.explorer line.now self.new.explorer (Ok result) answer
+        ensures heard { (answer : Bytes) × AnswersOrEnds AnswersExplorerLine EndsAtNoAnswer self.old.explorer line.now self.new.explorer (Ok result) answer
             × Notes self.old.short answer self.new.short }
         ensures ends { result ≡ Quit → self.new.short ≡ self.old.short }
     {
@@ -40,6 +40,10 @@ impl SilentSession {
                 self.note(&mut said);
                 LineAction::Answered
             }
+            Ok(LineAction::Refused) => {
+                self.note(&mut said);
+                LineAction::Refused
+            }
             Ok(LineAction::Quit) => LineAction::Quit,
             Err(WriteError) => {
                 self.short = true;
@@ -49,15 +53,21 @@ impl SilentSession {
     }
 
     /// Answers a line that spells a command of the debugger, and says nothing.
-    fn hear_command(&mut self, alloc: Global, command: Command)
-        ensures { (answer : Bytes) × AnswersCommand AnswersExplorerLine self.old.explorer command self.new.explorer answer
+    fn hear_command(&mut self, alloc: Global, command: Command) -> LineAction
+        ensures { (answer : Bytes) × ObeysCommand AnswersExplorerLine EndsAtNoAnswer self.old.explorer command self.new.explorer (Ok result) answer
             × Notes self.old.short answer self.new.short }
     {
         let mut answer = Vec::new(alloc);
         let mut said = Writer::new(&mut answer);
         match self.explorer.obey(alloc, command, &mut said) {
-            Ok(()) => self.note(&mut said),
-            Err(WriteError) => self.short = true,
+            Ok(turn) => {
+                self.note(&mut said);
+                turn
+            }
+            Err(WriteError) => {
+                self.short = true;
+                LineAction::Answered
+            }
         }
     }
 
@@ -114,8 +124,7 @@ impl Responder for SilentSession {
         alloc: Global,
         command: Command,
         _writer: &mut Writer<'_, W>,
-    ) -> WriteResult {
-        self.hear_command(alloc, command);
-        Ok(())
+    ) -> Result<LineAction, WriteError> {
+        Ok(self.hear_command(alloc, command))
     }
 }

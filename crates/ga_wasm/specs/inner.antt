@@ -1,7 +1,7 @@
 -- What only private contracts and proofs name.
 use Rattle.std.specs.Prelude.{ℕ, ◌≡◌, List, [], ◌∷◌, ◌++◌, Some, Ok, map}
 use Rattle.ga_console.specs.declared.run.Status.{Status}
-use Rattle.ga_console.specs.declared.run.Status.TheVariants.{Done, ImageRefused, StreamFault, NotFinished}
+use Rattle.ga_console.specs.declared.run.Status.TheVariants.{Done, ImageRefused, StreamFault, NotFinished, CommandRefused}
 use Rattle.ga_node.specs.Record.{NodeRecord, NodeState}
 use Rattle.ga_grid.specs.declared.node_id.NodeId.{NodeId}
 use Rattle.ga_event.specs.declared.event.Cause.{Cause}
@@ -22,6 +22,7 @@ number_of Done = 0
 number_of ImageRefused = 1
 number_of StreamFault = 2
 number_of NotFinished = 4
+number_of CommandRefused = 7
 
 -- ---- the events that nodes make one after another, each its next one (docs/REFERENCE.md, "Steps, dependence and rollback")
 

@@ -23,7 +23,7 @@ pub extern "C" fn ga_session(
     limit: u32,
 ) -> usize
     ensures { (read rest text : Bytes) × (status : Ended) × (input.now ≡ read ++ rest)
-        × RunsExplorer false None limit read rest text status
+        × RunsExplorer false false None limit read rest text status
         × (result ≡ length text) × (take result output.new ≡ take (length output.old) text)
         × (take 1 ended.new ≡ take (length ended.old) (number_of status ∷ [])) }
 {
@@ -35,6 +35,7 @@ pub extern "C" fn ga_session(
         &mut errors,
         None,
         limit,
+        false,
         false,
     );
     put_front(ended, &[number(status)]);
@@ -50,5 +51,6 @@ fn number(status: Status) -> u8
         Status::ImageRefused => 1,
         Status::StreamFault => 2,
         Status::NotFinished => 4,
+        Status::CommandRefused => 7,
     }
 }

@@ -1,16 +1,19 @@
 -- What is written once the image was read.
-use Rattle.std.specs.Prelude.{◌≡◌, ◌≢◌, ◌≤◌, ◌<◌, ℕ, ◌∷◌, ◌++◌, length, take, slice_index, decimal, ◌+◌, [], Result, Ok, Err, ◌⊎◌, ◌-◌}
+use Rattle.std.specs.Prelude.{Option, Some, None, ◌≡◌, ◌≢◌, ◌≤◌, ◌<◌, ℕ, ◌∷◌, ◌++◌, length, take, slice_index, decimal, ◌+◌, [], Result, Ok, Err, ◌⊎◌, ◌-◌}
 use Rattle.ga_text.specs.Lines.{Bytes, Line, max_input_line, HasNoLineFeed, Text}
 use Rattle.ga_text.specs.Parsing.{IsStepNumber}
 use Rattle.ga_console.specs.Commands.{SpellsCommand}
 use Rattle.ga_console.specs.Session.{quit_line, AnswerRelation, ServesCommands, IsWrittenOrPrefix}
+use Rattle.ga_console.specs.declared.responder.LineAction.{LineAction}
+use Rattle.ga_console.specs.declared.responder.LineAction.TheVariants as turn
+use Rattle.ga_console.specs.declared.commands.CommandsEnd.TheVariants as end
 use Rattle.ga_console.specs.declared.command.Command.{Command}
 use Rattle.ga_console.specs.declared.fast_path.PrefixCommand.{PrefixCommand}
 use Rattle.ga_console.specs.declared.fast_path.PrefixCommand.TheVariants.{Spelled, Other, Nothing}
 use Rattle.ga_text.specs.declared.output.WriteError.{WriteError}
 use Rattle.ga_text.specs.Output.{TextHasPrefix, ready}
 use Rattle.ga_console.specs.declared.run.Status.{Status}
-use Rattle.ga_console.specs.declared.run.Status.TheVariants.{Done, ImageRefused, StreamFault, NotFinished}
+use Rattle.ga_console.specs.declared.run.Status.TheVariants.{Done, ImageRefused, StreamFault, NotFinished, CommandRefused}
 use Rattle.ga_console.specs.Race.{IsRaceReport, IsImageRefusal, IsTruncationOf}
 use Rattle.ga_image.specs.declared.fault.ImageFault.{ImageFault}
 use Rattle.ga_text.specs.Input.{input_limit}
@@ -57,6 +60,19 @@ StandsAhead bytes Nothing = Unit {0}
 abbrev pub AnswersCommand : {M : Type 0} → AnswerRelation M → M → Command → M → Text → Type 0
 AnswersCommand A m asked new answer = (line : Line) → length line ≤ max_input_line → SpellsCommand asked line → A m line answer new
 
+-- such a line is answered, as far as the answer can be written, and the session goes on or ends
+abbrev pub ObeysCommand : {M : Type 0} → AnswerRelation M → AnswerRelation M → M → Command → M → Result LineAction WriteError → Text → Type 0
+ObeysCommand A R m asked new (Ok turn.Answered) answer = AnswersCommand A m asked new answer
+ObeysCommand A R m asked new (Ok turn.Refused) answer = AnswersCommand R m asked new answer
+ObeysCommand A R m asked new (Ok turn.Quit) answer = ⊥
+ObeysCommand A R m asked new (Err failed) answer = AnswersCommand A m asked new answer ⊎ AnswersCommand R m asked new answer
+
+-- the end of the command part at a line with this number that was answered so
+abbrev pub end_at : LineAction → ℕ → Option CommandsEnd
+end_at turn.Answered number = None
+end_at turn.Refused number = Some (end.Refused number)
+end_at turn.Quit number = Some end.Quit
+
 -- ---- what a race writes once the image was read
 
 -- a text was written whole, or that failed
@@ -65,6 +81,7 @@ Writes whole text Done = text ≡ whole
 Writes whole text StreamFault = TextHasPrefix whole text
 Writes whole text ImageRefused = ⊥
 Writes whole text NotFinished = ⊥
+Writes whole text CommandRefused = ⊥
 
 -- What may be written once the image was read.
 abbrev pub Races : ℕ → ℕ → ℕ → Bytes → Text → Status → Type 0
@@ -73,11 +90,12 @@ Races limit workers calls image text ImageRefused = IsImageRefusal image text
 Races limit workers calls image text StreamFault =
     IsTruncationOf (IsRaceReport limit workers calls image) text ⊎ IsTruncationOf (IsImageRefusal image) text
 Races limit workers calls image text NotFinished = text ≡ []
+Races limit workers calls image text CommandRefused = ⊥
 
 -- What may be written after the image was read, of which `taken` bytes were consumed: `ahead` is what was read with it. If it
 -- is refused, no more is read.
-abbrev pub AfterImage : {M : Type 0} → AnswerRelation M → (State → M) → ℕ → Text → ℕ → Bytes → Bytes → Bytes → Text → Status → Type 0
-AfterImage {M} A begin limit image taken ahead read rest text status =
+abbrev pub AfterImage : {M : Type 0} → AnswerRelation M → AnswerRelation M → (State → M) → ℕ → Text → ℕ → Bytes → Bytes → Bytes → Text → Status → Type 0
+AfterImage {M} A R begin limit image taken ahead read rest text status =
     ((machine : State) × IsOpenedOnImage image limit machine × (ending : Result CommandsEnd WriteError) × (status ≡ status_of ending)
-    × (said : Text) × (last : M) × ServesCommands A (input_limit - taken) (begin machine) read rest said last ending × IsWrittenOrPrefix ending (ready ++ said) text)
+    × (said : Text) × (last : M) × ServesCommands A R (input_limit - taken) (begin machine) read rest said last ending × IsWrittenOrPrefix ending (ready ++ said) text)
     ⊎ ((fault : ImageFault) × IsFaultOfImage image fault × WritesImageRefusal fault text status × (read ≡ ahead))

@@ -55,7 +55,7 @@ COND or COND ..          ends at the first that holds
 VALUE: t s r p a b i, d2 to d9, r1 to r8, io, slot, carry, step, [HH]   OP: = != < <= > >=
 N in COND: 12, -3, 0x1f, six hexadecimal digits, a port, a label        X: also a label, or line L
 
-Exit status: 0 done, 1 image refused, 2 a stream failed, 3 command line refused.";
+Exit status: 0 done, 1 image refused, 2 a stream failed, 3 command line refused, 7 a command refused (--strict).";
 
 /// What `ga144 race --help` writes after the options.
 const RACES: &str = "\
@@ -167,6 +167,8 @@ const EXPLORED: &str =
 const CHIP: &str =
     "Begin on the chip of this file, an image as dump writes it, with the lines of the source";
 
+const STRICT: &str = "End at the first refused command, with the exit status 7";
+
 /// The command lines of the program, as clap has them.
 pub(super) fn program<'a>(alloc: Global) -> Result<Command<'a>, AllocError> {
     Command::new(alloc, "ga144")
@@ -197,6 +199,7 @@ fn explore_line<'a>(alloc: Global) -> Result<Command<'a>, AllocError> {
         .about("Debug, and make events up to a condition")
         .after_help(EXPLORING)
         .arg(file_argument(alloc, "An image or source"))?
+        .arg(flag(alloc, "strict", STRICT))?
         .arg(chip_option(alloc))?
         .arg(explored_option(alloc))
 }

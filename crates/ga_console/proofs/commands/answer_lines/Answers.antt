@@ -1,25 +1,27 @@
-use Rattle.std.proofs.Common.{ℕ, ◌+◌, ◌-◌, ◌++◌, [], List, take, drop, length, length-take, refl, sym, ap, subst, ◌∙◌, arith}
+use Rattle.std.proofs.Common.{ℕ, ◌+◌, ◌-◌, ◌≤◌, ◌≡◌, ◌++◌, [], List, take, drop, length, length-take, refl, sym, ap, subst, ◌∙◌, arith}
 use Rattle.std.specs.Prelude.{Result, Ok}
 use Rattle.std.specs.Result.{IsErr}
 use Rattle.ga_console.specs.inner.Run.{IsAhead, IsLineAhead}
-use Rattle.ga_console.specs.Session.{AnswerRelation, ServesCommands, ServesToWriteFailure}
+use Rattle.ga_console.specs.Session.{AnswerRelation, AnswersOrEnds, ServesCommands, ServesToWriteFailure}
 use Rattle.ga_display.specs.Texts.{input_limit_refusal}
 use Rattle.ga_text.specs.declared.output.WriteError.{WriteError}
 use Rattle.ga_console.specs.declared.commands.CommandsEnd.{CommandsEnd}
 use Rattle.ga_console.specs.declared.commands.CommandsEnd.TheVariants.{Ended, Past}
-use Rattle.ga_text.proofs.WriteLemmas.{at_err, truncated_here, said_assoc, cut_assoc, written_pending, said_nothing, empty_part, some_part}
-use Rattle.ga_console.proofs.AheadLemmas.{ahead_whole, line_whole, line_taken, line_kept, line_within, quit_part}
-use Rattle.ga_console.proofs.Heard.{heard_none, heard_push, heard_cut, heard_failed, heard_ended, heard_last, heard_quit, heard_quit_last, heard_past, heard_same, cut_short, read_to, read_past, read_over, split_at, split_past, split_over}
+use Rattle.ga_text.proofs.WriteLemmas.{at_err, truncated_here, said_assoc, cut_assoc, written_pending, empty_part, some_part}
+use Rattle.ga_console.proofs.AheadLemmas.{ahead_whole, line_whole, line_taken, line_kept, line_within}
+use Rattle.ga_console.proofs.Ending.{turn_goes, turn_ends, turn_fails, obeyed_goes, obeyed_ends, obeyed_fails}
+use Rattle.ga_console.proofs.Heard.{heard_none, heard_push, heard_cut, heard_failed, heard_ended, heard_last, heard_past, cut_short, read_to, read_past, read_over, split_at, split_past, split_over, heard_ends, heard_broken, heard_last_ends, heard_last_broken}
 use Rattle.ga_console.proofs.commands.answer_lines.Goals as goal
 
 -- a write failed
-serves_cut : {M : Type 0} (A : AnswerRelation M) (room : ℕ) (m : M) (read rest text : List ℕ) (last : M) (result : Result CommandsEnd WriteError) → IsErr result
-    → ServesToWriteFailure A room m read rest text last → ServesCommands A room m read rest text last result
-serves_cut A room m read rest text last result is h = at_err (λ (r : Result CommandsEnd WriteError). ServesCommands A room m read rest text last r) result is (λ why. h)
+serves_cut : {M : Type 0} (A R : AnswerRelation M) (room : ℕ) (m : M) (read rest text : List ℕ) (last : M) (result : Result CommandsEnd WriteError) → IsErr result
+    → ServesToWriteFailure A R room m read rest text last → ServesCommands A R room m read rest text last result
+serves_cut A R room m read rest text last result is h = at_err (λ (r : Result CommandsEnd WriteError). ServesCommands A R room m read rest text last r) result is (λ why. h)
 
 pub lines-init : goal.lines-init
 lines-init g c = record {
   within = c.requires;
+  counted = omega arith;
   same = refl;
   heard = λ left before said known held.
       (left, [], known, written_pending _ before said c.args.writer.now.pending.items held, heard_none g.S.Responder.answers c.args.session.now (c.args.input.now.bytes ++ left) c.args.input.now.taken);
@@ -37,69 +39,71 @@ returns-in_err-read_line-clause-serves g c = λ left before said known held.
       inv.1,
       split_at heard part got.0 got.2.is_line.splits,
       got.1,
-      serves_cut _ _ _ _ _ _ _ c.from_residual-in_err-read_line.result c.from_residual-in_err-read_line.ensures.0
-          (heard_cut heard part got.0 (omega (arith, got.2.counts, got.2.none_left, c.in_err-read_line.ensures.within))),
+      serves_cut _ _ _ _ _ _ _ _ c.from_residual-in_err-read_line.result c.from_residual-in_err-read_line.ensures.0
+          (heard_cut heard g.S.Responder.refuses part got.0 (omega (arith, got.2.counts, got.2.none_left, c.in_err-read_line.ensures.within))),
       truncated_here c.from_residual-in_err-read_line.result _ before (said ++ inv.1) _ c.from_residual-in_err-read_line.ensures.0 told,
     )
 
-pub returns-in_err-answer-in-Feed-clause-serves : goal.returns-in_err-answer-in-Feed-clause-serves
-returns-in_err-answer-in-Feed-clause-serves g c = λ left before said known held.
+pub returns-in_err-turn-in-Feed-clause-serves : goal.returns-in_err-turn-in-Feed-clause-serves
+returns-in_err-turn-in-Feed-clause-serves g c = λ left before said known held.
     let inv = c.lines.invariant.heard left before said known held in
     let got = rw c.in-Feed.is at (c.in_ok-read_line.ensures.reads inv.0 inv.2) in
     let told = c.in_ok-read_line.ensures.said.1 before (said ++ inv.1) inv.3 in
     let part : List ℕ = got.2.part in
     let heard = inv.4 in
-    let turn = c.in_err-answer-in-Feed.ensures.1 before (said ++ inv.1) told in
-    let answered = turn.1 part (c.as_slice.ensures.value ∙ got.2.is_line.kept) in
-    let more = heard_push heard part (c.read_line.new.input.bytes ++ got.0) c.read_line.new.input.taken turn.0 c.answer-in-Feed.new.self
-    got.2.is_line.splits got.2.is_line.no_feed got.2.counts answered.0 answered.1 in (
-      read_to more c.read_line.new.input.bytes,
+    let turn = c.in_err-turn-in-Feed.ensures.1 before (said ++ inv.1) told in (
+      read_past heard part c.read_line.new.input.bytes,
       got.0,
       inv.1 ++ turn.0,
-      split_at more c.read_line.new.input.bytes got.0 refl,
+      split_past heard part c.read_line.new.input.bytes got.0 got.2.is_line.splits,
       got.1,
-      serves_cut _ _ _ _ _ _ _ c.from_residual-in_err-answer-in-Feed.result c.from_residual-in_err-answer-in-Feed.ensures.0
-          (heard_cut more c.read_line.new.input.bytes got.0 c.in_ok-read_line.ensures.within),
-      truncated_here c.from_residual-in_err-answer-in-Feed.result _ before (said ++ (inv.1 ++ turn.0)) _ c.from_residual-in_err-answer-in-Feed.ensures.0
+      serves_cut _ _ _ _ _ _ _ _ c.from_residual-in_err-turn-in-Feed.result c.from_residual-in_err-turn-in-Feed.ensures.0
+          (heard_broken heard g.S.Responder.refuses part c.read_line.new.input.bytes got.0 turn.0 c.read_line.new.input.taken c.answer-in-Feed.new.self
+          got.2.is_line.no_feed got.2.counts c.in_ok-read_line.ensures.within
+          (turn_fails g.S.Responder.answers g.S.Responder.refuses c.lines.session c.answer-in-Feed.new.self turn.0 c.as_slice.result.now part (c.as_slice.ensures.value ∙ got.2.is_line.kept) turn.1)),
+      truncated_here c.from_residual-in_err-turn-in-Feed.result _ before (said ++ (inv.1 ++ turn.0)) _ c.from_residual-in_err-turn-in-Feed.ensures.0
           (cut_assoc _ before said inv.1 turn.0 turn.2),
     )
 
-pub returns-in-Quit-2-clause-serves : goal.returns-in-Quit-2-clause-serves
-returns-in-Quit-2-clause-serves g c = λ left before said known held.
+pub returns-in-Some-end_at-2-clause-serves : goal.returns-in-Some-end_at-2-clause-serves
+returns-in-Some-end_at-2-clause-serves g c = λ left before said known held.
     let inv = c.lines.invariant.heard left before said known held in
     let got = rw c.in-Feed.is at (c.in_ok-read_line.ensures.reads inv.0 inv.2) in
     let told = c.in_ok-read_line.ensures.said.1 before (said ++ inv.1) inv.3 in
     let part : List ℕ = got.2.part in
-    let turn = rw c.in-Quit-2.is at (c.in_ok-answer-in-Feed.ensures.1 before (said ++ inv.1) told) in
-    let heard = heard_same inv.4 c.answer-in-Feed.new.self turn.1.1 in
-    let quit = quit_part c.as_slice.result.now part (c.as_slice.ensures.value ∙ got.2.is_line.kept) turn.1.0 in (
+    let turn = c.in_ok-turn-in-Feed.ensures.1 before (said ++ inv.1) told in
+    let heard = inv.4 in (
       read_past heard part c.read_line.new.input.bytes,
       got.0,
-      inv.1,
+      inv.1 ++ turn.0,
       split_past heard part c.read_line.new.input.bytes got.0 got.2.is_line.splits,
       got.1,
-      heard_quit heard part c.read_line.new.input.bytes got.0 c.read_line.new.input.taken got.2.is_line.no_feed quit got.2.counts c.in_ok-read_line.ensures.within,
-      said_nothing _ before (said ++ inv.1) turn.0 _ turn.1.2 turn.2,
+      heard_ends heard g.S.Responder.refuses part c.read_line.new.input.bytes got.0 turn.0 c.read_line.new.input.taken (c.lines.number + 1) c.answer-in-Feed.new.self c.in-Some-end_at-2.ending
+          got.2.is_line.no_feed got.2.counts c.in_ok-read_line.ensures.within refl
+          (turn_ends g.S.Responder.answers g.S.Responder.refuses c.lines.session c.answer-in-Feed.new.self turn.0 c.in_ok-turn-in-Feed.turn c.as_slice.result.now part (c.lines.number + 1) c.in-Some-end_at-2.ending (sym c.in-Some-end_at-2.ensures)
+          (c.as_slice.ensures.value ∙ got.2.is_line.kept) turn.1),
+      said_assoc _ before said inv.1 turn.0 _ turn.2,
     )
 
 pub lines-preserved : goal.lines-preserved
 lines-preserved g c = record {
   within = c.in_ok-read_line.ensures.within;
-  same = c.in_ok-answer-in-Feed.ensures.0 ∙ c.in_ok-read_line.ensures.said.0 ∙ c.lines.invariant.same;
+  counted = omega (arith, c.lines.invariant.counted, c.in_ok-read_line.ensures.goes_on (ap Ok c.in-Feed.is));
+  same = c.in_ok-turn-in-Feed.ensures.0 ∙ c.in_ok-read_line.ensures.said.0 ∙ c.lines.invariant.same;
   heard = λ left before said known held.
       let inv = c.lines.invariant.heard left before said known held in
       let got = rw c.in-Feed.is at (c.in_ok-read_line.ensures.reads inv.0 inv.2) in
       let told = c.in_ok-read_line.ensures.said.1 before (said ++ inv.1) inv.3 in
       let part : List ℕ = got.2.part in
       let heard = inv.4 in
-      let turn = rw c.in-Answered-2.is at (c.in_ok-answer-in-Feed.ensures.1 before (said ++ inv.1) told) in
-      let answered = turn.1 part (c.as_slice.ensures.value ∙ got.2.is_line.kept) in (
+      let turn = c.in_ok-turn-in-Feed.ensures.1 before (said ++ inv.1) told in
+      let answered = turn_goes g.S.Responder.answers g.S.Responder.refuses c.lines.session c.answer-in-Feed.new.self turn.0 c.in_ok-turn-in-Feed.turn c.as_slice.result.now (c.lines.number + 1) (sym c.in-None-end_at-2.ensures) turn.1 part (c.as_slice.ensures.value ∙ got.2.is_line.kept) in (
         got.0,
         inv.1 ++ turn.0,
         got.1,
         said_assoc _ before said inv.1 turn.0 _ turn.2,
-        heard_push heard part (c.read_line.new.input.bytes ++ got.0) c.read_line.new.input.taken turn.0 c.answer-in-Feed.new.self
-            got.2.is_line.splits got.2.is_line.no_feed got.2.counts answered.0 answered.1,
+        heard_push heard part (c.read_line.new.input.bytes ++ got.0) c.read_line.new.input.taken (c.lines.number + 1) turn.0 c.answer-in-Feed.new.self
+            got.2.is_line.splits got.2.is_line.no_feed got.2.counts refl answered,
       );
 }
 
@@ -120,62 +124,65 @@ returns-then-is_empty-clause-serves g c = λ left before said known held.
       told,
     )
 
-pub returns-in_err-answer-in-Last-clause-serves : goal.returns-in_err-answer-in-Last-clause-serves
-returns-in_err-answer-in-Last-clause-serves g c = λ left before said known held.
+pub returns-in_err-turn-in-Last-clause-serves : goal.returns-in_err-turn-in-Last-clause-serves
+returns-in_err-turn-in-Last-clause-serves g c = λ left before said known held.
     let inv = c.lines.invariant.heard left before said known held in
     let got = rw c.in-Last.is at (c.in_ok-read_line.ensures.reads inv.0 inv.2) in
     let told = c.in_ok-read_line.ensures.said.1 before (said ++ inv.1) inv.3 in
     let part : List ℕ = got.2.0.part in
     let heard = inv.4 in
     let some = some_part c.read_line.new.line.items part got.2.0.is_line.kept c.if-is_empty.ensures in
-    let turn = c.in_err-answer-in-Last.ensures.1 before (said ++ inv.1) told in
-    let answered = turn.1 part (c.as_slice-in-Last.ensures.value ∙ got.2.0.is_line.kept) in (
+    let turn = c.in_err-turn-in-Last.ensures.1 before (said ++ inv.1) told in (
       read_to heard part,
       got.0,
       inv.1 ++ turn.0,
       split_at heard part got.0 (got.2.0.is_line.splits ∙ ap (λ (l : List ℕ). part ++ l) (sym got.2.1)),
       got.1,
-      serves_cut _ _ _ _ _ _ _ c.from_residual-in_err-answer-in-Last.result c.from_residual-in_err-answer-in-Last.ensures.0
-          (cut_short _ (16777216 - c.args.input.now.taken) c.args.session.now (read_to heard part) got.0 (inv.1 ++ turn.0) _ (Ok Ended)
-          (heard_last heard part got.0 turn.0 c.answer-in-Last.new.self got.2.0.is_line.no_feed some got.2.1 (omega (arith, got.2.0.counts, got.2.0.none_left, c.in_ok-read_line.ensures.within)) answered.0 answered.1)),
-      truncated_here c.from_residual-in_err-answer-in-Last.result _ before (said ++ (inv.1 ++ turn.0)) _ c.from_residual-in_err-answer-in-Last.ensures.0
+      serves_cut _ _ _ _ _ _ _ _ c.from_residual-in_err-turn-in-Last.result c.from_residual-in_err-turn-in-Last.ensures.0
+          (heard_last_broken heard g.S.Responder.refuses part got.0 turn.0 c.answer-in-Last.new.self got.2.0.is_line.no_feed some got.2.1
+          (omega (arith, got.2.0.counts, got.2.0.none_left, c.in_ok-read_line.ensures.within))
+          (turn_fails g.S.Responder.answers g.S.Responder.refuses c.lines.session c.answer-in-Last.new.self turn.0 c.as_slice-in-Last.result.now part (c.as_slice-in-Last.ensures.value ∙ got.2.0.is_line.kept) turn.1)),
+      truncated_here c.from_residual-in_err-turn-in-Last.result _ before (said ++ (inv.1 ++ turn.0)) _ c.from_residual-in_err-turn-in-Last.ensures.0
           (cut_assoc _ before said inv.1 turn.0 turn.2),
     )
 
-pub returns-in-Quit-3-clause-serves : goal.returns-in-Quit-3-clause-serves
-returns-in-Quit-3-clause-serves g c = λ left before said known held.
+pub returns-in-Some-end_at-3-clause-serves : goal.returns-in-Some-end_at-3-clause-serves
+returns-in-Some-end_at-3-clause-serves g c = λ left before said known held.
     let inv = c.lines.invariant.heard left before said known held in
     let got = rw c.in-Last.is at (c.in_ok-read_line.ensures.reads inv.0 inv.2) in
     let told = c.in_ok-read_line.ensures.said.1 before (said ++ inv.1) inv.3 in
     let part : List ℕ = got.2.0.part in
-    let turn = rw c.in-Quit-3.is at (c.in_ok-answer-in-Last.ensures.1 before (said ++ inv.1) told) in
-    let heard = heard_same inv.4 c.answer-in-Last.new.self turn.1.1 in
-    let quit = quit_part c.as_slice-in-Last.result.now part (c.as_slice-in-Last.ensures.value ∙ got.2.0.is_line.kept) turn.1.0 in (
+    let some = some_part c.read_line.new.line.items part got.2.0.is_line.kept c.if-is_empty.ensures in
+    let turn = c.in_ok-turn-in-Last.ensures.1 before (said ++ inv.1) told in
+    let heard = inv.4 in (
       read_to heard part,
       got.0,
-      inv.1,
+      inv.1 ++ turn.0,
       split_at heard part got.0 (got.2.0.is_line.splits ∙ ap (λ (l : List ℕ). part ++ l) (sym got.2.1)),
       got.1,
-      heard_quit_last heard part got.0 got.2.0.is_line.no_feed quit got.2.1 (omega (arith, got.2.0.counts, got.2.0.none_left, c.in_ok-read_line.ensures.within)),
-      said_nothing _ before (said ++ inv.1) turn.0 _ turn.1.2 turn.2,
+      heard_last_ends heard g.S.Responder.refuses part got.0 turn.0 (c.lines.number + 1) c.answer-in-Last.new.self c.in-Some-end_at-3.ending got.2.0.is_line.no_feed some got.2.1
+          (omega (arith, got.2.0.counts, got.2.0.none_left, c.in_ok-read_line.ensures.within)) refl
+          (turn_ends g.S.Responder.answers g.S.Responder.refuses c.lines.session c.answer-in-Last.new.self turn.0 c.in_ok-turn-in-Last.turn c.as_slice-in-Last.result.now part (c.lines.number + 1) c.in-Some-end_at-3.ending (sym c.in-Some-end_at-3.ensures)
+          (c.as_slice-in-Last.ensures.value ∙ got.2.0.is_line.kept) turn.1),
+      said_assoc _ before said inv.1 turn.0 _ turn.2,
     )
 
-pub returns-in-Answered-3-clause-serves : goal.returns-in-Answered-3-clause-serves
-returns-in-Answered-3-clause-serves g c = λ left before said known held.
+pub returns-in-None-end_at-3-clause-serves : goal.returns-in-None-end_at-3-clause-serves
+returns-in-None-end_at-3-clause-serves g c = λ left before said known held.
     let inv = c.lines.invariant.heard left before said known held in
     let got = rw c.in-Last.is at (c.in_ok-read_line.ensures.reads inv.0 inv.2) in
     let told = c.in_ok-read_line.ensures.said.1 before (said ++ inv.1) inv.3 in
     let part : List ℕ = got.2.0.part in
     let heard = inv.4 in
     let some = some_part c.read_line.new.line.items part got.2.0.is_line.kept c.if-is_empty.ensures in
-    let turn = rw c.in-Answered-3.is at (c.in_ok-answer-in-Last.ensures.1 before (said ++ inv.1) told) in
-    let answered = turn.1 part (c.as_slice-in-Last.ensures.value ∙ got.2.0.is_line.kept) in (
+    let turn = c.in_ok-turn-in-Last.ensures.1 before (said ++ inv.1) told in
+    let answered = turn_goes g.S.Responder.answers g.S.Responder.refuses c.lines.session c.answer-in-Last.new.self turn.0 c.in_ok-turn-in-Last.turn c.as_slice-in-Last.result.now (c.lines.number + 1) (sym c.in-None-end_at-3.ensures) turn.1 part (c.as_slice-in-Last.ensures.value ∙ got.2.0.is_line.kept) in (
       read_to heard part,
       got.0,
       inv.1 ++ turn.0,
       split_at heard part got.0 (got.2.0.is_line.splits ∙ ap (λ (l : List ℕ). part ++ l) (sym got.2.1)),
       got.1,
-      heard_last heard part got.0 turn.0 c.answer-in-Last.new.self got.2.0.is_line.no_feed some got.2.1 (omega (arith, got.2.0.counts, got.2.0.none_left, c.in_ok-read_line.ensures.within)) answered.0 answered.1,
+      heard_last heard part got.0 turn.0 c.answer-in-Last.new.self got.2.0.is_line.no_feed some got.2.1 (omega (arith, got.2.0.counts, got.2.0.none_left, c.in_ok-read_line.ensures.within)) answered,
       said_assoc _ before said inv.1 turn.0 _ turn.2,
     )
 
@@ -191,9 +198,9 @@ returns-in_err-write_text-in-Past-clause-serves g c = λ left before said known 
       inv.1 ++ input_limit_refusal,
       split_over heard part got.2.byte got.0 got.2.takes.is_line.splits,
       got.1,
-      serves_cut _ _ _ _ _ _ _ c.from_residual-in_err-write_text-in-Past.result c.from_residual-in_err-write_text-in-Past.ensures.0
-          (cut_short _ (16777216 - c.args.input.now.taken) c.args.session.now (read_over heard part got.2.byte) got.0 (inv.1 ++ input_limit_refusal) _ (Ok Past)
-          (heard_past heard part got.2.byte got.0 c.read_line.new.input.taken got.2.takes.is_line.no_feed got.2.takes.counts got.2.full)),
+      serves_cut _ _ _ _ _ _ _ _ c.from_residual-in_err-write_text-in-Past.result c.from_residual-in_err-write_text-in-Past.ensures.0
+          (cut_short _ g.S.Responder.refuses (16777216 - c.args.input.now.taken) c.args.session.now (read_over heard part got.2.byte) got.0 (inv.1 ++ input_limit_refusal) _ (Ok (Past (c.lines.number + 1)))
+          (heard_past heard part got.2.byte got.0 c.read_line.new.input.taken (c.lines.number + 1) got.2.takes.is_line.no_feed got.2.takes.counts got.2.full refl)),
       truncated_here c.from_residual-in_err-write_text-in-Past.result _ before (said ++ (inv.1 ++ input_limit_refusal)) _ c.from_residual-in_err-write_text-in-Past.ensures.0
           (cut_assoc _ before said inv.1 input_limit_refusal (c.in_err-write_text-in-Past.ensures.1 before (said ++ inv.1) told)),
     )
@@ -210,7 +217,7 @@ returns-in-Past-clause-serves g c = λ left before said known held.
       inv.1 ++ input_limit_refusal,
       split_over heard part got.2.byte got.0 got.2.takes.is_line.splits,
       got.1,
-      heard_past heard part got.2.byte got.0 c.read_line.new.input.taken got.2.takes.is_line.no_feed got.2.takes.counts got.2.full,
+      heard_past heard part got.2.byte got.0 c.read_line.new.input.taken (c.lines.number + 1) got.2.takes.is_line.no_feed got.2.takes.counts got.2.full refl,
       said_assoc _ before said inv.1 input_limit_refusal _ (c.in_ok-write_text-in-Past.ensures.1 before (said ++ inv.1) told),
     )
 
@@ -230,40 +237,60 @@ returns-in-ReadFailed-clause-serves g c = λ left before said known held.
       told,
     )
 
-pub returns-in_err-obey-in-Spelled-clause-serves : goal.returns-in_err-obey-in-Spelled-clause-serves
-returns-in_err-obey-in-Spelled-clause-serves g c = λ left before said known held.
+pub returns-in_err-turn-in-Spelled-clause-serves : goal.returns-in_err-turn-in-Spelled-clause-serves
+returns-in_err-turn-in-Spelled-clause-serves g c = λ left before said known held.
     let inv = c.lines.invariant.heard left before said known held in
     let ahead = subst (λ (t : List ℕ). IsAhead t c.in-Spelled.command c.in-Spelled.count) c.unread-text.ensures c.in-Spelled.ensures in
-    let done = c.in_err-obey-in-Spelled.ensures.1 before (said ++ inv.1) inv.3 in
-    let whole = ahead_whole c.lines.input.bytes c.skip.new.self.bytes inv.0 c.in-Spelled.command c.in-Spelled.count ahead c.skip.ensures.bytes in
-    let more = heard_push inv.4 ahead.line (c.skip.new.self.bytes ++ inv.0) c.skip.new.self.taken done.0 c.obey.new.self
-    whole ahead.no_feed (omega (arith, c.skip.ensures.taken, ahead.counts))
-    (done.1 ahead.line (omega (arith, ahead.counts, ahead.short)) ahead.spelled) ahead.not_quit in (
-      read_to more c.skip.new.self.bytes,
+    let done = c.in_err-turn-in-Spelled.ensures.1 before (said ++ inv.1) inv.3 in
+    let heard = inv.4 in (
+      read_past heard ahead.line c.skip.new.self.bytes,
       inv.0,
       inv.1 ++ done.0,
-      split_at more c.skip.new.self.bytes inv.0 refl,
+      split_past heard ahead.line c.skip.new.self.bytes inv.0 (ahead_whole c.lines.input.bytes c.skip.new.self.bytes inv.0 c.in-Spelled.command c.in-Spelled.count ahead c.skip.ensures.bytes),
       inv.2,
-      serves_cut _ _ _ _ _ _ _ c.from_residual.result c.from_residual.ensures.0 (heard_cut more c.skip.new.self.bytes inv.0 c.skip.ensures.within),
+      serves_cut _ _ _ _ _ _ _ _ c.from_residual.result c.from_residual.ensures.0
+          (heard_broken heard g.S.Responder.refuses ahead.line c.skip.new.self.bytes inv.0 done.0 c.skip.new.self.taken c.obey.new.self ahead.no_feed
+          (omega (arith, c.skip.ensures.taken, ahead.counts)) c.skip.ensures.within
+          (obeyed_fails g.S.Responder.answers g.S.Responder.refuses c.lines.session c.obey.new.self done.0 c.in-Spelled.command ahead.line (omega (arith, ahead.counts, ahead.short)) ahead.spelled ahead.not_quit c.in_err-turn-in-Spelled.field-0.0 done.1)),
       truncated_here c.from_residual.result _ before (said ++ (inv.1 ++ done.0)) _ c.from_residual.ensures.0 (cut_assoc _ before said inv.1 done.0 done.2),
     )
 
-pub lines-preserved-in-Spelled : goal.lines-preserved-in-Spelled
-lines-preserved-in-Spelled g c = record {
+pub returns-in-Some-clause-serves : goal.returns-in-Some-clause-serves
+returns-in-Some-clause-serves g c = λ left before said known held.
+    let inv = c.lines.invariant.heard left before said known held in
+    let ahead = subst (λ (t : List ℕ). IsAhead t c.in-Spelled.command c.in-Spelled.count) c.unread-text.ensures c.in-Spelled.ensures in
+    let done = c.in_ok-turn-in-Spelled.ensures.1 before (said ++ inv.1) inv.3 in
+    let heard = inv.4 in (
+      read_past heard ahead.line c.skip.new.self.bytes,
+      inv.0,
+      inv.1 ++ done.0,
+      split_past heard ahead.line c.skip.new.self.bytes inv.0 (ahead_whole c.lines.input.bytes c.skip.new.self.bytes inv.0 c.in-Spelled.command c.in-Spelled.count ahead c.skip.ensures.bytes),
+      inv.2,
+      heard_ends heard g.S.Responder.refuses ahead.line c.skip.new.self.bytes inv.0 done.0 c.skip.new.self.taken (c.lines.number + 1) c.obey.new.self c.in-Some.ending ahead.no_feed
+          (omega (arith, c.skip.ensures.taken, ahead.counts)) c.skip.ensures.within refl
+          (obeyed_ends g.S.Responder.answers g.S.Responder.refuses c.lines.session c.obey.new.self done.0 c.in-Spelled.command ahead.line (omega (arith, ahead.counts, ahead.short)) ahead.spelled ahead.not_quit c.in_ok-turn-in-Spelled.turn (c.lines.number + 1)
+          c.in-Some.ending (sym c.in-Some.ensures) done.1),
+      said_assoc _ before said inv.1 done.0 _ done.2,
+    )
+
+pub lines-preserved-in-None : goal.lines-preserved-in-None
+lines-preserved-in-None g c = record {
   within = c.skip.ensures.within;
-  same = c.in_ok-obey-in-Spelled.ensures.0 ∙ c.lines.invariant.same;
+  counted = omega (arith, c.lines.invariant.counted, c.skip.ensures.taken);
+  same = c.in_ok-turn-in-Spelled.ensures.0 ∙ c.lines.invariant.same;
   heard = λ left before said known held.
       let inv = c.lines.invariant.heard left before said known held in
       let ahead = subst (λ (t : List ℕ). IsAhead t c.in-Spelled.command c.in-Spelled.count) c.unread-text.ensures c.in-Spelled.ensures in
-      let done = c.in_ok-obey-in-Spelled.ensures.1 before (said ++ inv.1) inv.3 in (
+      let done = c.in_ok-turn-in-Spelled.ensures.1 before (said ++ inv.1) inv.3 in (
         inv.0,
         inv.1 ++ done.0,
         inv.2,
         said_assoc _ before said inv.1 done.0 _ done.2,
-        heard_push inv.4 ahead.line (c.skip.new.self.bytes ++ inv.0) c.skip.new.self.taken done.0 c.obey.new.self
+        heard_push inv.4 ahead.line (c.skip.new.self.bytes ++ inv.0) c.skip.new.self.taken (c.lines.number + 1) done.0 c.obey.new.self
             (ahead_whole c.lines.input.bytes c.skip.new.self.bytes inv.0 c.in-Spelled.command c.in-Spelled.count ahead c.skip.ensures.bytes)
-            ahead.no_feed (omega (arith, c.skip.ensures.taken, ahead.counts))
-            (done.1 ahead.line (omega (arith, ahead.counts, ahead.short)) ahead.spelled) ahead.not_quit,
+            ahead.no_feed (omega (arith, c.skip.ensures.taken, ahead.counts)) refl
+            (obeyed_goes g.S.Responder.answers g.S.Responder.refuses c.lines.session c.obey.new.self done.0 c.in-Spelled.command ahead.line (omega (arith, ahead.counts, ahead.short)) ahead.spelled ahead.not_quit c.in_ok-turn-in-Spelled.turn (c.lines.number + 1)
+            (sym c.in-None.ensures) done.1),
       );
 }
 
@@ -276,43 +303,45 @@ returns-in_err-turn-in-Other-clause-serves g c = λ left before said known held.
     let part : List ℕ = take count bytes in
     let next : List ℕ = drop (count + 1) bytes in
     let turn = c.in_err-turn-in-Other.ensures.1 before (said ++ inv.1) inv.3 in
-    let answered = turn.1 part (ap (take count) c.unread-text.ensures ∙ line_kept bytes count ahead) in
-    let more = heard_push inv.4 part (next ++ inv.0) (c.lines.input.taken + length part + 1) turn.0 c.answer.new.self
-    (line_whole bytes inv.0 count ahead) ahead.no_feed refl answered.0 answered.1 in (
-      read_to more next,
+    let heard = inv.4 in (
+      read_past heard part next,
       inv.0,
       inv.1 ++ turn.0,
-      split_at more next inv.0 refl,
+      split_past heard part next inv.0 (line_whole bytes inv.0 count ahead),
       inv.2,
-      serves_cut _ _ _ _ _ _ _ c.from_residual-in_err-turn-in-Other.result c.from_residual-in_err-turn-in-Other.ensures.0
-          (heard_cut more next inv.0 (line_within bytes count c.lines.input.taken 16777216 ahead c.lines.invariant.within)),
+      serves_cut _ _ _ _ _ _ _ _ c.from_residual-in_err-turn-in-Other.result c.from_residual-in_err-turn-in-Other.ensures.0
+          (heard_broken heard g.S.Responder.refuses part next inv.0 turn.0 (c.lines.input.taken + length part + 1) c.answer.new.self ahead.no_feed refl
+          (line_within bytes count c.lines.input.taken 16777216 ahead c.lines.invariant.within)
+          (turn_fails g.S.Responder.answers g.S.Responder.refuses c.lines.session c.answer.new.self turn.0 (take count c.unread-text.result.now) part (ap (take count) c.unread-text.ensures ∙ line_kept bytes count ahead) turn.1)),
       truncated_here c.from_residual-in_err-turn-in-Other.result _ before (said ++ (inv.1 ++ turn.0)) _ c.from_residual-in_err-turn-in-Other.ensures.0
           (cut_assoc _ before said inv.1 turn.0 turn.2),
     )
 
-pub returns-in-Quit-clause-serves : goal.returns-in-Quit-clause-serves
-returns-in-Quit-clause-serves g c = λ left before said known held.
+pub returns-in-Some-end_at-clause-serves : goal.returns-in-Some-end_at-clause-serves
+returns-in-Some-end_at-clause-serves g c = λ left before said known held.
     let inv = c.lines.invariant.heard left before said known held in
     let bytes : List ℕ = c.lines.input.bytes in
     let count : ℕ = c.in-Other.size in
     let ahead = subst (λ (t : List ℕ). IsLineAhead t count) c.unread-text.ensures c.in-Other.ensures in
     let part : List ℕ = take count bytes in
-    let turn = rw c.in-Quit.is at (c.in_ok-turn-in-Other.ensures.1 before (said ++ inv.1) inv.3) in
-    let heard = heard_same inv.4 c.answer.new.self turn.1.1 in
-    let whole = line_taken bytes c.skip-in-Other.new.self.bytes inv.0 count ahead c.skip-in-Other.ensures.bytes in (
+    let turn = c.in_ok-turn-in-Other.ensures.1 before (said ++ inv.1) inv.3 in
+    let heard = inv.4 in (
       read_past heard part c.skip-in-Other.new.self.bytes,
       inv.0,
-      inv.1,
-      split_past heard part c.skip-in-Other.new.self.bytes inv.0 whole,
+      inv.1 ++ turn.0,
+      split_past heard part c.skip-in-Other.new.self.bytes inv.0 (line_taken bytes c.skip-in-Other.new.self.bytes inv.0 count ahead c.skip-in-Other.ensures.bytes),
       inv.2,
-      heard_quit heard part c.skip-in-Other.new.self.bytes inv.0 c.skip-in-Other.new.self.taken ahead.no_feed (sym (ap (take count) c.unread-text.ensures) ∙ turn.1.0)
-          (omega (arith, c.skip-in-Other.ensures.taken, ahead.below, length-take count bytes)) c.skip-in-Other.ensures.within,
-      said_nothing _ before (said ++ inv.1) turn.0 _ turn.1.2 turn.2,
+      heard_ends heard g.S.Responder.refuses part c.skip-in-Other.new.self.bytes inv.0 turn.0 c.skip-in-Other.new.self.taken (c.lines.number + 1) c.answer.new.self c.in-Some-end_at.ending ahead.no_feed
+          (omega (arith, c.skip-in-Other.ensures.taken, ahead.below, length-take count bytes)) c.skip-in-Other.ensures.within refl
+          (turn_ends g.S.Responder.answers g.S.Responder.refuses c.lines.session c.answer.new.self turn.0 c.in_ok-turn-in-Other.turn (take count c.unread-text.result.now) part (c.lines.number + 1) c.in-Some-end_at.ending (sym c.in-Some-end_at.ensures)
+          (ap (take count) c.unread-text.ensures ∙ line_kept bytes count ahead) turn.1),
+      said_assoc _ before said inv.1 turn.0 _ turn.2,
     )
 
-pub lines-preserved-in-Answered : goal.lines-preserved-in-Answered
-lines-preserved-in-Answered g c = record {
+pub lines-preserved-in-None-end_at : goal.lines-preserved-in-None-end_at
+lines-preserved-in-None-end_at g c = record {
   within = c.skip-in-Other.ensures.within;
+  counted = omega (arith, c.lines.invariant.counted, c.skip-in-Other.ensures.taken);
   same = c.in_ok-turn-in-Other.ensures.0 ∙ c.lines.invariant.same;
   heard = λ left before said known held.
       let inv = c.lines.invariant.heard left before said known held in
@@ -320,14 +349,15 @@ lines-preserved-in-Answered g c = record {
       let count : ℕ = c.in-Other.size in
       let ahead = subst (λ (t : List ℕ). IsLineAhead t count) c.unread-text.ensures c.in-Other.ensures in
       let part : List ℕ = take count bytes in
-      let turn = rw c.in-Answered.is at (c.in_ok-turn-in-Other.ensures.1 before (said ++ inv.1) inv.3) in
-      let answered = turn.1 part (ap (take count) c.unread-text.ensures ∙ line_kept bytes count ahead) in (
+      let turn = c.in_ok-turn-in-Other.ensures.1 before (said ++ inv.1) inv.3 in
+      let answered = turn_goes g.S.Responder.answers g.S.Responder.refuses c.lines.session c.answer.new.self turn.0 c.in_ok-turn-in-Other.turn (take count c.unread-text.result.now) (c.lines.number + 1) (sym c.in-None-end_at.ensures) turn.1 part
+      (ap (take count) c.unread-text.ensures ∙ line_kept bytes count ahead) in (
         inv.0,
         inv.1 ++ turn.0,
         inv.2,
         said_assoc _ before said inv.1 turn.0 _ turn.2,
-        heard_push inv.4 part (c.skip-in-Other.new.self.bytes ++ inv.0) c.skip-in-Other.new.self.taken turn.0 c.answer.new.self
+        heard_push inv.4 part (c.skip-in-Other.new.self.bytes ++ inv.0) c.skip-in-Other.new.self.taken (c.lines.number + 1) turn.0 c.answer.new.self
             (line_taken bytes c.skip-in-Other.new.self.bytes inv.0 count ahead c.skip-in-Other.ensures.bytes)
-            ahead.no_feed (omega (arith, c.skip-in-Other.ensures.taken, ahead.below, length-take count bytes)) answered.0 answered.1,
+            ahead.no_feed (omega (arith, c.skip-in-Other.ensures.taken, ahead.below, length-take count bytes)) refl answered,
       );
 }

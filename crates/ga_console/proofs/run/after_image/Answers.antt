@@ -13,7 +13,7 @@ returns-in-Ok g c = λ left before known held.
       done.4,
       done.5,
       search rules,
-      inl (c.in-Ok.lab, c.in-Ok.ensures.ok, c.serve_commands.result, c.status_of.ensures, done.2, c.serve_commands.new.session, serves_from _ _ _ _ _ _ _ _ _ c.open-session.ensures done.7, done.8),
+      inl (c.in-Ok.lab, c.in-Ok.ensures.ok, c.serve_commands.result, c.status_of.ensures, done.2, c.serve_commands.new.session, serves_from _ _ _ _ _ _ _ _ _ _ c.open-session.ensures done.7, done.8),
     )
 
 pub returns-in-Err : goal.returns-in-Err

@@ -23,7 +23,7 @@ returns-in-Err g c = λ left before known held.
       from_start c.new-input.result left (got.0 ++ got.1) c.new-input.ensures got.3,
       got.2,
       sent.1,
-      runs_refused g.S.Responder.answers g.S.Responder.begin c.args.limit got.0 got.1 sent.0 memory_fault c.refuse.result (inl refl) sent.2,
+      runs_refused g.S.Responder.answers g.S.Responder.refuses g.S.Responder.begin c.args.limit got.0 got.1 sent.0 memory_fault c.refuse.result (inl refl) sent.2,
     )
 
 pub returns-in-Ok-Failed : goal.returns-in-Ok-Failed
@@ -54,9 +54,9 @@ returns-in-Ok-Past g c = λ left before known held.
           ∙ ap (λ (l : List ℕ). text ++ b ∷ l) (ap (λ (l : List ℕ). l ++ got.0) (sym got.2.2) ∙ done.3) ∙ sym (append_assoc text (b ∷ done.0) done.1),
       done.4,
       done.5,
-      runs_full g.S.Responder.answers g.S.Responder.begin c.args.limit c.read_image.new.input.taken b text done.0 done.1 done.2 c.after_image.result
+      runs_full g.S.Responder.answers g.S.Responder.refuses g.S.Responder.begin c.args.limit c.read_image.new.input.taken b text done.0 done.1 done.2 c.after_image.result
           (omega (arith, got.2.1.takes.counts, got.2.1.full, taken_none c.new-input.result c.new-input.ensures)) got.2.0
-          (subst (λ (l : List ℕ). AfterImage g.S.Responder.answers g.S.Responder.begin c.args.limit text c.read_image.new.input.taken l done.0 done.1 done.2 c.after_image.result) got.2.2 done.6),
+          (subst (λ (l : List ℕ). AfterImage g.S.Responder.answers g.S.Responder.refuses g.S.Responder.begin c.args.limit text c.read_image.new.input.taken l done.0 done.1 done.2 c.after_image.result) got.2.2 done.6),
     )
 
 pub returns-in-Ok-Ended : goal.returns-in-Ok-Ended
@@ -74,7 +74,7 @@ returns-in-Ok-Ended g c = λ left before known held.
           ∙ sym (append_assoc text done.0 done.1 ∙ ap (λ (l : List ℕ). text ++ l) (sym done.3 ∙ empty) ∙ append-nil text),
       done.4,
       done.5,
-      runs_after g.S.Responder.answers g.S.Responder.begin c.args.limit c.read_image.new.input.taken text c.read_image.new.input.bytes done.0 done.1 done.2 c.after_image-in-Ok-Ended.result
+      runs_after g.S.Responder.answers g.S.Responder.refuses g.S.Responder.begin c.args.limit c.read_image.new.input.taken text c.read_image.new.input.bytes done.0 done.1 done.2 c.after_image-in-Ok-Ended.result
           (omega (arith, got.2.1.counts, taken_none c.new-input.result c.new-input.ensures)) (inr (inl (nil.0, nil.1, got.2.0)))
           (λ e. inr (inl (nil.0, nil.1, got.2.0))) done.6,
     )
@@ -92,7 +92,7 @@ returns-in-Ok-EndLine g c = λ left before known held.
           ∙ ap (λ (l : List ℕ). text ++ l) done.3 ∙ sym (append_assoc text done.0 done.1),
       done.4,
       done.5,
-      runs_after g.S.Responder.answers g.S.Responder.begin c.args.limit c.read_image.new.input.taken text c.read_image.new.input.bytes done.0 done.1 done.2 c.after_image-in-Ok-EndLine.result
+      runs_after g.S.Responder.answers g.S.Responder.refuses g.S.Responder.begin c.args.limit c.read_image.new.input.taken text c.read_image.new.input.bytes done.0 done.1 done.2 c.after_image-in-Ok-EndLine.result
           (omega (arith, got.2.1.counts, taken_none c.new-input.result c.new-input.ensures)) (inl got.2.0)
           (λ e. inl (got.2.0, subst (λ (l : List ℕ). length l < 65536) (sym e) (c.in-Ok-EndLine.ensures.behind (ap Ok c.in-Ok-EndLine.field-0-is)))) done.6,
     )

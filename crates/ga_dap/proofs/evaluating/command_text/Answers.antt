@@ -57,6 +57,15 @@ returns-in-Ok-Quit-clause-told c =
       quit_part c.front_of_line.result.now c.args.line.now c.front_of_line.ensures h.1.0,
     )
 
+pub returns-in-Ok-Refused-clause-told : goal.returns-in-Ok-Refused-clause-told
+returns-in-Ok-Refused-clause-told c =
+    let stream = c.new-said.ensures.stream in
+    let empty = c.reserve.ensures.items ∙ c.new-answer.ensures.items in
+    let begun : c.new-said.result.stream.now.items ≡ [] = cc in
+    let said = nothing_said c.new-said.result.stream.now.items c.new-said.result.pending.items begun c.new-said.ensures.nothing in
+    let h = rw c.in-Ok-Refused.field-0-is at (c.in-Ok-Refused.ensures.1 [] [] said) in
+    absurd h.1
+
 pub returns-in-Err-clause-unmoved : goal.returns-in-Err-clause-unmoved
 returns-in-Err-clause-unmoved c = λ still.
     let stream = c.new-said.ensures.stream in

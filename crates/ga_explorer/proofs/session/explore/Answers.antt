@@ -1,10 +1,10 @@
-use Rattle.std.proofs.Common.{rules, ℕ, ◌-◌, List, ◌++◌, refl, Some, sym, ap, subst, ◌∙◌, append_assoc}
+use Rattle.std.proofs.Common.{rules, Bool, length, ℕ, ◌-◌, List, ◌++◌, refl, Some, sym, ap, subst, ◌∙◌, append_assoc}
 use Rattle.std.proofs.lemmas.List.{append-nil}
 use Rattle.ga_text.specs.Output.{ready}
 use Rattle.ga_console.specs.Session.{ServesCommands}
 use Rattle.ga_console.proofs.RunLemmas.{written_fresh}
-use Rattle.ga_explorer.specs.Opening.{IsLeadingText}
-use Rattle.ga_explorer.specs.Session.{AnswersWithPrompt}
+use Rattle.ga_explorer.specs.Opening.{IsLeadingText, ExplorerState}
+use Rattle.ga_explorer.specs.Session.{AnswersWithPrompt, AnswersLast}
 use Rattle.ga_explorer.specs.Session.RunsExplorer.{served, unbegun}
 use Rattle.ga_explorer.proofs.session.explore.Goals as goal
 
@@ -14,25 +14,29 @@ returns-in-Ok g c = λ left before known held.
     let text : List ℕ = begun.4.1 in
     let silent = begun.3 ∙ ap Some (ap (λ (t : List ℕ). before ++ t) begun.4.0 ∙ append-nil before) in
     let done = c.serve_explorer-ending.ensures.serves begun.0 before ready begun.2 (written_fresh _ before ready _ (ap g.W.Write.contents c.ready-said.ensures.stream ∙ silent) c.ready-said.ensures.said) in
-    let there = done.7 in
-    let P : ℕ → Type 0 = λ n. ServesCommands (AnswersWithPrompt c.args.is_prompted) (16777216 - n) c.in-Ok.begun done.0 done.1 done.2 done.4 c.serve_explorer-ending.result in (
+    let there = done.6 in
+    let last = c.serve_explorer-ending.new.session.explorer.explorer in
+    let Q : Bool → ExplorerState → ℕ → Type 0 = λ b e n.
+        ServesCommands (AnswersWithPrompt c.args.is_prompted b) (AnswersLast b) (16777216 - n) e done.0 done.1 done.2 last c.serve_explorer-ending.result in
+    let serves = subst (λ n. Q c.new.result.is_strict c.new.result.explorer n) begun.4.3 done.7 in
+    let served_here = subst (λ b. Q b c.in-Ok.begun (length text)) c.new.ensures.strict (subst (λ e. Q c.new.result.is_strict e (length text)) c.new.ensures.explorer serves) in (
       text ++ done.0,
       done.1,
       done.3,
-      begun.4.2 ∙ ap (λ (l : List ℕ). text ++ l) done.5 ∙ sym (append_assoc text done.0 done.1),
-      done.6,
+      begun.4.2 ∙ ap (λ (l : List ℕ). text ++ l) done.4 ∙ sym (append_assoc text done.0 done.1),
+      done.5,
       search rules,
-      served c.serve_explorer-ending.result c.status_of.ensures (record {
+      served c.serve_explorer-ending.result c.end_session.ensures (record {
         text = text;
         commands = done.0;
         begun = c.in-Ok.begun;
         said = done.2;
         splits = refl;
-        front = subst (IsLeadingText text) done.5 begun.4.4;
+        front = subst (IsLeadingText text) done.4 begun.4.4;
         opens = begun.4.5;
-        last = done.4;
-        serves = subst P begun.4.3 done.8;
-        out = done.9;
+        last = last;
+        serves = served_here;
+        out = done.8;
       }),
     )
 

@@ -1,8 +1,9 @@
 use Rattle.std.proofs.Common.{◌≡◌, [], Some, Ok, true≢false, ap, sym, subst}
 use Rattle.ga_explorer.specs.Opening.{ExplorerState}
-use Rattle.ga_console.specs.Session.{AnswersOrQuits}
-use Rattle.ga_console.specs.declared.responder.LineAction.TheVariants.{Answered}
+use Rattle.ga_console.specs.Session.{AnswersOrEnds, EndsAtNoAnswer}
+use Rattle.ga_console.specs.declared.responder.LineAction.TheVariants.{Answered, Refused}
 use Rattle.ga_console.proofs.RunLemmas.{written_fresh}
+use Rattle.ga_console.proofs.Ending.{only_answers}
 use Rattle.ga_explorer.specs.Answers.{AnswersExplorerLine}
 use Rattle.ga_picture.proofs.Following.{quiet_notes}
 use Rattle.ga_picture.proofs.silent.SilentSession.hear.Goals as goal
@@ -14,8 +15,18 @@ returns-in-Ok-Answered-clause-heard c =
     let begun : c.new-said.result.stream.now.items ≡ [] = cc in
     let heard = rw c.in-Ok-Answered.field-0-is at c.in-Ok-Answered.ensures in
     let done = heard.1 [] [] (written_fresh _ [] [] _ (ap Some begun) c.new-said.ensures.nothing) in
-    let P : ExplorerState → Type 0 = λ s. AnswersOrQuits AnswersExplorerLine c.args.self.now.explorer c.args.line.now s (Ok Answered) done.0 in
+    let P : ExplorerState → Type 0 = λ s. AnswersOrEnds AnswersExplorerLine EndsAtNoAnswer c.args.self.now.explorer c.args.line.now s (Ok Answered) done.0 in
     (done.0, subst P (sym c.note.ensures.same) done.1, c.note.ensures.noted done.0 done.2)
+
+pub returns-in-Ok-Refused-clause-heard : goal.returns-in-Ok-Refused-clause-heard
+returns-in-Ok-Refused-clause-heard c =
+    let stream = c.new-said.ensures.stream in
+    let empty = c.new-answer.ensures.items in
+    let begun : c.new-said.result.stream.now.items ≡ [] = cc in
+    let heard = rw c.in-Ok-Refused.field-0-is at c.in-Ok-Refused.ensures in
+    let done = heard.1 [] [] (written_fresh _ [] [] _ (ap Some begun) c.new-said.ensures.nothing) in
+    let P : ExplorerState → Type 0 = λ s. AnswersOrEnds AnswersExplorerLine EndsAtNoAnswer c.args.self.now.explorer c.args.line.now s (Ok Refused) done.0 in
+    (done.0, subst P (sym c.note-in-Ok-Refused.ensures.same) done.1, c.note-in-Ok-Refused.ensures.noted done.0 done.2)
 
 pub returns-in-Ok-Quit-clause-heard : goal.returns-in-Ok-Quit-clause-heard
 returns-in-Ok-Quit-clause-heard c =
@@ -32,4 +43,4 @@ returns-clause-heard c =
     let empty = c.new-answer.ensures.items in
     let begun : c.new-said.result.stream.now.items ≡ [] = cc in
     let done = c.in-Err.ensures.1 [] [] (written_fresh _ [] [] _ (ap Some begun) c.new-said.ensures.nothing) in
-    (done.0, done.1, λ e. absurd (true≢false e))
+    (done.0, only_answers AnswersExplorerLine c.args.self.now.explorer c.answer.new.self done.0 c.args.line.now done.1, λ e. absurd (true≢false e))

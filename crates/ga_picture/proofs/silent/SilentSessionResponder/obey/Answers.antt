@@ -1,5 +1,6 @@
-use Rattle.std.proofs.Common.{rules, [], refl}
+use Rattle.std.proofs.Common.{rules, []}
 use Rattle.ga_text.proofs.WriteLemmas.{written_pending}
+use Rattle.ga_picture.proofs.Following.{silent_command}
 use Rattle.ga_picture.proofs.silent.SilentSessionResponder.obey.Goals as goal
 
 pub returns : goal.returns
@@ -7,5 +8,5 @@ returns g c = (
   search rules,
   λ before said h.
       let heard = c.hear_command.ensures in
-      ([], λ line short spelled. (refl, heard.0, heard.1 line short spelled, heard.2), written_pending _ before said _ h),
+      ([], silent_command c.args.self.now c.hear_command.new.self c.args.command heard.0 c.hear_command.result heard.1 heard.2, written_pending _ before said _ h),
 )
