@@ -3,7 +3,7 @@ use Rattle.std.specs.Prelude.{Option, Some, None, ◌≡◌, ◌≢◌, ◌≤�
 use Rattle.ga_text.specs.Lines.{Bytes, Line, max_input_line, HasNoLineFeed, Text}
 use Rattle.ga_text.specs.Parsing.{IsStepNumber}
 use Rattle.ga_console.specs.Commands.{SpellsCommand}
-use Rattle.ga_console.specs.Session.{quit_line, AnswerRelation, ServesCommands, IsWrittenOrPrefix}
+use Rattle.ga_console.specs.Session.{quit_line, AnswerRelation, AnswersLine, ServesCommands, IsWrittenOrPrefix}
 use Rattle.ga_console.specs.declared.responder.LineAction.{LineAction}
 use Rattle.ga_console.specs.declared.responder.LineAction.TheVariants as turn
 use Rattle.ga_console.specs.declared.commands.CommandsEnd.TheVariants as end
@@ -55,6 +55,13 @@ StandsAhead bytes (Other count) = IsLineAhead bytes count
 StandsAhead bytes Nothing = Unit {0}
 
 -- ---- what private contracts, invariants and bridges cite
+
+-- a line is answered, as far as the answer can be written, and the session goes on or ends; or it is quit
+abbrev pub AnswersOrEnds : {M : Type 0} → AnswerRelation M → AnswerRelation M → M → Line → M → Result LineAction WriteError → Text → Type 0
+AnswersOrEnds A R m line new (Ok turn.Answered) answer = AnswersLine A m line answer new
+AnswersOrEnds A R m line new (Ok turn.Refused) answer = AnswersLine R m line answer new
+AnswersOrEnds A R m line new (Ok turn.Quit) answer = (line ≡ quit_line) × (new ≡ m) × (answer ≡ [])
+AnswersOrEnds A R m line new (Err failed) answer = AnswersLine A m line answer new ⊎ AnswersLine R m line answer new
 
 -- a line that spells this command of the debugger is answered
 abbrev pub AnswersCommand : {M : Type 0} → AnswerRelation M → M → Command → M → Text → Type 0

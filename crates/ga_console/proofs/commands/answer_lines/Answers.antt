@@ -1,8 +1,8 @@
 use Rattle.std.proofs.Common.{ℕ, ◌+◌, ◌-◌, ◌≤◌, ◌≡◌, ◌++◌, [], List, take, drop, length, length-take, refl, sym, ap, subst, ◌∙◌, arith}
 use Rattle.std.specs.Prelude.{Result, Ok}
 use Rattle.std.specs.Result.{IsErr}
-use Rattle.ga_console.specs.inner.Run.{IsAhead, IsLineAhead}
-use Rattle.ga_console.specs.Session.{AnswerRelation, AnswersOrEnds, ServesCommands, ServesToWriteFailure}
+use Rattle.ga_console.specs.inner.Run.{IsAhead, IsLineAhead, AnswersOrEnds}
+use Rattle.ga_console.specs.Session.{AnswerRelation, ServesCommands, ServesToWriteFailure}
 use Rattle.ga_display.specs.Texts.{input_limit_refusal}
 use Rattle.ga_text.specs.declared.output.WriteError.{WriteError}
 use Rattle.ga_console.specs.declared.commands.CommandsEnd.{CommandsEnd}
