@@ -11,7 +11,7 @@ _ga144() {
     debug) options='--limit -h --help' ;;
     explore) is_file=yes options='--strict --chip --limit -h --help' ;;
     race) options='--workers --calls --limit -h --help' ;;
-    check) is_file=yes options='--most --seconds --settled --session --never --ends --progress -h --help' ;;
+    check) is_file=yes options='--most --seconds --settled --session --never --ends --json --progress -h --help' ;;
     dap) options='-h --help' ;;
     asm) is_file=yes options='-h --help' ;;
     list) is_file=yes options='-h --help' ;;

@@ -2,7 +2,7 @@
 
 use crate::files::InputPrefix;
 use ga_check_report::{
-    CheckBounds, ConditionFault, Verdict, check_ends, check_never, check_program,
+    CheckRequest, ConditionFault, ReportFormat, Verdict, check_ends, check_never, check_program,
 };
 use ga_state_search::SearchControl;
 use std::sync::atomic::{AtomicBool, Ordering};
@@ -23,7 +23,12 @@ const TICKS: u64 = 50;
 /// if it isn't 0, and whether the progress is reported.
 #[derive(Clone, Copy)]
 pub struct CheckOptions<'a> {
-    pub bounds: CheckBounds,
+    /// The maximum number of states.
+    pub most: u32,
+    /// The maximum number of seconds, or 0.
+    pub seconds: u32,
+    /// Whether the answer is JSON objects in place of text.
+    pub json: bool,
     pub settled: bool,
     pub asked: u32,
     /// The conditions that are looked for in place of ends, if any.
@@ -33,23 +38,24 @@ pub struct CheckOptions<'a> {
     pub progress: bool,
 }
 
-/// What comes of a search for the ends of the program that is read, or for conditions, of which a fault may be told. The search is stopped
-/// after as many seconds as the bounds have, if it isn't 0. Without a second thread the clock starts after the search.
+/// What comes of a search for the ends of the program that is read from a file of this name, or for conditions, of which a fault may be told.
+/// The search is stopped after as many seconds as the options have, if it isn't 0. Without a second thread the clock starts after the search.
 pub fn find_verdict<T: Threads + Sync>(
     threads: &T,
     rt: &HostRuntime,
     work: CheckOptions<'_>,
+    name: &str,
     front: &InputPrefix,
 ) -> Result<Verdict, ConditionFault> {
     let watch = SearchControl::new();
-    if !work.progress && work.bounds.seconds == 0 {
-        return search(rt, work, front, &watch);
+    if !work.progress && work.seconds == 0 {
+        return search(rt, work, name, front, &watch);
     }
     let is_done = AtomicBool::new(false);
     let (verdict, _told) = join(
         threads,
         || {
-            let verdict = search(rt, work, front, &watch);
+            let verdict = search(rt, work, name, front, &watch);
             is_done.store(true, Ordering::SeqCst);
             verdict
         },
@@ -62,6 +68,7 @@ pub fn find_verdict<T: Threads + Sync>(
 fn search(
     rt: &HostRuntime,
     work: CheckOptions<'_>,
+    name: &str,
     front: &InputPrefix,
     watch: &SearchControl,
 ) -> Result<Verdict, ConditionFault> {
@@ -69,14 +76,19 @@ fn search(
     let (mut writer, mut errors) = (rt.stdout(), rt.stderr());
     let alloc = rt.alloc();
     let (input, output, told) = (&mut reader, &mut writer, &mut errors);
-    let (bounds, limit, settles, asked) = (work.bounds, SESSION_LIMIT, work.settled, work.asked);
+    let request = CheckRequest {
+        most: work.most,
+        seconds: work.seconds,
+        format: format_of(work.json, name),
+    };
+    let (limit, settles, asked) = (SESSION_LIMIT, work.settled, work.asked);
     match work.never {
         Some(conditions) => check_never(
             alloc,
             input,
             output,
             told,
-            bounds,
+            request,
             limit,
             settles,
             conditions.as_bytes(),
@@ -86,14 +98,23 @@ fn search(
         None => {
             if work.ends {
                 Ok(check_ends(
-                    alloc, input, output, told, bounds, limit, settles, asked, watch,
+                    alloc, input, output, told, request, limit, settles, asked, watch,
                 ))
             } else {
                 Ok(check_program(
-                    alloc, input, output, told, bounds, limit, settles, asked, watch,
+                    alloc, input, output, told, request, limit, settles, asked, watch,
                 ))
             }
         }
+    }
+}
+
+/// Text, or JSON objects that name a file.
+fn format_of<'a>(json: bool, name: &'a str) -> ReportFormat<'a> {
+    if json {
+        ReportFormat::Json(name.as_bytes())
+    } else {
+        ReportFormat::Text
     }
 }
 
@@ -105,7 +126,7 @@ fn attend(rt: &HostRuntime, work: CheckOptions<'_>, watch: &SearchControl, is_do
         if is_done.load(Ordering::SeqCst) {
             return;
         }
-        if is_over(rt, work.bounds, &begun, tick) {
+        if is_over(rt, work.seconds, &begun, tick) {
             watch.is_stopped.store(true, Ordering::SeqCst);
         }
         let states = watch.states.load(Ordering::SeqCst);
@@ -116,8 +137,8 @@ fn attend(rt: &HostRuntime, work: CheckOptions<'_>, watch: &SearchControl, is_do
 }
 
 /// Whether the search has taken its time: by the clock, or, if there is none, by the number of looks.
-fn is_over(rt: &HostRuntime, bounds: CheckBounds, begun: &io::Result<Instant>, tick: u64) -> bool {
-    let limit = u64::from(bounds.seconds);
+fn is_over(rt: &HostRuntime, seconds: u32, begun: &io::Result<Instant>, tick: u64) -> bool {
+    let limit = u64::from(seconds);
     if limit == 0 {
         return false;
     }

@@ -18,7 +18,7 @@ use arriving::spawn_reader;
 use checking::{CheckOptions, find_verdict};
 use files::{read_chip_file, read_input_prefix};
 use ga_asm_text::{assemble_source, disassemble, list_source};
-use ga_check_report::{CheckBounds, ConditionFault, Verdict};
+use ga_check_report::{ConditionFault, Verdict};
 use ga_console::{CommandLineFault, Settings, Status, arguments, race_report, session};
 use ga_explorer::{QueryUsage, explore};
 use ga_picture::{PictureView, draw_session};
@@ -58,19 +58,17 @@ fn main(rt: HostRuntime) -> ExitCode {
                 session,
                 never,
                 ends,
+                json,
                 progress,
                 files,
             },
         ) => {
-            let bounds = CheckBounds {
+            let work = CheckOptions {
                 most,
                 seconds: seconds.unwrap_or(0),
-            };
-            let asked = session.unwrap_or(0);
-            let work = CheckOptions {
-                bounds,
+                json,
                 settled,
-                asked,
+                asked: session.unwrap_or(0),
                 never: never.as_ref().map(|text| text.as_str()),
                 ends,
                 progress,
@@ -221,7 +219,8 @@ fn named_file(name: &str) -> Option<&str> {
     if name == "-" { None } else { Some(name) }
 }
 
-/// Checks the program of each file, and writes the name of the file before the answer. Returns the worst exit status.
+/// Checks the program of each file, and writes the name of the file before the answer, unless that is JSON, which has it. Returns the worst
+/// exit status.
 fn check_each<T: Threads + Sync>(
     threads: &T,
     rt: &HostRuntime,
@@ -231,7 +230,7 @@ fn check_each<T: Threads + Sync>(
     let mut worst = 0;
     for file in files {
         let name = file.as_str();
-        if println!(rt; "{name}:").is_err() {
+        if !work.json && println!(rt; "{name}:").is_err() {
             return status_of(rt, Status::StreamFault);
         }
         worst = worse_status(worst, check_file(threads, rt, work, named_file(name)));
@@ -268,7 +267,7 @@ fn check_file<T: Threads + Sync>(
         Ok(front) => front,
         Err(status) => return status,
     };
-    match find_verdict(threads, rt, work, &front) {
+    match find_verdict(threads, rt, work, file.unwrap_or("-"), &front) {
         Ok(verdict) => status_of_verdict(rt, verdict),
         Err(fault) => refuse_conditions(rt, work.never.unwrap_or(""), fault),
     }

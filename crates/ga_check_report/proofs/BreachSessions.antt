@@ -18,6 +18,7 @@ use Rattle.ga_state_expectations.specs.Unmet.{IsUnmetAt}
 use Rattle.ga_state_expectations.proofs.Interleavings.{unmet_there}
 use Rattle.ga_check_report.specs.declared.outcome.ExpectationOutcome.{ExpectationOutcome}
 use Rattle.ga_check_report.specs.declared.report.Verdict.{Verdict}
+use Rattle.ga_check_report.specs.declared.request.CheckRequest.{CheckRequest}
 use Rattle.ga_check_report.specs.declared.report.Verdict.TheVariants.{Saved}
 use Rattle.ga_check_report.specs.Checking.{HasAppendedEvents, IsReportOutput}
 use Rattle.ga_check_report.specs.EndTexts.{is_fully_explored}
@@ -40,14 +41,14 @@ led_to_unmet s t found expectation state events are unmet leads made there =
     )
 
 -- the session of an expectation
-pub led_session : (s last : State) (one : LineExpectation) (expectation : Expectation) (asked : ℕ) (text : List ℕ) (verdict : Verdict) → one.expectation ≡ expectation
-    → LeadsToBreach s expectation last → IsReportOutput (saved_text last) Saved text verdict → WritesSessionOf one asked s text verdict
-led_session s last one expectation asked text verdict is leads out = λ bounds expectations at.
+pub led_session : (request : CheckRequest) (s last : State) (one : LineExpectation) (expectation : Expectation) (asked : ℕ) (text : List ℕ) (verdict : Verdict) → one.expectation ≡ expectation
+    → LeadsToBreach s expectation last → IsReportOutput (saved_text last) Saved text verdict → WritesSessionOf request one asked s text verdict
+led_session request s last one expectation asked text verdict is leads out = λ expectations at.
     led one last at (subst (λ (e : Expectation). LeadsToBreach s e last) (sym is) leads) out
 
 -- no session leads to what breaks it
-pub no_session : (s : State) (found : EndSearchResult) (one : LineExpectation) (expectation : Expectation) (asked : ℕ) (outcome : ExpectationOutcome) (text : List ℕ) (verdict : Verdict)
+pub no_session : (request : CheckRequest) (s : State) (found : EndSearchResult) (one : LineExpectation) (expectation : Expectation) (asked : ℕ) (outcome : ExpectationOutcome) (text : List ℕ) (verdict : Verdict)
     → one.expectation ≡ expectation → AreEndsOfChip (chip_of s) found → IsOutcome s found expectation outcome
-    → IsReportOutput (unbroken_text (is_fully_explored found.fault) asked one outcome) (unbroken_verdict outcome) text verdict → WritesSessionOf one asked s text verdict
-no_session s found one expectation asked outcome text verdict is are known out = λ bounds expectations at.
+    → IsReportOutput (unbroken_text (is_fully_explored found.fault) asked one outcome) (unbroken_verdict outcome) text verdict → WritesSessionOf request one asked s text verdict
+no_session request s found one expectation asked outcome text verdict is are known out = λ expectations at.
     unbroken found one outcome are at (subst (λ (e : Expectation). IsOutcome s found e outcome) (sym is) known) out

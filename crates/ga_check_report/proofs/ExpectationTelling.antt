@@ -27,7 +27,7 @@ use Rattle.ga_state_expectations.specs.declared.source.Expectation.{Expectation}
 use Rattle.ga_state_expectations.specs.declared.source.Expectation.TheVariants.{AtEnds, Never, EveryOrderEnds, OneEnd}
 use Rattle.ga_state_expectations.specs.declared.source.LineExpectation.{LineExpectation}
 use Rattle.ga_state_expectations.proofs.Interleavings.{met_there, unmet_there}
-use Rattle.ga_check_report.specs.declared.ends_text.CheckBounds.{CheckBounds}
+use Rattle.ga_check_report.specs.declared.request.CheckRequest.{CheckRequest}
 use Rattle.ga_check_report.specs.declared.outcome.Breach.{Breach}
 use Rattle.ga_check_report.specs.declared.outcome.ExpectationOutcome.{ExpectationOutcome}
 use Rattle.ga_check_report.specs.declared.outcome.ExpectationOutcome.TheVariants.{Holds, Broken}
@@ -176,50 +176,50 @@ one_broken s found expectations outcomes are known broken =
     let one = some_at expectations it.0 (omega arith) in
     (found, it.0, one.0, are, one.1, outcome_broken s found one.0.expectation it.1 are (subst (IsOutcome s found one.0.expectation) it.3 (known.known it.0 one.0 one.1)))
 
-pub clean_told : (bounds : CheckBounds) (expectations : List LineExpectation) (asked : ℕ) (s : State) (text : List ℕ) → WritesExpectationsReport bounds expectations asked s text Clean
+pub clean_told : (request : CheckRequest) (expectations : List LineExpectation) (asked : ℕ) (s : State) (text : List ℕ) → WritesExpectationsReport request expectations asked s text Clean
     → EachHolds expectations s
-clean_told bounds expectations asked s text (all found outcomes are known start (inl out)) =
+clean_told request expectations asked s text (all found outcomes are known start (inl out)) =
     let parts = clean_by (list_any is_broken outcomes) (list_any is_unknown outcomes) out.1 in
     all_held s found expectations outcomes are known parts.0 parts.1
-clean_told bounds expectations asked s text (all found outcomes are known start (inr out)) = absurd (let q = out.1 in cc)
-clean_told bounds expectations asked s text (led one last at leads (inl out)) = absurd (let q = out.1 in cc)
-clean_told bounds expectations asked s text (led one last at leads (inr out)) = absurd (let q = out.1 in cc)
-clean_told bounds expectations asked s text (unbroken found one it are at known (inl out)) = absurd (clean_not_unbroken (is_unknown it) out.1)
-clean_told bounds expectations asked s text (unbroken found one it are at known (inr out)) = absurd (let q = out.1 in cc)
-clean_told bounds expectations asked s text (missing past (inl out)) = absurd (let q = out.1 in cc)
-clean_told bounds expectations asked s text (missing past (inr out)) = absurd (let q = out.1 in cc)
-clean_told bounds expectations asked s text (no_memory (inl out)) = absurd (let q = out.1 in cc)
-clean_told bounds expectations asked s text (no_memory (inr out)) = absurd (let q = out.1 in cc)
-clean_told bounds expectations asked s text (too_long (inl out)) = absurd (let q = out.1 in cc)
-clean_told bounds expectations asked s text (too_long (inr out)) = absurd (let q = out.1 in cc)
+clean_told request expectations asked s text (all found outcomes are known start (inr out)) = absurd (let q = out.1 in cc)
+clean_told request expectations asked s text (led one last at leads (inl out)) = absurd (let q = out.1 in cc)
+clean_told request expectations asked s text (led one last at leads (inr out)) = absurd (let q = out.1 in cc)
+clean_told request expectations asked s text (unbroken found one it are at known (inl out)) = absurd (clean_not_unbroken (is_unknown it) out.1)
+clean_told request expectations asked s text (unbroken found one it are at known (inr out)) = absurd (let q = out.1 in cc)
+clean_told request expectations asked s text (missing past (inl out)) = absurd (let q = out.1 in cc)
+clean_told request expectations asked s text (missing past (inr out)) = absurd (let q = out.1 in cc)
+clean_told request expectations asked s text (no_memory (inl out)) = absurd (let q = out.1 in cc)
+clean_told request expectations asked s text (no_memory (inr out)) = absurd (let q = out.1 in cc)
+clean_told request expectations asked s text (too_long (inl out)) = absurd (let q = out.1 in cc)
+clean_told request expectations asked s text (too_long (inr out)) = absurd (let q = out.1 in cc)
 
-pub unclean_told : (bounds : CheckBounds) (expectations : List LineExpectation) (asked : ℕ) (s : State) (text : List ℕ) → WritesExpectationsReport bounds expectations asked s text Unclean
+pub unclean_told : (request : CheckRequest) (expectations : List LineExpectation) (asked : ℕ) (s : State) (text : List ℕ) → WritesExpectationsReport request expectations asked s text Unclean
     → OneIsBroken expectations s
-unclean_told bounds expectations asked s text (all found outcomes are known start (inl out)) =
+unclean_told request expectations asked s text (all found outcomes are known start (inl out)) =
     one_broken s found expectations outcomes are known (unclean_by (list_any is_broken outcomes) (list_any is_unknown outcomes) out.1)
-unclean_told bounds expectations asked s text (all found outcomes are known start (inr out)) = absurd (let q = out.1 in cc)
-unclean_told bounds expectations asked s text (led one last at leads (inl out)) = absurd (let q = out.1 in cc)
-unclean_told bounds expectations asked s text (led one last at leads (inr out)) = absurd (let q = out.1 in cc)
-unclean_told bounds expectations asked s text (unbroken found one it are at known (inl out)) = absurd (unclean_not_unbroken (is_unknown it) out.1)
-unclean_told bounds expectations asked s text (unbroken found one it are at known (inr out)) = absurd (let q = out.1 in cc)
-unclean_told bounds expectations asked s text (missing past (inl out)) = absurd (let q = out.1 in cc)
-unclean_told bounds expectations asked s text (missing past (inr out)) = absurd (let q = out.1 in cc)
-unclean_told bounds expectations asked s text (no_memory (inl out)) = absurd (let q = out.1 in cc)
-unclean_told bounds expectations asked s text (no_memory (inr out)) = absurd (let q = out.1 in cc)
-unclean_told bounds expectations asked s text (too_long (inl out)) = absurd (let q = out.1 in cc)
-unclean_told bounds expectations asked s text (too_long (inr out)) = absurd (let q = out.1 in cc)
+unclean_told request expectations asked s text (all found outcomes are known start (inr out)) = absurd (let q = out.1 in cc)
+unclean_told request expectations asked s text (led one last at leads (inl out)) = absurd (let q = out.1 in cc)
+unclean_told request expectations asked s text (led one last at leads (inr out)) = absurd (let q = out.1 in cc)
+unclean_told request expectations asked s text (unbroken found one it are at known (inl out)) = absurd (unclean_not_unbroken (is_unknown it) out.1)
+unclean_told request expectations asked s text (unbroken found one it are at known (inr out)) = absurd (let q = out.1 in cc)
+unclean_told request expectations asked s text (missing past (inl out)) = absurd (let q = out.1 in cc)
+unclean_told request expectations asked s text (missing past (inr out)) = absurd (let q = out.1 in cc)
+unclean_told request expectations asked s text (no_memory (inl out)) = absurd (let q = out.1 in cc)
+unclean_told request expectations asked s text (no_memory (inr out)) = absurd (let q = out.1 in cc)
+unclean_told request expectations asked s text (too_long (inl out)) = absurd (let q = out.1 in cc)
+unclean_told request expectations asked s text (too_long (inr out)) = absurd (let q = out.1 in cc)
 
-pub session_told : (bounds : CheckBounds) (expectations : List LineExpectation) (asked : ℕ) (s : State) (text : List ℕ) → WritesExpectationsReport bounds expectations asked s text Saved
+pub session_told : (request : CheckRequest) (expectations : List LineExpectation) (asked : ℕ) (s : State) (text : List ℕ) → WritesExpectationsReport request expectations asked s text Saved
     → (one : LineExpectation) × (last : State) × (slice_get expectations (asked - 1) ≡ Some one) × LeadsToBreach s one.expectation last × (text ≡ saved_text last)
-session_told bounds expectations asked s text (all found outcomes are known start (inl out)) = absurd (not_saved (list_any is_broken outcomes) (list_any is_unknown outcomes) out.1)
-session_told bounds expectations asked s text (all found outcomes are known start (inr out)) = absurd (let q = out.1 in cc)
-session_told bounds expectations asked s text (led one last at leads (inl out)) = (one, last, at, leads, out.0)
-session_told bounds expectations asked s text (led one last at leads (inr out)) = absurd (let q = out.1 in cc)
-session_told bounds expectations asked s text (unbroken found one it are at known (inl out)) = absurd (saved_not_unbroken (is_unknown it) out.1)
-session_told bounds expectations asked s text (unbroken found one it are at known (inr out)) = absurd (let q = out.1 in cc)
-session_told bounds expectations asked s text (missing past (inl out)) = absurd (let q = out.1 in cc)
-session_told bounds expectations asked s text (missing past (inr out)) = absurd (let q = out.1 in cc)
-session_told bounds expectations asked s text (no_memory (inl out)) = absurd (let q = out.1 in cc)
-session_told bounds expectations asked s text (no_memory (inr out)) = absurd (let q = out.1 in cc)
-session_told bounds expectations asked s text (too_long (inl out)) = absurd (let q = out.1 in cc)
-session_told bounds expectations asked s text (too_long (inr out)) = absurd (let q = out.1 in cc)
+session_told request expectations asked s text (all found outcomes are known start (inl out)) = absurd (not_saved (list_any is_broken outcomes) (list_any is_unknown outcomes) out.1)
+session_told request expectations asked s text (all found outcomes are known start (inr out)) = absurd (let q = out.1 in cc)
+session_told request expectations asked s text (led one last at leads (inl out)) = (one, last, at, leads, out.0)
+session_told request expectations asked s text (led one last at leads (inr out)) = absurd (let q = out.1 in cc)
+session_told request expectations asked s text (unbroken found one it are at known (inl out)) = absurd (saved_not_unbroken (is_unknown it) out.1)
+session_told request expectations asked s text (unbroken found one it are at known (inr out)) = absurd (let q = out.1 in cc)
+session_told request expectations asked s text (missing past (inl out)) = absurd (let q = out.1 in cc)
+session_told request expectations asked s text (missing past (inr out)) = absurd (let q = out.1 in cc)
+session_told request expectations asked s text (no_memory (inl out)) = absurd (let q = out.1 in cc)
+session_told request expectations asked s text (no_memory (inr out)) = absurd (let q = out.1 in cc)
+session_told request expectations asked s text (too_long (inl out)) = absurd (let q = out.1 in cc)
+session_told request expectations asked s text (too_long (inr out)) = absurd (let q = out.1 in cc)

@@ -7,3 +7,6 @@ pub mod ExpectationsOut
 pub mod JudgingLemmas
 pub mod ExpectationTelling
 pub mod BreachSessions
+pub mod JsonWriting
+pub mod ObjectsOut
+pub mod OpenedLemmas

@@ -16,10 +16,10 @@ use Rattle.ga_state_conditions.specs.Reached.{IsConditionMet, IsReachedOn}
 use Rattle.ga_state_conditions.proofs.Whole.{none_met}
 use Rattle.ga_check_report.specs.Checking.{HasAppendedEvents}
 use Rattle.ga_check_report.specs.EndTexts.{is_fully_explored}
-use Rattle.ga_check_report.specs.NeverTexts.{reached_text}
+use Rattle.ga_check_report.specs.Answers.{reached_answer}
 use Rattle.ga_check_report.specs.Never.{HasReachedEvent, WritesNeverReport}
 use Rattle.ga_check_report.specs.Never.WritesNeverReport.{none, one, no_memory, too_long}
-use Rattle.ga_check_report.specs.declared.ends_text.CheckBounds.{CheckBounds}
+use Rattle.ga_check_report.specs.declared.request.CheckRequest.{CheckRequest}
 use Rattle.ga_check_report.specs.declared.report.Verdict.TheVariants.{Clean, Unclean, Unknown, Ended}
 
 whole_by : (fault : Option SearchFault) → Clean ≡ cond (is_fully_explored fault) Clean Unknown → fault ≡ None
@@ -30,33 +30,33 @@ not_unclean : (whole : Bool) → Unclean ≡ cond whole Clean Unknown → ⊥
 not_unclean true is = cc
 not_unclean false is = cc
 
-pub never_told : (bounds : CheckBounds) (conditions : List StateCondition) (session : Bool) (s : State) (text : List ℕ) → WritesNeverReport bounds conditions session s text Clean
+pub never_told : (request : CheckRequest) (conditions : List StateCondition) (session : Bool) (s : State) (text : List ℕ) → WritesNeverReport request conditions session s text Clean
     → (last : List NodeRecord) (events : List Event) (event : Event) (place : ℕ) (condition : StateCondition) → slice_get conditions place ≡ Some condition
     → replay (chip_of s) events ≡ Some last → IsEnabled last event → IsConditionMet condition last event → ⊥
-never_told bounds conditions session s text (none found ends nothing (inl out)) last events event place condition at led can met =
+never_told request conditions session s text (none found ends nothing (inl out)) last events event place condition at led can met =
     none_met (chip_of s) found ends (whole_by found.fault out.1) conditions nothing place condition at last events event led can met
-never_told bounds conditions session s text (none found ends nothing (inr out)) last events event place condition at led can met = absurd (let q = out.1 in cc)
-never_told bounds conditions session s text (one which there made is (inl out)) last events event place condition at led can met = absurd (let q = out.1 in cc)
-never_told bounds conditions session s text (one which there made is (inr out)) last events event place condition at led can met = absurd (let q = out.1 in cc)
-never_told bounds conditions session s text (no_memory (inl out)) last events event place condition at led can met = absurd (let q = out.1 in cc)
-never_told bounds conditions session s text (no_memory (inr out)) last events event place condition at led can met = absurd (let q = out.1 in cc)
-never_told bounds conditions session s text (too_long (inl out)) last events event place condition at led can met = absurd (let q = out.1 in cc)
-never_told bounds conditions session s text (too_long (inr out)) last events event place condition at led can met = absurd (let q = out.1 in cc)
+never_told request conditions session s text (none found ends nothing (inr out)) last events event place condition at led can met = absurd (let q = out.1 in cc)
+never_told request conditions session s text (one which there made is (inl out)) last events event place condition at led can met = absurd (let q = out.1 in cc)
+never_told request conditions session s text (one which there made is (inr out)) last events event place condition at led can met = absurd (let q = out.1 in cc)
+never_told request conditions session s text (no_memory (inl out)) last events event place condition at led can met = absurd (let q = out.1 in cc)
+never_told request conditions session s text (no_memory (inr out)) last events event place condition at led can met = absurd (let q = out.1 in cc)
+never_told request conditions session s text (too_long (inl out)) last events event place condition at led can met = absurd (let q = out.1 in cc)
+never_told request conditions session s text (too_long (inr out)) last events event place condition at led can met = absurd (let q = out.1 in cc)
 
-abbrev pub IsReachedTold : List StateCondition → Bool → State → List ℕ → Type 0
-IsReachedTold conditions session s text =
-    (which : ℕ) × (last : State) × (made : Made) × HasReachedEvent conditions which s last made × (text ≡ reached_text session (length conditions) which made last)
+abbrev pub IsReachedTold : CheckRequest → List StateCondition → Bool → State → List ℕ → Type 0
+IsReachedTold request conditions session s text =
+    (which : ℕ) × (last : State) × (made : Made) × HasReachedEvent conditions which s last made × (text ≡ reached_answer request.format session (length conditions) which made last)
 
-pub reached_told : (bounds : CheckBounds) (conditions : List StateCondition) (session : Bool) (s : State) (text : List ℕ) → WritesNeverReport bounds conditions session s text Unclean
-    → IsReachedTold conditions session s text
-reached_told bounds conditions session s text (none found ends nothing (inl out)) = absurd (not_unclean (is_fully_explored found.fault) out.1)
-reached_told bounds conditions session s text (none found ends nothing (inr out)) = absurd (let q = out.1 in cc)
-reached_told bounds conditions session s text (one which last made is (inl out)) = (which, last, made, is, out.0)
-reached_told bounds conditions session s text (one which last made is (inr out)) = absurd (let q = out.1 in cc)
-reached_told bounds conditions session s text (no_memory (inl out)) = absurd (let q = out.1 in cc)
-reached_told bounds conditions session s text (no_memory (inr out)) = absurd (let q = out.1 in cc)
-reached_told bounds conditions session s text (too_long (inl out)) = absurd (let q = out.1 in cc)
-reached_told bounds conditions session s text (too_long (inr out)) = absurd (let q = out.1 in cc)
+pub reached_told : (request : CheckRequest) (conditions : List StateCondition) (session : Bool) (s : State) (text : List ℕ) → WritesNeverReport request conditions session s text Unclean
+    → IsReachedTold request conditions session s text
+reached_told request conditions session s text (none found ends nothing (inl out)) = absurd (not_unclean (is_fully_explored found.fault) out.1)
+reached_told request conditions session s text (none found ends nothing (inr out)) = absurd (let q = out.1 in cc)
+reached_told request conditions session s text (one which last made is (inl out)) = (which, last, made, is, out.0)
+reached_told request conditions session s text (one which last made is (inr out)) = absurd (let q = out.1 in cc)
+reached_told request conditions session s text (no_memory (inl out)) = absurd (let q = out.1 in cc)
+reached_told request conditions session s text (no_memory (inr out)) = absurd (let q = out.1 in cc)
+reached_told request conditions session s text (too_long (inl out)) = absurd (let q = out.1 in cc)
+reached_told request conditions session s text (too_long (inr out)) = absurd (let q = out.1 in cc)
 
 -- the machine that made the events of a session, and then its last
 pub reached_by : (s t u : State) (conditions : List StateCondition) (which : ℕ) (events : List Event) (event : Event) (chip : List NodeRecord) (made : Made)

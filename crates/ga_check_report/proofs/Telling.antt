@@ -6,10 +6,11 @@ use Rattle.ga_explorer_text.specs.Saved.{saved_text}
 use Rattle.ga_console.specs.declared.run.Status.TheVariants.{ImageRefused}
 use Rattle.ga_state_search.specs.declared.fault.SearchFault.{SearchFault}
 use Rattle.ga_state_ends.specs.Ends.{EndSearchResult, AreEndsOfChip, is_unclean}
-use Rattle.ga_check_report.specs.EndTexts.{ends_text, is_fully_explored}
+use Rattle.ga_check_report.specs.Answers.{ends_answer}
+use Rattle.ga_check_report.specs.EndTexts.{is_fully_explored}
 use Rattle.ga_check_report.specs.Checking.{HasReachedEndKind, WritesEndsReport}
 use Rattle.ga_check_report.specs.Checking.WritesEndsReport.{all, none, led, no_memory, too_long}
-use Rattle.ga_check_report.specs.declared.ends_text.CheckBounds.{CheckBounds}
+use Rattle.ga_check_report.specs.declared.request.CheckRequest.{CheckRequest}
 use Rattle.ga_check_report.specs.declared.report.Verdict.TheVariants.{Clean, Unclean, Unknown, Saved, Ended}
 
 clean_by : (unclean whole : Bool) → Clean ≡ cond unclean Unclean (cond whole Clean Unknown) → (unclean ≡ false) × (whole ≡ true)
@@ -43,44 +44,44 @@ saved_not_none : (whole : Bool) → Saved ≡ cond whole (Ended ImageRefused) Un
 saved_not_none true is = cc
 saved_not_none false is = cc
 
-pub clean_told : (bounds : CheckBounds) (asked : ℕ) (s : State) (text : List ℕ) → WritesEndsReport bounds asked s text Clean
-    → (found : EndSearchResult) × AreEndsOfChip (chip_of s) found × (found.fault ≡ None) × (list_any is_unclean found.kinds ≡ false) × (text ≡ ends_text bounds found)
-clean_told bounds asked s text (all found ends zero (inl out)) =
+pub clean_told : (request : CheckRequest) (asked : ℕ) (s : State) (text : List ℕ) → WritesEndsReport request asked s text Clean
+    → (found : EndSearchResult) × AreEndsOfChip (chip_of s) found × (found.fault ≡ None) × (list_any is_unclean found.kinds ≡ false) × (text ≡ ends_answer request found)
+clean_told request asked s text (all found ends zero (inl out)) =
     let parts = clean_by (list_any is_unclean found.kinds) (is_fully_explored found.fault) out.1 in
     (found, ends, whole_is found.fault parts.1, parts.0, out.0)
-clean_told bounds asked s text (all found ends zero (inr out)) = absurd (let q = out.1 in cc)
-clean_told bounds asked s text (none found ends past (inl out)) = absurd (clean_not_none (is_fully_explored found.fault) out.1)
-clean_told bounds asked s text (none found ends past (inr out)) = absurd (let q = out.1 in cc)
-clean_told bounds asked s text (led found last ends there (inl out)) = absurd (let q = out.1 in cc)
-clean_told bounds asked s text (led found last ends there (inr out)) = absurd (let q = out.1 in cc)
-clean_told bounds asked s text (no_memory (inl out)) = absurd (let q = out.1 in cc)
-clean_told bounds asked s text (no_memory (inr out)) = absurd (let q = out.1 in cc)
-clean_told bounds asked s text (too_long some (inl out)) = absurd (let q = out.1 in cc)
-clean_told bounds asked s text (too_long some (inr out)) = absurd (let q = out.1 in cc)
+clean_told request asked s text (all found ends zero (inr out)) = absurd (let q = out.1 in cc)
+clean_told request asked s text (none found ends past (inl out)) = absurd (clean_not_none (is_fully_explored found.fault) out.1)
+clean_told request asked s text (none found ends past (inr out)) = absurd (let q = out.1 in cc)
+clean_told request asked s text (led found last ends there (inl out)) = absurd (let q = out.1 in cc)
+clean_told request asked s text (led found last ends there (inr out)) = absurd (let q = out.1 in cc)
+clean_told request asked s text (no_memory (inl out)) = absurd (let q = out.1 in cc)
+clean_told request asked s text (no_memory (inr out)) = absurd (let q = out.1 in cc)
+clean_told request asked s text (too_long some (inl out)) = absurd (let q = out.1 in cc)
+clean_told request asked s text (too_long some (inr out)) = absurd (let q = out.1 in cc)
 
-pub unclean_told : (bounds : CheckBounds) (asked : ℕ) (s : State) (text : List ℕ) → WritesEndsReport bounds asked s text Unclean
-    → (found : EndSearchResult) × AreEndsOfChip (chip_of s) found × (list_any is_unclean found.kinds ≡ true) × (text ≡ ends_text bounds found)
-unclean_told bounds asked s text (all found ends zero (inl out)) =
+pub unclean_told : (request : CheckRequest) (asked : ℕ) (s : State) (text : List ℕ) → WritesEndsReport request asked s text Unclean
+    → (found : EndSearchResult) × AreEndsOfChip (chip_of s) found × (list_any is_unclean found.kinds ≡ true) × (text ≡ ends_answer request found)
+unclean_told request asked s text (all found ends zero (inl out)) =
     (found, ends, unclean_by (list_any is_unclean found.kinds) (is_fully_explored found.fault) out.1, out.0)
-unclean_told bounds asked s text (all found ends zero (inr out)) = absurd (let q = out.1 in cc)
-unclean_told bounds asked s text (none found ends past (inl out)) = absurd (unclean_not_none (is_fully_explored found.fault) out.1)
-unclean_told bounds asked s text (none found ends past (inr out)) = absurd (let q = out.1 in cc)
-unclean_told bounds asked s text (led found last ends there (inl out)) = absurd (let q = out.1 in cc)
-unclean_told bounds asked s text (led found last ends there (inr out)) = absurd (let q = out.1 in cc)
-unclean_told bounds asked s text (no_memory (inl out)) = absurd (let q = out.1 in cc)
-unclean_told bounds asked s text (no_memory (inr out)) = absurd (let q = out.1 in cc)
-unclean_told bounds asked s text (too_long some (inl out)) = absurd (let q = out.1 in cc)
-unclean_told bounds asked s text (too_long some (inr out)) = absurd (let q = out.1 in cc)
+unclean_told request asked s text (all found ends zero (inr out)) = absurd (let q = out.1 in cc)
+unclean_told request asked s text (none found ends past (inl out)) = absurd (unclean_not_none (is_fully_explored found.fault) out.1)
+unclean_told request asked s text (none found ends past (inr out)) = absurd (let q = out.1 in cc)
+unclean_told request asked s text (led found last ends there (inl out)) = absurd (let q = out.1 in cc)
+unclean_told request asked s text (led found last ends there (inr out)) = absurd (let q = out.1 in cc)
+unclean_told request asked s text (no_memory (inl out)) = absurd (let q = out.1 in cc)
+unclean_told request asked s text (no_memory (inr out)) = absurd (let q = out.1 in cc)
+unclean_told request asked s text (too_long some (inl out)) = absurd (let q = out.1 in cc)
+unclean_told request asked s text (too_long some (inr out)) = absurd (let q = out.1 in cc)
 
-pub session_told : (bounds : CheckBounds) (asked : ℕ) (s : State) (text : List ℕ) → WritesEndsReport bounds asked s text Saved
+pub session_told : (request : CheckRequest) (asked : ℕ) (s : State) (text : List ℕ) → WritesEndsReport request asked s text Saved
     → (found : EndSearchResult) × (last : State) × AreEndsOfChip (chip_of s) found × HasReachedEndKind found asked s last × (text ≡ saved_text last)
-session_told bounds asked s text (all found ends zero (inl out)) = absurd (saved_by (list_any is_unclean found.kinds) (is_fully_explored found.fault) out.1)
-session_told bounds asked s text (all found ends zero (inr out)) = absurd (let q = out.1 in cc)
-session_told bounds asked s text (none found ends past (inl out)) = absurd (saved_not_none (is_fully_explored found.fault) out.1)
-session_told bounds asked s text (none found ends past (inr out)) = absurd (let q = out.1 in cc)
-session_told bounds asked s text (led found last ends there (inl out)) = (found, last, ends, there, out.0)
-session_told bounds asked s text (led found last ends there (inr out)) = absurd (let q = out.1 in cc)
-session_told bounds asked s text (no_memory (inl out)) = absurd (let q = out.1 in cc)
-session_told bounds asked s text (no_memory (inr out)) = absurd (let q = out.1 in cc)
-session_told bounds asked s text (too_long some (inl out)) = absurd (let q = out.1 in cc)
-session_told bounds asked s text (too_long some (inr out)) = absurd (let q = out.1 in cc)
+session_told request asked s text (all found ends zero (inl out)) = absurd (saved_by (list_any is_unclean found.kinds) (is_fully_explored found.fault) out.1)
+session_told request asked s text (all found ends zero (inr out)) = absurd (let q = out.1 in cc)
+session_told request asked s text (none found ends past (inl out)) = absurd (saved_not_none (is_fully_explored found.fault) out.1)
+session_told request asked s text (none found ends past (inr out)) = absurd (let q = out.1 in cc)
+session_told request asked s text (led found last ends there (inl out)) = (found, last, ends, there, out.0)
+session_told request asked s text (led found last ends there (inr out)) = absurd (let q = out.1 in cc)
+session_told request asked s text (no_memory (inl out)) = absurd (let q = out.1 in cc)
+session_told request asked s text (no_memory (inr out)) = absurd (let q = out.1 in cc)
+session_told request asked s text (too_long some (inl out)) = absurd (let q = out.1 in cc)
+session_told request asked s text (too_long some (inr out)) = absurd (let q = out.1 in cc)

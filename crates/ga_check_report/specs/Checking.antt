@@ -8,17 +8,18 @@ use Rattle.ga_text.specs.Output.{TextHasPrefix}
 use Rattle.ga_event.specs.declared.event.Event.{Event}
 use Rattle.ga_lab.specs.Machine.{State, chip_of}
 use Rattle.ga_lab.specs.declared.fault.LabFault.TheVariants as fault
-use Rattle.ga_display.specs.Texts.{refusal_text}
 use Rattle.ga_console.specs.declared.run.Status.{Status}
 use Rattle.ga_console.specs.declared.run.Status.TheVariants.{ImageRefused, StreamFault}
 use Rattle.ga_explorer_text.specs.Saved.{saved_text}
-use Rattle.ga_explorer.specs.Opening.{OpensExplorer, IsLeadingText, IsUnopenedSession, ExplorerState}
+use Rattle.ga_explorer.specs.Opening.{OpensExplorer, IsLeadingText, ExplorerState}
 use Rattle.ga_state_ends.specs.Ends.{EndSearchResult, AreEndsOfChip, is_unclean}
 use Rattle.ga_state_ends.specs.declared.end_kind.EndKind.{EndKind}
-use Rattle.ga_check_report.specs.declared.ends_text.CheckBounds.{CheckBounds}
+use Rattle.ga_check_report.specs.declared.request.CheckRequest.{CheckRequest}
 use Rattle.ga_check_report.specs.declared.report.Verdict.{Verdict}
 use Rattle.ga_check_report.specs.declared.report.Verdict.TheVariants.{Clean, Unclean, Unknown, Saved, Ended}
-use Rattle.ga_check_report.specs.EndTexts.{ends_text, missing_kind_text, is_fully_explored}
+use Rattle.ga_check_report.specs.EndTexts.{missing_kind_text, is_fully_explored}
+use Rattle.ga_check_report.specs.Answers.{refusal_answer, ends_answer}
+use Rattle.ga_check_report.specs.Opened.{IsUnopenedAnswer}
 use Rattle.ga_check_report.specs.Settled.{check_start}
 
 -- ---- the verdict
@@ -58,28 +59,28 @@ IsReportOutput whole verdict text end = ((text ≡ whole) × (end ≡ verdict)) 
 
 -- The text about a machine: the kinds of its ends; or the session of one that is named by its number; or that there is no such kind; or
 -- that there was no memory; or that the machine keeps fewer events than the session has.
-pub data WritesEndsReport (bounds : CheckBounds) (asked : ℕ) (s : State) (text : Text) (verdict : Verdict) : Type 0 where
-  all : (found : EndSearchResult) → AreEndsOfChip (chip_of s) found → asked ≡ 0 → IsReportOutput (ends_text bounds found) (verdict_of found) text verdict
-      → WritesEndsReport bounds asked s text verdict
+pub data WritesEndsReport (request : CheckRequest) (asked : ℕ) (s : State) (text : Text) (verdict : Verdict) : Type 0 where
+  all : (found : EndSearchResult) → AreEndsOfChip (chip_of s) found → asked ≡ 0 → IsReportOutput (ends_answer request found) (verdict_of found) text verdict
+      → WritesEndsReport request asked s text verdict
   none : (found : EndSearchResult) → AreEndsOfChip (chip_of s) found → length found.kinds < asked → IsReportOutput (missing_kind_text asked found) (missing_kind_verdict found) text verdict
-      → WritesEndsReport bounds asked s text verdict
+      → WritesEndsReport request asked s text verdict
   led : (found : EndSearchResult) (last : State) → AreEndsOfChip (chip_of s) found → HasReachedEndKind found asked s last → IsReportOutput (saved_text last) Saved text verdict
-      → WritesEndsReport bounds asked s text verdict
-  no_memory : IsReportOutput (refusal_text fault.Memory) (Ended ImageRefused) text verdict → WritesEndsReport bounds asked s text verdict
-  too_long : 0 < asked → IsReportOutput (refusal_text fault.Full) (Ended ImageRefused) text verdict → WritesEndsReport bounds asked s text verdict
+      → WritesEndsReport request asked s text verdict
+  no_memory : IsReportOutput (refusal_answer request.format fault.Memory) (Ended ImageRefused) text verdict → WritesEndsReport request asked s text verdict
+  too_long : 0 < asked → IsReportOutput (refusal_answer request.format fault.Full) (Ended ImageRefused) text verdict → WritesEndsReport request asked s text verdict
 
 -- An image or source was accepted, and the ends of its machine were written, from where its idle nodes waited if they were to. Nothing is done with
 -- what was read after it.
-pub record IsCheckOfProgram (bounds : CheckBounds) (limit : ℕ) (settles : Bool) (asked : ℕ) (read rest : Bytes) (written : Text) (verdict : Verdict) : Type 0 where
+pub record IsCheckOfProgram (request : CheckRequest) (limit : ℕ) (settles : Bool) (asked : ℕ) (read rest : Bytes) (written : Text) (verdict : Verdict) : Type 0 where
   pub text : Text
   pub ahead : Bytes
   pub begun : ExplorerState
   pub splits : read ≡ text ++ ahead
   pub front : IsLeadingText text (ahead ++ rest)
   pub opens : OpensExplorer text limit begun
-  pub tells : WritesEndsReport bounds asked (check_start settles begun.lab) written verdict
+  pub tells : WritesEndsReport request asked (check_start settles begun.lab) written verdict
 
 -- What may have been written, where read was read of the input and rest is left of it, and the verdict.
-pub data IsCheckOutcome (bounds : CheckBounds) (limit : ℕ) (settles : Bool) (asked : ℕ) (read rest : Bytes) (written : Text) (verdict : Verdict) : Type 0 where
-  checked : IsCheckOfProgram bounds limit settles asked read rest written verdict → IsCheckOutcome bounds limit settles asked read rest written verdict
-  unbegun : (status : Status) → verdict ≡ Ended status → IsUnopenedSession None read rest written status → IsCheckOutcome bounds limit settles asked read rest written verdict
+pub data IsCheckOutcome (request : CheckRequest) (limit : ℕ) (settles : Bool) (asked : ℕ) (read rest : Bytes) (written : Text) (verdict : Verdict) : Type 0 where
+  checked : IsCheckOfProgram request limit settles asked read rest written verdict → IsCheckOutcome request limit settles asked read rest written verdict
+  unbegun : (status : Status) → verdict ≡ Ended status → IsUnopenedAnswer request.format read rest written status → IsCheckOutcome request limit settles asked read rest written verdict

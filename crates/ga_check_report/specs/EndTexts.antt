@@ -9,7 +9,7 @@ use Rattle.ga_state_ends.specs.Ends.{EndSearchResult}
 use Rattle.ga_state_ends.specs.Decisions.{EndDecision}
 use Rattle.ga_state_ends.specs.declared.end_kind.EndKind.{EndKind}
 use Rattle.ga_state_ends.specs.declared.end_kind.NodeEnd.{NodeEnd}
-use Rattle.ga_check_report.specs.declared.ends_text.CheckBounds.{CheckBounds}
+use Rattle.ga_check_report.specs.declared.request.CheckRequest.{CheckRequest}
 use Rattle.ga_check_report.specs.DecisionTexts.{end_decision_text}
 use Rattle.ga_check_report.specs.declared.end_nodes.EndPart.{EndPart}
 use Rattle.ga_check_report.specs.declared.end_nodes.EndPart.TheVariants.{Continuing, Reading, Writing}
@@ -152,11 +152,11 @@ ends_header whole states kinds =
     at_least_text whole ++ counted_noun_text states (codes " state") ++ codes ", " ++ at_least_text whole ++ counted_noun_text kinds (codes " kind") ++ codes " of end\n"
 
 -- why the search stopped before its end, and which option lets it go on
-abbrev pub search_stop_text : CheckBounds → SearchFault → Text
-search_stop_text bounds fault.Full = codes "stopped at --most " ++ decimal bounds.most ++ codes " states\n"
-search_stop_text bounds fault.Stopped = codes "stopped after --seconds " ++ decimal bounds.seconds ++ codes "\n"
-search_stop_text bounds fault.Memory = codes "stopped: no memory for more states\n"
-search_stop_text bounds fault.ExceedsAssumptions = codes "stopped: begun anew too often\n"
+abbrev pub search_stop_text : CheckRequest → SearchFault → Text
+search_stop_text request fault.Full = codes "stopped at --most " ++ decimal request.most ++ codes " states\n"
+search_stop_text request fault.Stopped = codes "stopped after --seconds " ++ decimal request.seconds ++ codes "\n"
+search_stop_text request fault.Memory = codes "stopped: no memory for more states\n"
+search_stop_text request fault.ExceedsAssumptions = codes "stopped: begun anew too often\n"
 
 -- whether some order never comes to an end; nothing where it can go on for ever at an end alone
 abbrev pub termination_text : Bool → Bool → Text
@@ -165,18 +165,18 @@ termination_text false true = []
 termination_text false false = codes "every order comes to an end\n"
 
 -- the last line: which bound was met, or whether some order never comes to an end
-abbrev pub final_line_text : CheckBounds → Option SearchFault → Bool → Bool → Text
-final_line_text bounds None before cycle = termination_text before cycle
-final_line_text bounds (Some fault) before cycle = search_stop_text bounds fault
+abbrev pub final_line_text : CheckRequest → Option SearchFault → Bool → Bool → Text
+final_line_text request None before cycle = termination_text before cycle
+final_line_text request (Some fault) before cycle = search_stop_text request fault
 
 -- the head, the lines of these kinds, and the last line
-abbrev pub ends_report_text : CheckBounds → EndSearchResult → List EndKind → Text
-ends_report_text bounds found kinds =
+abbrev pub ends_report_text : CheckRequest → EndSearchResult → List EndKind → Text
+ends_report_text request found kinds =
     ends_header (is_fully_explored found.fault) (length found.searched.chips) (length kinds) ++ kinds_text found.decisions 0 kinds
-    ++ final_line_text bounds found.fault found.has_cycle_before found.has_cycle
+    ++ final_line_text request found.fault found.has_cycle_before found.has_cycle
 
-abbrev pub ends_text : CheckBounds → EndSearchResult → Text
-ends_text bounds found = ends_report_text bounds found found.kinds
+abbrev pub ends_text : CheckRequest → EndSearchResult → Text
+ends_text request found = ends_report_text request found found.kinds
 
 -- there is no kind of end of this number: there are as many as were found, or at least as many
 abbrev pub missing_kind_text : ℕ → EndSearchResult → Text

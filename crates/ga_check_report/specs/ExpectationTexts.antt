@@ -8,7 +8,7 @@ use Rattle.ga_text.specs.Lines.{Text}
 use Rattle.ga_state_search.specs.declared.fault.SearchFault.{SearchFault}
 use Rattle.ga_state_ends.specs.Ends.{EndSearchResult}
 use Rattle.ga_state_expectations.specs.declared.source.LineExpectation.{LineExpectation}
-use Rattle.ga_check_report.specs.declared.ends_text.CheckBounds.{CheckBounds}
+use Rattle.ga_check_report.specs.declared.request.CheckRequest.{CheckRequest}
 use Rattle.ga_check_report.specs.declared.outcome.NodeObservation.{NodeObservation}
 use Rattle.ga_check_report.specs.declared.outcome.NodeObservation.TheVariants.{Is, Runs, AwaitsCode, Reads, Writes, Stopped}
 use Rattle.ga_check_report.specs.declared.outcome.Breach.{Breach}
@@ -77,14 +77,14 @@ expectations_header whole states expectations =
     at_least_text whole ++ counted_noun_text states (codes " state") ++ codes ", " ++ counted_noun_text expectations (codes " expectation") ++ codes "\n"
 
 -- why the search stopped before its end, if it did
-abbrev pub optional_stop_text : CheckBounds → Option SearchFault → Text
-optional_stop_text bounds None = []
-optional_stop_text bounds (Some fault) = search_stop_text bounds fault
+abbrev pub optional_stop_text : CheckRequest → Option SearchFault → Text
+optional_stop_text request None = []
+optional_stop_text request (Some fault) = search_stop_text request fault
 
-abbrev pub expectations_text : CheckBounds → EndSearchResult → List LineExpectation → List ExpectationOutcome → Text
-expectations_text bounds found expectations outcomes =
+abbrev pub expectations_text : CheckRequest → EndSearchResult → List LineExpectation → List ExpectationOutcome → Text
+expectations_text request found expectations outcomes =
     expectations_header (is_fully_explored found.fault) (length found.searched.chips) (length expectations)
-    ++ expectations_lines_text (is_fully_explored found.fault) outcomes 0 expectations ++ optional_stop_text bounds found.fault
+    ++ expectations_lines_text (is_fully_explored found.fault) outcomes 0 expectations ++ optional_stop_text request found.fault
 
 -- ---- no session
 

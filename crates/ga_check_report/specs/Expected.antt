@@ -5,12 +5,11 @@ use Rattle.ga_event.specs.declared.event.Event.{Event}
 use Rattle.ga_event.specs.declared.made.Made.{Made}
 use Rattle.ga_lab.specs.Machine.{State, chip_of}
 use Rattle.ga_lab.specs.declared.fault.LabFault.TheVariants as fault
-use Rattle.ga_display.specs.Texts.{refusal_text}
 use Rattle.ga_console.specs.declared.run.Status.{Status}
 use Rattle.ga_console.specs.declared.run.Status.TheVariants.{ImageRefused}
 use Rattle.ga_debug_info.specs.declared.notes.DebugInfo.{DebugInfo}
 use Rattle.ga_explorer_text.specs.Saved.{saved_text}
-use Rattle.ga_explorer.specs.Opening.{OpensExplorer, IsLeadingText, IsUnopenedSession, ExplorerState}
+use Rattle.ga_explorer.specs.Opening.{OpensExplorer, IsLeadingText, ExplorerState}
 use Rattle.ga_state_ends.specs.Ends.{EndSearchResult, AreEndsOfChip}
 use Rattle.ga_state_expectations.specs.declared.source.Expectation.{Expectation}
 use Rattle.ga_state_expectations.specs.declared.source.Expectation.TheVariants.{AtEnds, Never, EveryOrderEnds, OneEnd}
@@ -18,13 +17,15 @@ use Rattle.ga_state_expectations.specs.declared.source.LineExpectation.{LineExpe
 use Rattle.ga_state_expectations.specs.Expectations.{is_met_on}
 use Rattle.ga_state_expectations.specs.Lines.{expectations_of, expected_content}
 use Rattle.ga_state_expectations.specs.Recurrent.{IsRecurrent}
-use Rattle.ga_check_report.specs.declared.ends_text.CheckBounds.{CheckBounds}
+use Rattle.ga_check_report.specs.declared.request.CheckRequest.{CheckRequest}
 use Rattle.ga_check_report.specs.declared.outcome.ExpectationOutcome.{ExpectationOutcome}
 use Rattle.ga_check_report.specs.declared.report.Verdict.{Verdict}
 use Rattle.ga_check_report.specs.declared.report.Verdict.TheVariants.{Unknown, Saved, Ended}
 use Rattle.ga_check_report.specs.Checking.{HasAppendedEvents, IsReportOutput, WritesEndsReport}
 use Rattle.ga_check_report.specs.EndTexts.{is_fully_explored}
-use Rattle.ga_check_report.specs.ExpectationTexts.{expectations_text, missing_session_text, unbroken_text}
+use Rattle.ga_check_report.specs.ExpectationTexts.{missing_session_text, unbroken_text}
+use Rattle.ga_check_report.specs.Answers.{refusal_answer, expectations_answer}
+use Rattle.ga_check_report.specs.Opened.{IsUnopenedAnswer}
 use Rattle.ga_check_report.specs.Never.{HasReachedEvent}
 use Rattle.ga_check_report.specs.Outcomes.{is_unknown, IsOutcome, AreOutcomes, outcomes_verdict}
 use Rattle.ga_check_report.specs.Settled.{check_start}
@@ -44,46 +45,46 @@ unbroken_verdict outcome = if is_unknown outcome then Unknown else Ended ImageRe
 
 -- The text about a machine: what is known of each expectation; or the session of one that is named by its number; or that no session leads to
 -- what breaks it, or that there is no such expectation; or that there was no memory; or that the machine keeps fewer events than a session has.
-pub data WritesExpectationsReport (bounds : CheckBounds) (expectations : List LineExpectation) (asked : ℕ) (s : State) (text : Text) (verdict : Verdict) : Type 0 where
+pub data WritesExpectationsReport (request : CheckRequest) (expectations : List LineExpectation) (asked : ℕ) (s : State) (text : Text) (verdict : Verdict) : Type 0 where
   all : (found : EndSearchResult) (outcomes : List ExpectationOutcome) → AreEndsOfChip (chip_of s) found → AreOutcomes s found expectations outcomes → asked ≡ 0
-      → IsReportOutput (expectations_text bounds found expectations outcomes) (outcomes_verdict outcomes) text verdict
-      → WritesExpectationsReport bounds expectations asked s text verdict
+      → IsReportOutput (expectations_answer request found expectations outcomes) (outcomes_verdict outcomes) text verdict
+      → WritesExpectationsReport request expectations asked s text verdict
   led : (one : LineExpectation) (last : State) → slice_get expectations (asked - 1) ≡ Some one → LeadsToBreach s one.expectation last
-      → IsReportOutput (saved_text last) Saved text verdict → WritesExpectationsReport bounds expectations asked s text verdict
+      → IsReportOutput (saved_text last) Saved text verdict → WritesExpectationsReport request expectations asked s text verdict
   unbroken : (found : EndSearchResult) (one : LineExpectation) (outcome : ExpectationOutcome) → AreEndsOfChip (chip_of s) found
       → slice_get expectations (asked - 1) ≡ Some one → IsOutcome s found one.expectation outcome
       → IsReportOutput (unbroken_text (is_fully_explored found.fault) asked one outcome) (unbroken_verdict outcome) text verdict
-      → WritesExpectationsReport bounds expectations asked s text verdict
+      → WritesExpectationsReport request expectations asked s text verdict
   missing : length expectations < asked → IsReportOutput (missing_session_text asked (length expectations)) (Ended ImageRefused) text verdict
-      → WritesExpectationsReport bounds expectations asked s text verdict
-  no_memory : IsReportOutput (refusal_text fault.Memory) (Ended ImageRefused) text verdict → WritesExpectationsReport bounds expectations asked s text verdict
-  too_long : IsReportOutput (refusal_text fault.Full) (Ended ImageRefused) text verdict → WritesExpectationsReport bounds expectations asked s text verdict
+      → WritesExpectationsReport request expectations asked s text verdict
+  no_memory : IsReportOutput (refusal_answer request.format fault.Memory) (Ended ImageRefused) text verdict → WritesExpectationsReport request expectations asked s text verdict
+  too_long : IsReportOutput (refusal_answer request.format fault.Full) (Ended ImageRefused) text verdict → WritesExpectationsReport request expectations asked s text verdict
 
 -- the text about a machine: of a program without expectations that about its ends
-abbrev pub WritesProgramReport : CheckBounds → List LineExpectation → ℕ → State → Text → Verdict → Type 0
-WritesProgramReport bounds [] asked s text verdict = WritesEndsReport bounds asked s text verdict
-WritesProgramReport bounds (one ∷ others) asked s text verdict = WritesExpectationsReport bounds (one ∷ others) asked s text verdict
+abbrev pub WritesProgramReport : CheckRequest → List LineExpectation → ℕ → State → Text → Verdict → Type 0
+WritesProgramReport request [] asked s text verdict = WritesEndsReport request asked s text verdict
+WritesProgramReport request (one ∷ others) asked s text verdict = WritesExpectationsReport request (one ∷ others) asked s text verdict
 
 -- The text by the expectations of a source; or there was no memory for them; or one is faulty, which standard error says.
-pub data WritesForNotes (notes : Option DebugInfo) (bounds : CheckBounds) (asked : ℕ) (s : State) (text : Text) (verdict : Verdict) : Type 0 where
-  parsed : (expectations : List LineExpectation) → expectations_of notes ≡ Ok (map expected_content expectations) → WritesProgramReport bounds expectations asked s text verdict
-      → WritesForNotes notes bounds asked s text verdict
-  unparsed : IsReportOutput (refusal_text fault.Memory) (Ended ImageRefused) text verdict → WritesForNotes notes bounds asked s text verdict
-  faulty : text ≡ [] → verdict ≡ Ended ImageRefused → WritesForNotes notes bounds asked s text verdict
+pub data WritesForNotes (notes : Option DebugInfo) (request : CheckRequest) (asked : ℕ) (s : State) (text : Text) (verdict : Verdict) : Type 0 where
+  parsed : (expectations : List LineExpectation) → expectations_of notes ≡ Ok (map expected_content expectations) → WritesProgramReport request expectations asked s text verdict
+      → WritesForNotes notes request asked s text verdict
+  unparsed : IsReportOutput (refusal_answer request.format fault.Memory) (Ended ImageRefused) text verdict → WritesForNotes notes request asked s text verdict
+  faulty : text ≡ [] → verdict ≡ Ended ImageRefused → WritesForNotes notes request asked s text verdict
 
 -- An image or source was accepted, and the text is about its machine, from where its idle nodes waited if they were to. Nothing is done with what
 -- was read after it.
-pub record IsReportOfProgram (bounds : CheckBounds) (limit : ℕ) (settles : Bool) (asked : ℕ) (read rest : Bytes) (written : Text) (verdict : Verdict) : Type 0 where
+pub record IsReportOfProgram (request : CheckRequest) (limit : ℕ) (settles : Bool) (asked : ℕ) (read rest : Bytes) (written : Text) (verdict : Verdict) : Type 0 where
   pub text : Text
   pub ahead : Bytes
   pub begun : ExplorerState
   pub splits : read ≡ text ++ ahead
   pub front : IsLeadingText text (ahead ++ rest)
   pub opens : OpensExplorer text limit begun
-  pub tells : WritesForNotes begun.notes bounds asked (check_start settles begun.lab) written verdict
+  pub tells : WritesForNotes begun.notes request asked (check_start settles begun.lab) written verdict
 
 -- What may have been written, where read was read of the input and rest is left of it, and the verdict.
-pub data IsProgramOutcome (bounds : CheckBounds) (limit : ℕ) (settles : Bool) (asked : ℕ) (read rest : Bytes) (written : Text) (verdict : Verdict) : Type 0 where
-  checked : IsReportOfProgram bounds limit settles asked read rest written verdict → IsProgramOutcome bounds limit settles asked read rest written verdict
-  unbegun : (status : Status) → verdict ≡ Ended status → IsUnopenedSession None read rest written status
-      → IsProgramOutcome bounds limit settles asked read rest written verdict
+pub data IsProgramOutcome (request : CheckRequest) (limit : ℕ) (settles : Bool) (asked : ℕ) (read rest : Bytes) (written : Text) (verdict : Verdict) : Type 0 where
+  checked : IsReportOfProgram request limit settles asked read rest written verdict → IsProgramOutcome request limit settles asked read rest written verdict
+  unbegun : (status : Status) → verdict ≡ Ended status → IsUnopenedAnswer request.format read rest written status
+      → IsProgramOutcome request limit settles asked read rest written verdict

@@ -9,17 +9,17 @@ use Rattle.ga_explorer_text.specs.Texts.{run_text}
 use Rattle.ga_explorer_text.specs.Saved.{saved_text}
 use Rattle.ga_state_search.specs.declared.fault.SearchFault.{SearchFault}
 use Rattle.ga_state_ends.specs.Ends.{EndSearchResult}
-use Rattle.ga_check_report.specs.declared.ends_text.CheckBounds.{CheckBounds}
+use Rattle.ga_check_report.specs.declared.request.CheckRequest.{CheckRequest}
 use Rattle.ga_check_report.specs.EndTexts.{counted_noun_text, search_stop_text}
 
 -- no such event was found among this number of states: none comes if each was explored; else the bound that was met
-abbrev pub not_reached_text : CheckBounds → ℕ → Option SearchFault → Text
-not_reached_text bounds states None = codes "never, in " ++ counted_noun_text states (codes " state") ++ codes "\n"
-not_reached_text bounds states (Some fault) =
-    codes "not reached in " ++ counted_noun_text states (codes " state") ++ codes ", " ++ search_stop_text bounds fault
+abbrev pub not_reached_text : CheckRequest → ℕ → Option SearchFault → Text
+not_reached_text request states None = codes "never, in " ++ counted_noun_text states (codes " state") ++ codes "\n"
+not_reached_text request states (Some fault) =
+    codes "not reached in " ++ counted_noun_text states (codes " state") ++ codes ", " ++ search_stop_text request fault
 
-abbrev pub unreached_text : CheckBounds → EndSearchResult → Text
-unreached_text bounds found = not_reached_text bounds (length found.searched.chips) found.fault
+abbrev pub unreached_text : CheckRequest → EndSearchResult → Text
+unreached_text request found = not_reached_text request (length found.searched.chips) found.fault
 
 -- the machine has made the event, as `run until` tells it: where several conditions are looked for, which of them held; or its session
 abbrev pub reached_text : Bool → ℕ → ℕ → Made → State → Text

@@ -1,20 +1,29 @@
--- What private contracts cite: the session of one expectation, and the conditions of one.
-use Rattle.std.specs.Prelude.{ℕ, ◌≡◌, ◌-◌, List, slice_get, Some}
-use Rattle.ga_text.specs.Lines.{Text}
+-- What private contracts cite: the session of one expectation, the conditions of one and the sides that its node awaits, and a program that is opened.
+use Rattle.std.specs.Prelude.{ℕ, ◌≡◌, ◌-◌, List, [], ◌++◌, slice_get, Some, None, Result, Ok, Err}
+use Rattle.ga_text.specs.Lines.{Bytes, Text}
+use Rattle.ga_text.specs.Input.{UnreadInput}
+use Rattle.ga_console.specs.declared.run.Status.{Status}
+use Rattle.ga_explorer.specs.Opening.{ExplorerState, IsSessionOpened}
 use Rattle.ga_lab.specs.Machine.{State}
 use Rattle.ga_state_conditions.specs.declared.condition.StateCondition.{StateCondition}
 use Rattle.ga_state_expectations.specs.declared.source.Expectation.{Expectation}
 use Rattle.ga_state_expectations.specs.declared.source.Expectation.TheVariants.{AtEnds, Never, EveryOrderEnds, OneEnd}
 use Rattle.ga_state_expectations.specs.declared.source.LineExpectation.{LineExpectation}
-use Rattle.ga_check_report.specs.declared.ends_text.CheckBounds.{CheckBounds}
+use Rattle.ga_check_report.specs.declared.request.CheckRequest.{CheckRequest}
+use Rattle.ga_check_report.specs.declared.outcome.Breach.{Breach}
+use Rattle.ga_check_report.specs.declared.outcome.Breach.TheVariants.{Unmet, Reached, Endless, SeveralEnds}
+use Rattle.ga_check_report.specs.declared.outcome.ExpectationOutcome.{ExpectationOutcome}
+use Rattle.ga_check_report.specs.declared.outcome.ExpectationOutcome.TheVariants.{Holds, Broken, Unknown}
 use Rattle.ga_check_report.specs.declared.report.Verdict.{Verdict}
+use Rattle.ga_check_report.specs.declared.request.ReportFormat.{ReportFormat}
+use Rattle.ga_check_report.specs.ExpectationJson.{observation_sides}
+use Rattle.ga_check_report.specs.Opened.{IsUnopenedAnswer}
 use Rattle.ga_check_report.specs.Expected.{WritesExpectationsReport}
 
 -- the text about a machine by the number of this expectation, wherever it is listed
-abbrev pub WritesSessionOf : LineExpectation → ℕ → State → Text → Verdict → Type 0
-WritesSessionOf one asked s text verdict =
-    (bounds : CheckBounds) (expectations : List LineExpectation) → slice_get expectations (asked - 1) ≡ Some one
-    → WritesExpectationsReport bounds expectations asked s text verdict
+abbrev pub WritesSessionOf : CheckRequest → LineExpectation → ℕ → State → Text → Verdict → Type 0
+WritesSessionOf request one asked s text verdict =
+    (expectations : List LineExpectation) → slice_get expectations (asked - 1) ≡ Some one → WritesExpectationsReport request expectations asked s text verdict
 
 -- the expectation is that none of these conditions ever holds
 abbrev pub IsNeverOf : List StateCondition → Expectation → Type 0
@@ -22,3 +31,20 @@ IsNeverOf conditions (AtEnds expectation) = ⊥
 IsNeverOf conditions (Never listed) = listed.items ≡ conditions
 IsNeverOf conditions EveryOrderEnds = ⊥
 IsNeverOf conditions OneEnd = ⊥
+
+-- the sides that the node awaits
+abbrev pub breach_sides : Breach → Text
+breach_sides (Unmet state observation) = observation_sides observation
+breach_sides (Reached made) = []
+breach_sides Endless = []
+breach_sides (SeveralEnds ends) = []
+
+abbrev pub outcome_sides : ExpectationOutcome → Text
+outcome_sides Holds = []
+outcome_sides (Broken breach) = breach_sides breach
+outcome_sides Unknown = []
+
+-- a program was opened, or not
+abbrev pub IsProgramOpened : ReportFormat → ℕ → Bytes → UnreadInput → Bytes → Text → Result ExplorerState Status → Type 0
+IsProgramOpened format limit left input rest written (Ok begun) = IsSessionOpened None limit left input rest written (Ok begun)
+IsProgramOpened format limit left input rest written (Err status) = (read : Bytes) × (left ≡ read ++ rest) × IsUnopenedAnswer format read rest written status

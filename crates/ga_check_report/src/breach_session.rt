@@ -21,6 +21,7 @@ use crate::never::make_reached;
 use crate::outcome::{ExpectationOutcome, is_unknown};
 use crate::outcome_text::{no_session_front, write_expectation};
 use crate::report::{Verdict, sent, tell_refused, tell_saved_as};
+use crate::request::CheckRequest;
 use ga_console::Status;
 use ga_lab::{Lab, LabFault};
 use ga_state_conditions::{ReachedEvent, StateCondition, StateConditions, find_event};
@@ -36,18 +37,19 @@ pub(crate) fn tell_one<W: Write>(
     lab: &mut Lab,
     found: &mut FoundEnds,
     one: &LineExpectation,
+    request: CheckRequest<'_>,
     asked: u32,
     writer: &mut W,
 ) -> Verdict
     requires { AreEndsOfChip (chip_of lab.old) found.old }
-    ensures { WritesText (λ text. WritesSessionOf one.now asked lab.old text result) (W.contents writer.old) (W.contents writer.new) }
+    ensures { WritesText (λ text. WritesSessionOf request.entry one.now asked lab.old text result) (W.contents writer.old) (W.contents writer.new) }
 {
     match &one.expectation {
         Expectation::AtEnds(expectation) => {
-            tell_unmet(alloc, lab, found, one, expectation, asked, writer)
+            tell_unmet(alloc, lab, found, one, expectation, request, asked, writer)
         }
         Expectation::Never(conditions) => {
-            tell_never(alloc, lab, found, one, conditions, asked, writer)
+            tell_never(alloc, lab, found, one, conditions, request, asked, writer)
         }
         Expectation::EveryOrderEnds => {
             tell_unbroken(found, one, asked, &judge_endless(found), writer)
@@ -63,16 +65,17 @@ fn tell_unmet<W: Write>(
     found: &mut FoundEnds,
     one: &LineExpectation,
     expectation: &NodeExpectation,
+    request: CheckRequest<'_>,
     asked: u32,
     writer: &mut W,
 ) -> Verdict
     requires ends { AreEndsOfChip (chip_of lab.old) found.old }
     requires said { one.now.expectation ≡ AtEnds expectation.now }
-    ensures { WritesText (λ text. WritesSessionOf one.now asked lab.old text result) (W.contents writer.old) (W.contents writer.new) }
+    ensures { WritesText (λ text. WritesSessionOf request.entry one.now asked lab.old text result) (W.contents writer.old) (W.contents writer.new) }
 {
     match find_unmet(alloc, found, expectation) {
-        Ok(unmet) => tell_by_state(alloc, lab, found, one, expectation, unmet, asked, writer),
-        Err(_) => tell_refused(LabFault::Memory, writer),
+        Ok(unmet) => tell_by_state(alloc, lab, found, one, expectation, unmet, request, asked, writer),
+        Err(_) => tell_refused(request.format, LabFault::Memory, writer),
     }
 }
 
@@ -84,16 +87,17 @@ fn tell_by_state<W: Write>(
     one: &LineExpectation,
     expectation: &NodeExpectation,
     unmet: Option<u32>,
+    request: CheckRequest<'_>,
     asked: u32,
     writer: &mut W,
 ) -> Verdict
     requires ends { AreEndsOfChip (chip_of lab.old) found.now }
     requires said { one.now.expectation ≡ AtEnds expectation.now }
     requires unmet { IsFirstUnmet found.now expectation.now unmet }
-    ensures { WritesText (λ text. WritesSessionOf one.now asked lab.old text result) (W.contents writer.old) (W.contents writer.new) }
+    ensures { WritesText (λ text. WritesSessionOf request.entry one.now asked lab.old text result) (W.contents writer.old) (W.contents writer.new) }
 {
     match unmet {
-        Some(state) => tell_path(alloc, lab, found, one, expectation, state, asked, writer),
+        Some(state) => tell_path(alloc, lab, found, one, expectation, state, request, asked, writer),
         None => tell_unbroken(found, one, asked, &without_breach(found), writer),
     }
 }
@@ -106,18 +110,19 @@ fn tell_path<W: Write>(
     one: &LineExpectation,
     expectation: &NodeExpectation,
     state: u32,
+    request: CheckRequest<'_>,
     asked: u32,
     writer: &mut W,
 ) -> Verdict
     requires ends { AreEndsOfChip (chip_of lab.old) found.now }
     requires said { one.now.expectation ≡ AtEnds expectation.now }
     requires unmet { IsUnmetAt found.now expectation.now state }
-    ensures { WritesText (λ text. WritesSessionOf one.now asked lab.old text result) (W.contents writer.old) (W.contents writer.new) }
+    ensures { WritesText (λ text. WritesSessionOf request.entry one.now asked lab.old text result) (W.contents writer.old) (W.contents writer.new) }
 {
     match lead_to_state(alloc, lab, found, expectation, state) {
         Ok(()) => tell_saved_as(Verdict::Saved, lab, writer),
-        Err(LabFault::Full) => tell_refused(LabFault::Full, writer),
-        Err(_) => tell_refused(LabFault::Memory, writer),
+        Err(LabFault::Full) => tell_refused(request.format, LabFault::Full, writer),
+        Err(_) => tell_refused(request.format, LabFault::Memory, writer),
     }
 }
 
@@ -150,17 +155,18 @@ fn tell_never<W: Write>(
     found: &mut FoundEnds,
     one: &LineExpectation,
     conditions: &StateConditions,
+    request: CheckRequest<'_>,
     asked: u32,
     writer: &mut W,
 ) -> Verdict
     requires ends { AreEndsOfChip (chip_of lab.old) found.old }
     requires said { one.now.expectation ≡ Never conditions.now }
-    ensures { WritesText (λ text. WritesSessionOf one.now asked lab.old text result) (W.contents writer.old) (W.contents writer.new) }
+    ensures { WritesText (λ text. WritesSessionOf request.entry one.now asked lab.old text result) (W.contents writer.old) (W.contents writer.new) }
 {
     let listed = conditions.as_slice();
     match find_event(alloc, found, listed) {
-        Ok(reached) => tell_by_event(alloc, lab, found, one, listed, reached, asked, writer),
-        Err(_) => tell_refused(LabFault::Memory, writer),
+        Ok(reached) => tell_by_event(alloc, lab, found, one, listed, reached, request, asked, writer),
+        Err(_) => tell_refused(request.format, LabFault::Memory, writer),
     }
 }
 
@@ -172,6 +178,7 @@ fn tell_by_event<W: Write>(
     one: &LineExpectation,
     conditions: &[StateCondition],
     reached: Option<ReachedEvent>,
+    request: CheckRequest<'_>,
     asked: u32,
     writer: &mut W,
 ) -> Verdict
@@ -180,10 +187,10 @@ fn tell_by_event<W: Write>(
     requires said { IsNeverOf conditions.now one.now.expectation }
     requires reached { IfSome reached (IsReachedEvent found.old conditions.now) }
     requires none { IfNone reached (HasNoReachedEvent found.old conditions.now) }
-    ensures { WritesText (λ text. WritesSessionOf one.now asked lab.old text result) (W.contents writer.old) (W.contents writer.new) }
+    ensures { WritesText (λ text. WritesSessionOf request.entry one.now asked lab.old text result) (W.contents writer.old) (W.contents writer.new) }
 {
     match reached {
-        Some(reached) => tell_event(alloc, lab, found, one, conditions, reached, asked, writer),
+        Some(reached) => tell_event(alloc, lab, found, one, conditions, reached, request, asked, writer),
         None => tell_unbroken(found, one, asked, &without_breach(found), writer),
     }
 }
@@ -196,6 +203,7 @@ fn tell_event<W: Write>(
     one: &LineExpectation,
     conditions: &[StateCondition],
     reached: ReachedEvent,
+    request: CheckRequest<'_>,
     asked: u32,
     writer: &mut W,
 ) -> Verdict
@@ -203,12 +211,12 @@ fn tell_event<W: Write>(
     requires ends { AreEndsOfChip (chip_of lab.old) found.old }
     requires said { IsNeverOf conditions.now one.now.expectation }
     requires reached { IsReachedEvent found.old conditions.now reached }
-    ensures { WritesText (λ text. WritesSessionOf one.now asked lab.old text result) (W.contents writer.old) (W.contents writer.new) }
+    ensures { WritesText (λ text. WritesSessionOf request.entry one.now asked lab.old text result) (W.contents writer.old) (W.contents writer.new) }
 {
     match make_reached(alloc, lab, found, reached, conditions) {
         Ok(_made) => tell_saved_as(Verdict::Saved, lab, writer),
-        Err(LabFault::Full) => tell_refused(LabFault::Full, writer),
-        Err(_) => tell_refused(LabFault::Memory, writer),
+        Err(LabFault::Full) => tell_refused(request.format, LabFault::Full, writer),
+        Err(_) => tell_refused(request.format, LabFault::Memory, writer),
     }
 }
 

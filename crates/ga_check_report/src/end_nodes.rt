@@ -38,7 +38,7 @@ pub(crate) enum EndPart {
 }
 
 /// What a node does at an end.
-fn node_end_at(nodes: &[NodeEnd; 144], node: NodeId) -> NodeEnd
+pub(crate) fn node_end_at(nodes: &[NodeEnd; 144], node: NodeId) -> NodeEnd
     ensures { result ≡ node_end_at nodes.now node.number }
 {
     nodes[node.index()]
@@ -146,7 +146,7 @@ pub(crate) fn unclean_among(unclean: &[bool; 144]) -> Names
 }
 
 /// Whether the node is marked.
-fn is_unclean(unclean: &[bool; 144], node: NodeId) -> bool
+pub(crate) fn is_unclean(unclean: &[bool; 144], node: NodeId) -> bool
     ensures { result ≡ slice_index_or unclean.now node.number false }
 {
     unclean[node.index()]

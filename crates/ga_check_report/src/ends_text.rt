@@ -8,20 +8,12 @@ ghost use Rattle.ga_check_report.specs.EndTexts.{stopped_nodes_text, part_names_
 
 use crate::decision_text::decision_line;
 use crate::end_nodes::{EndPart, NAMES_ROOM, STOPS_ROOM, nodes_of, stops_among, unclean_among};
+use crate::request::CheckRequest;
 use arrayvec::ArrayVec;
 use ga_state_ends::{EndDecision, EndKind, FoundEnds, NodeEnd};
 use ga_state_search::SearchFault;
 use ga_text::{MAX_NUMBER_DIGITS, TextBuffer, WriteResult, Writer, push_number, push_text};
 use std::io::Write;
-
-/// The bounds of a search that a person sets.
-#[derive(Clone, Copy, PartialEq, Eq, Debug)]
-pub struct CheckBounds {
-    /// The maximum number of states.
-    pub most: u32,
-    /// The maximum number of seconds, if the search is to be stopped then. The caller stops it; the text names it.
-    pub seconds: u32,
-}
 
 /// The maximum number of bytes of what the nodes do that make no further step.
 const STILL_ROOM: usize = STOPS_ROOM
@@ -60,15 +52,15 @@ type UncleanLine = ArrayVec<u8, UNCLEAN_ROOM>;
 /// # Errors
 /// A write failed.
 pub(crate) fn write_ends<W: Write>(
-    bounds: CheckBounds,
+    request: CheckRequest<'_>,
     found: &FoundEnds,
     writer: &mut Writer<'_, W>,
 ) -> WriteResult
-    ensures { WritesExactly result (ends_text bounds found.now) W.contents writer.old writer.new }
+    ensures { WritesExactly result (ends_text request.entry found.now) W.contents writer.old writer.new }
 {
     write_head(found, writer)?;
     write_kinds(found.kinds(), found, writer)?;
-    write_last(bounds, found, writer)
+    write_last(request, found, writer)
 }
 
 /// Writes that there is no kind of end of this number, and how many there are.
@@ -161,11 +153,11 @@ pub(crate) fn push_counted(out: &mut TextBuffer, number: u64, thing: &[u8])
 
 /// Writes which bound was met, or whether some order never comes to an end.
 fn write_last<W: Write>(
-    bounds: CheckBounds,
+    request: CheckRequest<'_>,
     found: &FoundEnds,
     writer: &mut Writer<'_, W>,
 ) -> WriteResult
-    ensures { WritesExactly result (final_line_text bounds found.now.fault found.now.has_cycle_before found.now.has_cycle)
+    ensures { WritesExactly result (final_line_text request.entry found.now.fault found.now.has_cycle_before found.now.has_cycle)
         W.contents writer.old writer.new }
 {
     match found.fault() {
@@ -173,7 +165,7 @@ fn write_last<W: Write>(
             found.has_endless_path_before(),
             !found.always_ends(),
         )),
-        Some(fault) => writer.write_blocks(stopped_line(bounds, fault).as_slice()),
+        Some(fault) => writer.write_blocks(stopped_line(request, fault).as_slice()),
     }
 }
 
@@ -191,20 +183,20 @@ fn termination_text(before: bool, cycle: bool) -> &'static [u8]
 }
 
 /// Why the search stopped before its end.
-pub(crate) fn stopped_line(bounds: CheckBounds, fault: SearchFault) -> TextBuffer
-    ensures text { result.items ≡ search_stop_text bounds fault }
+pub(crate) fn stopped_line(request: CheckRequest<'_>, fault: SearchFault) -> TextBuffer
+    ensures text { result.items ≡ search_stop_text request.entry fault }
     ensures len { array_vec_len result ≤ 60 }
 {
     let mut out = ArrayVec::new();
     match fault {
         SearchFault::Full => {
             push_text(&mut out, b"stopped at --most ");
-            push_number(&mut out, u64::from(bounds.most));
+            push_number(&mut out, u64::from(request.most));
             push_text(&mut out, b" states\n");
         }
         SearchFault::Stopped => {
             push_text(&mut out, b"stopped after --seconds ");
-            push_number(&mut out, u64::from(bounds.seconds));
+            push_number(&mut out, u64::from(request.seconds));
             push_text(&mut out, b"\n");
         }
         SearchFault::Memory => push_text(&mut out, b"stopped: no memory for more states\n"),

@@ -8,20 +8,24 @@ ghost use Rattle.ga_state_ends.specs.Ends.{AreEndsOfChip};
 ghost use Rattle.ga_check_report.specs.declared.outcome.ExpectationOutcome.TheVariants.{Unknown};
 ghost use Rattle.ga_check_report.specs.declared.report.Verdict.TheVariants.{Ended};
 ghost use Rattle.ga_check_report.specs.Checking.{IsReportOutput};
+ghost use Rattle.ga_check_report.specs.Answers.{expectations_answer};
 ghost use Rattle.ga_check_report.specs.ExpectationTexts.{expectations_lines_text, expectations_text, missing_session_text, optional_stop_text};
 ghost use Rattle.ga_check_report.specs.Outcomes.{AreOutcomes, outcomes_verdict};
 ghost use Rattle.ga_check_report.specs.Expected.{WritesForNotes, WritesExpectationsReport, WritesProgramReport, IsProgramOutcome};
 ghost use Rattle.ga_check_report.specs.Settled.{check_start};
 
 use crate::breach_session::tell_one;
-use crate::ends_text::{CheckBounds, is_fully_explored, stopped_line};
+use crate::ends_text::{is_fully_explored, stopped_line};
+use crate::expectations_json::write_expectations_json;
 use crate::judging::judge_all;
+use crate::opening::open_program;
 use crate::outcome::{ExpectationOutcome, OutcomeParts, outcomes_verdict};
 use crate::outcome_text::{expectations_header, missing_session_text, write_expectation};
 use crate::report::{Verdict, sent, tell_ends, tell_refused};
+use crate::request::{CheckRequest, ReportFormat};
 use crate::settling::settle_waiting_nodes;
 use ga_console::Status;
-use ga_explorer::{Explorer, open_lab};
+use ga_explorer::Explorer;
 use ga_lab::{Lab, LabFault};
 use ga_state_ends::{FoundEnds, find_ends};
 use ga_state_expectations::{ExpectationsError, LineExpectation, parse_expectations};
@@ -38,19 +42,27 @@ pub fn check_program<R: Read, W: Write, E: Write>(
     reader: &mut R,
     writer: &mut W,
     errors: &mut E,
-    bounds: CheckBounds,
+    request: CheckRequest<'_>,
     limit: u32,
     settles: bool,
     asked: u32,
     watch: &SearchControl,
 ) -> Verdict
     // If the streams report their bytes: what was read, and what was written for it by the verdict.
-    ensures { ReadsAndWrites (λ read rest text. IsProgramOutcome bounds limit settles asked read rest text result)
+    ensures { ReadsAndWrites (λ read rest text. IsProgramOutcome request.entry limit settles asked read rest text result)
         (R.remaining reader.old) (R.remaining reader.new) (W.contents writer.old) (W.contents writer.new) }
 {
     let mut input = Input::new();
-    match open_lab(alloc, &mut input, reader, writer, errors, None, limit) {
-        Ok(begun) => answer_expectations(alloc, begun, bounds, settles, asked, watch, writer),
+    match open_program(
+        alloc,
+        &mut input,
+        reader,
+        writer,
+        errors,
+        request.format,
+        limit,
+    ) {
+        Ok(begun) => answer_expectations(alloc, begun, request, settles, asked, watch, writer),
         Err(status) => Verdict::Ended(status),
     }
 }
@@ -59,26 +71,26 @@ pub fn check_program<R: Read, W: Write, E: Write>(
 fn answer_expectations<W: Write>(
     alloc: Global,
     begun: Explorer,
-    bounds: CheckBounds,
+    request: CheckRequest<'_>,
     settles: bool,
     asked: u32,
     watch: &SearchControl,
     writer: &mut W,
 ) -> Verdict
-    ensures { WritesText (λ text. WritesForNotes begun.notes bounds asked (check_start settles begun.lab) text result) (W.contents writer.old) (W.contents writer.new) }
+    ensures { WritesText (λ text. WritesForNotes begun.notes request.entry asked (check_start settles begun.lab) text result) (W.contents writer.old) (W.contents writer.new) }
 {
     match parse_expectations(alloc, begun.notes()) {
         Ok(expectations) => settle_and_judge(
             alloc,
             &mut begun.into_lab(),
-            bounds,
+            request,
             settles,
             expectations.as_slice(),
             asked,
             watch,
             writer,
         ),
-        Err(ExpectationsError::Memory) => tell_refused(LabFault::Memory, writer),
+        Err(ExpectationsError::Memory) => tell_refused(request.format, LabFault::Memory, writer),
         Err(ExpectationsError::Faulty(_)) => Verdict::Ended(Status::ImageRefused),
     }
 }
@@ -87,19 +99,19 @@ fn answer_expectations<W: Write>(
 fn settle_and_judge<W: Write>(
     alloc: Global,
     lab: &mut Lab,
-    bounds: CheckBounds,
+    request: CheckRequest<'_>,
     settles: bool,
     expectations: &[LineExpectation],
     asked: u32,
     watch: &SearchControl,
     writer: &mut W,
 ) -> Verdict
-    ensures { WritesText (λ text. WritesProgramReport bounds expectations.now asked (check_start settles lab.old) text result)
+    ensures { WritesText (λ text. WritesProgramReport request.entry expectations.now asked (check_start settles lab.old) text result)
         (W.contents writer.old) (W.contents writer.new) }
 {
     match settle_waiting_nodes(lab, settles) {
-        Ok(()) => tell_program(alloc, lab, bounds, expectations, asked, watch, writer),
-        Err(_) => tell_refused(LabFault::Memory, writer),
+        Ok(()) => tell_program(alloc, lab, request, expectations, asked, watch, writer),
+        Err(_) => tell_refused(request.format, LabFault::Memory, writer),
     }
 }
 
@@ -107,19 +119,19 @@ fn settle_and_judge<W: Write>(
 fn tell_program<W: Write>(
     alloc: Global,
     lab: &mut Lab,
-    bounds: CheckBounds,
+    request: CheckRequest<'_>,
     expectations: &[LineExpectation],
     asked: u32,
     watch: &SearchControl,
     writer: &mut W,
 ) -> Verdict
-    ensures { WritesText (λ text. WritesProgramReport bounds expectations.now asked lab.old text result) (W.contents writer.old) (W.contents writer.new) }
+    ensures { WritesText (λ text. WritesProgramReport request.entry expectations.now asked lab.old text result) (W.contents writer.old) (W.contents writer.new) }
 {
     let count = expectations.len();
     if count == 0 {
-        tell_ends(alloc, lab, bounds, asked, watch, writer)
+        tell_ends(alloc, lab, request, asked, watch, writer)
     } else {
-        search_and_judge(alloc, lab, bounds, expectations, asked, watch, writer)
+        search_and_judge(alloc, lab, request, expectations, asked, watch, writer)
     }
 }
 
@@ -127,19 +139,19 @@ fn tell_program<W: Write>(
 fn search_and_judge<W: Write>(
     alloc: Global,
     lab: &mut Lab,
-    bounds: CheckBounds,
+    request: CheckRequest<'_>,
     expectations: &[LineExpectation],
     asked: u32,
     watch: &SearchControl,
     writer: &mut W,
 ) -> Verdict
-    ensures { WritesText (λ text. WritesExpectationsReport bounds expectations.now asked lab.old text result) (W.contents writer.old) (W.contents writer.new) }
+    ensures { WritesText (λ text. WritesExpectationsReport request.entry expectations.now asked lab.old text result) (W.contents writer.old) (W.contents writer.new) }
 {
-    match find_ends(alloc, lab.chip(), bounds.most, watch) {
+    match find_ends(alloc, lab.chip(), request.most, watch) {
         Ok(mut found) => {
-            tell_expectations(alloc, lab, &mut found, bounds, expectations, asked, writer)
+            tell_expectations(alloc, lab, &mut found, request, expectations, asked, writer)
         }
-        Err(_) => tell_refused(LabFault::Memory, writer),
+        Err(_) => tell_refused(request.format, LabFault::Memory, writer),
     }
 }
 
@@ -148,22 +160,23 @@ fn tell_expectations<W: Write>(
     alloc: Global,
     lab: &mut Lab,
     found: &mut FoundEnds,
-    bounds: CheckBounds,
+    request: CheckRequest<'_>,
     expectations: &[LineExpectation],
     asked: u32,
     writer: &mut W,
 ) -> Verdict
     requires { AreEndsOfChip (chip_of lab.old) found.old }
-    ensures { WritesText (λ text. WritesExpectationsReport bounds expectations.now asked lab.old text result) (W.contents writer.old) (W.contents writer.new) }
+    ensures { WritesText (λ text. WritesExpectationsReport request.entry expectations.now asked lab.old text result) (W.contents writer.old) (W.contents writer.new) }
 {
     if asked == 0 {
-        tell_each(alloc, lab, found, bounds, expectations, writer)
+        tell_each(alloc, lab, found, request, expectations, writer)
     } else if asked as usize <= expectations.len() {
         tell_one(
             alloc,
             lab,
             found,
             expectation_at(expectations, asked),
+            request,
             asked,
             writer,
         )
@@ -188,55 +201,78 @@ fn tell_each<W: Write>(
     alloc: Global,
     lab: &mut Lab,
     found: &mut FoundEnds,
-    bounds: CheckBounds,
+    request: CheckRequest<'_>,
     expectations: &[LineExpectation],
     writer: &mut W,
 ) -> Verdict
     requires { AreEndsOfChip (chip_of lab.old) found.old }
-    ensures { WritesText (λ text. WritesExpectationsReport bounds expectations.now 0 lab.old text result) (W.contents writer.old) (W.contents writer.new) }
+    ensures { WritesText (λ text. WritesExpectationsReport request.entry expectations.now 0 lab.old text result) (W.contents writer.old) (W.contents writer.new) }
 {
     let _parts: Option<OutcomeParts> = None;
     match judge_all(alloc, lab, found, expectations) {
-        Ok(outcomes) => tell_outcomes(bounds, found, expectations, outcomes.as_slice(), writer),
-        Err(LabFault::Full) => tell_refused(LabFault::Full, writer),
-        Err(_) => tell_refused(LabFault::Memory, writer),
+        Ok(outcomes) => tell_outcomes(request, found, expectations, outcomes.as_slice(), writer),
+        Err(LabFault::Full) => tell_refused(request.format, LabFault::Full, writer),
+        Err(_) => tell_refused(request.format, LabFault::Memory, writer),
     }
 }
 
 /// Writes the expectations with what is known of them, and what is pending.
 fn tell_outcomes<W: Write>(
-    bounds: CheckBounds,
+    request: CheckRequest<'_>,
     found: &FoundEnds,
     expectations: &[LineExpectation],
     outcomes: &[ExpectationOutcome],
     writer: &mut W,
 ) -> Verdict
-    ensures { WritesText (λ text. IsReportOutput (expectations_text bounds found.now expectations.now outcomes.now) (outcomes_verdict outcomes.now) text result)
+    ensures { WritesText (λ text. IsReportOutput (expectations_answer request.entry found.now expectations.now outcomes.now) (outcomes_verdict outcomes.now) text result)
         (W.contents writer.old) (W.contents writer.new) }
 {
     let mut out = Writer::new(writer);
-    let said = write_expectations(bounds, found, expectations, outcomes, &mut out);
+    let said = write_expectations(request, found, expectations, outcomes, &mut out);
     sent(said, outcomes_verdict(outcomes), &mut out)
+}
+
+/// Writes the expectations with what is known of them, in the format that was asked for.
+///
+/// # Errors
+/// A write failed.
+fn write_expectations<W: Write>(
+    request: CheckRequest<'_>,
+    found: &FoundEnds,
+    expectations: &[LineExpectation],
+    outcomes: &[ExpectationOutcome],
+    writer: &mut Writer<'_, W>,
+) -> WriteResult
+    ensures { WritesExactly result (expectations_answer request.entry found.now expectations.now outcomes.now) W.contents writer.old writer.new }
+{
+    match request.format {
+        ReportFormat::Text => {
+            write_expectations_text(request, found, expectations, outcomes, writer)
+        }
+        ReportFormat::Json(file) => {
+            write_expectations_json(file, found, expectations, outcomes, writer)
+        }
+    }
 }
 
 /// Writes the numbers of states and of expectations, the line of each, and which bound was met.
 ///
 /// # Errors
 /// A write failed.
-fn write_expectations<W: Write>(
-    bounds: CheckBounds,
+fn write_expectations_text<W: Write>(
+    request: CheckRequest<'_>,
     found: &FoundEnds,
     expectations: &[LineExpectation],
     outcomes: &[ExpectationOutcome],
     writer: &mut Writer<'_, W>,
 ) -> WriteResult
-    ensures { WritesExactly result (expectations_text bounds found.now expectations.now outcomes.now) W.contents writer.old writer.new }
+    ensures { WritesExactly result (expectations_text request.entry found.now expectations.now outcomes.now) W.contents writer.old writer.new }
 {
     let whole = is_fully_explored(found);
     let header = expectations_header(whole, found.count_states(), expectations.len());
     writer.write_blocks(header.as_slice())?;
     write_lines(whole, expectations, outcomes, writer)?;
-    write_stop(bounds, found, writer)
+    write_stop(request, found, writer)
 }
 
 /// Writes the line of each expectation.
@@ -259,7 +295,7 @@ fn write_lines<W: Write>(
 }
 
 /// The outcome at a place.
-fn outcome_at(outcomes: &[ExpectationOutcome], place: usize) -> ExpectationOutcome
+pub(crate) fn outcome_at(outcomes: &[ExpectationOutcome], place: usize) -> ExpectationOutcome
     ensures { result ≡ slice_index_or outcomes.now place Unknown }
 {
     match outcomes.get(place) {
@@ -273,15 +309,15 @@ fn outcome_at(outcomes: &[ExpectationOutcome], place: usize) -> ExpectationOutco
 /// # Errors
 /// A write failed.
 fn write_stop<W: Write>(
-    bounds: CheckBounds,
+    request: CheckRequest<'_>,
     found: &FoundEnds,
     writer: &mut Writer<'_, W>,
 ) -> WriteResult
-    ensures { WritesExactly result (optional_stop_text bounds found.now.fault) W.contents writer.old writer.new }
+    ensures { WritesExactly result (optional_stop_text request.entry found.now.fault) W.contents writer.old writer.new }
 {
     match found.fault() {
         None => writer.write_text(b""),
-        Some(fault) => writer.write_blocks(stopped_line(bounds, fault).as_slice()),
+        Some(fault) => writer.write_blocks(stopped_line(request, fault).as_slice()),
     }
 }
 

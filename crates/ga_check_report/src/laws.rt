@@ -13,7 +13,7 @@ ghost use Rattle.ga_explorer_text.specs.Saved.{saved_text};
 ghost use Rattle.ga_state_ends.specs.Ends.{EndSearchResult, AreEndsOfChip, is_unclean};
 ghost use Rattle.ga_state_conditions.specs.declared.condition.StateCondition.{StateCondition};
 ghost use Rattle.ga_state_conditions.specs.Reached.{IsConditionMet};
-ghost use Rattle.ga_check_report.specs.NeverTexts.{reached_text};
+ghost use Rattle.ga_check_report.specs.Answers.{ends_answer, reached_answer};
 ghost use Rattle.ga_check_report.specs.Never.{HasReachedEvent, WritesNeverReport};
 ghost use Rattle.ga_check_report.specs.Settled.{settled};
 ghost use Rattle.ga_state_expectations.specs.declared.source.Expectation.{Expectation as AnExpectation};
@@ -22,40 +22,39 @@ ghost use Rattle.ga_check_report.specs.declared.outcome.Breach.{Breach as ABreac
 ghost use Rattle.ga_check_report.specs.declared.outcome.ExpectationOutcome.TheVariants.{Holds, Broken};
 ghost use Rattle.ga_check_report.specs.Outcomes.{IsOutcome, HoldsInEveryOrder, IsBrokenInSomeOrder};
 ghost use Rattle.ga_check_report.specs.Expected.{LeadsToBreach, WritesExpectationsReport};
-ghost use Rattle.ga_check_report.specs.EndTexts.{ends_text};
 ghost use Rattle.ga_check_report.specs.Checking.{WritesEndsReport, HasAppendedEvents, HasReachedEndKind};
-ghost use Rattle.ga_check_report.specs.declared.ends_text.CheckBounds.{CheckBounds};
+ghost use Rattle.ga_check_report.specs.declared.request.CheckRequest.{CheckRequest};
 ghost use Rattle.ga_check_report.specs.declared.report.Verdict.TheVariants.{Clean, Unclean, Saved};
 
 /// Where the verdict is `Clean`, each state was explored, each kind of end is written, and each is clean.
 pub fn clean_verdict_sound()
-    ensures { (bounds : CheckBounds) (asked : ℕ) (s : State) (text : Text) → WritesEndsReport bounds asked s text Clean →
-        (found : EndSearchResult) × AreEndsOfChip (chip_of s) found × (found.fault ≡ None) × (list_any is_unclean found.kinds ≡ false) × (text ≡ ends_text bounds found) }
+    ensures { (request : CheckRequest) (asked : ℕ) (s : State) (text : Text) → WritesEndsReport request asked s text Clean →
+        (found : EndSearchResult) × AreEndsOfChip (chip_of s) found × (found.fault ≡ None) × (list_any is_unclean found.kinds ≡ false) × (text ≡ ends_answer request found) }
 {}
 
 /// Where the verdict is `Unclean`, an end that isn't clean is written.
 pub fn unclean_verdict_sound()
-    ensures { (bounds : CheckBounds) (asked : ℕ) (s : State) (text : Text) → WritesEndsReport bounds asked s text Unclean →
-        (found : EndSearchResult) × AreEndsOfChip (chip_of s) found × (list_any is_unclean found.kinds ≡ true) × (text ≡ ends_text bounds found) }
+    ensures { (request : CheckRequest) (asked : ℕ) (s : State) (text : Text) → WritesEndsReport request asked s text Unclean →
+        (found : EndSearchResult) × AreEndsOfChip (chip_of s) found × (list_any is_unclean found.kinds ≡ true) × (text ≡ ends_answer request found) }
 {}
 
 /// Where the verdict is `Saved`, the session that is written leads to an end of the kind that was asked for.
 pub fn session_leads_to_end()
-    ensures { (bounds : CheckBounds) (asked : ℕ) (s : State) (text : Text) → WritesEndsReport bounds asked s text Saved →
+    ensures { (request : CheckRequest) (asked : ℕ) (s : State) (text : Text) → WritesEndsReport request asked s text Saved →
         (found : EndSearchResult) × (last : State) × AreEndsOfChip (chip_of s) found × HasReachedEndKind found asked s last × (text ≡ saved_text last) }
 {}
 
 /// Where the verdict of `check_never` is `Clean`, none of the conditions is met by an event that comes after any list of events.
 pub fn never_verdict_sound()
-    ensures { (bounds : CheckBounds) (conditions : List StateCondition) (session : Bool) (s : State) (text : Text) → WritesNeverReport bounds conditions session s text Clean →
+    ensures { (request : CheckRequest) (conditions : List StateCondition) (session : Bool) (s : State) (text : Text) → WritesNeverReport request conditions session s text Clean →
         (last : List NodeRecord) (events : List Event) (event : Event) (place : ℕ) (condition : StateCondition) → slice_get conditions place ≡ Some condition →
         replay (chip_of s) events ≡ Some last → IsEnabled last event → IsConditionMet condition last event → ⊥ }
 {}
 
 /// Where it is `Unclean`, the text is that of an event that meets one of the conditions, or of its session.
 pub fn reached_verdict_sound()
-    ensures { (bounds : CheckBounds) (conditions : List StateCondition) (session : Bool) (s : State) (text : Text) → WritesNeverReport bounds conditions session s text Unclean →
-        (which : ℕ) × (last : State) × (made : Made) × HasReachedEvent conditions which s last made × (text ≡ reached_text session (length conditions) which made last) }
+    ensures { (request : CheckRequest) (conditions : List StateCondition) (session : Bool) (s : State) (text : Text) → WritesNeverReport request conditions session s text Unclean →
+        (which : ℕ) × (last : State) × (made : Made) × HasReachedEvent conditions which s last made × (text ≡ reached_answer request.format session (length conditions) which made last) }
 {}
 
 /// A machine that has come to rest keeps some events more, and else is as it was. So what holds from there holds of the program: a list of
@@ -75,18 +74,18 @@ pub fn expectation_outcomes_sound()
 
 /// Where the verdict about expectations is `Clean`, each holds in every order, and its line says so. Where it is `Unclean`, one is broken.
 pub fn expectations_verdict_sound()
-    ensures clean { (bounds : CheckBounds) (expectations : List LineExpectation) (asked : ℕ) (s : State) (text : Text) →
-        WritesExpectationsReport bounds expectations asked s text Clean → (place : ℕ) (one : LineExpectation) → slice_get expectations place ≡ Some one →
+    ensures clean { (request : CheckRequest) (expectations : List LineExpectation) (asked : ℕ) (s : State) (text : Text) →
+        WritesExpectationsReport request expectations asked s text Clean → (place : ℕ) (one : LineExpectation) → slice_get expectations place ≡ Some one →
         HoldsInEveryOrder (chip_of s) one.expectation }
-    ensures unclean { (bounds : CheckBounds) (expectations : List LineExpectation) (asked : ℕ) (s : State) (text : Text) →
-        WritesExpectationsReport bounds expectations asked s text Unclean →
+    ensures unclean { (request : CheckRequest) (expectations : List LineExpectation) (asked : ℕ) (s : State) (text : Text) →
+        WritesExpectationsReport request expectations asked s text Unclean →
         (found : EndSearchResult) × (place : ℕ) × (one : LineExpectation) × AreEndsOfChip (chip_of s) found × (slice_get expectations place ≡ Some one)
         × IsBrokenInSomeOrder s found one.expectation }
 {}
 
 /// Where the verdict about an expectation is `Saved`, the session that is written leads to what breaks it.
 pub fn breach_session_sound()
-    ensures { (bounds : CheckBounds) (expectations : List LineExpectation) (asked : ℕ) (s : State) (text : Text) →
-        WritesExpectationsReport bounds expectations asked s text Saved →
+    ensures { (request : CheckRequest) (expectations : List LineExpectation) (asked : ℕ) (s : State) (text : Text) →
+        WritesExpectationsReport request expectations asked s text Saved →
         (one : LineExpectation) × (last : State) × (slice_get expectations (asked - 1) ≡ Some one) × LeadsToBreach s one.expectation last × (text ≡ saved_text last) }
 {}

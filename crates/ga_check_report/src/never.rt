@@ -8,26 +8,27 @@ ghost use Rattle.ga_state_ends.specs.Ends.{AreEndsOfChip};
 ghost use Rattle.ga_state_conditions.specs.Asked.{state_conditions_in};
 ghost use Rattle.ga_state_conditions.specs.Reached.{IsReachedEvent, HasNoReachedEvent};
 ghost use Rattle.ga_check_report.specs.declared.report.Verdict.TheVariants.{Unclean};
-ghost use Rattle.ga_check_report.specs.NeverTexts.{not_reached_text, unreached_text, reached_text};
+ghost use Rattle.ga_check_report.specs.Answers.{reached_answer, unreached_answer};
 ghost use Rattle.ga_check_report.specs.Checking.{IsReportOutput};
 ghost use Rattle.ga_check_report.specs.Never.{unreached_verdict, HasReachedEvent, WritesNeverReport, WritesForConditions, IsNeverOutcome};
 ghost use Rattle.ga_check_report.specs.Settled.{check_start};
 
-use crate::ends_text::{CheckBounds, is_fully_explored, push_counted, stopped_line};
+use crate::ends_text::is_fully_explored;
 use crate::making::{make, make_all};
+use crate::never_json::{write_reached_json, write_unreached_json};
+use crate::never_text::{write_made, write_unreached_text};
+use crate::opening::open_program;
 use crate::report::{Verdict, sent, tell_refused, tell_saved_as};
+use crate::request::{CheckRequest, ReportFormat};
 use crate::settling::settle_waiting_nodes;
-use arrayvec::ArrayVec;
-use ga_explorer::{Explorer, open_lab};
-use ga_explorer_text::run_result_text;
+use ga_explorer::Explorer;
 use ga_lab::{Lab, LabFault, Made};
-use ga_scheduler::{RunEnd, RunResult, Schedule};
 use ga_state_conditions::{
     ConditionFault, ReachedEvent, StateCondition, find_event, find_session, parse_state_conditions,
 };
 use ga_state_ends::{FoundEnds, find_ends};
-use ga_state_search::{SearchControl, SearchFault};
-use ga_text::{Input, TextBuffer, WriteResult, Writer, push_text};
+use ga_state_search::SearchControl;
+use ga_text::{Input, WriteResult, Writer};
 use std::alloc::Global;
 use std::io::{Read, Write};
 
@@ -42,7 +43,7 @@ pub fn check_never<R: Read, W: Write, E: Write>(
     reader: &mut R,
     writer: &mut W,
     errors: &mut E,
-    bounds: CheckBounds,
+    request: CheckRequest<'_>,
     limit: u32,
     settles: bool,
     asked: &[u8],
@@ -50,13 +51,21 @@ pub fn check_never<R: Read, W: Write, E: Write>(
     watch: &SearchControl,
 ) -> Result<Verdict, ConditionFault>
     // If the streams report their bytes: what was read, and what was written for it by the verdict.
-    ensures { ReadsAndWrites (λ read rest text. IsNeverOutcome bounds limit settles asked.now session read rest text result)
+    ensures { ReadsAndWrites (λ read rest text. IsNeverOutcome request.entry limit settles asked.now session read rest text result)
         (R.remaining reader.old) (R.remaining reader.new) (W.contents writer.old) (W.contents writer.new) }
 {
     let mut input = Input::new();
-    match open_lab(alloc, &mut input, reader, writer, errors, None, limit) {
+    match open_program(
+        alloc,
+        &mut input,
+        reader,
+        writer,
+        errors,
+        request.format,
+        limit,
+    ) {
         Ok(begun) => answer_conditions(
-            alloc, begun, bounds, settles, asked, session, watch, writer,
+            alloc, begun, request, settles, asked, session, watch, writer,
         ),
         Err(status) => Ok(Verdict::Ended(status)),
     }
@@ -66,21 +75,21 @@ pub fn check_never<R: Read, W: Write, E: Write>(
 fn answer_conditions<W: Write>(
     alloc: Global,
     begun: Explorer,
-    bounds: CheckBounds,
+    request: CheckRequest<'_>,
     settles: bool,
     asked: &[u8],
     session: bool,
     watch: &SearchControl,
     writer: &mut W,
 ) -> Result<Verdict, ConditionFault>
-    ensures { WritesText (λ text. WritesForConditions (state_conditions_in begun.notes asked.now) bounds session (check_start settles begun.lab) text result)
+    ensures { WritesText (λ text. WritesForConditions (state_conditions_in begun.notes asked.now) request.entry session (check_start settles begun.lab) text result)
         (W.contents writer.old) (W.contents writer.new) }
 {
     match parse_state_conditions(begun.notes(), asked) {
         Ok(conditions) => Ok(settle_and_look(
             alloc,
             &mut begun.into_lab(),
-            bounds,
+            request,
             settles,
             conditions.as_slice(),
             session,
@@ -95,7 +104,7 @@ fn answer_conditions<W: Write>(
 fn settle_and_look<W: Write>(
     alloc: Global,
     lab: &mut Lab,
-    bounds: CheckBounds,
+    request: CheckRequest<'_>,
     settles: bool,
     conditions: &[StateCondition],
     session: bool,
@@ -103,12 +112,12 @@ fn settle_and_look<W: Write>(
     writer: &mut W,
 ) -> Verdict
     requires few { length conditions.now ≤ 8 }
-    ensures { WritesText (λ text. WritesNeverReport bounds conditions.now session (check_start settles lab.old) text result)
+    ensures { WritesText (λ text. WritesNeverReport request.entry conditions.now session (check_start settles lab.old) text result)
         (W.contents writer.old) (W.contents writer.new) }
 {
     match settle_waiting_nodes(lab, settles) {
-        Ok(()) => look_for(alloc, lab, bounds, conditions, session, watch, writer),
-        Err(_) => tell_refused(LabFault::Memory, writer),
+        Ok(()) => look_for(alloc, lab, request, conditions, session, watch, writer),
+        Err(_) => tell_refused(request.format, LabFault::Memory, writer),
     }
 }
 
@@ -116,18 +125,18 @@ fn settle_and_look<W: Write>(
 fn look_for<W: Write>(
     alloc: Global,
     lab: &mut Lab,
-    bounds: CheckBounds,
+    request: CheckRequest<'_>,
     conditions: &[StateCondition],
     session: bool,
     watch: &SearchControl,
     writer: &mut W,
 ) -> Verdict
     requires few { length conditions.now ≤ 8 }
-    ensures { WritesText (λ text. WritesNeverReport bounds conditions.now session lab.old text result) (W.contents writer.old) (W.contents writer.new) }
+    ensures { WritesText (λ text. WritesNeverReport request.entry conditions.now session lab.old text result) (W.contents writer.old) (W.contents writer.new) }
 {
-    match find_ends(alloc, lab.chip(), bounds.most, watch) {
-        Ok(mut found) => look_among(alloc, lab, &mut found, bounds, conditions, session, writer),
-        Err(_) => tell_refused(LabFault::Memory, writer),
+    match find_ends(alloc, lab.chip(), request.most, watch) {
+        Ok(mut found) => look_among(alloc, lab, &mut found, request, conditions, session, writer),
+        Err(_) => tell_refused(request.format, LabFault::Memory, writer),
     }
 }
 
@@ -136,20 +145,20 @@ fn look_among<W: Write>(
     alloc: Global,
     lab: &mut Lab,
     found: &mut FoundEnds,
-    bounds: CheckBounds,
+    request: CheckRequest<'_>,
     conditions: &[StateCondition],
     session: bool,
     writer: &mut W,
 ) -> Verdict
     requires few { length conditions.now ≤ 8 }
     requires ends { AreEndsOfChip (chip_of lab.old) found.old }
-    ensures { WritesText (λ text. WritesNeverReport bounds conditions.now session lab.old text result) (W.contents writer.old) (W.contents writer.new) }
+    ensures { WritesText (λ text. WritesNeverReport request.entry conditions.now session lab.old text result) (W.contents writer.old) (W.contents writer.new) }
 {
     match find_event(alloc, found, conditions) {
         Ok(reached) => tell_found_event(
-            alloc, lab, found, bounds, reached, conditions, session, writer,
+            alloc, lab, found, request, reached, conditions, session, writer,
         ),
-        Err(_) => tell_refused(LabFault::Memory, writer),
+        Err(_) => tell_refused(request.format, LabFault::Memory, writer),
     }
 }
 
@@ -158,7 +167,7 @@ fn tell_found_event<W: Write>(
     alloc: Global,
     lab: &mut Lab,
     found: &mut FoundEnds,
-    bounds: CheckBounds,
+    request: CheckRequest<'_>,
     reached: Option<ReachedEvent>,
     conditions: &[StateCondition],
     session: bool,
@@ -168,11 +177,13 @@ fn tell_found_event<W: Write>(
     requires ends { AreEndsOfChip (chip_of lab.old) found.old }
     requires reached { IfSome reached (IsReachedEvent found.old conditions.now) }
     requires none { IfNone reached (HasNoReachedEvent found.old conditions.now) }
-    ensures { WritesText (λ text. WritesNeverReport bounds conditions.now session lab.old text result) (W.contents writer.old) (W.contents writer.new) }
+    ensures { WritesText (λ text. WritesNeverReport request.entry conditions.now session lab.old text result) (W.contents writer.old) (W.contents writer.new) }
 {
     match reached {
-        Some(reached) => tell_event(alloc, lab, found, reached, conditions, session, writer),
-        None => tell_unreached(bounds, found, writer),
+        Some(reached) => tell_event(
+            alloc, lab, found, request, reached, conditions, session, writer,
+        ),
+        None => tell_unreached(request, found, writer),
     }
 }
 
@@ -181,6 +192,7 @@ fn tell_event<W: Write>(
     alloc: Global,
     lab: &mut Lab,
     found: &mut FoundEnds,
+    request: CheckRequest<'_>,
     reached: ReachedEvent,
     conditions: &[StateCondition],
     session: bool,
@@ -189,13 +201,20 @@ fn tell_event<W: Write>(
     requires few { length conditions.now ≤ 8 }
     requires ends { AreEndsOfChip (chip_of lab.old) found.old }
     requires reached { IsReachedEvent found.old conditions.now reached }
-    ensures { WritesText (λ text. (bounds : CheckBounds) → WritesNeverReport bounds conditions.now session lab.old text result)
-        (W.contents writer.old) (W.contents writer.new) }
+    ensures { WritesText (λ text. WritesNeverReport request.entry conditions.now session lab.old text result) (W.contents writer.old) (W.contents writer.new) }
 {
     match make_reached(alloc, lab, found, reached, conditions) {
-        Ok(made) => tell_reached(lab, conditions.len(), reached.which, made, session, writer),
-        Err(LabFault::Full) => tell_refused(LabFault::Full, writer),
-        Err(_) => tell_refused(LabFault::Memory, writer),
+        Ok(made) => tell_reached(
+            lab,
+            request.format,
+            conditions.len(),
+            reached.which,
+            made,
+            session,
+            writer,
+        ),
+        Err(LabFault::Full) => tell_refused(request.format, LabFault::Full, writer),
+        Err(_) => tell_refused(request.format, LabFault::Memory, writer),
     }
 }
 
@@ -229,66 +248,69 @@ pub(crate) fn make_reached(
 /// Writes the newest event of a lab, after which the condition at this place holds, or the session of its events.
 fn tell_reached<W: Write>(
     lab: &Lab,
+    format: ReportFormat<'_>,
     conditions: usize,
     which: u8,
     made: Made,
     session: bool,
     writer: &mut W,
 ) -> Verdict
-    ensures { WritesText (λ text. IsReportOutput (reached_text session conditions which made lab.now) Unclean text result)
+    ensures { WritesText (λ text. IsReportOutput (reached_answer format.entry session conditions which made lab.now) Unclean text result)
         (W.contents writer.old) (W.contents writer.new) }
 {
     if session {
         tell_saved_as(Verdict::Unclean, lab, writer)
     } else {
-        tell_made(lab, conditions, which, made, writer)
+        tell_made(lab, format, conditions, which, made, writer)
     }
 }
 
-/// Writes the newest event of a lab as a run does, and what is pending.
+/// Writes the newest event of a lab, and what is pending.
 fn tell_made<W: Write>(
     lab: &Lab,
+    format: ReportFormat<'_>,
     conditions: usize,
     which: u8,
     made: Made,
     writer: &mut W,
 ) -> Verdict
-    ensures { WritesText (λ text. IsReportOutput (reached_text false conditions which made lab.now) Unclean text result)
+    ensures { WritesText (λ text. IsReportOutput (reached_answer format.entry false conditions which made lab.now) Unclean text result)
         (W.contents writer.old) (W.contents writer.new) }
 {
     let mut out = Writer::new(writer);
-    let said = write_made(lab, conditions, which, made, &mut out);
+    let said = write_reached(lab, format, conditions, which, made, &mut out);
     sent(said, Verdict::Unclean, &mut out)
 }
 
-/// Writes the newest event of a lab as a run does.
+/// Writes the newest event of a lab in the format that was asked for.
 ///
 /// # Errors
 /// A write failed.
-fn write_made<W: Write>(
+fn write_reached<W: Write>(
     lab: &Lab,
+    format: ReportFormat<'_>,
     conditions: usize,
     which: u8,
     made: Made,
     writer: &mut Writer<'_, W>,
 ) -> WriteResult
-    ensures { WritesExactly result (reached_text false conditions which made lab.now) W.contents writer.old writer.new }
+    ensures { WritesExactly result (reached_answer format.entry false conditions which made lab.now) W.contents writer.old writer.new }
 {
-    let ran = RunResult {
-        events: u64::from(lab.counts().kept),
-        end: RunEnd::Reached { made, which },
-        schedule: Schedule::round_robin(),
-    };
-    writer.write_blocks(run_result_text(&ran, conditions).as_slice())
+    match format {
+        ReportFormat::Text => write_made(lab, conditions, which, made, writer),
+        ReportFormat::Json(file) => {
+            write_reached_json(file, lab.counts().kept, which, made, writer)
+        }
+    }
 }
 
 /// Writes that no such event was found, and what is pending.
-fn tell_unreached<W: Write>(bounds: CheckBounds, found: &FoundEnds, writer: &mut W) -> Verdict
-    ensures { WritesText (λ text. IsReportOutput (unreached_text bounds found.now) (unreached_verdict found.now) text result)
+fn tell_unreached<W: Write>(request: CheckRequest<'_>, found: &FoundEnds, writer: &mut W) -> Verdict
+    ensures { WritesText (λ text. IsReportOutput (unreached_answer request.entry found.now) (unreached_verdict found.now) text result)
         (W.contents writer.old) (W.contents writer.new) }
 {
     let mut out = Writer::new(writer);
-    let said = write_unreached(bounds, found, &mut out);
+    let said = write_unreached(request, found, &mut out);
     sent(said, unreached_verdict(found), &mut out)
 }
 
@@ -303,37 +325,19 @@ fn unreached_verdict(found: &FoundEnds) -> Verdict
     }
 }
 
-/// Writes that no such event was found.
+/// Writes that no such event was found, in the format that was asked for.
 ///
 /// # Errors
 /// A write failed.
 fn write_unreached<W: Write>(
-    bounds: CheckBounds,
+    request: CheckRequest<'_>,
     found: &FoundEnds,
     writer: &mut Writer<'_, W>,
 ) -> WriteResult
-    ensures { WritesExactly result (unreached_text bounds found.now) W.contents writer.old writer.new }
+    ensures { WritesExactly result (unreached_answer request.entry found.now) W.contents writer.old writer.new }
 {
-    writer.write_blocks(unreached_line(bounds, found.count_states(), found.fault()).as_slice())
-}
-
-/// That no such event was found among this number of states.
-fn unreached_line(bounds: CheckBounds, states: usize, fault: Option<SearchFault>) -> TextBuffer
-    ensures { result.items ≡ not_reached_text bounds states fault }
-{
-    let mut out = ArrayVec::new();
-    match fault {
-        None => {
-            push_text(&mut out, b"never, in ");
-            push_counted(&mut out, states as u64, b" state");
-            push_text(&mut out, b"\n");
-        }
-        Some(fault) => {
-            push_text(&mut out, b"not reached in ");
-            push_counted(&mut out, states as u64, b" state");
-            push_text(&mut out, b", ");
-            push_text(&mut out, stopped_line(bounds, fault).as_slice());
-        }
+    match request.format {
+        ReportFormat::Text => write_unreached_text(request, found, writer),
+        ReportFormat::Json(file) => write_unreached_json(file, found, writer),
     }
-    out
 }

@@ -41,7 +41,7 @@ fn push_side_if(out: &mut TextBuffer, is_there: bool, name: &[u8])
 }
 
 /// Adds sides, each after a blank.
-fn push_sides(out: &mut TextBuffer, sides: PortSet)
+pub(crate) fn push_sides(out: &mut TextBuffer, sides: PortSet)
     requires { array_vec_len out.old + SIDES_ROOM ≤ 256 }
     ensures text { out.new.items ≡ out.old.items ++ side_words sides }
     ensures len { array_vec_len out.new ≤ array_vec_len out.old + SIDES_ROOM }
@@ -53,7 +53,7 @@ fn push_sides(out: &mut TextBuffer, sides: PortSet)
 }
 
 /// The sides that are one.
-fn sides_of(side: Side) -> PortSet
+pub(crate) fn sides_of(side: Side) -> PortSet
     ensures { result ≡ only side }
 {
     PortSet::of(side.bit())

@@ -3,25 +3,27 @@
 ghost use Rattle.std.specs.Prelude.{◌≡◌, ◌≤◌, ◌<◌, ◌⊎◌, ◌++◌, true, false, Some, length, OnOk, IfErr};
 ghost use Rattle.std.specs.List.{list_any};
 ghost use Rattle.ga_text.specs.Lines.{Bytes};
-ghost use Rattle.ga_text.specs.Output.{IsWrittenOrTruncated, IsSameStream, WritesText, ReadsAndWrites};
+ghost use Rattle.ga_text.specs.Output.{IsWrittenOrTruncated, IsSameStream, WritesExactly, WritesText, ReadsAndWrites};
 ghost use Rattle.ga_lab.specs.Machine.{chip_of};
-ghost use Rattle.ga_display.specs.Texts.{refusal_text};
 ghost use Rattle.ga_explorer_text.specs.Saved.{saved_text};
 ghost use Rattle.ga_console.specs.declared.run.Status.TheVariants.{ImageRefused};
 ghost use Rattle.ga_state_ends.specs.Ends.{AreEndsOfChip, is_unclean};
 ghost use Rattle.ga_lab.specs.declared.fault.LabFault.TheVariants.{Memory, Full};
-ghost use Rattle.ga_check_report.specs.declared.ends_text.CheckBounds.{CheckBounds};
 ghost use Rattle.ga_check_report.specs.Settled.{check_start};
-ghost use Rattle.ga_check_report.specs.EndTexts.{ends_text, missing_kind_text};
+ghost use Rattle.ga_check_report.specs.EndTexts.{missing_kind_text};
+ghost use Rattle.ga_check_report.specs.Answers.{refusal_answer, ends_answer};
 ghost use Rattle.ga_check_report.specs.Checking.{WritesEndsReport, IsCheckOutcome, IsReportOutput, HasReachedEndKind, verdict_of, missing_kind_verdict};
 ghost use Rattle.ga_check_report.specs.declared.report.Verdict.TheVariants.{Saved, Ended};
 
-use crate::ends_text::{CheckBounds, is_fully_explored, write_ends, write_no_kind};
+use crate::ends_json::write_ends_json;
+use crate::ends_text::{is_fully_explored, write_ends, write_no_kind};
 use crate::making::make_all;
+use crate::opening::open_program;
+use crate::refusal_json::write_refused;
+use crate::request::{CheckRequest, ReportFormat};
 use crate::settling::settle_waiting_nodes;
 use ga_console::Status;
 use ga_display::refusal_text;
-use ga_explorer::open_lab;
 use ga_explorer_text::write_save;
 use ga_lab::{Lab, LabFault};
 use ga_state_ends::{EndKind, FoundEnds, find_ends};
@@ -48,7 +50,7 @@ pub enum Verdict {
 
 /// Reads an image or source, as `explore` does, and nothing after its line `end`. Writes the kinds of its ends, whatever the order in which its
 /// nodes run; or, if a kind is named by its number, from 1 on, the lines `step NNN` that lead to the first of its ends. Stores at most
-/// `bounds.most` states; a session has at most `limit` events. With `settles` each node whose first event is to wait for code makes it
+/// `request.most` states; a session has at most `limit` events. With `settles` each node whose first event is to wait for code makes it
 /// before all else, in the order of their numbers, as on a real chip; a session has these steps first. The fault of a source is written to
 /// `errors`, a refused image and want of memory to `writer`. While it searches, `watch` has the number of states, and stops it.
 pub fn check_ends<R: Read, W: Write, E: Write>(
@@ -56,22 +58,30 @@ pub fn check_ends<R: Read, W: Write, E: Write>(
     reader: &mut R,
     writer: &mut W,
     errors: &mut E,
-    bounds: CheckBounds,
+    request: CheckRequest<'_>,
     limit: u32,
     settles: bool,
     asked: u32,
     watch: &SearchControl,
 ) -> Verdict
     // Where the streams tell their bytes: what was read, and what was written for it by the verdict.
-    ensures { ReadsAndWrites (λ read rest text. IsCheckOutcome bounds limit settles asked read rest text result)
+    ensures { ReadsAndWrites (λ read rest text. IsCheckOutcome request.entry limit settles asked read rest text result)
         (R.remaining reader.old) (R.remaining reader.new) (W.contents writer.old) (W.contents writer.new) }
 {
     let mut input = Input::new();
-    match open_lab(alloc, &mut input, reader, writer, errors, None, limit) {
+    match open_program(
+        alloc,
+        &mut input,
+        reader,
+        writer,
+        errors,
+        request.format,
+        limit,
+    ) {
         Ok(begun) => tell_settled(
             alloc,
             &mut begun.into_lab(),
-            bounds,
+            request,
             settles,
             asked,
             watch,
@@ -85,18 +95,18 @@ pub fn check_ends<R: Read, W: Write, E: Write>(
 fn tell_settled<W: Write>(
     alloc: Global,
     lab: &mut Lab,
-    bounds: CheckBounds,
+    request: CheckRequest<'_>,
     settles: bool,
     asked: u32,
     watch: &SearchControl,
     writer: &mut W,
 ) -> Verdict
-    ensures { WritesText (λ text. WritesEndsReport bounds asked (check_start settles lab.old) text result)
+    ensures { WritesText (λ text. WritesEndsReport request.entry asked (check_start settles lab.old) text result)
         (W.contents writer.old) (W.contents writer.new) }
 {
     match settle_waiting_nodes(lab, settles) {
-        Ok(()) => tell_ends(alloc, lab, bounds, asked, watch, writer),
-        Err(_) => tell_refused(LabFault::Memory, writer),
+        Ok(()) => tell_ends(alloc, lab, request, asked, watch, writer),
+        Err(_) => tell_refused(request.format, LabFault::Memory, writer),
     }
 }
 
@@ -104,16 +114,16 @@ fn tell_settled<W: Write>(
 pub(crate) fn tell_ends<W: Write>(
     alloc: Global,
     lab: &mut Lab,
-    bounds: CheckBounds,
+    request: CheckRequest<'_>,
     asked: u32,
     watch: &SearchControl,
     writer: &mut W,
 ) -> Verdict
-    ensures { WritesText (λ text. WritesEndsReport bounds asked lab.old text result) (W.contents writer.old) (W.contents writer.new) }
+    ensures { WritesText (λ text. WritesEndsReport request.entry asked lab.old text result) (W.contents writer.old) (W.contents writer.new) }
 {
-    match find_ends(alloc, lab.chip(), bounds.most, watch) {
-        Ok(found) => tell_found(alloc, lab, &found, bounds, asked, writer),
-        Err(_) => tell_refused(LabFault::Memory, writer),
+    match find_ends(alloc, lab.chip(), request.most, watch) {
+        Ok(found) => tell_found(alloc, lab, &found, request, asked, writer),
+        Err(_) => tell_refused(request.format, LabFault::Memory, writer),
     }
 }
 
@@ -122,17 +132,17 @@ fn tell_found<W: Write>(
     alloc: Global,
     lab: &mut Lab,
     found: &FoundEnds,
-    bounds: CheckBounds,
+    request: CheckRequest<'_>,
     asked: u32,
     writer: &mut W,
 ) -> Verdict
     requires { AreEndsOfChip (chip_of lab.old) found.now }
-    ensures { WritesText (λ text. WritesEndsReport bounds asked lab.old text result) (W.contents writer.old) (W.contents writer.new) }
+    ensures { WritesText (λ text. WritesEndsReport request.entry asked lab.old text result) (W.contents writer.old) (W.contents writer.new) }
 {
     if asked == 0 {
-        tell_all(bounds, found, writer)
+        tell_all(request, found, writer)
     } else if has_kind(found, asked) {
-        tell_session(alloc, lab, found, asked, writer)
+        tell_session(alloc, lab, found, request, asked, writer)
     } else {
         tell_none(asked, found, writer)
     }
@@ -151,19 +161,19 @@ fn tell_session<W: Write>(
     alloc: Global,
     lab: &mut Lab,
     found: &FoundEnds,
+    request: CheckRequest<'_>,
     asked: u32,
     writer: &mut W,
 ) -> Verdict
     requires asked { 1 ≤ asked }
     requires within { asked ≤ length found.now.kinds }
     requires ends { AreEndsOfChip (chip_of lab.old) found.now }
-    ensures { WritesText (λ text. (bounds : CheckBounds) → WritesEndsReport bounds asked lab.old text result)
-        (W.contents writer.old) (W.contents writer.new) }
+    ensures { WritesText (λ text. WritesEndsReport request.entry asked lab.old text result) (W.contents writer.old) (W.contents writer.new) }
 {
     match lead_to(alloc, lab, found, asked) {
         Ok(()) => tell_saved_as(Verdict::Saved, lab, writer),
-        Err(LabFault::Full) => tell_refused(LabFault::Full, writer),
-        Err(_) => tell_refused(LabFault::Memory, writer),
+        Err(LabFault::Full) => tell_refused(request.format, LabFault::Full, writer),
+        Err(_) => tell_refused(request.format, LabFault::Memory, writer),
     }
 }
 
@@ -185,13 +195,30 @@ fn lead_to(alloc: Global, lab: &mut Lab, found: &FoundEnds, asked: u32) -> Resul
 }
 
 /// Tells the kinds of end.
-fn tell_all<W: Write>(bounds: CheckBounds, found: &FoundEnds, writer: &mut W) -> Verdict
-    ensures { WritesText (λ text. IsReportOutput (ends_text bounds found.now) (verdict_of found.now) text result)
+fn tell_all<W: Write>(request: CheckRequest<'_>, found: &FoundEnds, writer: &mut W) -> Verdict
+    ensures { WritesText (λ text. IsReportOutput (ends_answer request.entry found.now) (verdict_of found.now) text result)
         (W.contents writer.old) (W.contents writer.new) }
 {
     let mut out = Writer::new(writer);
-    let said = write_ends(bounds, found, &mut out);
+    let said = write_answer(request, found, &mut out);
     sent(said, verdict_of(found), &mut out)
+}
+
+/// Writes the kinds of end in the format that was asked for.
+///
+/// # Errors
+/// A write failed.
+fn write_answer<W: Write>(
+    request: CheckRequest<'_>,
+    found: &FoundEnds,
+    writer: &mut Writer<'_, W>,
+) -> WriteResult
+    ensures { WritesExactly result (ends_answer request.entry found.now) W.contents writer.old writer.new }
+{
+    match request.format {
+        ReportFormat::Text => write_ends(request, found, writer),
+        ReportFormat::Json(file) => write_ends_json(file, found, writer),
+    }
 }
 
 /// Tells that there is no kind of end of this number.
@@ -214,13 +241,35 @@ pub(crate) fn tell_saved_as<W: Write>(verdict: Verdict, lab: &Lab, writer: &mut 
 }
 
 /// Writes why nothing else is written.
-pub(crate) fn tell_refused<W: Write>(fault: LabFault, writer: &mut W) -> Verdict
-    ensures { WritesText (λ text. IsReportOutput (refusal_text fault) (Ended ImageRefused) text result)
+pub(crate) fn tell_refused<W: Write>(
+    format: ReportFormat<'_>,
+    fault: LabFault,
+    writer: &mut W,
+) -> Verdict
+    ensures { WritesText (λ text. IsReportOutput (refusal_answer format.entry fault) (Ended ImageRefused) text result)
         (W.contents writer.old) (W.contents writer.new) }
 {
     let mut out = Writer::new(writer);
-    let said = out.write_text(refusal_text(fault));
+    let said = write_refusal(format, fault, &mut out);
     sent(said, Verdict::Ended(Status::ImageRefused), &mut out)
+}
+
+/// Writes a refusal in the format that was asked for.
+///
+/// # Errors
+/// A write failed.
+fn write_refusal<W: Write>(
+    format: ReportFormat<'_>,
+    fault: LabFault,
+    writer: &mut Writer<'_, W>,
+) -> WriteResult
+    ensures { WritesExactly result (refusal_answer format.entry fault) W.contents writer.old writer.new }
+{
+    let text = refusal_text(fault);
+    match format {
+        ReportFormat::Text => writer.write_text(text),
+        ReportFormat::Json(file) => write_refused(file, text, writer),
+    }
 }
 
 /// Writes what is pending, and answers a verdict, or that a write failed.

@@ -11,7 +11,7 @@ abbrev pub AreInRange : Settings → Type 0
 AreInRange (Debug limit) = IsBetween 1 4000000 limit
 AreInRange (Explore limit strict chip file) = IsBetween 1 100000000 limit
 AreInRange (Race workers calls limit) = IsBetween 1 16 workers × IsBetween 1 100000 calls × IsBetween 1 4000000 limit
-AreInRange (Check most seconds settled session never ends progress files) = IsBetween 1 4294967295 most × IfSome seconds (IsBetween 1 4294967295) × IfSome session (IsBetween 1 4294967295)
+AreInRange (Check most seconds settled session never ends json progress files) = IsBetween 1 4294967295 most × IfSome seconds (IsBetween 1 4294967295) × IfSome session (IsBetween 1 4294967295)
 AreInRange Dap = Unit {0}
 AreInRange (Assemble file) = Unit {0}
 AreInRange (List file) = Unit {0}

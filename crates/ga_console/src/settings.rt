@@ -50,8 +50,9 @@ pub enum Settings {
     /// Find the ends of a program in every order of its nodes, with at most `most` states, 1 to 4294967295, in at most `seconds`, 1 to
     /// 4294967295, if given, and write their kinds; or write the session of one kind, whose number counts from 1. Of source with expectations
     /// write whether each holds, or the session of one, unless `ends` is set. With `never` find an event after which one of the conditions of
-    /// this text holds, or write its session. With `settled` each node whose first event is to wait for code makes it first, and with
-    /// `progress` the progress is written. The `files` are checked one after another; `-` is standard input, and so is no file.
+    /// this text holds, or write its session. With `settled` each node whose first event is to wait for code makes it first, with `json` the
+    /// answer is JSON objects, but for a session, and with `progress` the progress is written. The `files` are checked one after another; `-`
+    /// is standard input, and so is no file.
     Check {
         most: u32,
         seconds: Option<u32>,
@@ -59,6 +60,7 @@ pub enum Settings {
         session: Option<u32>,
         never: Option<String>,
         ends: bool,
+        json: bool,
         progress: bool,
         files: Vec<String>,
     },
@@ -186,6 +188,10 @@ fn checked(alloc: Global, check: &ArgMatches<'_>) -> Result<Settings, CommandLin
     if never.is_some() && is_later_kind(session) {
         return Err(no_later_session(alloc));
     }
+    let json = check.get_flag("json");
+    if json && session.is_some() {
+        return Err(no_json_session(alloc));
+    }
     let files = files(alloc, check)?;
     if files.len() > 1 && (never.is_some() || session.is_some()) {
         return Err(no_further_file(alloc));
@@ -197,6 +203,7 @@ fn checked(alloc: Global, check: &ArgMatches<'_>) -> Result<Settings, CommandLin
         session,
         never,
         ends: check.get_flag("ends"),
+        json,
         progress: check.get_flag("progress"),
         files,
     })
@@ -261,6 +268,18 @@ fn no_later_session(alloc: Global) -> CommandLineFault {
     match String::from_str(
         alloc,
         "error: invalid value for '--session <K>': with '--never <COND>' K is 1\n\n\
+        For more information, try '--help'.\n",
+    ) {
+        Ok(text) => CommandLineFault::Refused(text),
+        Err(_) => CommandLineFault::Memory,
+    }
+}
+
+/// Reports that a session isn't JSON, in the form of clap's errors.
+fn no_json_session(alloc: Global) -> CommandLineFault {
+    match String::from_str(
+        alloc,
+        "error: invalid value for '--session <K>': a session is lines of text; leave out '--json'\n\n\
         For more information, try '--help'.\n",
     ) {
         Ok(text) => CommandLineFault::Refused(text),

@@ -4,9 +4,10 @@ ghost use Rattle.std.specs.Prelude.{◌≡◌, ◌++◌, length, take, false};
 ghost use Rattle.ga_text.specs.Lines.{Bytes};
 ghost use Rattle.ga_check_report.specs.Expected.{IsProgramOutcome};
 ghost use Rattle.ga_check_report.specs.declared.report.Verdict.{Verdict as Found};
+ghost use Rattle.ga_check_report.specs.declared.request.ReportFormat.TheVariants.{Text as AsText};
 
 use crate::buffer::{put_front, streams};
-use ga_check_report::{CheckBounds, check_program};
+use ga_check_report::{CheckRequest, ReportFormat, check_program};
 use ga_state_search::SearchControl;
 use std::alloc::Global;
 
@@ -23,18 +24,22 @@ pub extern "C" fn ga_check(
     asked: u32,
 ) -> usize
     ensures { (read rest text : Bytes) × (found : Found) × (input.now ≡ read ++ rest)
-        × IsProgramOutcome (record { most = most; seconds = 0 }) limit false asked read rest text found
+        × IsProgramOutcome (record { most = most; seconds = 0; format = AsText }) limit false asked read rest text found
         × (result ≡ length text) × (take result output.new ≡ take (length output.old) text) }
 {
     let (mut reader, mut answer, mut errors) = streams(alloc, input);
-    let bounds = CheckBounds { most, seconds: 0 };
+    let request = CheckRequest {
+        most,
+        seconds: 0,
+        format: ReportFormat::Text,
+    };
     let watch = SearchControl::new();
     let _verdict = check_program(
         alloc,
         &mut reader,
         &mut answer,
         &mut errors,
-        bounds,
+        request,
         limit,
         false,
         asked,

@@ -140,6 +140,8 @@ const NEVER: &str = "Find an event after which COND holds: COND or COND .., as o
 
 const SHOWN_ENDS: &str = "Show the ends of source that has expectations, too";
 
+const OBJECTS: &str = "Print JSON objects, one a line (docs/JSON.md)";
+
 const PROGRESS: &str = "Print on standard error, each second, how many states there are";
 
 const CAUSE: &str = "Grey out all but the events on which step K of the node NNN depends";
@@ -223,6 +225,7 @@ fn check_line<'a>(alloc: Global) -> Result<Command<'a>, AllocError> {
         .arg(number_option(alloc, "session", SESSION, u32::MAX).value_name("K"))?
         .arg(named_option(alloc, "never", NEVER).value_name("COND"))?
         .arg(flag(alloc, "ends", SHOWN_ENDS))?
+        .arg(flag(alloc, "json", OBJECTS))?
         .arg(flag(alloc, "progress", PROGRESS))?
         .arg(files_argument(alloc, "An image or source"))
 }

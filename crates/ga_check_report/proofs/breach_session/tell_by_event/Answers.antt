@@ -13,7 +13,7 @@ returns-in-None g c = λ before held.
     let none = subst (λ (o : Option ReachedEvent). IfNone o (HasNoReachedEvent c.args.found.now c.args.conditions.now)) c.in-None.is c.requires.none in (
       sent.0,
       sent.1,
-      no_session c.args.lab.now c.args.found.now c.args.one.now c.args.one.now.expectation c.args.asked c.without_breach.result sent.0 c.tell_unbroken.result
+      no_session c.args.request c.args.lab.now c.args.found.now c.args.one.now c.args.one.now.expectation c.args.asked c.without_breach.result sent.0 c.tell_unbroken.result
           refl c.requires.ends
           (never_report c.args.lab.now c.args.found.now c.args.conditions.now c.args.one.now.expectation c.without_breach.result c.requires.said
           (widened c.args.found.now (HasNoReachedEvent c.args.found.now c.args.conditions.now) (IsReachedBreach c.args.lab.now c.args.conditions.now) c.without_breach.result c.without_breach.ensures none))

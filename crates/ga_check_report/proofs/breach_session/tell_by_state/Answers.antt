@@ -15,7 +15,7 @@ returns-in-None g c = λ before held.
     let none = subst (λ (o : Option ℕ). IsFirstUnmet c.args.found.now c.args.expectation.now o) c.in-None.is c.requires.unmet in (
       sent.0,
       sent.1,
-      no_session c.args.lab.now c.args.found.now c.args.one.now (AtEnds c.args.expectation.now) c.args.asked c.without_breach.result sent.0 c.tell_unbroken.result
+      no_session c.args.request c.args.lab.now c.args.found.now c.args.one.now (AtEnds c.args.expectation.now) c.args.asked c.without_breach.result sent.0 c.tell_unbroken.result
           c.requires.said c.requires.ends
           (widened c.args.found.now (IsMetAtEnds c.args.found.now c.args.expectation.now) (IsUnmetBreach c.args.found.now c.args.expectation.now) c.without_breach.result c.without_breach.ensures none)
           sent.2,

@@ -8,6 +8,6 @@ returns-in-Ok g c = λ before held.
     let sent = c.tell_saved_as.ensures before held in (
       sent.0,
       sent.1,
-      led_session c.args.lab.now c.make_reached.new.lab c.args.one.now c.args.one.now.expectation c.args.asked sent.0 c.tell_saved_as.result refl
+      led_session c.args.request c.args.lab.now c.make_reached.new.lab c.args.one.now c.args.one.now.expectation c.args.asked sent.0 c.tell_saved_as.result refl
           (never_led c.args.lab.now c.make_reached.new.lab c.args.conditions.now c.args.one.now.expectation c.args.reached.which c.in-Ok._made c.requires.said c.in-Ok.ensures.made) sent.2,
     )

@@ -12,8 +12,8 @@ returns-in_err-write_head g c = (
       let found = c.args.found.now in
       let head : List ℕ = ends_header (is_fully_explored found.fault) (length found.searched.chips) (length found.kinds) in
       let kinds : List ℕ = kinds_text found.decisions 0 found.kinds in
-      let last : List ℕ = final_line_text c.args.bounds found.fault found.has_cycle_before found.has_cycle in
-      let whole : List ℕ = ends_text c.args.bounds found in
+      let last : List ℕ = final_line_text c.args.request found.fault found.has_cycle_before found.has_cycle in
+      let whole : List ℕ = ends_text c.args.request found in
       truncated_here c.from_residual.result _ before (said ++ whole) _ c.from_residual.ensures.0
       (truncated_within _ before said (head ++ kinds) last whole refl
       (truncated_within _ before said head kinds (head ++ kinds) refl (c.in_err-write_head.ensures.1 before said h))),
@@ -26,8 +26,8 @@ returns-in_err-write_kinds g c = (
       let found = c.args.found.now in
       let head : List ℕ = ends_header (is_fully_explored found.fault) (length found.searched.chips) (length found.kinds) in
       let kinds : List ℕ = kinds_text found.decisions 0 c.kinds.result.now in
-      let last : List ℕ = final_line_text c.args.bounds found.fault found.has_cycle_before found.has_cycle in
-      let whole : List ℕ = ends_text c.args.bounds found in
+      let last : List ℕ = final_line_text c.args.request found.fault found.has_cycle_before found.has_cycle in
+      let whole : List ℕ = ends_text c.args.request found in
       truncated_here c.from_residual-in_err-write_kinds.result _ before (said ++ whole) _ c.from_residual-in_err-write_kinds.ensures.0
       (truncated_within _ before said (head ++ kinds) last whole (ap (λ (z : List EndKind). head ++ kinds_text found.decisions 0 z ++ last) c.kinds.ensures)
       (cut_assoc _ before said head kinds (c.in_err-write_kinds.ensures.1 before (said ++ head) (c.in_ok-write_head.ensures.1 before said h)))),
@@ -40,9 +40,9 @@ returns g c = (
       let found = c.args.found.now in
       let head : List ℕ = ends_header (is_fully_explored found.fault) (length found.searched.chips) (length found.kinds) in
       let kinds : List ℕ = kinds_text found.decisions 0 c.kinds.result.now in
-      let last : List ℕ = final_line_text c.args.bounds found.fault found.has_cycle_before found.has_cycle in
+      let last : List ℕ = final_line_text c.args.request found.fault found.has_cycle_before found.has_cycle in
       let done = said_assoc _ before said head kinds _ (c.in_ok-write_kinds.ensures.1 before (said ++ head) (c.in_ok-write_head.ensures.1 before said h)) in
-      text_as c.write_last.result _ before said (head ++ kinds ++ last) (ends_text c.args.bounds found) _
+      text_as c.write_last.result _ before said (head ++ kinds ++ last) (ends_text c.args.request found) _
       (ap (λ (z : List EndKind). head ++ kinds_text found.decisions 0 z ++ last) c.kinds.ensures)
       (joined_written c.write_last.result _ before said (head ++ kinds) last _ (c.write_last.ensures.1 before (said ++ (head ++ kinds)) done)),
 )

@@ -15,7 +15,7 @@ returns-in-Ok g c = λ before held.
     let spelled : expectations_of c.args.begun.notes ≡ Ok (map expected_content c.in-Ok.expectations.items) =
     ap (λ (notes : Option DebugInfo). expectations_of notes) (sym c.notes.ensures) ∙ c.in-Ok.ensures in
     let Written : List LineExpectation → Type 0 =
-    λ list. WritesProgramReport c.args.bounds list c.args.asked (check_start c.args.settles c.into_lab.result) sent.0 c.settle_and_judge.result in
+    λ list. WritesProgramReport c.args.request list c.args.asked (check_start c.args.settles c.into_lab.result) sent.0 c.settle_and_judge.result in
     let Begun : State → Type 0 =
-    λ s. WritesProgramReport c.args.bounds c.in-Ok.expectations.items c.args.asked (check_start c.args.settles s) sent.0 c.settle_and_judge.result in
+    λ s. WritesProgramReport c.args.request c.in-Ok.expectations.items c.args.asked (check_start c.args.settles s) sent.0 c.settle_and_judge.result in
     (sent.0, sent.1, parsed c.in-Ok.expectations.items spelled (subst Begun c.into_lab.ensures (subst Written c.as_slice.ensures.value sent.2)))

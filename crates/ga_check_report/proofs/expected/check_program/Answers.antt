@@ -7,7 +7,7 @@ pub returns-in-Ok : goal.returns-in-Ok
 returns-in-Ok g c = λ left before known held.
     let begun = c.in-Ok.ensures.begun left before known held in
     let text : List ℕ = begun.4.1 in
-    let ahead : List ℕ = c.open_lab.new.input.bytes in
+    let ahead : List ℕ = c.open_program.new.input.bytes in
     let silent = begun.3 ∙ ap Some (ap (λ (t : List ℕ). before ++ t) begun.4.0 ∙ append-nil before) in
     let sent = c.answer_expectations.ensures before silent in (
       text ++ ahead,

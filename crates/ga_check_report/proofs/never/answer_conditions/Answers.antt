@@ -14,9 +14,9 @@ returns-in-Ok g c = λ before held.
     let spelled : state_conditions_in c.args.begun.notes c.args.asked.now ≡ Ok c.in-Ok.conditions.items =
     ap (λ (notes : Option DebugInfo). state_conditions_in notes c.args.asked.now) (sym c.notes.ensures) ∙ c.in-Ok.ensures.conditions in
     let Written : List StateCondition → Type 0 =
-    λ list. WritesNeverReport c.args.bounds list c.args.session (check_start c.args.settles c.into_lab.result) sent.0 c.settle_and_look.result in
+    λ list. WritesNeverReport c.args.request list c.args.session (check_start c.args.settles c.into_lab.result) sent.0 c.settle_and_look.result in
     let Begun : State → Type 0 =
-    λ s. WritesNeverReport c.args.bounds c.in-Ok.conditions.items c.args.session (check_start c.args.settles s) sent.0 c.settle_and_look.result in
+    λ s. WritesNeverReport c.args.request c.in-Ok.conditions.items c.args.session (check_start c.args.settles s) sent.0 c.settle_and_look.result in
     let Spelled : Result (List StateCondition) ConditionFault → Type 0 =
-    λ r. WritesForConditions r c.args.bounds c.args.session (check_start c.args.settles c.args.begun.lab) sent.0 (Ok c.settle_and_look.result) in
+    λ r. WritesForConditions r c.args.request c.args.session (check_start c.args.settles c.args.begun.lab) sent.0 (Ok c.settle_and_look.result) in
     (sent.0, sent.1, subst Spelled (sym spelled) (subst Begun c.into_lab.ensures (subst Written c.as_slice.ensures.value sent.2)))

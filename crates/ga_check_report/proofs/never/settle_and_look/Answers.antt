@@ -7,7 +7,7 @@ use Rattle.ga_check_report.proofs.never.settle_and_look.Goals as goal
 pub returns-in-Ok : goal.returns-in-Ok
 returns-in-Ok g c = λ before held.
     let sent = c.look_for.ensures before held in
-    let P : State → Type 0 = λ s. WritesNeverReport c.args.bounds c.args.conditions.now c.args.session s sent.0 c.look_for.result in
+    let P : State → Type 0 = λ s. WritesNeverReport c.args.request c.args.conditions.now c.args.session s sent.0 c.look_for.result in
     (sent.0, sent.1, subst P c.in-Ok.ensures.ok sent.2)
 
 pub returns-in-Err : goal.returns-in-Err

@@ -5,11 +5,6 @@ use Rattle.ga_state_conditions.specs.Reached.{HasNoReachedEvent}
 use Rattle.ga_check_report.specs.Never.WritesNeverReport.{none}
 use Rattle.ga_check_report.proofs.never.tell_found_event.Goals as goal
 
-pub returns-in-Some : goal.returns-in-Some
-returns-in-Some g c = λ before held.
-    let sent = c.tell_event.ensures before held in
-    (sent.0, sent.1, sent.2 c.args.bounds)
-
 pub returns-in-None : goal.returns-in-None
 returns-in-None g c = λ before held.
     let sent = c.tell_unreached.ensures before held in

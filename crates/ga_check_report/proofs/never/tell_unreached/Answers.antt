@@ -1,12 +1,12 @@
 use Rattle.std.proofs.Common.{rules, ℕ, List, ap, ◌∙◌, []}
 use Rattle.ga_console.proofs.RunLemmas.{written_fresh}
-use Rattle.ga_check_report.specs.NeverTexts.{unreached_text}
+use Rattle.ga_check_report.specs.Answers.{unreached_answer}
 use Rattle.ga_check_report.proofs.EndsOut.{out_as}
 use Rattle.ga_check_report.proofs.never.tell_unreached.Goals as goal
 
 pub returns : goal.returns
 returns g c = λ before held.
-    let text : List ℕ = unreached_text c.args.bounds c.args.found.now in
+    let text : List ℕ = unreached_answer c.args.request c.args.found.now in
     let done = c.write_unreached-said.ensures.1 before [] (written_fresh _ before [] _ (ap g.W.Write.contents c.new-out.ensures.stream ∙ held) c.new-out.ensures.nothing) in
     let sent = c.sent.ensures.written before text done in
     let there = sent.1 in

@@ -1,13 +1,13 @@
 use Rattle.std.proofs.Common.{rules, ℕ, List, ap, ◌∙◌, []}
 use Rattle.ga_console.proofs.RunLemmas.{written_fresh}
-use Rattle.ga_check_report.specs.EndTexts.{ends_text}
+use Rattle.ga_check_report.specs.Answers.{ends_answer}
 use Rattle.ga_check_report.proofs.EndsOut.{out_as}
 use Rattle.ga_check_report.proofs.report.tell_all.Goals as goal
 
 pub returns : goal.returns
 returns g c = λ before held.
-    let text : List ℕ = ends_text c.args.bounds c.args.found.now in
-    let done = c.write_ends-said.ensures.1 before [] (written_fresh _ before [] _ (ap g.W.Write.contents c.new-out.ensures.stream ∙ held) c.new-out.ensures.nothing) in
+    let text : List ℕ = ends_answer c.args.request c.args.found.now in
+    let done = c.write_answer-said.ensures.1 before [] (written_fresh _ before [] _ (ap g.W.Write.contents c.new-out.ensures.stream ∙ held) c.new-out.ensures.nothing) in
     let sent = c.sent.ensures.written before text done in
     let there = sent.1 in
     (sent.0, search rules, out_as text sent.0 c.verdict_of.result _ c.sent.result c.verdict_of.ensures sent.2)

@@ -6,11 +6,6 @@ returns-then-asked-eq0 g c = λ before held.
     let sent = c.tell_all.ensures before held in
     (sent.0, sent.1, all c.args.found.now c.requires c.if-asked-eq0.true sent.2)
 
-pub returns-then-has_kind : goal.returns-then-has_kind
-returns-then-has_kind g c = λ before held.
-    let sent = c.tell_session.ensures before held in
-    (sent.0, sent.1, sent.2 c.args.bounds)
-
 pub returns-else-has_kind : goal.returns-else-has_kind
 returns-else-has_kind g c = λ before held.
     let sent = c.tell_none.ensures before held in

@@ -1,15 +1,12 @@
-use Rattle.std.proofs.Common.{rules, ℕ, List, ap, ◌∙◌, [], subst}
+use Rattle.std.proofs.Common.{rules, ℕ, List, ap, ◌∙◌, []}
 use Rattle.ga_console.proofs.RunLemmas.{written_fresh}
-use Rattle.ga_console.specs.declared.run.Status.TheVariants.{ImageRefused}
-use Rattle.ga_check_report.specs.Checking.{IsReportOutput}
-use Rattle.ga_check_report.specs.declared.report.Verdict.TheVariants.{Ended}
+use Rattle.ga_check_report.specs.Answers.{refusal_answer}
 use Rattle.ga_check_report.proofs.report.tell_refused.Goals as goal
 
 pub returns : goal.returns
 returns g c = λ before held.
-    let text = c.refusal_text.result.now in
-    let done = c.write_text-said.ensures.1 before [] (written_fresh _ before [] _ (ap g.W.Write.contents c.new-out.ensures.stream ∙ held) c.new-out.ensures.nothing) in
+    let text : List ℕ = refusal_answer c.args.format c.args.fault in
+    let done = c.write_refusal-said.ensures.1 before [] (written_fresh _ before [] _ (ap g.W.Write.contents c.new-out.ensures.stream ∙ held) c.new-out.ensures.nothing) in
     let sent = c.sent.ensures.written before text done in
     let there = sent.1 in
-    let P : List ℕ → Type 0 = λ t. IsReportOutput t (Ended ImageRefused) sent.0 c.sent.result in
-    (sent.0, search rules, subst P c.refusal_text.ensures.text sent.2)
+    (sent.0, search rules, sent.2)

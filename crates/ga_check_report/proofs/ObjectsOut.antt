@@ -1,0 +1,68 @@
+-- The objects of an answer, one more.
+use Rattle.std.proofs.Common.{◌≡◌, ℕ, zero, suc, ◌+◌, ◌-◌, ◌<◌, Bool, true, false, List, ◌∷◌, ◌++◌, length, get_or, drop, Option, None, refl, sym, ◌∙◌, ap, subst, arith}
+use Rattle.std.proofs.lemmas.List.{drop_more}
+use Rattle.ga_json.specs.Values.{JsonItems, item, no_items}
+use Rattle.ga_json.specs.Compact.{json_line}
+use Rattle.ga_json.specs.Fields.{json_object}
+use Rattle.ga_state_ends.specs.Decisions.{EndDecision}
+use Rattle.ga_state_ends.specs.declared.end_kind.EndKind.{EndKind}
+use Rattle.ga_state_expectations.specs.declared.source.LineExpectation.{LineExpectation}
+use Rattle.ga_check_report.specs.declared.outcome.ExpectationOutcome.{ExpectationOutcome}
+use Rattle.ga_check_report.specs.declared.outcome.ExpectationOutcome.TheVariants.{Unknown}
+use Rattle.ga_check_report.specs.EndTexts.{node_end_at}
+use Rattle.ga_check_report.specs.EndJson.{is_listed_end, node_row_fields, node_row, node_rows, optional_row, kind_objects, kinds_objects}
+use Rattle.ga_check_report.specs.ExpectationJson.{expectation_object, expectation_objects}
+use Rattle.std.specs.Prelude.{slice_index_or}
+
+abbrev one_object : List ℕ → ℕ → LineExpectation → ExpectationOutcome → List ℕ
+one_object file place one outcome = json_line (expectation_object file place one.line one.text.items outcome)
+
+pub next_object : (file : List ℕ) (outcomes : List ExpectationOutcome) (expectations : List LineExpectation) (i : ℕ) (one : LineExpectation) (outcome : ExpectationOutcome)
+    → one ≡ get_or expectations i one → i < length expectations → outcome ≡ get_or outcomes i Unknown
+    → expectation_objects file outcomes i (drop i expectations)
+    ≡ json_line (expectation_object file (i + 1) one.line one.text.items outcome) ++ expectation_objects file outcomes (i + 1) (drop (i + 1) expectations)
+next_object file outcomes expectations i one outcome at within is =
+    ap (expectation_objects file outcomes i) (drop_more expectations i one within)
+    ∙ ap (λ (x : LineExpectation). one_object file (i + 1) x (get_or outcomes i Unknown) ++ expectation_objects file outcomes (i + 1) (drop (i + 1) expectations)) (sym at)
+    ∙ ap (λ (x : ExpectationOutcome). one_object file (i + 1) one x ++ expectation_objects file outcomes (i + 1) (drop (i + 1) expectations)) (sym is)
+
+pub next_kind : (file : List ℕ) (decisions : List (Option EndDecision)) (kinds : List EndKind) (i : ℕ) (default : EndKind) (decision : Option EndDecision) → i < length kinds
+    → decision ≡ get_or decisions i None
+    → kinds_objects file decisions i (drop i kinds) ≡ kind_objects file (i + 1) (get_or kinds i default) decision ++ kinds_objects file decisions (i + 1) (drop (i + 1) kinds)
+next_kind file decisions kinds i default decision within is =
+    ap (kinds_objects file decisions i) (drop_more kinds i default within)
+    ∙ ap (λ (d : Option EndDecision). kind_objects file (i + 1) (get_or kinds i default) d ++ kinds_objects file decisions (i + 1) (drop (i + 1) kinds)) (sym is)
+
+-- ---- the rows of nodes
+
+abbrev is_listed : EndKind → ℕ → Bool
+is_listed kind n = is_listed_end (node_end_at kind.nodes n) (slice_index_or kind.unclean n false)
+
+rows_more : (kind : EndKind) (n more : ℕ) → node_rows kind n (suc more) ≡ node_row kind n (node_rows kind (n + 1) more)
+unfolding node_rows
+rows_more kind n more = refl
+
+pub rows_none : (kind : EndKind) (n more : ℕ) → more ≡ 0 → node_rows kind n more ≡ no_items
+unfolding node_rows
+rows_none kind n zero is = refl
+rows_none kind n (suc more) is = absurd (omega arith)
+
+rows_next : (kind : EndKind) (n more : ℕ) (listed : Bool) → more ≡ suc (143 - n) → is_listed kind n ≡ listed
+    → node_rows kind n more ≡ optional_row listed (node_row_fields kind n) (node_rows kind (n + 1) (143 - n))
+rows_next kind n more listed is l =
+    ap (node_rows kind n) is ∙ rows_more kind n (143 - n) ∙ ap (λ (b : Bool). optional_row b (node_row_fields kind n) (node_rows kind (n + 1) (143 - n))) l
+
+-- the node has a row
+pub row_taken : (kind : EndKind) (n : ℕ) → n < 144 → is_listed kind n ≡ true
+    → node_rows kind n (144 - n) ≡ item (json_object (node_row_fields kind n)) (node_rows kind (n + 1) (144 - (n + 1)))
+row_taken kind n within l =
+    let first : 144 - n ≡ suc (143 - n) = omega arith in
+    let rest : 143 - n ≡ 144 - (n + 1) = omega arith in
+    rows_next kind n (144 - n) true first l ∙ ap (λ (k : ℕ). item (json_object (node_row_fields kind n)) (node_rows kind (n + 1) k)) rest
+
+-- it has none
+pub row_left_out : (kind : EndKind) (n : ℕ) → n < 144 → is_listed kind n ≡ false → node_rows kind n (144 - n) ≡ node_rows kind (n + 1) (144 - (n + 1))
+row_left_out kind n within l =
+    let first : 144 - n ≡ suc (143 - n) = omega arith in
+    let rest : 143 - n ≡ 144 - (n + 1) = omega arith in
+    rows_next kind n (144 - n) false first l ∙ ap (λ (k : ℕ). node_rows kind (n + 1) k) rest

@@ -1,0 +1,16 @@
+-- A program that was opened or not, in a format.
+use Rattle.std.proofs.Common.{◌≡◌, ℕ, List, Result, Ok, Err, None, sym, subst}
+use Rattle.ga_text.specs.Input.{UnreadInput}
+use Rattle.ga_console.specs.declared.run.Status.{Status}
+use Rattle.ga_explorer.specs.Opening.{ExplorerState, IsSessionOpened}
+use Rattle.ga_check_report.specs.declared.request.ReportFormat.{ReportFormat}
+use Rattle.ga_check_report.specs.declared.request.ReportFormat.TheVariants as format
+use Rattle.ga_check_report.specs.Opened.{IsUnopenedAnswer}
+use Rattle.ga_check_report.specs.inner.{IsProgramOpened}
+
+pub opened_as_text : (form : ReportFormat) (limit : ℕ) (left : List ℕ) (input : UnreadInput) (rest written : List ℕ) (result : Result ExplorerState Status) → form ≡ format.Text
+    → IsSessionOpened None limit left input rest written result → IsProgramOpened form limit left input rest written result
+opened_as_text form limit left input rest written (Ok begun) is it = it
+opened_as_text form limit left input rest written (Err status) is it =
+    let P : ReportFormat → Type 0 = λ f. IsUnopenedAnswer f it.0 rest written status in
+    (it.0, it.1, subst P (sym is) it.2)

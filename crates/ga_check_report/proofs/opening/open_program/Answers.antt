@@ -1,0 +1,20 @@
+use Rattle.std.proofs.Common.{sym, subst}
+use Rattle.ga_check_report.specs.declared.request.ReportFormat.{ReportFormat}
+use Rattle.ga_check_report.specs.inner.{IsProgramOpened}
+use Rattle.ga_check_report.proofs.OpenedLemmas.{opened_as_text}
+use Rattle.ga_check_report.proofs.opening.open_program.Goals as goal
+
+pub returns-in-Text : goal.returns-in-Text
+returns-in-Text g c = record {
+  begun = λ left before known held.
+      let it = c.open_lab.ensures.begun left before known held in
+      (it.0, it.1, it.2, it.3, opened_as_text c.args.format c.args.limit left c.open_lab.new.input it.0 it.1 c.open_lab.result c.in-Text.is it.4);
+}
+
+pub returns-in-Json : goal.returns-in-Json
+returns-in-Json g c = record {
+  begun = λ left before known held.
+      let it = c.open_for_objects.ensures.begun left before known held in
+      let P : ReportFormat → Type 0 = λ f. IsProgramOpened f c.args.limit left c.open_for_objects.new.input it.0 it.1 c.open_for_objects.result in
+      (it.0, it.1, it.2, it.3, subst P (sym c.in-Json.is) it.4);
+}

@@ -1,0 +1,56 @@
+-- What `ga144 check` prints, in the format that was asked for: text (docs/REFERENCE.md, "Every order" and "Every expectation") or JSON (docs/JSON.md; both
+-- this project's own). A session is text in either.
+use Rattle.std.specs.Prelude.{ℕ, Bool, true, false, List, length}
+use Rattle.ga_text.specs.Lines.{Text}
+use Rattle.ga_event.specs.declared.made.Made.{Made}
+use Rattle.ga_lab.specs.Machine.{State}
+use Rattle.ga_lab.specs.declared.fault.LabFault.{LabFault}
+use Rattle.ga_display.specs.Texts.{refusal_text}
+use Rattle.ga_state_ends.specs.Ends.{EndSearchResult}
+use Rattle.ga_state_expectations.specs.declared.source.LineExpectation.{LineExpectation}
+use Rattle.ga_check_report.specs.declared.outcome.ExpectationOutcome.{ExpectationOutcome}
+use Rattle.ga_check_report.specs.declared.request.CheckRequest.{CheckRequest}
+use Rattle.ga_check_report.specs.declared.request.ReportFormat.{ReportFormat}
+use Rattle.ga_check_report.specs.declared.request.ReportFormat.TheVariants as format
+use Rattle.ga_check_report.specs.EndTexts.{ends_text}
+use Rattle.ga_check_report.specs.EndJson.{ends_json}
+use Rattle.ga_check_report.specs.ExpectationTexts.{expectations_text}
+use Rattle.ga_check_report.specs.ExpectationJson.{expectations_json}
+use Rattle.ga_check_report.specs.NeverTexts.{unreached_text, reached_text}
+use Rattle.ga_check_report.specs.NeverJson.{unreached_json, reached_json}
+use Rattle.ga_check_report.specs.RefusalJson.{refused_json}
+
+-- nothing was found out
+abbrev pub refusal_answer : ReportFormat → LabFault → Text
+refusal_answer format.Text fault = refusal_text fault
+refusal_answer (format.Json file) fault = refused_json file.now (refusal_text fault)
+
+abbrev pub ends_answer_by : ReportFormat → CheckRequest → EndSearchResult → Text
+ends_answer_by format.Text request found = ends_text request found
+ends_answer_by (format.Json file) request found = ends_json file.now found
+
+abbrev pub ends_answer : CheckRequest → EndSearchResult → Text
+ends_answer request found = ends_answer_by request.format request found
+
+abbrev pub expectations_answer_by : ReportFormat → CheckRequest → EndSearchResult → List LineExpectation → List ExpectationOutcome → Text
+expectations_answer_by format.Text request found expectations outcomes = expectations_text request found expectations outcomes
+expectations_answer_by (format.Json file) request found expectations outcomes = expectations_json file.now found expectations outcomes
+
+abbrev pub expectations_answer : CheckRequest → EndSearchResult → List LineExpectation → List ExpectationOutcome → Text
+expectations_answer request found expectations outcomes = expectations_answer_by request.format request found expectations outcomes
+
+abbrev pub unreached_answer_by : ReportFormat → CheckRequest → EndSearchResult → Text
+unreached_answer_by format.Text request found = unreached_text request found
+unreached_answer_by (format.Json file) request found = unreached_json file.now found
+
+abbrev pub unreached_answer : CheckRequest → EndSearchResult → Text
+unreached_answer request found = unreached_answer_by request.format request found
+
+abbrev pub reached_answer_by : ReportFormat → ℕ → ℕ → Made → State → Text
+reached_answer_by format.Text conditions which made s = reached_text false conditions which made s
+reached_answer_by (format.Json file) conditions which made s = reached_json file.now (length s.kept) which made
+
+-- the machine has made the event; or its session
+abbrev pub reached_answer : ReportFormat → Bool → ℕ → ℕ → Made → State → Text
+reached_answer form true conditions which made s = reached_text true conditions which made s
+reached_answer form false conditions which made s = reached_answer_by form conditions which made s

@@ -1,0 +1,270 @@
+//! The object of an expectation, and what is known of it.
+
+ghost use Rattle.std.specs.Prelude.{◌≡◌, ◌≤◌, ◌++◌, codes, map};
+ghost use Rattle.arrayvec.specs.ArrayVec.{array_vec_len};
+ghost use Rattle.ga_text.specs.Output.{WritesExactly};
+ghost use Rattle.ga_json.specs.Compact.{json_line};
+ghost use Rattle.ga_json.specs.Fields.{named_field_value};
+ghost use Rattle.ga_check_report.specs.JsonValues.{optional_text_json};
+ghost use Rattle.ga_check_report.specs.inner.{breach_sides, outcome_sides};
+ghost use Rattle.ga_check_report.specs.ExpectationJson.{outcome_word, breach_word, outcome_cause, breach_session_number, outcome_session_number, observation_word, observation_sides, side_list_text, observation_details, breach_details, outcome_details, expectation_fields, expectation_object};
+
+use crate::json_fields::{
+    MAX_DETAILS, event_fields, optional_number_field, text_field,
+};
+use crate::outcome::{Breach, ExpectationOutcome, NodeObservation};
+use crate::outcome_text::{push_sides, sides_of};
+use arrayvec::ArrayVec;
+use ga_json::{Field, RowFields, row_fields, write_object};
+use ga_ports::PortSet;
+use ga_text::{TextBuffer, WriteResult, Writer, push_text};
+use std::io::Write;
+
+/// The words that name what is known of an expectation.
+fn outcome_word(outcome: ExpectationOutcome) -> &'static [u8]
+    ensures { result.now ≡ outcome_word outcome }
+{
+    match outcome {
+        ExpectationOutcome::Holds => b"holds",
+        ExpectationOutcome::Broken(_) => b"broken",
+        ExpectationOutcome::Unknown => b"unknown",
+    }
+}
+
+/// What breaks an expectation, in a word.
+fn breach_word(breach: Breach) -> &'static [u8]
+    ensures { result.now ≡ breach_word breach }
+{
+    match breach {
+        Breach::Unmet { observation, .. } => observation_word(observation),
+        Breach::Reached(_) => b"event",
+        Breach::Endless => b"endless",
+        Breach::SeveralEnds(_) => b"ends",
+    }
+}
+
+/// What a node holds or does, in a word.
+fn observation_word(observation: NodeObservation) -> &'static [u8]
+    ensures { result.now ≡ observation_word observation }
+{
+    match observation {
+        NodeObservation::Is(_) => b"value",
+        NodeObservation::Runs => b"runs",
+        NodeObservation::AwaitsCode => b"awaits code",
+        NodeObservation::Reads(_) => b"reads",
+        NodeObservation::Writes(_) => b"writes",
+        NodeObservation::Stopped(_) => b"stop",
+    }
+}
+
+/// What breaks an expectation, in a word, if it is broken.
+fn cause_field<'a>(outcome: ExpectationOutcome) -> Field<'a>
+    ensures { named_field_value result ≡ (codes "because", optional_text_json (outcome_cause outcome)) }
+{
+    match outcome {
+        ExpectationOutcome::Holds => Field::absent(b"because"),
+        ExpectationOutcome::Broken(breach) => Field::text(b"because", breach_word(breach)),
+        ExpectationOutcome::Unknown => Field::absent(b"because"),
+    }
+}
+
+/// The number of the session that leads to what breaks the expectation of this number, if one does.
+fn outcome_session_number(number: u64, outcome: ExpectationOutcome) -> Option<u64>
+    ensures { result ≡ outcome_session_number number outcome }
+{
+    match outcome {
+        ExpectationOutcome::Holds => None,
+        ExpectationOutcome::Broken(breach) => breach_session_number(number, breach),
+        ExpectationOutcome::Unknown => None,
+    }
+}
+
+fn breach_session_number(number: u64, breach: Breach) -> Option<u64>
+    ensures { result ≡ breach_session_number number breach }
+{
+    match breach {
+        Breach::Unmet { .. } => Some(number),
+        Breach::Reached(_) => Some(number),
+        Breach::Endless => None,
+        Breach::SeveralEnds(_) => None,
+    }
+}
+
+/// The sides that a node awaits, with a blank between two.
+fn outcome_sides(outcome: ExpectationOutcome) -> TextBuffer
+    ensures { result.items ≡ outcome_sides outcome }
+{
+    match outcome {
+        ExpectationOutcome::Holds => ArrayVec::new(),
+        ExpectationOutcome::Broken(breach) => breach_sides(breach),
+        ExpectationOutcome::Unknown => ArrayVec::new(),
+    }
+}
+
+fn breach_sides(breach: Breach) -> TextBuffer
+    ensures { result.items ≡ breach_sides breach }
+{
+    match breach {
+        Breach::Unmet { observation, .. } => observation_sides(observation),
+        Breach::Reached(_) => ArrayVec::new(),
+        Breach::Endless => ArrayVec::new(),
+        Breach::SeveralEnds(_) => ArrayVec::new(),
+    }
+}
+
+fn observation_sides(observation: NodeObservation) -> TextBuffer
+    ensures { result.items ≡ observation_sides observation }
+{
+    match observation {
+        NodeObservation::Is(_) => ArrayVec::new(),
+        NodeObservation::Runs => ArrayVec::new(),
+        NodeObservation::AwaitsCode => ArrayVec::new(),
+        NodeObservation::Reads(sides) => side_list_text(sides),
+        NodeObservation::Writes(side) => side_list_text(sides_of(side)),
+        NodeObservation::Stopped(_) => ArrayVec::new(),
+    }
+}
+
+/// Sides with a blank between two.
+fn side_list_text(sides: PortSet) -> TextBuffer
+    ensures { result.items ≡ side_list_text sides }
+{
+    let mut words = ArrayVec::new();
+    push_sides(&mut words, sides);
+    let mut out = ArrayVec::new();
+    if let Some((_, text)) = words.as_slice().split_first() {
+        push_text(&mut out, text);
+    }
+    out
+}
+
+/// The fields of what breaks an expectation, if it is broken; the node awaits these sides.
+fn outcome_fields<'a>(outcome: ExpectationOutcome, sides: &'a [u8]) -> RowFields<'a>
+    requires { sides.now ≡ outcome_sides outcome }
+    ensures details { map named_field_value result.items ≡ outcome_details outcome }
+    ensures few { array_vec_len result ≤ MAX_DETAILS }
+{
+    match outcome {
+        ExpectationOutcome::Holds => ArrayVec::new(),
+        ExpectationOutcome::Broken(breach) => breach_fields(breach, sides),
+        ExpectationOutcome::Unknown => ArrayVec::new(),
+    }
+}
+
+fn breach_fields<'a>(breach: Breach, sides: &'a [u8]) -> RowFields<'a>
+    requires { sides.now ≡ breach_sides breach }
+    ensures details { map named_field_value result.items ≡ breach_details breach }
+    ensures few { array_vec_len result ≤ MAX_DETAILS }
+{
+    match breach {
+        Breach::Unmet { observation, .. } => observation_fields(observation, sides),
+        Breach::Reached(made) => event_fields(made),
+        Breach::Endless => ArrayVec::new(),
+        Breach::SeveralEnds(ends) => row_fields(&[Field::number(b"ends", ends as u64)]),
+    }
+}
+
+fn observation_fields<'a>(observation: NodeObservation, sides: &'a [u8]) -> RowFields<'a>
+    requires { sides.now ≡ observation_sides observation }
+    ensures details { map named_field_value result.items ≡ observation_details observation }
+    ensures few { array_vec_len result ≤ MAX_DETAILS }
+{
+    match observation {
+        NodeObservation::Is(word) => row_fields(&[Field::word(b"value", word)]),
+        NodeObservation::Runs => ArrayVec::new(),
+        NodeObservation::AwaitsCode => ArrayVec::new(),
+        NodeObservation::Reads(_) => row_fields(&[Field::text(b"sides", sides)]),
+        NodeObservation::Writes(_) => row_fields(&[Field::text(b"sides", sides)]),
+        NodeObservation::Stopped(stop) => row_fields(&[Field::number(b"stop", u64::from(stop))]),
+    }
+}
+
+/// Writes the object of the expectation with this number, in this line with these words.
+///
+/// # Errors
+/// A write failed.
+pub(crate) fn write_expectation_object<'a, W: Write>(
+    file: &'a [u8],
+    number: usize,
+    line: u32,
+    words: &'a [u8],
+    outcome: ExpectationOutcome,
+    writer: &mut Writer<'_, W>,
+) -> WriteResult
+    ensures { WritesExactly result (json_line (expectation_object file.now number line words.now outcome)) W.contents writer.old writer.new }
+{
+    let sides = outcome_sides(outcome);
+    write_with_sides(
+        file,
+        number,
+        line,
+        words,
+        &outcome,
+        sides.as_slice(),
+        writer,
+    )
+}
+
+/// Writes the object of an expectation; the node awaits these sides.
+///
+/// # Errors
+/// A write failed.
+fn write_with_sides<'a, W: Write>(
+    file: &'a [u8],
+    number: usize,
+    line: u32,
+    words: &'a [u8],
+    outcome: &ExpectationOutcome,
+    sides: &'a [u8],
+    writer: &mut Writer<'_, W>,
+) -> WriteResult
+    requires { sides.now ≡ outcome_sides outcome.now }
+    ensures { WritesExactly result (json_line (expectation_object file.now number line words.now outcome.now)) W.contents writer.old writer.new }
+{
+    let fields = object_fields(file, number as u64, line, words, outcome, sides);
+    write_object(fields.as_slice(), writer)
+}
+
+/// The fields of the object of an expectation; the node awaits these sides.
+fn object_fields<'a>(
+    file: &'a [u8],
+    number: u64,
+    line: u32,
+    words: &'a [u8],
+    outcome: &ExpectationOutcome,
+    sides: &'a [u8],
+) -> RowFields<'a>
+    requires { sides.now ≡ outcome_sides outcome.now }
+    ensures { map named_field_value result.items ≡ expectation_fields file.now number line words.now outcome.now ++ outcome_details outcome.now }
+{
+    let mut fields = expectation_fields(file, number, line, words, outcome);
+    let details = outcome_fields(*outcome, sides);
+    let _fits = fields.try_extend_from_slice(details.as_slice());
+    fields
+}
+
+/// The fields that the object of an expectation always has.
+fn expectation_fields<'a>(
+    file: &'a [u8],
+    number: u64,
+    line: u32,
+    words: &'a [u8],
+    outcome: &ExpectationOutcome,
+) -> RowFields<'a>
+    ensures front { map named_field_value result.items ≡ expectation_fields file.now number line words.now outcome.now }
+    ensures few { array_vec_len result ≤ 8 }
+{
+    let word = outcome_word(*outcome);
+    let cause = cause_field(*outcome);
+    let session = outcome_session_number(number, *outcome);
+    row_fields(&[
+        Field::text(b"answer", b"expectation"),
+        text_field(b"file", file),
+        Field::number(b"number", number),
+        Field::number(b"line", u64::from(line)),
+        text_field(b"text", words),
+        Field::text(b"outcome", word),
+        cause,
+        optional_number_field(b"session", session),
+    ])
+}

@@ -1,0 +1,169 @@
+//! The fields of the objects that are written as JSON.
+
+ghost use Rattle.std.specs.Prelude.{◌≡◌, ◌≤◌, IsTrue, [], codes, map};
+ghost use Rattle.arrayvec.specs.ArrayVec.{array_vec_len};
+ghost use Rattle.ga_node.specs.declared.kind.OwnEventKind.TheVariants.{Run, Stop};
+ghost use Rattle.ga_event.specs.declared.made.Made.TheVariants.{Own, Pass};
+ghost use Rattle.ga_json.specs.Names.{is_field_name};
+ghost use Rattle.ga_json.specs.Fields.{named_field_value};
+ghost use Rattle.ga_check_report.specs.JsonValues.{text_json, optional_number_json, stop_word, stop_json, search_fields};
+ghost use Rattle.ga_check_report.specs.EventJson.{step_details, event_details};
+
+use crate::ends_text::is_fully_explored;
+use ga_event::Made;
+use ga_grid::NodeId;
+use ga_json::{Field, RowFields, row_fields};
+use ga_node::OwnEventKind;
+use ga_state_ends::FoundEnds;
+use ga_state_search::SearchFault;
+use ga_word::Word18;
+
+/// The most fields of an event, or of what else breaks an expectation.
+pub(crate) const MAX_DETAILS: usize = 6;
+
+/// A text with its name; no value if it isn't UTF-8.
+pub(crate) fn text_field<'a>(name: &'a [u8], text: &'a [u8]) -> Field<'a>
+    requires { IsTrue (is_field_name name.now) }
+    ensures { named_field_value result ≡ (name.now, text_json text.now) }
+{
+    match str::from_utf8(text) {
+        Ok(_) => Field::text(name, text),
+        Err(_) => Field::absent(name),
+    }
+}
+
+/// A number with its name, if there is one.
+pub(crate) fn optional_number_field<'a>(name: &'a [u8], number: Option<u64>) -> Field<'a>
+    requires { IsTrue (is_field_name name.now) }
+    ensures { named_field_value result ≡ (name.now, optional_number_json number) }
+{
+    match number {
+        Some(number) => Field::number(name, number),
+        None => Field::absent(name),
+    }
+}
+
+/// The fields of an event: what it was, and its steps.
+pub(crate) fn event_fields<'a>(made: Made) -> RowFields<'a>
+    ensures details { map named_field_value result.items ≡ event_details made }
+    ensures few { array_vec_len result ≤ MAX_DETAILS }
+{
+    match made {
+        Made::Own { node, step, kind } => own_fields(node, step, kind),
+        Made::Pass {
+            writer,
+            writer_step,
+            reader,
+            reader_step,
+            word,
+        } => pass_fields((writer, writer_step), (reader, reader_step), word),
+    }
+}
+
+/// The fields of an event of a node's own.
+fn own_fields<'a>(node: NodeId, step: u32, kind: OwnEventKind) -> RowFields<'a>
+    ensures details { map named_field_value result.items ≡ event_details (Own node step kind) }
+    ensures few { array_vec_len result ≤ MAX_DETAILS }
+{
+    match kind {
+        OwnEventKind::Fetch => step_fields(b"fetch", node, step),
+        OwnEventKind::Run(code) => run_fields(node, step, code),
+        OwnEventKind::Wait => step_fields(b"wait", node, step),
+        OwnEventKind::Stop(stop) => stop_fields(node, step, stop),
+    }
+}
+
+/// The fields of an event without a number.
+fn step_fields<'a>(what: &'a [u8], node: NodeId, step: u32) -> RowFields<'a>
+    ensures details { map named_field_value result.items ≡ step_details what.now node step [] }
+    ensures few { array_vec_len result ≤ MAX_DETAILS }
+{
+    row_fields(&[
+        Field::text(b"event", what),
+        Field::node(b"node", node),
+        Field::number(b"step", u64::from(step)),
+    ])
+}
+
+/// The fields of an opcode that was carried out.
+fn run_fields<'a>(node: NodeId, step: u32, code: u8) -> RowFields<'a>
+    ensures details { map named_field_value result.items ≡ event_details (Own node step (Run code)) }
+    ensures few { array_vec_len result ≤ MAX_DETAILS }
+{
+    row_fields(&[
+        Field::text(b"event", b"run"),
+        Field::node(b"node", node),
+        Field::number(b"step", u64::from(step)),
+        Field::number(b"opcode", u64::from(code)),
+    ])
+}
+
+/// The fields of a stop.
+fn stop_fields<'a>(node: NodeId, step: u32, stop: u8) -> RowFields<'a>
+    ensures details { map named_field_value result.items ≡ event_details (Own node step (Stop stop)) }
+    ensures few { array_vec_len result ≤ MAX_DETAILS }
+{
+    row_fields(&[
+        Field::text(b"event", b"stop"),
+        Field::node(b"node", node),
+        Field::number(b"step", u64::from(step)),
+        Field::number(b"stop", u64::from(stop)),
+    ])
+}
+
+/// The fields of a transfer: the writer's step, then the reader's and the word.
+fn pass_fields<'a>(writer: (NodeId, u32), reader: (NodeId, u32), word: Word18) -> RowFields<'a>
+    ensures details { map named_field_value result.items ≡ event_details (Pass writer.0 writer.1 reader.0 reader.1 word) }
+    ensures few { array_vec_len result ≤ MAX_DETAILS }
+{
+    row_fields(&[
+        Field::text(b"event", b"pass"),
+        Field::node(b"node", writer.0),
+        Field::number(b"step", u64::from(writer.1)),
+        Field::node(b"reader", reader.0),
+        Field::number(b"reader_step", u64::from(reader.1)),
+        Field::word(b"word", word),
+    ])
+}
+
+/// What an answer with this name says of a search: the number of states, whether each was explored, and which bound was met.
+pub(crate) fn search_fields<'a>(
+    answer: &'a [u8],
+    file: &'a [u8],
+    found: &FoundEnds,
+) -> RowFields<'a>
+    ensures fields { map named_field_value result.items ≡ search_fields answer.now file.now found.now }
+    ensures few { array_vec_len result ≤ 5 }
+{
+    let whole = is_fully_explored(found);
+    let stopped = stop_field(found.fault());
+    row_fields(&[
+        Field::text(b"answer", answer),
+        text_field(b"file", file),
+        Field::number(b"states", found.count_states() as u64),
+        Field::flag(b"explored", whole),
+        stopped,
+    ])
+}
+
+/// The bound that was met, if one was.
+fn stop_field<'a>(fault: Option<SearchFault>) -> Field<'a>
+    ensures { named_field_value result ≡ (codes "stopped", stop_json fault) }
+{
+    match fault {
+        None => Field::absent(b"stopped"),
+        Some(why) => Field::text(b"stopped", stop_word(why)),
+    }
+}
+
+/// The bound that was met, in a word.
+fn stop_word(why: SearchFault) -> &'static [u8]
+    ensures { result.now ≡ stop_word why }
+{
+    match why {
+        SearchFault::Full => b"states",
+        SearchFault::Stopped => b"seconds",
+        SearchFault::Memory => b"memory",
+        SearchFault::ExceedsAssumptions => b"restarts",
+    }
+}

@@ -1,0 +1,118 @@
+//! A program is read and opened; why it isn't is written in the format that was asked for.
+
+ghost use Rattle.std.specs.Prelude.{◌≡◌, ◌++◌, [], Some};
+ghost use Rattle.ga_text.specs.Lines.{Bytes};
+ghost use Rattle.ga_text.specs.Output.{IsWrittenOrTruncated, IsSameStream, WritesExactly, WritesText};
+ghost use Rattle.ga_check_report.specs.Opened.{IsRefusalOutput};
+ghost use Rattle.ga_check_report.specs.inner.{IsProgramOpened};
+ghost use Rattle.ga_check_report.specs.RefusalJson.{refused_json};
+ghost use Rattle.ga_check_report.specs.declared.request.ReportFormat.TheVariants.{Json};
+
+use crate::refusal_json::write_refused;
+use crate::request::ReportFormat;
+use ga_console::Status;
+use ga_explorer::{Explorer, open_lab};
+use ga_text::{Input, WriteResult, Writer, write_all};
+use std::alloc::Global;
+use std::io::{Read, Write};
+
+/// Reads an image or source up to its first line `end`, and opens a lab that has its chip as its load. Where that is refused, the reason is
+/// written as the format has it; the fault of a source is written to `errors` in either.
+///
+/// # Errors
+/// The status of a program that ends so.
+pub(crate) fn open_program<R: Read, W: Write, E: Write>(
+    alloc: Global,
+    input: &mut Input,
+    reader: &mut R,
+    writer: &mut W,
+    errors: &mut E,
+    format: ReportFormat<'_>,
+    limit: u32,
+) -> Result<Explorer, Status>
+    requires fresh { input.old ≡ record { bytes = []; taken = 0 } }
+    ensures begun { (left before : Bytes) →
+        R.remaining reader.old ≡ Some left → W.contents writer.old ≡ Some before →
+        (rest text : Bytes) × (R.remaining reader.new ≡ Some rest) × (W.contents writer.new ≡ Some (before ++ text))
+        × IsProgramOpened format.entry limit left input.new rest text result }
+{
+    match format {
+        ReportFormat::Text => open_lab(alloc, input, reader, writer, errors, None, limit),
+        ReportFormat::Json(file) => {
+            open_for_objects(alloc, input, reader, writer, errors, file, limit)
+        }
+    }
+}
+
+/// The same, with an object for each line of the reason.
+fn open_for_objects<R: Read, W: Write, E: Write>(
+    alloc: Global,
+    input: &mut Input,
+    reader: &mut R,
+    writer: &mut W,
+    errors: &mut E,
+    file: &[u8],
+    limit: u32,
+) -> Result<Explorer, Status>
+    requires fresh { input.old ≡ record { bytes = []; taken = 0 } }
+    ensures begun { (left before : Bytes) →
+        R.remaining reader.old ≡ Some left → W.contents writer.old ≡ Some before →
+        (rest text : Bytes) × (R.remaining reader.new ≡ Some rest) × (W.contents writer.new ≡ Some (before ++ text))
+        × IsProgramOpened (Json file.entry) limit left input.new rest text result }
+{
+    let mut reason = Vec::new(alloc);
+    let mut told = Vec::new(alloc);
+    let opened = open_lab(alloc, input, reader, &mut reason, &mut told, None, limit);
+    let _written = write_all(errors, told.as_slice());
+    match opened {
+        Ok(begun) => Ok(begun),
+        Err(status) => Err(tell_unopened(file, reason.as_slice(), told.as_slice(), status, writer)),
+    }
+}
+
+/// Writes an object for each line of a reason, and of what was told; and answers this status, or that a write failed.
+fn tell_unopened<W: Write>(
+    file: &[u8],
+    reason: &[u8],
+    told: &[u8],
+    status: Status,
+    writer: &mut W,
+) -> Status
+    ensures { WritesText (λ text. IsRefusalOutput (refused_json file.now reason.now ++ refused_json file.now told.now) status text result)
+        (W.contents writer.old) (W.contents writer.new) }
+{
+    let mut out = Writer::new(writer);
+    let said = write_reasons(file, reason, told, &mut out);
+    status_sent(said, status, &mut out)
+}
+
+/// Writes what is pending, and answers a status, or that a write failed.
+fn status_sent<W: Write>(said: WriteResult, status: Status, writer: &mut Writer<'_, W>) -> Status
+    ensures same { IsSameStream writer.old writer.new }
+    ensures written { (before whole : Bytes) → IsWrittenOrTruncated said (W.contents writer.old.stream.now) before whole writer.old.pending.items →
+        (text : Bytes) × (W.contents writer.new.stream.now ≡ Some (before ++ text)) × IsRefusalOutput whole status text result }
+{
+    match said {
+        Ok(()) => match writer.flush() {
+            Ok(()) => status,
+            Err(_) => Status::StreamFault,
+        },
+        Err(_) => Status::StreamFault,
+    }
+}
+
+/// Writes an object for each line of a reason, and of what was told.
+///
+/// # Errors
+/// A write failed.
+fn write_reasons<W: Write>(
+    file: &[u8],
+    reason: &[u8],
+    told: &[u8],
+    writer: &mut Writer<'_, W>,
+) -> WriteResult
+    ensures { WritesExactly result (refused_json file.now reason.now ++ refused_json file.now told.now) W.contents writer.old writer.new }
+{
+    write_refused(file, reason, writer)?;
+    write_refused(file, told, writer)
+}

@@ -1,0 +1,114 @@
+//! The objects that say why a program isn't checked.
+
+ghost use Rattle.std.specs.Prelude.{◌≡◌, option_map};
+ghost use Rattle.ga_text.specs.Output.{WritesExactly};
+ghost use Rattle.ga_json.specs.Compact.{json_line};
+ghost use Rattle.ga_check_report.specs.RefusalJson.{text_after, without_program_name, is_colon, without_last_colon, numbered_parts, refusal_parts, refused_object, refused_json};
+
+use crate::json_fields::{optional_number_field, text_field};
+use ga_json::{Field, write_object};
+use ga_text::{WriteResult, Writer, first_line, parse_number, split_at_space};
+use std::io::Write;
+
+/// Writes an object for each line of a text that says why a program isn't checked.
+///
+/// # Errors
+/// A write failed.
+pub(crate) fn write_refused<W: Write>(
+    file: &[u8],
+    text: &[u8],
+    writer: &mut Writer<'_, W>,
+) -> WriteResult
+    ensures { WritesExactly result (refused_json file.now text.now) W.contents writer.old writer.new }
+{
+    let mut rest = text;
+    'lines: while !rest.is_empty() {
+        let (line, after) = first_line(rest);
+        write_refused_line(file, line, writer)?;
+        rest = after;
+    }
+    Ok(())
+}
+
+/// Writes the object of a line.
+///
+/// # Errors
+/// A write failed.
+fn write_refused_line<W: Write>(
+    file: &[u8],
+    line: &[u8],
+    writer: &mut Writer<'_, W>,
+) -> WriteResult
+    ensures { WritesExactly result (json_line (refused_object file.now line.now)) W.contents writer.old writer.new }
+{
+    let (number, reason) = refusal_parts(line);
+    write_object(
+        &[
+            Field::text(b"answer", b"refused"),
+            text_field(b"file", file),
+            optional_number_field(b"line", number),
+            text_field(b"text", reason),
+        ],
+        writer,
+    )
+}
+
+/// The number of the source's line, if a line names one, and the reason.
+fn refusal_parts(line: &[u8]) -> (Option<u64>, &[u8])
+    ensures number { result.0 ≡ (refusal_parts line.now).0 }
+    ensures reason { result.1.now ≡ (refusal_parts line.now).1 }
+{
+    let text = without_program_name(line);
+    match numbered_parts(text) {
+        Some((number, reason)) => (Some(u64::from(number)), reason),
+        None => (None, text),
+    }
+}
+
+/// A line without the name of the program in front.
+fn without_program_name(line: &[u8]) -> &[u8]
+    ensures { result.now ≡ without_program_name line.now }
+{
+    match text_after(b"ga144:", line) {
+        Some(rest) => rest,
+        None => line,
+    }
+}
+
+/// The number of a line of the source, and the text after it.
+fn numbered_parts(text: &[u8]) -> Option<(u32, &[u8])>
+    ensures { option_map (λ parts. (parts.0, parts.1.now)) result ≡ numbered_parts text.now }
+{
+    let (numeral, reason) = split_at_space(text_after(b"line", text)?)?;
+    let number = parse_number(without_last_colon(numeral))?;
+    Some((number, reason))
+}
+
+/// The text after the first word, if that is this one.
+fn text_after<'a>(word: &[u8], text: &'a [u8]) -> Option<&'a [u8]>
+    ensures { option_map (λ rest. rest.now) result ≡ text_after word.now text.now }
+{
+    let (first, rest) = split_at_space(text)?;
+    if first == word { Some(rest) } else { None }
+}
+
+/// A word without a colon at its end.
+fn without_last_colon(word: &[u8]) -> &[u8]
+    ensures { result.now ≡ without_last_colon word.now }
+{
+    if is_colon(word.last()) {
+        word.split_at(word.len() - 1).0
+    } else {
+        word
+    }
+}
+
+/// Whether there is a byte, and it is a colon.
+fn is_colon(byte: Option<&u8>) -> bool
+    ensures { result ≡ is_colon (option_map (λ it. it.now) byte.entry) }
+{
+    match byte {
+        Some(byte) => *byte == b':',
+        None => false,
+    }
+}

@@ -1,0 +1,21 @@
+//! What a person asks of a search.
+
+/// How an answer is written.
+#[derive(Clone, Copy)]
+pub enum ReportFormat<'a> {
+    /// As lines of text.
+    Text,
+    /// As JSON objects that name this file, one a line.
+    Json(&'a [u8]),
+}
+
+/// How far to search, and how to answer.
+#[derive(Clone, Copy)]
+pub struct CheckRequest<'a> {
+    /// The maximum number of states.
+    pub most: u32,
+    /// The maximum number of seconds, if the search is to be stopped then. The caller stops it; the text names it.
+    pub seconds: u32,
+    /// How the answer is written. A session is always lines of text.
+    pub format: ReportFormat<'a>,
+}

@@ -1,0 +1,56 @@
+"""What `check` reads of programs that are right, and of the same with a fault."""
+
+import os
+
+import pytest
+
+from latchsorrel import CheckError, Event, check
+
+
+def test_each_expectation_of_a_right_program_holds(examples):
+    report = check(os.path.join(examples, "lock.f18"))
+    assert report.holds and report.explored and report.stopped is None and report.status == 0
+    assert [(one.line, one.text) for one in report.expectations][:2] == [(5, "101 t = 61"), (6, "101 awaits code")]
+    assert {one.outcome for one in report.expectations} == {"holds"}
+
+
+def test_what_is_there_instead(examples):
+    report = check(os.path.join(examples, "status-5", "lock_asked_with_a_wrong_port.f18"))
+    broken = [one for one in report.expectations if one.outcome == "broken"]
+    assert [one.found() for one in broken] == ["is 000000", "waits to write up", "waits to read left"]
+    assert [one.session for one in broken] == [1, 2, 6] and (broken[0].because, broken[0].value) == ("value", 0)
+    assert not report.holds and report.status == 5
+
+
+def test_an_event_that_never_should_come(examples):
+    one = check(os.path.join(examples, "status-5", "ring_without_a_token.f18")).expectations[2]
+    assert one.because == "event" and one.event == Event("wait", "101", 70) and str(one.event) == "101 70 wait"
+
+
+def test_a_bound(examples):
+    report = check(os.path.join(examples, "lock.f18"), "--most", "2000")
+    assert (report.status, report.explored, report.stopped) == (6, False, "states")
+    assert "unknown" in {one.outcome for one in report.expectations}
+
+
+def test_the_ends(examples):
+    report = check(os.path.join(examples, "status-5", "lock_asked_with_a_wrong_port.f18"), "--ends")
+    assert report.status == 5 and not all(end.clean for end in report.ends)
+    assert all(node.does in ("goes on", "reads", "writes", "stop") for end in report.ends for node in end.nodes)
+
+
+def test_conditions_that_never_hold(examples):
+    report = check(os.path.join(examples, "lock.f18"), "--never", "stop")
+    assert report.never.outcome == "holds" and report.holds
+
+
+def test_a_fault_of_source(tmp_path):
+    path = tmp_path / "fault.f18"
+    path.write_text("node 101\nfoo\n")
+    report = check(path)
+    assert report.status == 1 and [(it.line, it.text) for it in report.refusals] == [(2, "what is foo")]
+
+
+def test_a_file_that_is_missing(tmp_path):
+    with pytest.raises(CheckError, match="No such file"):
+        check(tmp_path / "none.f18")
