@@ -3,8 +3,8 @@ use Rattle.std.proofs.Common.{◌≡◌, ◌≢◌, ℕ, ◌≤◌, List, [], le
 use Rattle.std.specs.Prelude.{Some, None, ◌⊎◌, Result, Ok, Err}
 use Rattle.std.proofs.lemmas.Option.{none-some, same_Some}
 use Rattle.ga_console.specs.Commands.{SpellsCommand}
-use Rattle.ga_console.specs.Session.{AnswerRelation, AnswersLine, AnswersOrQuits, AnswersOrEnds, EndsAtNoAnswer, quit_line}
-use Rattle.ga_console.specs.inner.Run.{AnswersCommand, ObeysCommand, end_at}
+use Rattle.ga_console.specs.Session.{AnswerRelation, AnswersLine, AnswersOrQuits, EndsAtNoAnswer, quit_line}
+use Rattle.ga_console.specs.inner.Run.{AnswersOrEnds, AnswersCommand, ObeysCommand, end_at}
 use Rattle.ga_console.specs.declared.command.Command.{Command}
 use Rattle.ga_console.specs.declared.commands.CommandsEnd.{CommandsEnd}
 use Rattle.ga_console.specs.declared.commands.CommandsEnd.TheVariants.{Ended, Quit, Refused, Past, ReadFailed}

@@ -36,13 +36,6 @@ AnswersOrQuits A m line new (Ok turn.Refused) answer = ⊥
 AnswersOrQuits A m line new (Ok turn.Quit) answer = (line ≡ quit_line) × (new ≡ m) × (answer ≡ [])
 AnswersOrQuits A m line new (Err failed) answer = AnswersLine A m line answer new
 
--- a line is answered, as far as the answer can be written, and the session goes on or ends; or it is quit
-abbrev pub AnswersOrEnds : {M : Type 0} → AnswerRelation M → AnswerRelation M → M → Line → M → Result LineAction WriteError → Text → Type 0
-AnswersOrEnds A R m line new (Ok turn.Answered) answer = AnswersLine A m line answer new
-AnswersOrEnds A R m line new (Ok turn.Refused) answer = AnswersLine R m line answer new
-AnswersOrEnds A R m line new (Ok turn.Quit) answer = (line ≡ quit_line) × (new ≡ m) × (answer ≡ [])
-AnswersOrEnds A R m line new (Err failed) answer = AnswersLine A m line answer new ⊎ AnswersLine R m line answer new
-
 abbrev pub HasNoQuit : List Line → Type 0
 HasNoQuit lines = AllByRecursion (λ line. line ≢ quit_line) lines
 

@@ -4,8 +4,8 @@ ghost use Rattle.std.specs.Prelude.{◌≡◌};
 ghost use Rattle.ga_text.specs.Lines.{Bytes};
 ghost use Rattle.ga_lab.specs.Machine.{State};
 ghost use Rattle.ga_console.specs.Replies.{IsAnswerInWording, IsCommandReply};
-ghost use Rattle.ga_console.specs.Session.{AnswersOrQuits, AnswersOrEnds, EndsAtNoAnswer};
-ghost use Rattle.ga_console.specs.inner.Run.{ObeysCommand};
+ghost use Rattle.ga_console.specs.Session.{AnswersOrQuits, EndsAtNoAnswer};
+ghost use Rattle.ga_console.specs.inner.Run.{AnswersOrEnds, ObeysCommand};
 
 use super::changes::{back, rewind, step};
 use super::command::{Command, parse_debugger_command};

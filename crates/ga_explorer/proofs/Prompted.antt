@@ -6,8 +6,8 @@ use Rattle.ga_text.specs.declared.output.WriteError.{WriteError}
 use Rattle.ga_text.specs.Lines.{terminated_lines}
 use Rattle.ga_text.specs.Output.{TextHasPrefix, IsTruncated, IsWrittenOrTruncated}
 use Rattle.ga_text.proofs.WriteLemmas.{at_err, truncated_here, truncated_within}
-use Rattle.ga_console.specs.Session.{AnswersLine, AnswersOrEnds, ServesCommands, ServesToWriteFailure, IsWrittenOrPrefix, lines_within_bound}
-use Rattle.ga_console.specs.inner.Run.{AnswersCommand, ObeysCommand}
+use Rattle.ga_console.specs.Session.{AnswersLine, ServesCommands, ServesToWriteFailure, IsWrittenOrPrefix, lines_within_bound}
+use Rattle.ga_console.specs.inner.Run.{AnswersOrEnds, AnswersCommand, ObeysCommand}
 use Rattle.ga_console.specs.declared.command.Command.{Command}
 use Rattle.ga_console.specs.declared.commands.CommandsEnd.{CommandsEnd}
 use Rattle.ga_console.specs.declared.responder.LineAction.{LineAction}

@@ -4,8 +4,8 @@ use Rattle.std.specs.Prelude.{◌⊎◌, if◌then◌else◌, IfOk, Result, Ok, 
 use Rattle.std.proofs.lemmas.Option.{same_Some}
 use Rattle.ga_text.specs.Output.{IsWritten}
 use Rattle.ga_text.specs.declared.output.WriteError.{WriteError}
-use Rattle.ga_console.specs.Session.{AnswersLine, AnswersOrEnds, EndsAtNoAnswer}
-use Rattle.ga_console.specs.inner.Run.{AnswersCommand, ObeysCommand}
+use Rattle.ga_console.specs.Session.{AnswersLine, EndsAtNoAnswer}
+use Rattle.ga_console.specs.inner.Run.{AnswersOrEnds, AnswersCommand, ObeysCommand}
 use Rattle.ga_console.specs.declared.command.Command.{Command}
 use Rattle.ga_console.specs.declared.responder.LineAction.{LineAction}
 use Rattle.ga_console.specs.declared.responder.LineAction.TheVariants as turn

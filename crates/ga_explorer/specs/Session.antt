@@ -1,5 +1,5 @@
 -- What a whole session of exploring may write, and how it may end (docs/REFERENCE.md, "Exploring"; this project's own).
-use Rattle.std.specs.Prelude.{◌≡◌, ◌&&◌, ℕ, ◌-◌, ◌++◌, [], length, codes, decimal, nat_eq, Bool, true, false, Option, Result, Ok, Err}
+use Rattle.std.specs.Prelude.{◌≡◌, ◌&&◌, ℕ, ◌-◌, ◌++◌, [], length, codes, nat_eq, Bool, true, false, Option, Result, Ok, Err}
 use Rattle.std.specs.List.{starts_with}
 use Rattle.ga_text.specs.Lines.{Bytes, Text}
 use Rattle.ga_text.specs.Input.{input_limit}
@@ -40,10 +40,6 @@ session_status strict (Ok (Refused number)) = status_of (Ok (Refused number))
 session_status strict (Ok (Past number)) = status_past_limit strict
 session_status strict (Ok ReadFailed) = status_of (Ok ReadFailed)
 session_status strict (Err failed) = status_of (Err failed)
-
--- the line of standard error, with the number of the refused line
-abbrev pub refused_line_text : ℕ → Text → Text
-refused_line_text number refusal = codes "ga144: line " ++ decimal number ++ codes ": refused: " ++ refusal
 
 -- ---- a session that may prompt for commands
 

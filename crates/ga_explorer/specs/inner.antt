@@ -1,5 +1,5 @@
 -- What only private contracts and proofs name.
-use Rattle.std.specs.Prelude.{if◌then◌else◌, take, Bool, Option, Some, None, ◌≡◌, ℕ, true, false, [], Result, Ok, Err}
+use Rattle.std.specs.Prelude.{codes, decimal, ◌++◌, if◌then◌else◌, take, Bool, Option, Some, None, ◌≡◌, ℕ, true, false, [], Result, Ok, Err}
 use Rattle.ga_lab.specs.Machine.{State}
 use Rattle.ga_debug_info.specs.declared.notes.DebugInfo.{DebugInfo}
 use Rattle.ga_explorer.specs.Opening.{ExplorerState, begins_as_image, is_read_as_image, OpensLeadingText}
@@ -78,6 +78,10 @@ abbrev pub IsNoted : LineAction → Text → Text → Type 0
 IsNoted turn.Answered answer noted = Unit {0}
 IsNoted turn.Refused answer noted = noted ≡ take 201 answer
 IsNoted turn.Quit answer noted = Unit {0}
+
+-- the line of standard error, with the number of the refused line
+abbrev pub refused_line_text : ℕ → Text → Text
+refused_line_text number refusal = codes "ga144: line " ++ decimal number ++ codes ": refused: " ++ refusal
 
 -- ---- A session that may prompt for commands, by what its machine has
 

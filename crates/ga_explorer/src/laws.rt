@@ -24,5 +24,4 @@ pub fn save_round_trips()
 pub fn only_strict_sessions_end_at_a_refusal()
     ensures { (prompts : Bool) (chip : Option Text) (limit : ℕ) (read rest : Bytes) (written : Text) →
         ¬ RunsExplorer prompts false chip limit read rest written CommandRefused }
-{
-}
+{}

@@ -110,7 +110,7 @@ pub(crate) fn serve_explorer<R: Read, W: Write>(
         × (input.old.bytes ++ left ≡ read ++ rest) × (R.remaining reader.new ≡ Some rest)
         × (W.contents writer.new.stream.now ≡ Some (before ++ sent))
         × ServesCommands (AnswersWithPrompt session.old.is_prompted session.old.explorer.is_strict) (AnswersLast session.old.explorer.is_strict)
-            (input_limit - input.old.taken) session.old.explorer.explorer read rest text session.new.explorer.explorer result
+        (input_limit - input.old.taken) session.old.explorer.explorer read rest text session.new.explorer.explorer result
         × IsWrittenOrPrefix result (said ++ (prompt session.old.is_prompted ++ text)) sent }
 {
     session.write_prompt(writer)?;

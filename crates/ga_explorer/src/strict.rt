@@ -3,10 +3,9 @@
 ghost use Rattle.std.specs.Prelude.{◌≡◌, ◌≢◌, ◌≤◌, [], Some, IfOk, take, length, true};
 ghost use Rattle.ga_text.specs.Lines.{Bytes};
 ghost use Rattle.ga_text.specs.Output.{IsWritten, IsWrittenOrTruncated, WritesExactly, WritesSome};
-ghost use Rattle.ga_console.specs.Session.{AnswersOrEnds};
-ghost use Rattle.ga_console.specs.inner.Run.{ObeysCommand};
-ghost use Rattle.ga_explorer.specs.Session.{is_refusal, AnswersOn, AnswersLast, refused_line_text, session_status};
-ghost use Rattle.ga_explorer.specs.inner.{turn_after, IsNoted};
+ghost use Rattle.ga_console.specs.inner.Run.{AnswersOrEnds, ObeysCommand};
+ghost use Rattle.ga_explorer.specs.Session.{is_refusal, AnswersOn, AnswersLast, session_status};
+ghost use Rattle.ga_explorer.specs.inner.{turn_after, IsNoted, refused_line_text};
 
 use crate::explorer::Explorer;
 use ga_console::{Command, CommandsEnd, LineAction, Responder, Status, status_of};
@@ -83,7 +82,13 @@ impl Responder for StrictExplorer {
         writer: &mut Writer<'_, W>,
     ) -> Result<LineAction, WriteError> {
         if self.is_strict {
-            return obey_strictly(alloc, &mut self.explorer, &mut self.refusal, command, writer);
+            return obey_strictly(
+                alloc,
+                &mut self.explorer,
+                &mut self.refusal,
+                command,
+                writer,
+            );
         }
         self.explorer.obey(alloc, command, writer)
     }

@@ -2,7 +2,7 @@ use Rattle.std.proofs.Common.{◌≡◌, [], ◌++◌, Some, ap, refl, true, rul
 use Rattle.std.specs.Prelude.{Result}
 use Rattle.ga_text.specs.declared.output.WriteError.{WriteError}
 use Rattle.ga_text.proofs.WriteLemmas.{at_err, truncated_here, truncated_more, said_cut, written_pending}
-use Rattle.ga_console.specs.Session.{AnswersOrEnds}
+use Rattle.ga_console.specs.inner.Run.{AnswersOrEnds}
 use Rattle.ga_console.specs.declared.responder.LineAction.{LineAction}
 use Rattle.ga_console.proofs.RunLemmas.{written_fresh}
 use Rattle.ga_console.proofs.Ending.{only_answers}

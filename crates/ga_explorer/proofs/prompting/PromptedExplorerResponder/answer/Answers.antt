@@ -2,7 +2,7 @@ use Rattle.std.proofs.Common.{ℕ, List, ◌++◌, ◌∙◌, inl}
 use Rattle.std.specs.Prelude.{Result}
 use Rattle.ga_text.specs.declared.output.WriteError.{WriteError}
 use Rattle.ga_text.proofs.WriteLemmas.{at_err, truncated_here, said_assoc, cut_assoc}
-use Rattle.ga_console.specs.Session.{AnswersOrEnds}
+use Rattle.ga_console.specs.inner.Run.{AnswersOrEnds}
 use Rattle.ga_console.specs.declared.responder.LineAction.{LineAction}
 use Rattle.ga_explorer.specs.Session.{prompt}
 use Rattle.ga_explorer.proofs.Prompted.{AnswersPrompted, EndsPrompted, on, prompted_line, ended_line, line_err, quit_turn}

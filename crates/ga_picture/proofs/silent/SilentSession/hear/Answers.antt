@@ -1,6 +1,7 @@
 use Rattle.std.proofs.Common.{◌≡◌, [], Some, Ok, true≢false, ap, sym, subst}
 use Rattle.ga_explorer.specs.Opening.{ExplorerState}
-use Rattle.ga_console.specs.Session.{AnswersOrEnds, EndsAtNoAnswer}
+use Rattle.ga_console.specs.Session.{EndsAtNoAnswer}
+use Rattle.ga_console.specs.inner.Run.{AnswersOrEnds}
 use Rattle.ga_console.specs.declared.responder.LineAction.TheVariants.{Answered, Refused}
 use Rattle.ga_console.proofs.RunLemmas.{written_fresh}
 use Rattle.ga_console.proofs.Ending.{only_answers}
