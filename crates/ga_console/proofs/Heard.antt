@@ -298,7 +298,6 @@ module _ {M : Type 0} {A : AnswerRelation M} {first : M} {whole : List ℕ} {sta
 
   -- ---- the line that ends the session, or the answer that could not be written
 
-  -- quit has no answer
   quits : (R : AnswerRelation M) (read rest answer : List ℕ) (new : M) → new ≡ m → answer ≡ [] → ServesToQuit A (16777216 - start) first read rest text m
       → ServesToQuit A (16777216 - start) first read rest (text ++ answer) new
   quits R read rest answer new e none s =
@@ -309,7 +308,6 @@ module _ {M : Type 0} {A : AnswerRelation M} {first : M} {whole : List ℕ} {sta
   refusal_push : (R : AnswerRelation M) (part answer : List ℕ) (new : M) → R m part answer new → AnswersToRefusal A R first (h.lines ++ part ∷ []) (text ++ answer) new
   refusal_push R part answer new r = (h.lines, part, text, answer, m, refl, h.answers, r, refl)
 
-  -- a line and its line feed
   refused_here : (R : AnswerRelation M) (part bytes rest answer : List ℕ) (now n : ℕ) (new : M) → HasNoLineFeed part → now ≡ taken + length part + 1
       → now + length bytes ≤ 16777216 → n ≡ number + 1 → IsAnswered R m part answer new
       → ServesToRefusal A R n (16777216 - start) first (read_past part bytes) rest (text ++ answer) new

@@ -1,5 +1,5 @@
 -- What a whole session of exploring may write, and how it may end (docs/REFERENCE.md, "Exploring"; this project's own).
-use Rattle.std.specs.Prelude.{◌≡◌, ◌&&◌, ℕ, ◌-◌, [], length, codes, nat_eq, Bool, true, false, Option, Result, Ok, Err}
+use Rattle.std.specs.Prelude.{◌≡◌, ◌&&◌, ℕ, ◌-◌, ◌++◌, [], length, codes, nat_eq, Bool, true, false, Option, Result, Ok, Err}
 use Rattle.std.specs.List.{starts_with}
 use Rattle.ga_text.specs.Lines.{Bytes, Text}
 use Rattle.ga_text.specs.Input.{input_limit}

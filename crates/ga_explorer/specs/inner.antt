@@ -1,5 +1,5 @@
 -- What only private contracts and proofs name.
-use Rattle.std.specs.Prelude.{if◌then◌else◌, take, Bool, Option, Some, None, ◌≡◌, ℕ, true, false, [], ◌++◌, Result, Ok, Err, codes, decimal}
+use Rattle.std.specs.Prelude.{codes, decimal, ◌++◌, if◌then◌else◌, take, Bool, Option, Some, None, ◌≡◌, ℕ, true, false, [], Result, Ok, Err}
 use Rattle.ga_lab.specs.Machine.{State}
 use Rattle.ga_debug_info.specs.declared.notes.DebugInfo.{DebugInfo}
 use Rattle.ga_explorer.specs.Opening.{ExplorerState, begins_as_image, is_read_as_image, OpensLeadingText}
@@ -79,6 +79,10 @@ IsNoted turn.Answered answer noted = Unit {0}
 IsNoted turn.Refused answer noted = noted ≡ take 201 answer
 IsNoted turn.Quit answer noted = Unit {0}
 
+-- the line of standard error, with the number of the refused line
+abbrev pub refused_line_text : ℕ → Text → Text
+refused_line_text number refusal = codes "ga144: line " ++ decimal number ++ codes ": refused: " ++ refusal
+
 -- ---- A session that may prompt for commands, by what its machine has
 
 abbrev pub PromptsFor : Bool → Bool → ExplorerState → Line → Text → Bool → Bool → ExplorerState → Type 0
@@ -87,7 +91,3 @@ PromptsFor prompts strict e line written prompts_on strict_on new =
 
 abbrev pub EndsPrompting : Bool → Bool → ExplorerState → Line → Text → Bool → Bool → ExplorerState → Type 0
 EndsPrompting prompts strict e line answer prompts_on strict_on new = AnswersLast strict e line answer new × (strict_on ≡ strict) × (prompts_on ≡ prompts)
-
--- the line of standard error, with the number of the refused line
-abbrev pub refused_line_text : ℕ → Text → Text
-refused_line_text number refusal = codes "ga144: line " ++ decimal number ++ codes ": refused: " ++ refusal

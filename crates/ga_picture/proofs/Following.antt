@@ -2,7 +2,7 @@
 use Rattle.std.proofs.Common.{◌≡◌, Option, ℕ, List, [], ◌∷◌, ◌++◌, false, inl, inr, sym, ap, ◌∙◌, Result, Ok, Err, ◌≢◌, refl, subst, ◌-◌, length, ◌↔◌, Bool, true≢false, IsTrue, Some, arith}
 use Rattle.ga_explorer.specs.Opening.{ExplorerState, OpensLeadingText, IsLeadingText}
 use Rattle.ga_console.specs.Run.{status_of}
-use Rattle.ga_console.specs.Session.{Answers, AnswersToRefusal, WritesAnswers, ServesCommands, EndsAtNoAnswer, IsWrittenOrPrefix, AnswerRelation}
+use Rattle.ga_console.specs.Session.{Answers, WritesAnswers, ServesCommands, EndsAtNoAnswer, IsWrittenOrPrefix, AnswerRelation}
 use Rattle.ga_console.specs.inner.Run.{AnswersOrEnds, ObeysCommand}
 use Rattle.ga_console.specs.declared.command.Command.{Command}
 use Rattle.ga_console.specs.declared.commands.CommandsEnd.{CommandsEnd}

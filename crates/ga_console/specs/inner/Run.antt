@@ -56,6 +56,10 @@ StandsAhead bytes Nothing = Unit {0}
 
 -- ---- what private contracts, invariants and bridges cite
 
+-- a line that spells this command of the debugger is answered
+abbrev pub AnswersCommand : {M : Type 0} → AnswerRelation M → M → Command → M → Text → Type 0
+AnswersCommand A m asked new answer = (line : Line) → length line ≤ max_input_line → SpellsCommand asked line → A m line answer new
+
 -- a line is answered, as far as the answer can be written, and the session goes on or ends; or it is quit
 abbrev pub AnswersOrEnds : {M : Type 0} → AnswerRelation M → AnswerRelation M → M → Line → M → Result LineAction WriteError → Text → Type 0
 AnswersOrEnds A R m line new (Ok turn.Answered) answer = AnswersLine A m line answer new
@@ -63,11 +67,7 @@ AnswersOrEnds A R m line new (Ok turn.Refused) answer = AnswersLine R m line ans
 AnswersOrEnds A R m line new (Ok turn.Quit) answer = (line ≡ quit_line) × (new ≡ m) × (answer ≡ [])
 AnswersOrEnds A R m line new (Err failed) answer = AnswersLine A m line answer new ⊎ AnswersLine R m line answer new
 
--- a line that spells this command of the debugger is answered
-abbrev pub AnswersCommand : {M : Type 0} → AnswerRelation M → M → Command → M → Text → Type 0
-AnswersCommand A m asked new answer = (line : Line) → length line ≤ max_input_line → SpellsCommand asked line → A m line answer new
-
--- such a line is answered, as far as the answer can be written, and the session goes on or ends
+-- a line that spells this command of the debugger is answered so
 abbrev pub ObeysCommand : {M : Type 0} → AnswerRelation M → AnswerRelation M → M → Command → M → Result LineAction WriteError → Text → Type 0
 ObeysCommand A R m asked new (Ok turn.Answered) answer = AnswersCommand A m asked new answer
 ObeysCommand A R m asked new (Ok turn.Refused) answer = AnswersCommand R m asked new answer

@@ -1,12 +1,12 @@
-use Rattle.std.proofs.Common.{ℕ, ◌+◌, ◌-◌, ◌≤◌, ◌≡◌, ◌++◌, [], List, take, drop, length, length-take, refl, sym, ap, subst, ◌∙◌, arith}
+use Rattle.std.proofs.Common.{ℕ, ◌+◌, ◌-◌, ◌++◌, [], List, take, drop, length, length-take, refl, sym, ap, subst, ◌∙◌, arith}
 use Rattle.std.specs.Prelude.{Result, Ok}
 use Rattle.std.specs.Result.{IsErr}
-use Rattle.ga_console.specs.inner.Run.{IsAhead, IsLineAhead, AnswersOrEnds}
+use Rattle.ga_console.specs.inner.Run.{IsAhead, IsLineAhead}
 use Rattle.ga_console.specs.Session.{AnswerRelation, ServesCommands, ServesToWriteFailure}
 use Rattle.ga_display.specs.Texts.{input_limit_refusal}
 use Rattle.ga_text.specs.declared.output.WriteError.{WriteError}
 use Rattle.ga_console.specs.declared.commands.CommandsEnd.{CommandsEnd}
-use Rattle.ga_console.specs.declared.commands.CommandsEnd.TheVariants.{Ended, Past}
+use Rattle.ga_console.specs.declared.commands.CommandsEnd.TheVariants.{Past}
 use Rattle.ga_text.proofs.WriteLemmas.{at_err, truncated_here, said_assoc, cut_assoc, written_pending, empty_part, some_part}
 use Rattle.ga_console.proofs.AheadLemmas.{ahead_whole, line_whole, line_taken, line_kept, line_within}
 use Rattle.ga_console.proofs.Ending.{turn_goes, turn_ends, turn_fails, obeyed_goes, obeyed_ends, obeyed_fails}

@@ -1,4 +1,4 @@
-use Rattle.std.proofs.Common.{List, ℕ, rules, ◌++◌, ap, subst, inl, inr}
+use Rattle.std.proofs.Common.{rules, ◌++◌, ap, subst, inl, inr}
 use Rattle.std.specs.Prelude.{Result}
 use Rattle.ga_text.proofs.WriteLemmas.{at_err, truncated_here}
 use Rattle.ga_text.specs.declared.output.WriteError.{WriteError}
