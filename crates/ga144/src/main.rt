@@ -214,7 +214,7 @@ fn check_files<T: Threads + Sync>(
     }
 }
 
-/// The name of a file, unless it stands for standard input.
+/// The name of a file, unless it means standard input.
 fn named_file(name: &str) -> Option<&str> {
     if name == "-" { None } else { Some(name) }
 }

@@ -15,11 +15,11 @@ use Rattle.ga_asm_text.specs.inner.{Word}
 
 -- ---- such words
 
--- the word neither defines a constant nor begins_node a label
+-- the word neither defines a constant nor begins a label
 abbrev pub is_quiet : Word → Bool
 is_quiet word = not (bytes_eq word (codes "constant")) && not (bytes_eq word (codes ":"))
 
--- no word defines a constant or begins_node a label, and one of three digits comes only right after `node`
+-- no word defines a constant or begins a label, and one of three digits comes only right after `node`
 unfoldable pub are_single : Bool → List Word → Bool
 are_single named [] = true
 are_single named (word ∷ words) = is_quiet word && (named || not (is_some (parse_node_name word))) && are_single (is_node_keyword word) words

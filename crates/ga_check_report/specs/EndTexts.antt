@@ -87,7 +87,7 @@ abbrev pub halted_nodes_text : Text → Text → Text → Text
 halted_nodes_text stops reading writing =
     stops ++ enclosed_text (codes ",") (codes " waiting to read") reading ++ enclosed_text (codes ",") (codes " waiting to write") writing
 
--- an end at which no node goes on; the first part has no comma before it
+-- an end at which no node runs on; the first part has no comma before it
 abbrev pub quiet_end_text : Text → Text
 quiet_end_text [] = codes "ends quiet"
 quiet_end_text (comma ∷ still) = codes "ends with" ++ still

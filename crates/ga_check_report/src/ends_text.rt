@@ -285,7 +285,7 @@ fn push_end(out: &mut EndLine, nodes: &[NodeEnd; 144])
     }
 }
 
-/// Adds an end at which no node goes on and the nodes do this.
+/// Adds an end at which no node runs on and the nodes do this.
 fn push_ended(out: &mut EndLine, still: &[u8])
     requires room { array_vec_len out.old ≡ 0 }
     requires short { length still.now ≤ STILL_ROOM }

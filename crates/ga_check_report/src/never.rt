@@ -33,7 +33,7 @@ use std::alloc::Global;
 use std::io::{Read, Write};
 
 /// Reads an image or source as [`crate::check_ends`] does. Writes whether an event can come, whatever the order in which its nodes run, after
-/// which one of the conditions holds that are asked for; where one can, the event, or with `session` the lines `step NNN` that lead there. The
+/// which one of the conditions holds; if one can, the event, or with `session` the lines `step NNN` that lead there. The
 /// verdict is `Clean` where none can come, `Unclean` where one was found.
 ///
 /// # Errors

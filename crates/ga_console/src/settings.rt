@@ -255,7 +255,7 @@ fn kind(alloc: Global, text: Option<&str>) -> Result<Option<u32>, CommandLineFau
     }
 }
 
-/// Whether a session is asked for, and not the first.
+/// Whether a session is requested, other than the first.
 fn is_later_kind(session: Option<u32>) -> bool {
     match session {
         None => false,
@@ -287,7 +287,7 @@ fn no_json_session(alloc: Global) -> CommandLineFault {
     }
 }
 
-/// Reports that a session and conditions are asked of one file alone, in the form of clap's errors.
+/// Reports that a session and conditions need a single file, in the form of clap's errors.
 fn no_further_file(alloc: Global) -> CommandLineFault {
     match String::from_str(
         alloc,

@@ -31,7 +31,7 @@ is_plain runs e = not (is_transfer_event e.event) && (not e.look && runs (actor 
 abbrev pub is_plain_at : (ℕ → Bool) → List Cause → ℕ → Bool
 is_plain_at ready events place = is_plain (runs_before_events ready (drop (place + 1) events)) (event_at events place)
 
--- one of the steps that are asked for
+-- one of the requested steps
 abbrev pub is_requested_step : Option ℕ → Option ℕ → ℕ → Bool
 is_requested_step cause rewind place = equals_some cause place || equals_some rewind place
 
@@ -55,7 +55,7 @@ abbrev pub requires_node_line : PictureView → Cause → Shade → Bool → Boo
 requires_node_line view e shade plain =
     view.all || (is_requested_shade view shade || (is_transfer_event e.event || not (plain || (e.look && not view.races))))
 
--- an event of a colour, which is plain, one of the steps that are asked for, or of an idle node
+-- an event of a colour, which is plain, one of the requested steps, or of an idle node
 abbrev pub picture_item : PictureView → Cause → Shade → Bool → Bool → Bool → PictureItem
 picture_item view e shade plain named idle =
     let out = is_left_out view idle shade in

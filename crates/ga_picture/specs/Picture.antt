@@ -107,7 +107,7 @@ abbrev pub has_optional_step : State → Option (NodeId × ℕ) → Bool
 has_optional_step s None = true
 has_optional_step s (Some step) = has_step s step.0.number step.1
 
--- both steps that are asked for stand, where they are given
+-- each requested step exists
 abbrev pub has_requested_steps : State → PictureView → Bool
 has_requested_steps s view = has_optional_step s view.cause && has_optional_step s view.rewind
 

@@ -40,7 +40,7 @@ pub(crate) struct EventFacts<'k> {
     pub(crate) plain: &'k [bool],
     /// The idle nodes.
     pub(crate) idle: &'k [bool; 144],
-    /// The places of the two steps that are asked for.
+    /// The places of the two requested steps.
     pub(crate) cause: Option<u32>,
     pub(crate) rewind: Option<u32>,
 }
@@ -101,7 +101,7 @@ pub(crate) fn picture_item_at(facts: EventFacts<'_>, view: PictureView, place: u
     picture_item(view, cause, shade, plain, named, silent)
 }
 
-/// An event of a colour, which is plain, one of the steps that are asked for, or of an idle node.
+/// An event of a colour, which is plain, one of the requested steps, or of an idle node.
 fn picture_item(
     view: PictureView,
     cause: Cause,
@@ -148,7 +148,7 @@ fn is_left_out(view: PictureView, idle: bool, shade: Shade) -> bool
     (!view.all && (idle && !asked)) || (shows_requested_only(view) && !asked)
 }
 
-/// Whether one of the steps that are asked for is at this place.
+/// Whether one of the requested steps is at this place.
 fn is_named(cause: Option<u32>, rewind: Option<u32>, place: usize) -> bool
     ensures { result ≡ is_requested_step cause rewind place }
 {

@@ -10,7 +10,7 @@ use std::alloc::Global;
 /// How an event is emphasized. In print each colour has its weight too.
 #[derive(Clone, Copy, PartialEq, Eq)]
 pub enum Shade {
-    /// As any event; where the causes of a step are asked for, it is one of them.
+    /// As any event; with `--cause`, one of the causes.
     Black,
     /// The requested step doesn't depend on the event.
     Grey,

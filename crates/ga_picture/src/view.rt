@@ -86,7 +86,7 @@ pub fn picture(lab: &mut Lab, view: PictureView) -> Result<String, LabFault>
     }
 }
 
-/// Whether the steps that are asked for stand.
+/// Whether the requested steps exist.
 fn has_requested_steps(lab: &Lab, view: PictureView) -> bool
     ensures { result ≡ has_requested_steps lab.now view }
 {
@@ -161,7 +161,7 @@ fn written(lab: &mut Lab, view: PictureView) -> Result<String, Memory>
     }
 }
 
-/// The marks of the steps that could have come out otherwise, where they are asked for.
+/// The marks of the races, if requested.
 fn race_marks(
     lab: &mut Lab,
     rows: &[PictureRow],

@@ -11,7 +11,7 @@ is_off : (b : Bool) → not b ≡ true → b ≡ false
 is_off true h = absurd (true≢false (sym h))
 is_off false h = refl
 
--- where no marks are asked for there are none
+-- without the option there are no marks
 none_marked : (s : State) (view : PictureView) (rows : List PictureRow) (marks : List RaceMark) → view.races ≡ false → marks ≡ [] → AreRaceMarks s view rows marks
 none_marked s view rows marks off none = record {
   readings = [];
