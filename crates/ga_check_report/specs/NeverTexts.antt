@@ -21,7 +21,7 @@ not_reached_text request states (Some fault) =
 abbrev pub unreached_text : CheckRequest → EndSearchResult → Text
 unreached_text request found = not_reached_text request (length found.searched.chips) found.fault
 
--- the machine has made the event, as `run until` tells it: where several conditions are looked for, which of them held; or its session
+-- the event that the machine made, as `run until` prints it, with the number of the condition if there are several; or its session
 abbrev pub reached_text : Bool → ℕ → ℕ → Made → State → Text
 reached_text true conditions which made s = saved_text s
 reached_text false conditions which made s = run_text conditions (length s.kept) (the_end.Reached made which)

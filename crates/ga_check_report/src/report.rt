@@ -35,7 +35,7 @@ use std::io::{Read, Write};
 /// What came of the search for the ends of a program.
 #[derive(Clone, Copy, PartialEq, Eq, Debug)]
 pub enum Verdict {
-    /// At each end each node goes on or rests cleanly; or no event comes after which a condition holds; or each expectation holds.
+    /// At each end each node runs on or is clean; or no event comes after which a condition holds; or each expectation holds.
     Clean,
     /// At some end a node makes no further step and doesn't rest cleanly; or there is an event after which a condition holds; or an expectation is
     /// broken.
@@ -91,7 +91,7 @@ pub fn check_ends<R: Read, W: Write, E: Write>(
     }
 }
 
-/// Tells the ends of a lab's chip, or the session of one, once it has come to rest if it is to.
+/// Writes the ends of a lab's chip, or the session of one, after the waits of its idle nodes if requested.
 fn tell_settled<W: Write>(
     alloc: Global,
     lab: &mut Lab,
@@ -110,7 +110,7 @@ fn tell_settled<W: Write>(
     }
 }
 
-/// Tells the ends of a lab's chip, or the session of one.
+/// Writes the ends of a lab's chip, or the session of one.
 pub(crate) fn tell_ends<W: Write>(
     alloc: Global,
     lab: &mut Lab,
@@ -127,7 +127,7 @@ pub(crate) fn tell_ends<W: Write>(
     }
 }
 
-/// Tells the ends that were found, or the session of one.
+/// Writes the ends that were found, or the session of one.
 fn tell_found<W: Write>(
     alloc: Global,
     lab: &mut Lab,
@@ -156,7 +156,7 @@ fn has_kind(found: &FoundEnds, asked: u32) -> bool
     asked as usize <= found.kinds().len()
 }
 
-/// Tells the session of the kind of end that has this number.
+/// Writes the session of the kind of end with this number.
 fn tell_session<W: Write>(
     alloc: Global,
     lab: &mut Lab,
@@ -194,7 +194,7 @@ fn lead_to(alloc: Global, lab: &mut Lab, found: &FoundEnds, asked: u32) -> Resul
     }
 }
 
-/// Tells the kinds of end.
+/// Writes the kinds of end.
 fn tell_all<W: Write>(request: CheckRequest<'_>, found: &FoundEnds, writer: &mut W) -> Verdict
     ensures { WritesText (λ text. IsReportOutput (ends_answer request.entry found.now) (verdict_of found.now) text result)
         (W.contents writer.old) (W.contents writer.new) }
@@ -221,7 +221,7 @@ fn write_answer<W: Write>(
     }
 }
 
-/// Tells that there is no kind of end of this number.
+/// Writes that there is no kind of end of this number.
 fn tell_none<W: Write>(asked: u32, found: &FoundEnds, writer: &mut W) -> Verdict
     ensures { WritesText (λ text. IsReportOutput (missing_kind_text asked found.now) (missing_kind_verdict found.now) text result)
         (W.contents writer.old) (W.contents writer.new) }
@@ -231,7 +231,7 @@ fn tell_none<W: Write>(asked: u32, found: &FoundEnds, writer: &mut W) -> Verdict
     sent(said, missing_kind_verdict(found), &mut out)
 }
 
-/// Tells the session that leads to the present state of a lab, with this verdict.
+/// Writes the session that leads to the current state of a lab, and returns this verdict.
 pub(crate) fn tell_saved_as<W: Write>(verdict: Verdict, lab: &Lab, writer: &mut W) -> Verdict
     ensures { WritesText (λ text. IsReportOutput (saved_text lab.now) verdict text result) (W.contents writer.old) (W.contents writer.new) }
 {
