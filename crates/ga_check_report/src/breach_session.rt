@@ -74,7 +74,17 @@ fn tell_unmet<W: Write>(
     ensures { WritesText (λ text. WritesSessionOf request.entry one.now asked lab.old text result) (W.contents writer.old) (W.contents writer.new) }
 {
     match find_unmet(alloc, found, expectation) {
-        Ok(unmet) => tell_by_state(alloc, lab, found, one, expectation, unmet, request, asked, writer),
+        Ok(unmet) => tell_by_state(
+            alloc,
+            lab,
+            found,
+            one,
+            expectation,
+            unmet,
+            request,
+            asked,
+            writer,
+        ),
         Err(_) => tell_refused(request.format, LabFault::Memory, writer),
     }
 }
@@ -97,7 +107,17 @@ fn tell_by_state<W: Write>(
     ensures { WritesText (λ text. WritesSessionOf request.entry one.now asked lab.old text result) (W.contents writer.old) (W.contents writer.new) }
 {
     match unmet {
-        Some(state) => tell_path(alloc, lab, found, one, expectation, state, request, asked, writer),
+        Some(state) => tell_path(
+            alloc,
+            lab,
+            found,
+            one,
+            expectation,
+            state,
+            request,
+            asked,
+            writer,
+        ),
         None => tell_unbroken(found, one, asked, &without_breach(found), writer),
     }
 }
@@ -165,7 +185,9 @@ fn tell_never<W: Write>(
 {
     let listed = conditions.as_slice();
     match find_event(alloc, found, listed) {
-        Ok(reached) => tell_by_event(alloc, lab, found, one, listed, reached, request, asked, writer),
+        Ok(reached) => tell_by_event(
+            alloc, lab, found, one, listed, reached, request, asked, writer,
+        ),
         Err(_) => tell_refused(request.format, LabFault::Memory, writer),
     }
 }
@@ -190,7 +212,9 @@ fn tell_by_event<W: Write>(
     ensures { WritesText (λ text. WritesSessionOf request.entry one.now asked lab.old text result) (W.contents writer.old) (W.contents writer.new) }
 {
     match reached {
-        Some(reached) => tell_event(alloc, lab, found, one, conditions, reached, request, asked, writer),
+        Some(reached) => tell_event(
+            alloc, lab, found, one, conditions, reached, request, asked, writer,
+        ),
         None => tell_unbroken(found, one, asked, &without_breach(found), writer),
     }
 }

@@ -51,7 +51,11 @@ pub(crate) fn write_unreached_text<W: Write>(
 }
 
 /// That no such event was found among this number of states.
-fn unreached_line(request: CheckRequest<'_>, states: usize, fault: Option<SearchFault>) -> TextBuffer
+fn unreached_line(
+    request: CheckRequest<'_>,
+    states: usize,
+    fault: Option<SearchFault>,
+) -> TextBuffer
     ensures { result.items ≡ not_reached_text request.entry states fault }
 {
     let mut out = ArrayVec::new();

@@ -34,11 +34,7 @@ pub(crate) fn write_refused<W: Write>(
 ///
 /// # Errors
 /// A write failed.
-fn write_refused_line<W: Write>(
-    file: &[u8],
-    line: &[u8],
-    writer: &mut Writer<'_, W>,
-) -> WriteResult
+fn write_refused_line<W: Write>(file: &[u8], line: &[u8], writer: &mut Writer<'_, W>) -> WriteResult
     ensures { WritesExactly result (json_line (refused_object file.now line.now)) W.contents writer.old writer.new }
 {
     let (number, reason) = refusal_parts(line);
