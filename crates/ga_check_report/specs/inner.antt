@@ -1,8 +1,9 @@
 -- What private contracts cite: the session of one expectation, the conditions of one and the sides that its node awaits, and a program that is opened.
-use Rattle.std.specs.Prelude.{ℕ, ◌≡◌, ◌-◌, List, [], ◌++◌, slice_get, Some, None, Result, Ok, Err}
+use Rattle.std.specs.Prelude.{ℕ, ◌≡◌, ◌-◌, List, [], ◌∷◌, ◌++◌, slice_get, Some, None, Result, Ok, Err, codes}
 use Rattle.ga_text.specs.Lines.{Bytes, Text}
 use Rattle.ga_text.specs.Input.{UnreadInput}
 use Rattle.ga_console.specs.declared.run.Status.{Status}
+use Rattle.ga_console.specs.declared.run.Status.TheVariants as status
 use Rattle.ga_explorer.specs.Opening.{ExplorerState, IsSessionOpened}
 use Rattle.ga_lab.specs.Machine.{State}
 use Rattle.ga_state_conditions.specs.declared.condition.StateCondition.{StateCondition}
@@ -48,3 +49,13 @@ outcome_sides Unknown = []
 abbrev pub IsProgramOpened : ReportFormat → ℕ → Bytes → UnreadInput → Bytes → Text → Result ExplorerState Status → Type 0
 IsProgramOpened format limit left input rest written (Ok begun) = IsSessionOpened None limit left input rest written (Ok begun)
 IsProgramOpened format limit left input rest written (Err status) = (read : Bytes) × (left ≡ read ++ rest) × IsUnopenedAnswer format read rest written status
+
+-- what standard error has of a program that ends with this status; if a refused one has no reason, then that no memory was left for it
+abbrev pub told_lines : Status → Text → Text → Text
+told_lines status.ImageRefused [] [] = codes "ga144: no memory\n"
+told_lines status.ImageRefused [] (byte ∷ told) = byte ∷ told
+told_lines status.ImageRefused (byte ∷ reason) told = told
+told_lines status.Done reason told = told
+told_lines status.StreamFault reason told = told
+told_lines status.NotFinished reason told = told
+told_lines status.CommandRefused reason told = told

@@ -4,7 +4,7 @@ ghost use Rattle.std.specs.Prelude.{◌≡◌, ◌++◌, [], Some};
 ghost use Rattle.ga_text.specs.Lines.{Bytes};
 ghost use Rattle.ga_text.specs.Output.{IsWrittenOrTruncated, IsSameStream, WritesExactly, WritesText};
 ghost use Rattle.ga_check_report.specs.Opened.{IsRefusalOutput};
-ghost use Rattle.ga_check_report.specs.inner.{IsProgramOpened};
+ghost use Rattle.ga_check_report.specs.inner.{IsProgramOpened, told_lines};
 ghost use Rattle.ga_check_report.specs.RefusalJson.{refused_json};
 ghost use Rattle.ga_check_report.specs.declared.request.ReportFormat.TheVariants.{Json};
 
@@ -15,6 +15,9 @@ use ga_explorer::{Explorer, open_lab};
 use ga_text::{Input, WriteResult, Writer, write_all};
 use std::alloc::Global;
 use std::io::{Read, Write};
+
+/// What standard error has where no memory is left.
+const NO_MEMORY: &[u8] = b"ga144: no memory\n";
 
 /// Reads an image or source up to its first line `end`, and opens a lab that has its chip as its load. Where that is refused, the reason is
 /// written as the format has it; the fault of a source is written to `errors` in either.
@@ -66,7 +69,27 @@ fn open_for_objects<R: Read, W: Write, E: Write>(
     let _written = write_all(errors, told.as_slice());
     match opened {
         Ok(begun) => Ok(begun),
-        Err(status) => Err(tell_unopened(file, reason.as_slice(), told.as_slice(), status, writer)),
+        Err(status) => {
+            let lines = told_lines(errors, status, reason.as_slice(), told.as_slice());
+            Err(tell_unopened(file, reason.as_slice(), lines, status, writer))
+        }
+    }
+}
+
+/// What standard error has of a program that isn't opened. If no memory was left for the reason, this is said there, too.
+fn told_lines<'a, E: Write>(
+    errors: &mut E,
+    status: Status,
+    reason: &[u8],
+    told: &'a [u8],
+) -> &'a [u8]
+    ensures { result.now ≡ told_lines status reason.now told.entry.now }
+{
+    if status == Status::ImageRefused && reason.is_empty() && told.is_empty() {
+        let _written = write_all(errors, NO_MEMORY);
+        NO_MEMORY
+    } else {
+        told
     }
 }
 

@@ -18,8 +18,8 @@ returns g c = record {
       let it = c.in-Err.ensures.begun left [] known (ap Some c.new-reason.ensures.items) in
       let sent = c.tell_unopened.ensures before held in
       let file : List ℕ = c.args.file.now in
-      let told : List ℕ = c.as_slice-in-Err-2.result.now in
+      let told : List ℕ = c.told_lines-lines.result.now in
       let P : List ℕ → Type 0 = λ reason. IsRefusalOutput (refused_json file reason ++ refused_json file told) c.in-Err.status sent.0 c.tell_unopened.result in
       let said : c.open_lab-opened.new.writer.items ≡ it.1 = same_Some c.open_lab-opened.new.writer.items it.1 it.3 in
-      (it.0, sent.0, it.2, sent.1, (it.4.0, it.4.1, (it.1, told, c.in-Err.status, it.4.2, subst P (c.as_slice-in-Err.ensures.value ∙ said) sent.2)));
+      (it.0, sent.0, it.2, sent.1, (it.4.0, it.4.1, (it.1, told, c.in-Err.status, it.4.2, subst P (c.as_slice-in-Err-3.ensures.value ∙ said) sent.2)));
 }
