@@ -1,7 +1,6 @@
 -- Sessions that lead to what breaks an expectation.
 use Rattle.std.proofs.Common.{◌≡◌, ◌∙◌, ℕ, false, List, Some, sym, subst}
 use Rattle.std.proofs.lemmas.Option.{same_Some}
-use Rattle.std.specs.Prelude.{slice_get}
 use Rattle.ga_node.specs.Record.{NodeRecord}
 use Rattle.ga_event.specs.declared.event.Event.{Event}
 use Rattle.ga_event.specs.Apply.{replay}

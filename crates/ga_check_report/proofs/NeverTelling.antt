@@ -1,5 +1,5 @@
 -- What a verdict about conditions says of what was found.
-use Rattle.std.proofs.Common.{◌≡◌, ◌∙◌, inl, inr, ℕ, Bool, true, false, cond, List, length, Option, Some, None, Result, Ok, Err, refl, sym, ap, subst}
+use Rattle.std.proofs.Common.{◌≡◌, ◌∙◌, inl, inr, ℕ, Bool, true, false, cond, List, length, Option, Some, None, Result, Ok, Err, refl, sym, subst}
 use Rattle.std.specs.Prelude.{slice_get, IsSome, IfOk, OnOk}
 use Rattle.std.proofs.lemmas.Option.{same_Some}
 use Rattle.ga_node.specs.Record.{NodeRecord}
@@ -10,7 +10,6 @@ use Rattle.ga_races.specs.Orders.{IsEnabled}
 use Rattle.ga_lab.specs.declared.fault.LabFault.{LabFault}
 use Rattle.ga_lab.specs.Machine.{State, chip_of, made_next_event, with_event}
 use Rattle.ga_state_search.specs.declared.fault.SearchFault.{SearchFault}
-use Rattle.ga_state_ends.specs.Ends.{EndSearchResult, AreEndsOfChip}
 use Rattle.ga_state_conditions.specs.declared.condition.StateCondition.{StateCondition}
 use Rattle.ga_state_conditions.specs.Reached.{IsConditionMet, IsReachedOn}
 use Rattle.ga_state_conditions.proofs.Whole.{none_met}
@@ -20,7 +19,7 @@ use Rattle.ga_check_report.specs.Answers.{reached_answer}
 use Rattle.ga_check_report.specs.Never.{HasReachedEvent, WritesNeverReport}
 use Rattle.ga_check_report.specs.Never.WritesNeverReport.{none, one, no_memory, too_long}
 use Rattle.ga_check_report.specs.declared.request.CheckRequest.{CheckRequest}
-use Rattle.ga_check_report.specs.declared.report.Verdict.TheVariants.{Clean, Unclean, Unknown, Ended}
+use Rattle.ga_check_report.specs.declared.report.Verdict.TheVariants.{Clean, Unclean, Unknown}
 
 whole_by : (fault : Option SearchFault) → Clean ≡ cond (is_fully_explored fault) Clean Unknown → fault ≡ None
 whole_by None is = refl

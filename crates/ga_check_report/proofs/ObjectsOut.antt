@@ -1,7 +1,7 @@
 -- The objects of an answer, one more.
-use Rattle.std.proofs.Common.{◌≡◌, ℕ, zero, suc, ◌+◌, ◌-◌, ◌<◌, Bool, true, false, List, ◌∷◌, ◌++◌, length, get_or, drop, Option, None, refl, sym, ◌∙◌, ap, subst, arith}
+use Rattle.std.proofs.Common.{◌≡◌, ℕ, zero, suc, ◌+◌, ◌-◌, ◌<◌, Bool, true, false, List, ◌++◌, length, get_or, drop, Option, None, refl, sym, ◌∙◌, ap, arith}
 use Rattle.std.proofs.lemmas.List.{drop_more}
-use Rattle.ga_json.specs.Values.{JsonItems, item, no_items}
+use Rattle.ga_json.specs.Values.{item, no_items}
 use Rattle.ga_json.specs.Compact.{json_line}
 use Rattle.ga_json.specs.Fields.{json_object}
 use Rattle.ga_state_ends.specs.Decisions.{EndDecision}

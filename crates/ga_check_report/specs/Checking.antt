@@ -1,7 +1,7 @@
 -- What `ga144 check` may write, and how it may end (docs/REFERENCE.md, "Every order"; this project's own). The text has the ends of all
 -- interleavings of the nodes, found by a selective search of states (Godefroid, "Partial-Order Methods for the Verification of Concurrent
 -- Systems", 1996).
-use Rattle.std.specs.Prelude.{◌≡◌, ℕ, ◌-◌, ◌<◌, ◌⊎◌, Bool, if◌then◌else◌, List, ◌++◌, length, slice_get, Some, None}
+use Rattle.std.specs.Prelude.{◌≡◌, ℕ, ◌-◌, ◌<◌, ◌⊎◌, Bool, if◌then◌else◌, List, ◌++◌, length, slice_get, Some}
 use Rattle.std.specs.List.{list_any}
 use Rattle.ga_text.specs.Lines.{Bytes, Text}
 use Rattle.ga_text.specs.Output.{TextHasPrefix}

@@ -1,6 +1,6 @@
 -- What `ga144 check --never --json` prints (docs/JSON.md; this project's own): that no event comes after which a condition holds, that none was found, or
 -- which one was.
-use Rattle.std.specs.Prelude.{ℕ, ◌+◌, pos, if◌then◌else◌, List, [], ◌∷◌, ◌++◌, length, codes}
+use Rattle.std.specs.Prelude.{ℕ, ◌+◌, pos, if◌then◌else◌, List, [], ◌∷◌, ◌++◌, codes}
 use Rattle.ga_text.specs.Lines.{Text}
 use Rattle.ga_event.specs.declared.made.Made.{Made}
 use Rattle.ga_json.specs.Values.{JsonValue, number, string}

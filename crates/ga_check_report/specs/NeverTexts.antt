@@ -1,6 +1,6 @@
 -- What `ga144 check --never` prints (docs/REFERENCE.md, "Every order"; this project's own): that no event comes after which a condition holds,
 -- that none was found, or which one was.
-use Rattle.std.specs.Prelude.{ℕ, Bool, true, false, List, ◌++◌, codes, length, Option, Some, None}
+use Rattle.std.specs.Prelude.{ℕ, Bool, true, false, ◌++◌, codes, length, Option, Some, None}
 use Rattle.ga_text.specs.Lines.{Text}
 use Rattle.ga_event.specs.declared.made.Made.{Made}
 use Rattle.ga_lab.specs.Machine.{State}

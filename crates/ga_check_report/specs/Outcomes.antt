@@ -1,6 +1,6 @@
 -- What a search of states shows of an expectation (docs/REFERENCE.md, "Every expectation"; this project's own), what that says of each interleaving,
 -- and the verdict about several.
-use Rattle.std.specs.Prelude.{ℕ, ◌≡◌, ◌+◌, ◌<◌, ◌≤◌, Bool, true, false, if◌then◌else◌, List, ◌∷◌, length, slice_get, slice_index_or, Some, None}
+use Rattle.std.specs.Prelude.{ℕ, ◌≡◌, ◌<◌, ◌≤◌, Bool, true, false, if◌then◌else◌, List, ◌∷◌, length, slice_get, slice_index_or, Some, None}
 use Rattle.std.specs.List.{list_any}
 use Rattle.ga_node.specs.Record.{NodeRecord}
 use Rattle.ga_grid.specs.Chip.{record_at}

@@ -1,4 +1,4 @@
-use Rattle.std.proofs.Common.{◌+◌, ◌++◌, drop, refl, ap, arith}
+use Rattle.std.proofs.Common.{◌+◌, drop, ap, arith}
 use Rattle.std.proofs.lemmas.List.{drop_all}
 use Rattle.std.proofs.Common.{[]}
 use Rattle.std.specs.Prelude.{slice_index_or}

@@ -1,4 +1,4 @@
-use Rattle.std.proofs.Common.{rules, ℕ, ◌+◌, List, ◌++◌, [], refl, ap, arith}
+use Rattle.std.proofs.Common.{rules, ℕ, List, ◌++◌, [], refl, ap, arith}
 use Rattle.std.proofs.lemmas.List.{drop_all}
 use Rattle.ga_text.proofs.WriteLemmas.{truncated_here, written_pending}
 use Rattle.ga_check_report.specs.EndTexts.{kinds_text}

@@ -1,4 +1,4 @@
-use Rattle.std.proofs.Common.{◌+◌, ◌++◌, drop, refl, ap, arith}
+use Rattle.std.proofs.Common.{◌+◌, drop, ap, arith}
 use Rattle.std.proofs.lemmas.List.{drop_all}
 use Rattle.ga_json.specs.Compact.{json_line}
 use Rattle.ga_check_report.specs.ExpectationJson.{expectation_object, expectation_objects}

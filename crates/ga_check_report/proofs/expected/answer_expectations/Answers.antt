@@ -1,11 +1,11 @@
-use Rattle.std.proofs.Common.{◌≡◌, ◌∙◌, List, Option, Ok, refl, sym, ap, subst}
+use Rattle.std.proofs.Common.{◌≡◌, ◌∙◌, List, Option, Ok, sym, ap, subst}
 use Rattle.std.specs.Prelude.{map}
 use Rattle.ga_debug_info.specs.declared.notes.DebugInfo.{DebugInfo}
 use Rattle.ga_lab.specs.Machine.{State}
 use Rattle.ga_state_expectations.specs.declared.source.LineExpectation.{LineExpectation}
 use Rattle.ga_state_expectations.specs.Lines.{expectations_of, expected_content}
 use Rattle.ga_check_report.specs.Expected.{WritesProgramReport}
-use Rattle.ga_check_report.specs.Expected.WritesForNotes.{parsed, unparsed, faulty}
+use Rattle.ga_check_report.specs.Expected.WritesForNotes.{parsed}
 use Rattle.ga_check_report.specs.Settled.{check_start}
 use Rattle.ga_check_report.proofs.expected.answer_expectations.Goals as goal
 

@@ -5,7 +5,7 @@ use Rattle.ga_check_report.specs.declared.outcome.ExpectationOutcome.{Expectatio
 use Rattle.ga_check_report.specs.Checking.{IsReportOutput}
 use Rattle.ga_check_report.specs.Answers.{expectations_answer}
 use Rattle.ga_check_report.specs.Outcomes.{outcomes_verdict}
-use Rattle.ga_check_report.specs.Expected.WritesExpectationsReport.{all, no_memory, too_long}
+use Rattle.ga_check_report.specs.Expected.WritesExpectationsReport.{all}
 use Rattle.ga_check_report.proofs.expected.tell_each.Goals as goal
 
 pub returns-in-Ok : goal.returns-in-Ok

@@ -1,7 +1,6 @@
-use Rattle.std.proofs.Common.{rules, ℕ, Bool, List, ◌≡◌, ◌++◌, length, refl, ap, sym, ◌∙◌}
+use Rattle.std.proofs.Common.{rules, ℕ, List, ◌++◌, refl, ◌∙◌}
 use Rattle.ga_text.proofs.WriteLemmas.{truncated_here, truncated_within, cut_assoc, said_assoc}
-use Rattle.ga_check_report.specs.EndTexts.{is_fully_explored}
-use Rattle.ga_check_report.specs.ExpectationTexts.{expectations_header, expectations_lines_text, optional_stop_text, expectations_text}
+use Rattle.ga_check_report.specs.ExpectationTexts.{expectations_lines_text, optional_stop_text, expectations_text}
 use Rattle.ga_explorer_text.proofs.Saying.{text_as, joined_written}
 use Rattle.ga_check_report.proofs.ExpectationsOut.{answer_as}
 use Rattle.ga_check_report.proofs.expected.write_expectations_text.Goals as goal

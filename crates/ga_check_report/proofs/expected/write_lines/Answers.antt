@@ -1,7 +1,7 @@
-use Rattle.std.proofs.Common.{rules, ℕ, ◌+◌, List, ◌++◌, [], refl, ap, ◌∙◌, arith}
+use Rattle.std.proofs.Common.{rules, ℕ, List, ◌++◌, [], refl, ap, arith}
 use Rattle.std.proofs.lemmas.List.{drop_all}
 use Rattle.ga_text.proofs.WriteLemmas.{truncated_here, written_pending}
-use Rattle.ga_check_report.specs.ExpectationTexts.{expectation_line, expectations_lines_text}
+use Rattle.ga_check_report.specs.ExpectationTexts.{expectations_lines_text}
 use Rattle.ga_explorer_text.proofs.Saying.{line_written, line_truncated, all_said}
 use Rattle.ga_check_report.proofs.ExpectationsOut.{next_line}
 use Rattle.ga_check_report.proofs.expected.write_lines.Goals as goal

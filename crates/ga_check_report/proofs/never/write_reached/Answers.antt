@@ -1,4 +1,4 @@
-use Rattle.std.proofs.Common.{ℕ, length, false, sym, ap, ◌∙◌}
+use Rattle.std.proofs.Common.{ℕ, false, sym, ap, ◌∙◌}
 use Rattle.ga_json.proofs.Says.{says_as}
 use Rattle.ga_check_report.specs.declared.request.ReportFormat.{ReportFormat}
 use Rattle.ga_check_report.specs.NeverJson.{reached_json}

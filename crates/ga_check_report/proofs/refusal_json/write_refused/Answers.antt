@@ -1,5 +1,5 @@
-use Rattle.std.proofs.Common.{◌≡◌, ap}
-use Rattle.ga_text.specs.Lines.{Line, lines_of}
+use Rattle.std.proofs.Common.{ap}
+use Rattle.ga_text.specs.Lines.{Line}
 use Rattle.std.proofs.Common.{List}
 use Rattle.ga_json.specs.Compact.{json_line}
 use Rattle.ga_json.proofs.Says.{goes_on, cuts}
