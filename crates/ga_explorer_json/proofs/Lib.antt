@@ -1,0 +1,3 @@
+pub mod Effects
+pub mod Writes
+pub mod Writing
