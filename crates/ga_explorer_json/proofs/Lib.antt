@@ -1,3 +1,6 @@
+pub mod Around
+pub mod Because
 pub mod Effects
+pub mod Races
 pub mod Writes
 pub mod Writing

@@ -1,6 +1,7 @@
 -- An answer that is written by its fields.
-use Rattle.std.proofs.Common.{◌≡◌, List, Bool, true, false, ap, sym, ◌∙◌, refl, Option, Result}
-use Rattle.std.specs.Prelude.{map, if◌then◌else◌}
+use Rattle.std.proofs.Common.{◌≡◌, List, Bool, true, false, ap, sym, ◌∙◌, refl, Option, Some, None, Result}
+use Rattle.std.specs.Prelude.{map, if◌then◌else◌, option_map}
+use Rattle.arrayvec.specs.ArrayVec.{ArrayVec}
 use Rattle.ga_text.specs.Lines.{Bytes}
 use Rattle.ga_text.specs.Output.{WritesExactly, WritesSome}
 use Rattle.ga_text.specs.declared.output.WriteError.{WriteError}
@@ -9,7 +10,8 @@ use Rattle.ga_json.specs.Values.{JsonValue, JsonItems}
 use Rattle.ga_json.specs.Compact.{json_line}
 use Rattle.ga_json.specs.Fields.{NamedValue, named_field_value, row_json, report_json, json_report}
 use Rattle.ga_json.specs.declared.field.Field.{Field}
-use Rattle.ga_explorer_json.specs.Rows.{IsJsonLine}
+use Rattle.ga_json.specs.inner.{rows_from}
+use Rattle.ga_explorer_json.specs.Rows.{IsJsonLine, row_before}
 use Rattle.ga_json.proofs.Says.{says_as}
 
 pub object_as : {T W : Type 0} (contents : W → Option Bytes) (result : Result T WriteError) (old new : Writer W) (fields : List Field) (value : JsonValue) → row_json fields ≡ value
@@ -45,3 +47,9 @@ items_by_true test rows other e = ap (λ (b : Bool). if b then rows else other) 
 
 pub items_by_false : (test : Bool) (other rows : JsonItems) → test ≡ false → rows ≡ (if test then other else rows)
 items_by_false test other rows e = ap (λ (b : Bool). if b then other else rows) (sym e)
+
+-- a row that is taken
+pub row_from : (taken : Option (ArrayVec Field)) (row : Option JsonValue) (rest : JsonItems) → option_map (λ (fields : ArrayVec Field). row_json fields.items) taken ≡ row
+    → row_before row rest ≡ rows_from (option_map (λ (fields : ArrayVec Field). fields.items) taken) rest
+row_from (Some fields) row rest e = ap (λ z. row_before z rest) (sym e)
+row_from None row rest e = ap (λ z. row_before z rest) (sym e)

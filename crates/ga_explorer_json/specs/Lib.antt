@@ -1,5 +1,9 @@
+pub mod Around
+pub mod Because
 pub mod Effects
 pub mod Events
+pub mod Parts
+pub mod Races
 pub mod Refusals
 pub mod Rows
 pub mod Words

@@ -1,6 +1,9 @@
 //! Each query once, on programs of examples/. What is wanted is what docs/TUTORIAL.md and docs/FINDING.md have of the same query.
 
-use crate::{write_effects_json, write_words_json, write_writes_json};
+use crate::{
+    write_at_json, write_because_json, write_effects_json, write_races_json, write_words_json,
+    write_writes_json,
+};
 use ga_grid::NodeId;
 use ga_lab::Lab;
 use ga_scheduler::{Condition, Schedule, run_schedule};
@@ -12,6 +15,18 @@ use std::test::Fail;
 
 /// examples/transfer.f18.
 const TRANSFER: &[u8] = b"node 000\n: main right b! 42 !b\nnode 001\n: main right b! @b\n";
+
+/// examples/fault.f18.
+const FAULT: &[u8] =
+    b"node 000\n: main right b! 0xa8 2* !b\nnode 001\n: main right b! @b a! 7 !\nnode 200\n: main 3 dup +\n";
+
+/// examples/first_come.f18.
+const FIRST_COME: &[u8] =
+    b"node 100\n: main right b! 5 !b 0x115 push ;\nnode 101\n: main r-l- b! @b 2* @b . + 0x20 a! ! 0x115 push ;\nnode 102\n: main left b! 7 !b 0x115 push ;\n";
+
+/// examples/explore/a_look_that_races.
+const LOOK: &[u8] =
+    b"node 000\n: main io b! @b dup drop @b drop 0x115 push ;\nnode 001\n: main 7 right b! !b 0x115 push ;\n";
 
 /// examples/pipeline.f18.
 const PIPELINE: &[u8] =
@@ -89,6 +104,72 @@ fn writes_of_a_cell(rt: HostRuntime) -> Result<(), Fail> {
         &rt,
         &writer,
         "{\"command\":\"writes\",\"node\":\"000\",\"address\":32,\"rows\":[{\"step\":45,\"what\":\"run\",\"opcode\":\"!b\",\"value\":11},{\"step\":18,\"what\":\"run\",\"opcode\":\"!\",\"value\":11},{\"step\":9,\"what\":\"run\",\"opcode\":\"!+\",\"value\":7},{\"step\":7,\"what\":\"run\",\"opcode\":\"!b\",\"value\":5}]}\n{\"command\":\"writes\",\"node\":\"000\",\"address\":160,\"rows\":[]}\n",
+    );
+    Ok(())
+}
+
+#[test]
+fn steps_around_one(rt: HostRuntime) -> Result<(), Fail> {
+    let alloc = rt.alloc();
+    let lab = lab_after_run(&rt, alloc, FAULT, Schedule::round_robin(), 1000)?;
+    let mut stream = Vec::new(alloc);
+    let mut writer = Writer::new(&mut stream);
+    assert!(rt; write_at_json(&lab, NodeId::new(0), 8, 1, &mut writer).is_ok());
+    assert!(rt; write_at_json(&lab, NodeId::new(1), 10, 0, &mut writer).is_ok());
+    assert!(rt; write_at_json(&lab, NodeId::new(1), 11, 3, &mut writer).is_ok());
+    assert_text(
+        &rt,
+        &writer,
+        "{\"command\":\"at\",\"node\":\"000\",\"step\":8,\"rows\":[{\"step\":7,\"what\":\"run\",\"opcode\":\"2*\",\"t\":336,\"s\":87381,\"r\":87381,\"a\":0,\"b\":469,\"p\":4},{\"step\":8,\"what\":\"wait\",\"t\":336,\"s\":87381,\"r\":87381,\"a\":0,\"b\":469,\"p\":4},{\"step\":9,\"what\":\"pass\",\"from\":\"000\",\"from_step\":9,\"to\":\"001\",\"to_step\":5,\"word\":336,\"t\":87381,\"s\":87381,\"r\":87381,\"a\":0,\"b\":469,\"p\":4}]}\n{\"command\":\"at\",\"node\":\"001\",\"step\":10,\"rows\":[{\"step\":10,\"what\":\"stop\",\"stop\":2,\"t\":7,\"s\":87381,\"r\":87381,\"a\":336,\"b\":469,\"p\":4}]}\n{\"command\":\"at\",\"refused\":6,\"why\":\"nostep\"}\n",
+    );
+    Ok(())
+}
+
+#[test]
+fn races_of_words(rt: HostRuntime) -> Result<(), Fail> {
+    let alloc = rt.alloc();
+    let mut lab = lab_after_run(&rt, alloc, FIRST_COME, Schedule::round_robin(), 1000)?;
+    let mut stream = Vec::new(alloc);
+    let mut writer = Writer::new(&mut stream);
+    assert!(rt; write_races_json(alloc, &mut lab, None, &mut writer).is_ok());
+    assert_text(
+        &rt,
+        &writer,
+        "{\"command\":\"races\",\"node\":null,\"count\":1,\"looks\":false,\"quiet\":true,\"rows\":[{\"what\":\"pass\",\"node\":\"101\",\"step\":5,\"word\":5,\"from\":\"100\",\"other_word\":7,\"other_from\":\"102\",\"rewind_node\":\"101\",\"rewind_step\":5,\"then_node\":\"102\"}]}\n",
+    );
+    Ok(())
+}
+
+#[test]
+fn races_of_looks(rt: HostRuntime) -> Result<(), Fail> {
+    let alloc = rt.alloc();
+    let mut lab = lab_after_run(&rt, alloc, LOOK, Schedule::greedy(), 1000)?;
+    let mut stream = Vec::new(alloc);
+    let mut writer = Writer::new(&mut stream);
+    let (node, other) = (NodeId::new(0), NodeId::new(1));
+    assert!(rt; write_races_json(alloc, &mut lab, Some(node), &mut writer).is_ok());
+    assert!(rt; write_races_json(alloc, &mut lab, Some(other), &mut writer).is_ok());
+    assert_text(
+        &rt,
+        &writer,
+        "{\"command\":\"races\",\"node\":\"000\",\"count\":2,\"looks\":true,\"quiet\":true,\"rows\":[{\"what\":\"look\",\"node\":\"000\",\"step\":8,\"word\":87381,\"other_word\":103765,\"neighbour\":\"001\",\"neighbour_step\":7,\"look_first\":true,\"rewind_node\":\"000\",\"rewind_step\":8,\"then_node\":\"000\"},{\"what\":\"look\",\"node\":\"000\",\"step\":8,\"word\":87381,\"other_word\":103765,\"neighbour\":\"100\",\"neighbour_step\":1,\"look_first\":true,\"rewind_node\":\"000\",\"rewind_step\":8,\"then_node\":\"000\"}]}\n{\"command\":\"races\",\"node\":\"001\",\"count\":0,\"looks\":true,\"quiet\":true,\"rows\":[]}\n",
+    );
+    Ok(())
+}
+
+#[test]
+fn decisions_before_a_step(rt: HostRuntime) -> Result<(), Fail> {
+    let alloc = rt.alloc();
+    let lab = lab_after_run(&rt, alloc, PIPELINE, Schedule::round_robin(), 1000)?;
+    let mut stream = Vec::new(alloc);
+    let mut writer = Writer::new(&mut stream);
+    let node = NodeId::new(7);
+    assert!(rt; write_because_json(&lab, node, 152, 1, &mut writer).is_ok());
+    assert!(rt; write_because_json(&lab, node, 153, 1, &mut writer).is_ok());
+    assert_text(
+        &rt,
+        &writer,
+        "{\"command\":\"because\",\"node\":\"007\",\"step\":152,\"rows\":[{\"step\":148,\"what\":\"run\",\"opcode\":\"if\",\"part\":\"t\",\"index\":null,\"value\":16,\"source_node\":\"007\",\"source_step\":144,\"source_part\":\"t\",\"source_index\":null}]}\n{\"command\":\"because\",\"refused\":6,\"why\":\"nostep\"}\n",
     );
     Ok(())
 }
