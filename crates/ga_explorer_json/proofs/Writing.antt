@@ -53,3 +53,12 @@ pub row_from : (taken : Option (ArrayVec Field)) (row : Option JsonValue) (rest 
     → row_before row rest ≡ rows_from (option_map (λ (fields : ArrayVec Field). fields.items) taken) rest
 row_from (Some fields) row rest e = ap (λ z. row_before z rest) (sym e)
 row_from None row rest e = ap (λ z. row_before z rest) (sym e)
+
+-- the line of a value of another kind
+pub line_as : {T W : Type 0} (contents : W → Option Bytes) (result : Result T WriteError) (old new : Writer W) (IsAnswer IsOther : JsonValue → Type 0)
+    → ((answer : JsonValue) → IsAnswer answer → IsOther answer) → WritesSome result (IsJsonLine IsAnswer) contents old new → WritesSome result (IsJsonLine IsOther) contents old new
+line_as contents result old new IsAnswer IsOther f h = (
+  h.0,
+  λ before said written.
+      let done = h.1 before said written in (done.0, (done.1.0, f done.1.0 done.1.1, done.1.2), done.2),
+)

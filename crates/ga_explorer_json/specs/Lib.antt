@@ -6,5 +6,7 @@ pub mod Parts
 pub mod Races
 pub mod Refusals
 pub mod Rows
+pub mod Whence
+pub mod Who
 pub mod Words
 pub mod Writes

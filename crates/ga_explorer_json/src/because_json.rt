@@ -79,6 +79,7 @@ impl<'l> RowCursor<'l> for DecisionRows<'l> {
     }
 }
 
+/// The node and the step.
 fn because_fields(node: NodeId, step: u32) -> [Field<'static>; 3]
     ensures { map named_field_value result ≡ because_fields node step }
 {

@@ -9,13 +9,13 @@ use ga_event::NodePart;
 use ga_json::Field;
 
 /// A number with its name, if there is one.
-pub(crate) fn optional_number<'a>(name: &'a [u8], value: Option<u8>) -> Field<'a>
+pub(crate) fn optional_number<'a>(name: &'a [u8], value: Option<u64>) -> Field<'a>
     requires { IsTrue (is_field_name name.now) }
     ensures name { result.name.now ≡ name.now }
     ensures value { value_json result.value ≡ optional_number_json value }
 {
     match value {
-        Some(value) => Field::number(name, u64::from(value)),
+        Some(value) => Field::number(name, value),
         None => Field::absent(name),
     }
 }
@@ -69,14 +69,14 @@ fn data_word(k: u8) -> &'static [u8]
 }
 
 /// The place of a word in its stack, where it has no name of its own, or the address of a cell.
-pub(crate) fn part_place(part: NodePart) -> Option<u8>
+pub(crate) fn part_place(part: NodePart) -> Option<u64>
     ensures { result ≡ part_place part }
 {
     match part {
         NodePart::Data(k) => place_from(k, 2),
         NodePart::Return(k) => place_from(k, 1),
-        NodePart::Ram(k) => Some(k),
-        NodePart::Rom(k) => Some(128 + k % 64),
+        NodePart::Ram(k) => Some(u64::from(k)),
+        NodePart::Rom(k) => Some(u64::from(128 + k % 64)),
         NodePart::A
         | NodePart::B
         | NodePart::P
@@ -91,8 +91,12 @@ pub(crate) fn part_place(part: NodePart) -> Option<u8>
 }
 
 /// A place, unless it is before the first one.
-fn place_from(place: u8, first: u8) -> Option<u8>
+fn place_from(place: u8, first: u8) -> Option<u64>
     ensures { result ≡ (if nat_lt place first then None else Some place) }
 {
-    if place < first { None } else { Some(place) }
+    if place < first {
+        None
+    } else {
+        Some(u64::from(place))
+    }
 }

@@ -1,8 +1,8 @@
 //! Each query once, on programs of examples/. What is wanted is what docs/TUTORIAL.md and docs/FINDING.md have of the same query.
 
 use crate::{
-    write_at_json, write_because_json, write_effects_json, write_races_json, write_words_json,
-    write_writes_json,
+    write_at_json, write_because_json, write_effects_json, write_races_json, write_who_json,
+    write_words_json, write_writes_json,
 };
 use ga_grid::NodeId;
 use ga_lab::Lab;
@@ -27,6 +27,10 @@ const FIRST_COME: &[u8] =
 /// examples/explore/a_look_that_races.
 const LOOK: &[u8] =
     b"node 000\n: main io b! @b dup drop @b drop 0x115 push ;\nnode 001\n: main 7 right b! !b 0x115 push ;\n";
+
+/// examples/explore/who_has_ended.
+const ENDED: &[u8] =
+    b"node 000 : main right b! 5 !b 6 !b 0x1a5 push ;\nnode 001 : main right b! @b left a! ! main ;\nnode 002 : main left b! @b drop main ;\nnode 003 left b! @b\nnode 004 left b! @b\nnode 005 right b! 7 !b\nnode 100 0x100 b! !b\nnode 101 right b! @b\nnode 017 left b! @b\nnode 200 0x1a5 push ;\nnode 201 0x1f5 b! @b\nnode 202 right b! @b\n";
 
 /// examples/pipeline.f18.
 const PIPELINE: &[u8] =
@@ -170,6 +174,22 @@ fn decisions_before_a_step(rt: HostRuntime) -> Result<(), Fail> {
         &rt,
         &writer,
         "{\"command\":\"because\",\"node\":\"007\",\"step\":152,\"rows\":[{\"step\":148,\"what\":\"run\",\"opcode\":\"if\",\"part\":\"t\",\"index\":null,\"value\":16,\"source_node\":\"007\",\"source_step\":144,\"source_part\":\"t\",\"source_index\":null}]}\n{\"command\":\"because\",\"refused\":6,\"why\":\"nostep\"}\n",
+    );
+    Ok(())
+}
+
+#[test]
+fn nodes_that_wait(rt: HostRuntime) -> Result<(), Fail> {
+    let alloc = rt.alloc();
+    let mut lab = lab_after_run(&rt, alloc, ENDED, Schedule::round_robin(), 30)?;
+    let _ran = run_schedule(&mut lab, Schedule::round_robin(), 1000, &[]);
+    let mut stream = Vec::new(alloc);
+    let mut writer = Writer::new(&mut stream);
+    assert!(rt; write_who_json(&lab, &mut writer).is_ok());
+    assert_text(
+        &rt,
+        &writer,
+        "{\"command\":\"who\",\"idle\":132,\"deadlocked_idle\":132,\"rows\":[{\"node\":\"000\",\"does\":\"fetches\",\"deadlocked\":true,\"ended\":true,\"right\":\"001\",\"right_does\":\"reads\",\"down\":\"100\",\"down_does\":\"stopped\",\"left\":null,\"left_does\":null,\"up\":null,\"up_does\":null},{\"node\":\"001\",\"does\":\"reads\",\"deadlocked\":true,\"ended\":true,\"right\":\"000\",\"right_does\":\"fetches\",\"down\":null,\"down_does\":null,\"left\":null,\"left_does\":null,\"up\":null,\"up_does\":null},{\"node\":\"002\",\"does\":\"reads\",\"deadlocked\":true,\"ended\":true,\"right\":null,\"right_does\":null,\"down\":null,\"down_does\":null,\"left\":\"001\",\"left_does\":\"reads\",\"up\":null,\"up_does\":null},{\"node\":\"003\",\"does\":\"reads\",\"deadlocked\":true,\"ended\":false,\"right\":null,\"right_does\":null,\"down\":null,\"down_does\":null,\"left\":\"004\",\"left_does\":\"reads\",\"up\":null,\"up_does\":null},{\"node\":\"004\",\"does\":\"reads\",\"deadlocked\":true,\"ended\":false,\"right\":null,\"right_does\":null,\"down\":null,\"down_does\":null,\"left\":\"003\",\"left_does\":\"reads\",\"up\":null,\"up_does\":null},{\"node\":\"005\",\"does\":\"writes\",\"deadlocked\":true,\"ended\":false,\"right\":\"004\",\"right_does\":\"reads\",\"down\":null,\"down_does\":null,\"left\":null,\"left_does\":null,\"up\":null,\"up_does\":null},{\"node\":\"017\",\"does\":\"reads\",\"deadlocked\":true,\"ended\":false,\"right\":null,\"right_does\":null,\"down\":null,\"down_does\":null,\"left\":null,\"left_does\":null,\"up\":null,\"up_does\":null},{\"node\":\"100\",\"does\":\"stopped\",\"deadlocked\":true,\"ended\":false,\"right\":null,\"right_does\":null,\"down\":null,\"down_does\":null,\"left\":null,\"left_does\":null,\"up\":null,\"up_does\":null},{\"node\":\"101\",\"does\":\"reads\",\"deadlocked\":true,\"ended\":false,\"right\":\"100\",\"right_does\":\"stopped\",\"down\":null,\"down_does\":null,\"left\":null,\"left_does\":null,\"up\":null,\"up_does\":null},{\"node\":\"200\",\"does\":\"fetches\",\"deadlocked\":true,\"ended\":true,\"right\":\"201\",\"right_does\":\"reads\",\"down\":\"300\",\"down_does\":\"fetches\",\"left\":null,\"left_does\":null,\"up\":\"100\",\"up_does\":\"stopped\"},{\"node\":\"201\",\"does\":\"reads\",\"deadlocked\":true,\"ended\":true,\"right\":\"200\",\"right_does\":\"fetches\",\"down\":null,\"down_does\":null,\"left\":\"202\",\"left_does\":\"reads\",\"up\":null,\"up_does\":null},{\"node\":\"202\",\"does\":\"reads\",\"deadlocked\":true,\"ended\":true,\"right\":\"203\",\"right_does\":\"fetches\",\"down\":null,\"down_does\":null,\"left\":null,\"left_does\":null,\"up\":null,\"up_does\":null}]}\n",
     );
     Ok(())
 }

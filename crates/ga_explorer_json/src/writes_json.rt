@@ -2,13 +2,12 @@
 
 ghost use Rattle.std.specs.Prelude.{◌≡◌, map};
 ghost use Rattle.ga_text.specs.Output.{WritesExactly};
-ghost use Rattle.ga_json.specs.Values.{no_items};
 ghost use Rattle.ga_json.specs.Compact.{json_line};
 ghost use Rattle.ga_json.specs.Fields.{named_field_value, row_json};
 ghost use Rattle.ga_explorer_json.specs.Writes.{cell_write_json, cell_write_rows, writes_fields, writes_json};
 
 use crate::event::push_action;
-use crate::row::push_fields;
+use crate::row::{NoRows, push_fields};
 use ga_grid::NodeId;
 use ga_json::{Field, RowCursor, RowFields, row_fields, write_report};
 use ga_lab::Lab;
@@ -56,18 +55,7 @@ impl<'l> RowCursor<'l> for CellWriteRows<'l> {
     }
 }
 
-/// No row.
-#[derive(Drop)]
-struct NoRows;
-
-impl<'l> RowCursor<'l> for NoRows {
-    ghost left = { λ rows. no_items };
-
-    fn next(&mut self) -> Option<RowFields<'l>> {
-        None
-    }
-}
-
+/// The node and the address.
 fn writes_fields(node: NodeId, address: u8) -> [Field<'static>; 3]
     ensures { map named_field_value result ≡ writes_fields node address }
 {
