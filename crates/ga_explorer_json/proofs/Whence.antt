@@ -1,5 +1,5 @@
 -- What the calls of `whence` mean for its answer.
-use Rattle.std.proofs.Common.{◌≡◌, ◌≤◌, ℕ, Bool, true, false, List, length, Option, Some, codes, ap, sym, subst, ◌∙◌, refl, inl, inr}
+use Rattle.std.proofs.Common.{◌≡◌, ◌≤◌, ℕ, Bool, true, false, List, length, Option, Some, codes, ap, subst, refl, inl, inr}
 use Rattle.ga_grid.specs.declared.node_id.NodeId.{NodeId}
 use Rattle.ga_event.specs.declared.flow.part.NodePart.{NodePart}
 use Rattle.ga_lab.specs.Machine.{State, has_step}
@@ -10,7 +10,7 @@ use Rattle.ga_provenance.specs.Lines.{AreLinesOf}
 use Rattle.ga_explorer_text.specs.Whence.{selected_value, most_lines}
 use Rattle.ga_json.specs.Values.{JsonValue}
 use Rattle.ga_explorer_json.specs.Refusals.{lab_refusal_json}
-use Rattle.ga_explorer_json.specs.Whence.{lines_json, IsLinesJson, IsValueJson, IsWhenceJson}
+use Rattle.ga_explorer_json.specs.Whence.{lines_json, IsValueJson, IsWhenceJson}
 
 pub whence_nowhere : (s : State) (node : NodeId) (step : ℕ) (at : Option NodePart) (first : ℕ) → has_step s node.number step ≡ false
     → IsWhenceJson s node step at first (lab_refusal_json (codes "whence") NoStep)

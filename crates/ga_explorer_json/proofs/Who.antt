@@ -6,15 +6,15 @@ use Rattle.ga_lab.specs.Machine.{State, chip_of}
 use Rattle.ga_races.specs.Acts.{AreDeadlocked, IsSubset}
 use Rattle.ga_scheduler.specs.Idle.{AreIdleMarks}
 use Rattle.ga_explorer_text.specs.Ended.{AreEnded}
-use Rattle.ga_json.specs.Values.{JsonValue, JsonItems, no_items, item}
-use Rattle.ga_explorer_json.specs.Who.{waiting_json, has_row, row_if, who_rows, who_json, IsWhoJson}
+use Rattle.ga_json.specs.Values.{no_items, item}
+use Rattle.ga_explorer_json.specs.Who.{waiting_json, has_who_row, row_if, who_rows, who_json, IsWhoJson}
 
 none_more : (chip : List NodeRecord) (marks over idle : ℕ → Bool) (n : ℕ) → who_rows chip marks over idle n zero ≡ no_items
 unfolding who_rows
 none_more chip marks over idle n = refl
 
 one_more : (chip : List NodeRecord) (marks over idle : ℕ → Bool) (n more : ℕ)
-    → who_rows chip marks over idle n (suc more) ≡ row_if (has_row chip marks idle n) (waiting_json chip (marks n) (over n) n) (who_rows chip marks over idle (n + 1) more)
+    → who_rows chip marks over idle n (suc more) ≡ row_if (has_who_row chip marks idle n) (waiting_json chip (marks n) (over n) n) (who_rows chip marks over idle (n + 1) more)
 unfolding who_rows
 one_more chip marks over idle n more = refl
 
@@ -22,17 +22,17 @@ pub no_node : (chip : List NodeRecord) (marks over idle : ℕ → Bool) (n : ℕ
 no_node chip marks over idle n past = ap (who_rows chip marks over idle n) (let e : 144 - n ≡ zero = omega (arith, past) in e) ∙ none_more chip marks over idle n
 
 next_node : (chip : List NodeRecord) (marks over idle : ℕ → Bool) (n : ℕ) → n < 144
-    → who_rows chip marks over idle n (144 - n) ≡ row_if (has_row chip marks idle n) (waiting_json chip (marks n) (over n) n) (who_rows chip marks over idle (n + 1) (144 - (n + 1)))
+    → who_rows chip marks over idle n (144 - n) ≡ row_if (has_who_row chip marks idle n) (waiting_json chip (marks n) (over n) n) (who_rows chip marks over idle (n + 1) (144 - (n + 1)))
 next_node chip marks over idle n below =
     ap (who_rows chip marks over idle n) (let e : 144 - n ≡ suc (144 - (n + 1)) = omega (arith, below) in e) ∙ one_more chip marks over idle n (144 - (n + 1))
 
-pub listed_node : (chip : List NodeRecord) (marks over idle : ℕ → Bool) (n : ℕ) → n < 144 → has_row chip marks idle n ≡ true
+pub listed_node : (chip : List NodeRecord) (marks over idle : ℕ → Bool) (n : ℕ) → n < 144 → has_who_row chip marks idle n ≡ true
     → who_rows chip marks over idle n (144 - n) ≡ item (waiting_json chip (marks n) (over n) n) (who_rows chip marks over idle (n + 1) (144 - (n + 1)))
 listed_node chip marks over idle n below is =
     next_node chip marks over idle n below
     ∙ ap (λ (b : Bool). row_if b (waiting_json chip (marks n) (over n) n) (who_rows chip marks over idle (n + 1) (144 - (n + 1)))) is
 
-pub passed_node : (chip : List NodeRecord) (marks over idle : ℕ → Bool) (n : ℕ) → n < 144 → has_row chip marks idle n ≡ false
+pub passed_node : (chip : List NodeRecord) (marks over idle : ℕ → Bool) (n : ℕ) → n < 144 → has_who_row chip marks idle n ≡ false
     → who_rows chip marks over idle n (144 - n) ≡ who_rows chip marks over idle (n + 1) (144 - (n + 1))
 passed_node chip marks over idle n below is =
     next_node chip marks over idle n below

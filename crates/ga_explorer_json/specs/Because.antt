@@ -9,27 +9,27 @@ use Rattle.ga_text.specs.Digits.{name_of_node}
 use Rattle.ga_json.specs.Values.{JsonValue, number, string, JsonItems, no_items, item}
 use Rattle.ga_json.specs.Fields.{NamedValue, json_object, json_report}
 use Rattle.ga_explorer_json.specs.Events.{action_fields}
-use Rattle.ga_explorer_json.specs.Parts.{optional_number_json, made_step_json, part_word, part_place}
+use Rattle.ga_explorer_json.specs.Parts.{number_or_null, made_step_json, part_word, part_place}
 use Rattle.ga_explorer_json.specs.Refusals.{lab_refusal_json}
 
 -- the part that was tested, the word there, and the step that made it, with its part
 abbrev pub tested_fields : Decision → List NamedValue
 tested_fields decision =
     (codes "part", string (part_word decision.tested.part))
-    ∷ (codes "index", optional_number_json (part_place decision.tested.part))
+    ∷ (codes "index", number_or_null (part_place decision.tested.part))
     ∷ (codes "value", number (pos decision.word))
     ∷ (codes "source_node", string (name_of_node decision.source.node))
     ∷ (codes "source_step", made_step_json decision.source.step)
     ∷ (codes "source_part", string (part_word decision.source.part))
-    ∷ (codes "source_index", optional_number_json (part_place decision.source.part))
+    ∷ (codes "source_index", number_or_null (part_place decision.source.part))
     ∷ []
 
 -- a step that a value decided: its number, what it did and what it tested
-abbrev pub decision_fields : Decision → List NamedValue
-decision_fields decision = ((codes "step", number (pos decision.step)) ∷ action_fields decision.made) ++ tested_fields decision
+abbrev pub decided_step_fields : Decision → List NamedValue
+decided_step_fields decision = ((codes "step", number (pos decision.step)) ∷ action_fields decision.made) ++ tested_fields decision
 
 abbrev pub decision_json : Decision → JsonValue
-decision_json decision = json_object (decision_fields decision)
+decision_json decision = json_object (decided_step_fields decision)
 
 -- the newest decision, and those before it
 abbrev pub decision_before : (ℕ → JsonItems) → Option Decision → JsonItems

@@ -6,9 +6,9 @@ use Rattle.ga_event.specs.declared.flow.part.NodePart.TheVariants as part
 use Rattle.ga_json.specs.Values.{JsonValue, null, number}
 
 -- a number, if there is one
-abbrev pub optional_number_json : Option ℕ → JsonValue
-optional_number_json None = null
-optional_number_json (Some n) = number (pos n)
+abbrev pub number_or_null : Option ℕ → JsonValue
+number_or_null None = null
+number_or_null (Some n) = number (pos n)
 
 -- the number of a step; a loaded value has none
 abbrev pub made_step_json : ℕ → JsonValue

@@ -14,12 +14,12 @@ use Rattle.ga_explorer_text.specs.Whence.{word_of_value, selected_value, most_li
 use Rattle.ga_json.specs.Values.{JsonValue, null, number, string, JsonItems, no_items, item}
 use Rattle.ga_json.specs.Fields.{NamedValue, json_object, json_report}
 use Rattle.ga_explorer_json.specs.Events.{action_fields}
-use Rattle.ga_explorer_json.specs.Parts.{optional_number_json, made_step_json, part_word, part_place}
+use Rattle.ga_explorer_json.specs.Parts.{number_or_null, made_step_json, part_word, part_place}
 use Rattle.ga_explorer_json.specs.Refusals.{lab_refusal_json}
 
 -- a part with its word; or none
 abbrev pub value_fields : NodePart → ℕ → List NamedValue
-value_fields part word = (codes "part", string (part_word part)) ∷ (codes "index", optional_number_json (part_place part)) ∷ (codes "value", number (pos word)) ∷ []
+value_fields part word = (codes "part", string (part_word part)) ∷ (codes "index", number_or_null (part_place part)) ∷ (codes "value", number (pos word)) ∷ []
 
 abbrev pub no_value_fields : List NamedValue
 no_value_fields = (codes "part", null) ∷ (codes "index", null) ∷ (codes "value", null) ∷ []
@@ -62,7 +62,7 @@ whence_fields node step first queried more =
     ∷ (codes "node", string (name_of_node node))
     ∷ (codes "step", number (pos step))
     ∷ (codes "first", number (pos first))
-    ∷ (codes "more_from", optional_number_json more)
+    ∷ (codes "more_from", number_or_null more)
     ∷ [])
     ++ queried
 

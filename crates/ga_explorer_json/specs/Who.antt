@@ -57,8 +57,8 @@ is_wait (wait.Write side) = true
 is_wait wait.Nothing = false
 
 -- a node that waits or is deadlocked has a row, unless it is idle
-abbrev pub has_row : List NodeRecord → (ℕ → Bool) → (ℕ → Bool) → ℕ → Bool
-has_row chip marks idle n = not (idle n) && (is_wait (record_at chip n).wait || marks n)
+abbrev pub has_who_row : List NodeRecord → (ℕ → Bool) → (ℕ → Bool) → ℕ → Bool
+has_who_row chip marks idle n = not (idle n) && (is_wait (record_at chip n).wait || marks n)
 
 abbrev pub row_if : Bool → JsonValue → JsonItems → JsonItems
 row_if test row rest = if test then item row rest else rest
@@ -66,7 +66,7 @@ row_if test row rest = if test then item row rest else rest
 -- the rows of so many nodes from this one on
 unfoldable pub who_rows : List NodeRecord → (ℕ → Bool) → (ℕ → Bool) → (ℕ → Bool) → ℕ → ℕ → JsonItems
 who_rows chip marks over idle n zero = no_items
-who_rows chip marks over idle n (suc more) = row_if (has_row chip marks idle n) (waiting_json chip (marks n) (over n) n) (who_rows chip marks over idle (n + 1) more)
+who_rows chip marks over idle n (suc more) = row_if (has_who_row chip marks idle n) (waiting_json chip (marks n) (over n) n) (who_rows chip marks over idle (n + 1) more)
 
 -- how many nodes are idle, and how many of the deadlocked ones
 abbrev pub who_fields : ℕ → ℕ → List NamedValue

@@ -3,7 +3,7 @@
 ghost use Rattle.std.specs.Prelude.{◌≡◌, nat_lt, if◌then◌else◌, IsTrue};
 ghost use Rattle.ga_json.specs.FieldValues.{value_json};
 ghost use Rattle.ga_json.specs.Names.{is_field_name};
-ghost use Rattle.ga_explorer_json.specs.Parts.{optional_number_json, made_step_json, part_word, part_place};
+ghost use Rattle.ga_explorer_json.specs.Parts.{number_or_null, made_step_json, part_word, part_place};
 
 use ga_event::NodePart;
 use ga_json::Field;
@@ -12,7 +12,7 @@ use ga_json::Field;
 pub(crate) fn optional_number<'a>(name: &'a [u8], value: Option<u64>) -> Field<'a>
     requires { IsTrue (is_field_name name.now) }
     ensures name { result.name.now ≡ name.now }
-    ensures value { value_json result.value ≡ optional_number_json value }
+    ensures value { value_json result.value ≡ number_or_null value }
 {
     match value {
         Some(value) => Field::number(name, value),

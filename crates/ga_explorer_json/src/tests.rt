@@ -1,9 +1,10 @@
 //! Each query once, on programs of examples/. What is wanted is what docs/TUTORIAL.md and docs/FINDING.md have of the same query.
 
 use crate::{
-    write_at_json, write_because_json, write_effects_json, write_races_json, write_who_json,
-    write_words_json, write_writes_json,
+    write_at_json, write_because_json, write_effects_json, write_races_json, write_whence_json,
+    write_who_json, write_words_json, write_writes_json,
 };
+use ga_event::NodePart;
 use ga_grid::NodeId;
 use ga_lab::Lab;
 use ga_scheduler::{Condition, Schedule, run_schedule};
@@ -190,6 +191,27 @@ fn nodes_that_wait(rt: HostRuntime) -> Result<(), Fail> {
         &rt,
         &writer,
         "{\"command\":\"who\",\"idle\":132,\"deadlocked_idle\":132,\"rows\":[{\"node\":\"000\",\"does\":\"fetches\",\"deadlocked\":true,\"ended\":true,\"right\":\"001\",\"right_does\":\"reads\",\"down\":\"100\",\"down_does\":\"stopped\",\"left\":null,\"left_does\":null,\"up\":null,\"up_does\":null},{\"node\":\"001\",\"does\":\"reads\",\"deadlocked\":true,\"ended\":true,\"right\":\"000\",\"right_does\":\"fetches\",\"down\":null,\"down_does\":null,\"left\":null,\"left_does\":null,\"up\":null,\"up_does\":null},{\"node\":\"002\",\"does\":\"reads\",\"deadlocked\":true,\"ended\":true,\"right\":null,\"right_does\":null,\"down\":null,\"down_does\":null,\"left\":\"001\",\"left_does\":\"reads\",\"up\":null,\"up_does\":null},{\"node\":\"003\",\"does\":\"reads\",\"deadlocked\":true,\"ended\":false,\"right\":null,\"right_does\":null,\"down\":null,\"down_does\":null,\"left\":\"004\",\"left_does\":\"reads\",\"up\":null,\"up_does\":null},{\"node\":\"004\",\"does\":\"reads\",\"deadlocked\":true,\"ended\":false,\"right\":null,\"right_does\":null,\"down\":null,\"down_does\":null,\"left\":\"003\",\"left_does\":\"reads\",\"up\":null,\"up_does\":null},{\"node\":\"005\",\"does\":\"writes\",\"deadlocked\":true,\"ended\":false,\"right\":\"004\",\"right_does\":\"reads\",\"down\":null,\"down_does\":null,\"left\":null,\"left_does\":null,\"up\":null,\"up_does\":null},{\"node\":\"017\",\"does\":\"reads\",\"deadlocked\":true,\"ended\":false,\"right\":null,\"right_does\":null,\"down\":null,\"down_does\":null,\"left\":null,\"left_does\":null,\"up\":null,\"up_does\":null},{\"node\":\"100\",\"does\":\"stopped\",\"deadlocked\":true,\"ended\":false,\"right\":null,\"right_does\":null,\"down\":null,\"down_does\":null,\"left\":null,\"left_does\":null,\"up\":null,\"up_does\":null},{\"node\":\"101\",\"does\":\"reads\",\"deadlocked\":true,\"ended\":false,\"right\":\"100\",\"right_does\":\"stopped\",\"down\":null,\"down_does\":null,\"left\":null,\"left_does\":null,\"up\":null,\"up_does\":null},{\"node\":\"200\",\"does\":\"fetches\",\"deadlocked\":true,\"ended\":true,\"right\":\"201\",\"right_does\":\"reads\",\"down\":\"300\",\"down_does\":\"fetches\",\"left\":null,\"left_does\":null,\"up\":\"100\",\"up_does\":\"stopped\"},{\"node\":\"201\",\"does\":\"reads\",\"deadlocked\":true,\"ended\":true,\"right\":\"200\",\"right_does\":\"fetches\",\"down\":null,\"down_does\":null,\"left\":\"202\",\"left_does\":\"reads\",\"up\":null,\"up_does\":null},{\"node\":\"202\",\"does\":\"reads\",\"deadlocked\":true,\"ended\":true,\"right\":\"203\",\"right_does\":\"fetches\",\"down\":null,\"down_does\":null,\"left\":null,\"left_does\":null,\"up\":null,\"up_does\":null}]}\n",
+    );
+    Ok(())
+}
+
+#[test]
+fn sources_of_a_value(rt: HostRuntime) -> Result<(), Fail> {
+    let alloc = rt.alloc();
+    let lab = lab_after_run(&rt, alloc, FAULT, Schedule::round_robin(), 1000)?;
+    let mut stream = Vec::new(alloc);
+    let mut writer = Writer::new(&mut stream);
+    let (node, other) = (NodeId::new(0), NodeId::new(1));
+    assert!(rt; write_whence_json(alloc, &lab, other, 10, None, 1, &mut writer).is_ok());
+    assert!(rt;
+        write_whence_json(alloc, &lab, other, 10, Some(NodePart::A), 3, &mut writer).is_ok()
+    );
+    assert!(rt; write_whence_json(alloc, &lab, node, 10, None, 1, &mut writer).is_ok());
+    assert!(rt; write_whence_json(alloc, &lab, node, 11, None, 1, &mut writer).is_ok());
+    assert_text(
+        &rt,
+        &writer,
+        "{\"command\":\"whence\",\"node\":\"001\",\"step\":10,\"first\":1,\"more_from\":null,\"part\":\"a\",\"index\":null,\"value\":336,\"rows\":[{\"number\":1,\"user\":0,\"node\":\"001\",\"step\":5,\"what\":\"pass\",\"from\":\"000\",\"from_step\":9,\"to\":\"001\",\"to_step\":5,\"word\":336,\"part\":\"t\",\"index\":null,\"value\":336,\"count\":1},{\"number\":2,\"user\":1,\"node\":\"000\",\"step\":7,\"what\":\"run\",\"opcode\":\"2*\",\"part\":\"t\",\"index\":null,\"value\":336,\"count\":1},{\"number\":3,\"user\":2,\"node\":\"000\",\"step\":4,\"what\":\"run\",\"opcode\":\"@p\",\"part\":\"t\",\"index\":null,\"value\":168,\"count\":1},{\"number\":4,\"user\":3,\"node\":\"000\",\"step\":null,\"what\":\"load\",\"part\":\"ram\",\"index\":2,\"value\":168,\"count\":1}]}\n{\"command\":\"whence\",\"node\":\"001\",\"step\":10,\"first\":3,\"more_from\":null,\"part\":\"a\",\"index\":null,\"value\":336,\"rows\":[{\"number\":3,\"user\":2,\"node\":\"000\",\"step\":4,\"what\":\"run\",\"opcode\":\"@p\",\"part\":\"t\",\"index\":null,\"value\":168,\"count\":1},{\"number\":4,\"user\":3,\"node\":\"000\",\"step\":null,\"what\":\"load\",\"part\":\"ram\",\"index\":2,\"value\":168,\"count\":1}]}\n{\"command\":\"whence\",\"node\":\"000\",\"step\":10,\"first\":1,\"more_from\":null,\"part\":null,\"index\":null,\"value\":null,\"rows\":[]}\n{\"command\":\"whence\",\"refused\":6,\"why\":\"nostep\"}\n",
     );
     Ok(())
 }

@@ -73,7 +73,7 @@ fn write_lines<'l, W: Write>(
     writer: &mut Writer<'_, W>,
 ) -> WriteResult
     requires part { IsNodePart value.part }
-    requires near { near.entry ≡ node_at_step lab.now query.node near.entry.step }
+    requires near { near ≡ node_at_step lab.now query.node near.step }
     ensures { WritesSome result (IsJsonLine (IsValueJson lab.now query.node query.step query.first (Some value))) W.contents writer.old writer.new }
 {
     let most = most_lines(query.first);
@@ -96,7 +96,7 @@ fn write_listed_lines<'l, W: Write>(
     is_whole: bool,
     writer: &mut Writer<'_, W>,
 ) -> WriteResult
-    requires near { near.entry ≡ node_at_step lab.now query.node near.entry.step }
+    requires near { near ≡ node_at_step lab.now query.node near.step }
     requires most { length lines.now ≤ most_lines query.first }
     ensures { WritesExactly result (json_line (lines_json lab.now query.node query.step query.first value lines.now is_whole)) W.contents writer.old writer.new }
 {
@@ -198,7 +198,11 @@ fn line_to_go_on(lines: u64, is_whole: bool) -> Option<u64>
 }
 
 /// The query with the queried value, and from which line to go on.
-fn query_row(query: &LinesQuery, queried: &[Field<'static>; 3], more: Option<u64>) -> RowFields<'static>
+fn query_row(
+    query: &LinesQuery,
+    queried: &[Field<'static>; 3],
+    more: Option<u64>,
+) -> RowFields<'static>
     ensures { map named_field_value result.items ≡ whence_fields query.now.node query.now.step query.now.first (map named_field_value queried.now) more }
 {
     let mut row = row_fields(&[

@@ -12,7 +12,7 @@ ghost use Rattle.ga_json.specs.FieldValues.{value_json};
 ghost use Rattle.ga_json.specs.Fields.{named_field_value, row_json};
 ghost use Rattle.ga_explorer_text.specs.Waiting.{activity_name, node_activity_text};
 ghost use Rattle.ga_explorer_json.specs.Rows.{IsJsonLine};
-ghost use Rattle.ga_explorer_json.specs.Who.{neighbour_json, neighbour_activity_json, awaited_fields, activity_fields, waiting_json, is_wait, has_row, who_rows, who_fields, who_json, IsWhoJson};
+ghost use Rattle.ga_explorer_json.specs.Who.{neighbour_json, neighbour_activity_json, awaited_fields, activity_fields, waiting_json, is_wait, has_who_row, who_rows, who_fields, who_json, IsWhoJson};
 
 use crate::row::push_fields;
 use ga_explorer_text::{awaited_neighbour, ended_among, find_live, idle_among, idle_count};
@@ -84,7 +84,7 @@ impl<'l> RowCursor<'l> for WaitRows<'l> {
     fn next(&mut self) -> Option<RowFields<'l>> {
         'seeking: for number in self.number..144u8 {
             let node = NodeId::new(number);
-            if has_row(self.chip, self.stuck, self.idle, node) {
+            if has_who_row(self.chip, self.stuck, self.idle, node) {
                 self.number = number + 1;
                 let deadlocked = is_flagged(self.stuck, node);
                 let ended = is_flagged(self.ended, node);
@@ -114,8 +114,8 @@ fn is_flagged(flags: &NodeFlags, node: NodeId) -> bool
 }
 
 /// Whether a node has a row.
-fn has_row(chip: &Chip, stuck: &NodeFlags, idle: &NodeFlags, node: NodeId) -> bool
-    ensures { result ≡ has_row (records_of chip.now) (is_marked stuck.now) (is_marked idle.now) node.number }
+fn has_who_row(chip: &Chip, stuck: &NodeFlags, idle: &NodeFlags, node: NodeId) -> bool
+    ensures { result ≡ has_who_row (records_of chip.now) (is_marked stuck.now) (is_marked idle.now) node.number }
 {
     let waits = is_wait(chip.node(node).wait());
     let deadlocked = is_flagged(stuck, node);
@@ -223,12 +223,6 @@ fn activity_name(wait: Wait, stop: u8) -> &'static [u8]
         Wait::Fetch(_) => b"fetches",
         Wait::Read(_) => b"reads",
         Wait::Write(_) => b"writes",
-        Wait::Nothing => {
-            if stop == 0 {
-                b"runs"
-            } else {
-                b"stopped"
-            }
-        }
+        Wait::Nothing => { if stop == 0 { b"runs" } else { b"stopped" } }
     }
 }

@@ -1,4 +1,4 @@
-use Rattle.std.proofs.Common.{ℕ, ◌-◌, ap, ◌∙◌}
+use Rattle.std.proofs.Common.{◌-◌, ap, ◌∙◌}
 use Rattle.ga_lab.specs.Machine.{NodeAtStep}
 use Rattle.ga_explorer_json.specs.Because.{decision_rows, because_fields}
 use Rattle.ga_explorer_json.proofs.Writing.{report_as}

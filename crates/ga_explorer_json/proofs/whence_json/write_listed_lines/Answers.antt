@@ -1,6 +1,5 @@
-use Rattle.std.proofs.Common.{◌≡◌, ◌<◌, ◌+◌, ◌-◌, ◌^◌, ℕ, List, length, drop, Option, ap, ◌∙◌, arith}
+use Rattle.std.proofs.Common.{◌≡◌, ◌-◌, ℕ, List, length, drop, Option, ap, ◌∙◌, arith}
 use Rattle.std.specs.Prelude.{map}
-use Rattle.ga_provenance.specs.declared.lines.ProvenanceLine.{ProvenanceLine}
 use Rattle.ga_explorer_text.specs.Whence.{word_of_value}
 use Rattle.ga_json.specs.Fields.{NamedValue, named_field_value}
 use Rattle.ga_json.specs.declared.field.Field.{Field}
