@@ -207,7 +207,7 @@ fn sources_of_a_value(rt: HostRuntime) -> Result<(), Fail> {
         write_whence_json(alloc, &lab, other, 10, Some(NodePart::A), 3, &mut writer).is_ok()
     );
     assert!(rt; write_whence_json(alloc, &lab, node, 10, None, 1, &mut writer).is_ok());
-    assert!(rt; write_whence_json(alloc, &lab, node, 11, None, 1, &mut writer).is_ok());
+    assert!(rt; write_whence_json(alloc, &lab, other, 11, None, 1, &mut writer).is_ok());
     assert_text(
         &rt,
         &writer,
