@@ -1,6 +1,8 @@
 pub mod Around
 pub mod Because
+pub mod Changes
 pub mod Effects
+pub mod NodeState
 pub mod Races
 pub mod Whence
 pub mod Who

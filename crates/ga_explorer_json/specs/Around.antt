@@ -31,12 +31,12 @@ register_fields node =
 abbrev pub step_fields : ℕ → NodeRecord → Made → List NamedValue
 step_fields step after made = ((codes "step", number (pos step)) ∷ action_fields made) ++ register_fields after
 
-abbrev pub step_json : ℕ → NodeRecord → Made → JsonValue
-step_json step after made = json_object (step_fields step after made)
+abbrev pub numbered_step_json : ℕ → NodeRecord → Made → JsonValue
+numbered_step_json step after made = json_object (step_fields step after made)
 
 -- the step of this number of the node, if it exists
 abbrev pub step_json_at : State → ℕ → ℕ → Option JsonValue
-step_json_at s n step = option_map (step_json step (node_after s n step)) (slice_get (history_of s n) (step - 1))
+step_json_at s n step = option_map (numbered_step_json step (node_after s n step)) (slice_get (history_of s n) (step - 1))
 
 -- at most some steps of the node, from the step after the first `k` on
 unfoldable pub step_rows : State → ℕ → ℕ → ℕ → JsonItems

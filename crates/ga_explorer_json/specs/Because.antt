@@ -9,7 +9,7 @@ use Rattle.ga_text.specs.Digits.{name_of_node}
 use Rattle.ga_json.specs.Values.{JsonValue, number, string, JsonItems, no_items, item}
 use Rattle.ga_json.specs.Fields.{NamedValue, json_object, json_report}
 use Rattle.ga_explorer_json.specs.Events.{action_fields}
-use Rattle.ga_explorer_json.specs.Parts.{number_or_null, made_step_json, part_word, part_place}
+use Rattle.ga_explorer_json.specs.Parts.{number_or_null, number_unless_zero, part_word, part_place}
 use Rattle.ga_explorer_json.specs.Refusals.{lab_refusal_json}
 
 -- the part that was tested, the word there, and the step that made it, with its part
@@ -19,7 +19,7 @@ tested_fields decision =
     ∷ (codes "index", number_or_null (part_place decision.tested.part))
     ∷ (codes "value", number (pos decision.word))
     ∷ (codes "source_node", string (name_of_node decision.source.node))
-    ∷ (codes "source_step", made_step_json decision.source.step)
+    ∷ (codes "source_step", number_unless_zero decision.source.step)
     ∷ (codes "source_part", string (part_word decision.source.part))
     ∷ (codes "source_index", number_or_null (part_place decision.source.part))
     ∷ []

@@ -1,5 +1,5 @@
 -- Events as fields of a row (docs/REFERENCE.md, "Exploring"; this project's own).
-use Rattle.std.specs.Prelude.{ℕ, ◌%◌, pos, List, [], ◌∷◌, codes}
+use Rattle.std.specs.Prelude.{ℕ, ◌%◌, pos, List, [], ◌∷◌, ◌++◌, codes}
 use Rattle.ga_slots.specs.Codes.{name_of, op_of}
 use Rattle.ga_node.specs.declared.kind.OwnEventKind.{OwnEventKind}
 use Rattle.ga_node.specs.declared.kind.OwnEventKind.TheVariants as kind
@@ -32,3 +32,8 @@ pass_fields writer i reader j word =
 abbrev pub action_fields : Made → List NamedValue
 action_fields (Own node step kind) = own_event_fields kind
 action_fields (Pass writer i reader j word) = pass_fields writer i reader j word
+
+-- an event with its steps: of a node's own, or a pass
+abbrev pub made_event_fields : Made → List NamedValue
+made_event_fields (Own node step kind) = ((codes "node", string (name_of_node node)) ∷ (codes "step", number (pos step)) ∷ []) ++ own_event_fields kind
+made_event_fields (Pass writer i reader j word) = pass_fields writer i reader j word

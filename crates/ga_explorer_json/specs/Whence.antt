@@ -14,13 +14,10 @@ use Rattle.ga_explorer_text.specs.Whence.{word_of_value, selected_value, most_li
 use Rattle.ga_json.specs.Values.{JsonValue, null, number, string, JsonItems, no_items, item}
 use Rattle.ga_json.specs.Fields.{NamedValue, json_object, json_report}
 use Rattle.ga_explorer_json.specs.Events.{action_fields}
-use Rattle.ga_explorer_json.specs.Parts.{number_or_null, made_step_json, part_word, part_place}
+use Rattle.ga_explorer_json.specs.Parts.{number_or_null, number_unless_zero, value_fields}
 use Rattle.ga_explorer_json.specs.Refusals.{lab_refusal_json}
 
--- a part with its word; or none
-abbrev pub value_fields : NodePart → ℕ → List NamedValue
-value_fields part word = (codes "part", string (part_word part)) ∷ (codes "index", number_or_null (part_place part)) ∷ (codes "value", number (pos word)) ∷ []
-
+-- no part
 abbrev pub no_value_fields : List NamedValue
 no_value_fields = (codes "part", null) ∷ (codes "index", null) ∷ (codes "value", null) ∷ []
 
@@ -39,7 +36,7 @@ line_front_fields k line =
     (codes "number", number (pos k))
     ∷ (codes "user", number (pos line.user))
     ∷ (codes "node", string (name_of_node line.value.node))
-    ∷ (codes "step", made_step_json line.value.step)
+    ∷ (codes "step", number_unless_zero line.value.step)
     ∷ []
 
 -- a line with the word of its value, and how many values its run has

@@ -8,7 +8,7 @@ ghost use Rattle.ga_lab.specs.Machine.{node_at_step};
 ghost use Rattle.ga_text.specs.Output.{WritesExactly};
 ghost use Rattle.ga_json.specs.Compact.{json_line};
 ghost use Rattle.ga_json.specs.Fields.{named_field_value, row_json};
-ghost use Rattle.ga_explorer_json.specs.Around.{register_fields, step_json, step_json_at, step_rows, at_fields, steps_around_json, at_json};
+ghost use Rattle.ga_explorer_json.specs.Around.{register_fields, numbered_step_json, step_json_at, step_rows, at_fields, steps_around_json, at_json};
 
 use crate::event::push_action;
 use crate::refusal::write_lab_refusal;
@@ -109,7 +109,7 @@ fn row_of_walk<'l>(
 
 /// A step: its number, what it did, and the registers after it.
 fn step_row<'l>(step: u32, made: Made, after: &Node) -> RowFields<'l>
-    ensures { row_json result.items ≡ step_json step (record_of after.now) made }
+    ensures { row_json result.items ≡ numbered_step_json step (record_of after.now) made }
 {
     let mut row = row_fields(&[Field::number(b"step", u64::from(step))]);
     push_action(&mut row, made);

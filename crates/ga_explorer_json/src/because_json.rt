@@ -8,7 +8,7 @@ ghost use Rattle.ga_json.specs.Fields.{named_field_value, row_json};
 ghost use Rattle.ga_explorer_json.specs.Because.{tested_fields, decision_json, decision_rows, because_fields, decisions_json, because_json};
 
 use crate::event::push_action;
-use crate::part::{made_step, optional_number, part_place, part_word};
+use crate::part::{number_unless_zero, optional_number, part_place, part_word};
 use crate::refusal::write_lab_refusal;
 use crate::row::push_fields;
 use ga_grid::NodeId;
@@ -111,7 +111,7 @@ fn tested_fields(decision: Decision) -> [Field<'static>; 7]
         optional_number(b"index", part_place(tested)),
         Field::word(b"value", decision.word),
         Field::node(b"source_node", source.node),
-        made_step(b"source_step", source.step),
+        number_unless_zero(b"source_step", source.step),
         Field::text(b"source_part", part_word(source.part)),
         optional_number(b"source_index", part_place(source.part)),
     ]

@@ -4,7 +4,7 @@ ghost use Rattle.std.specs.Prelude.{◌≡◌, ◌≤◌, ◌+◌, ◌++◌, ◌
 ghost use Rattle.arrayvec.specs.ArrayVec.{array_vec_len};
 ghost use Rattle.ga_slots.specs.Codes.{name_of, op_of};
 ghost use Rattle.ga_json.specs.Fields.{named_field_value};
-ghost use Rattle.ga_explorer_json.specs.Events.{own_event_fields, pass_fields, action_fields};
+ghost use Rattle.ga_explorer_json.specs.Events.{own_event_fields, pass_fields, action_fields, made_event_fields};
 
 use crate::row::push_fields;
 use ga_event::Made;
@@ -89,4 +89,34 @@ fn opcode_name(code: u8) -> &'static [u8]
     ensures { result.now ≡ name_of (op_of (code % 32)) }
 {
     Op::from_code(code % 32).name().as_bytes()
+}
+
+/// Adds an event: of a node's own with its step, or a word that was passed.
+pub(crate) fn push_made_event<'a>(row: &mut RowFields<'a>, made: Made)
+    requires { array_vec_len row.old + MAX_ACTION_FIELDS ≤ MAX_FIELDS }
+    ensures fields { map named_field_value row.new.items ≡ map named_field_value row.old.items ++ made_event_fields made }
+    ensures len { array_vec_len row.new ≤ array_vec_len row.old + MAX_ACTION_FIELDS }
+{
+    match made {
+        Made::Own { node, step, kind } => {
+            push_fields(
+                row,
+                &[
+                    Field::node(b"node", node),
+                    Field::number(b"step", u64::from(step)),
+                ],
+            );
+            push_own_event(row, kind);
+        }
+        Made::Pass {
+            writer,
+            writer_step,
+            reader,
+            reader_step,
+            word,
+        } => push_fields(
+            row,
+            &pass_fields(writer, writer_step, reader, reader_step, word),
+        ),
+    }
 }

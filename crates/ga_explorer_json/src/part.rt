@@ -1,12 +1,14 @@
 //! Parts of a node, as fields of a row.
 
-ghost use Rattle.std.specs.Prelude.{◌≡◌, nat_lt, if◌then◌else◌, IsTrue};
+ghost use Rattle.std.specs.Prelude.{◌≡◌, map, nat_lt, if◌then◌else◌, IsTrue};
 ghost use Rattle.ga_json.specs.FieldValues.{value_json};
+ghost use Rattle.ga_json.specs.Fields.{named_field_value};
 ghost use Rattle.ga_json.specs.Names.{is_field_name};
-ghost use Rattle.ga_explorer_json.specs.Parts.{number_or_null, made_step_json, part_word, part_place};
+ghost use Rattle.ga_explorer_json.specs.Parts.{number_or_null, number_unless_zero, part_word, part_place, value_fields};
 
 use ga_event::NodePart;
 use ga_json::Field;
+use ga_word::Word18;
 
 /// A number with its name, if there is one.
 pub(crate) fn optional_number<'a>(name: &'a [u8], value: Option<u64>) -> Field<'a>
@@ -20,16 +22,16 @@ pub(crate) fn optional_number<'a>(name: &'a [u8], value: Option<u64>) -> Field<'
     }
 }
 
-/// The number of the step that made a value, if it wasn't loaded.
-pub(crate) fn made_step<'a>(name: &'a [u8], step: u32) -> Field<'a>
+/// A number with its name, unless it is 0: the step that made a value, which a loaded one has not, or a stop.
+pub(crate) fn number_unless_zero<'a>(name: &'a [u8], value: u32) -> Field<'a>
     requires { IsTrue (is_field_name name.now) }
     ensures name { result.name.now ≡ name.now }
-    ensures value { value_json result.value ≡ made_step_json step }
+    ensures value { value_json result.value ≡ number_unless_zero value }
 {
-    if step == 0 {
+    if value == 0 {
         Field::absent(name)
     } else {
-        Field::number(name, u64::from(step))
+        Field::number(name, u64::from(value))
     }
 }
 
@@ -99,4 +101,15 @@ fn place_from(place: u8, first: u8) -> Option<u64>
     } else {
         Some(u64::from(place))
     }
+}
+
+/// A part with its word.
+pub(crate) fn value_fields(part: NodePart, word: Word18) -> [Field<'static>; 3]
+    ensures { map named_field_value result ≡ value_fields part word }
+{
+    [
+        Field::text(b"part", part_word(part)),
+        optional_number(b"index", part_place(part)),
+        Field::word(b"value", word),
+    ]
 }

@@ -67,7 +67,7 @@ fn fault_code(fault: LabFault) -> u64
 }
 
 /// The word of a refusal.
-fn fault_word(fault: LabFault) -> &'static [u8]
+pub(crate) fn fault_word(fault: LabFault) -> &'static [u8]
     ensures { result.now ≡ fault_word fault }
 {
     match fault {

@@ -1,8 +1,10 @@
 //! Each query once, on programs of examples/. What is wanted is what docs/TUTORIAL.md and docs/FINDING.md have of the same query.
 
 use crate::{
-    write_at_json, write_because_json, write_effects_json, write_races_json, write_whence_json,
-    write_who_json, write_words_json, write_writes_json,
+    write_at_json, write_back_until_json, write_because_json, write_counts_json,
+    write_effects_json, write_memory_json, write_node_json, write_races_json, write_rewind_json,
+    write_run_json, write_step_json, write_undo_json, write_whence_json, write_who_json,
+    write_words_json, write_writes_json,
 };
 use ga_event::NodePart;
 use ga_grid::NodeId;
@@ -13,6 +15,9 @@ use ga_text::Writer;
 use std::alloc::Global;
 use std::process::Abort;
 use std::test::Fail;
+
+/// examples/first.f18.
+const FIRST: &[u8] = b"node 000\n: main 3 dup +\n";
 
 /// examples/transfer.f18.
 const TRANSFER: &[u8] = b"node 000\n: main right b! 42 !b\nnode 001\n: main right b! @b\n";
@@ -212,6 +217,49 @@ fn sources_of_a_value(rt: HostRuntime) -> Result<(), Fail> {
         &rt,
         &writer,
         "{\"command\":\"whence\",\"node\":\"001\",\"step\":10,\"first\":1,\"more_from\":null,\"part\":\"a\",\"index\":null,\"value\":336,\"rows\":[{\"number\":1,\"user\":0,\"node\":\"001\",\"step\":5,\"what\":\"pass\",\"from\":\"000\",\"from_step\":9,\"to\":\"001\",\"to_step\":5,\"word\":336,\"part\":\"t\",\"index\":null,\"value\":336,\"count\":1},{\"number\":2,\"user\":1,\"node\":\"000\",\"step\":7,\"what\":\"run\",\"opcode\":\"2*\",\"part\":\"t\",\"index\":null,\"value\":336,\"count\":1},{\"number\":3,\"user\":2,\"node\":\"000\",\"step\":4,\"what\":\"run\",\"opcode\":\"@p\",\"part\":\"t\",\"index\":null,\"value\":168,\"count\":1},{\"number\":4,\"user\":3,\"node\":\"000\",\"step\":null,\"what\":\"load\",\"part\":\"ram\",\"index\":2,\"value\":168,\"count\":1}]}\n{\"command\":\"whence\",\"node\":\"001\",\"step\":10,\"first\":3,\"more_from\":null,\"part\":\"a\",\"index\":null,\"value\":336,\"rows\":[{\"number\":3,\"user\":2,\"node\":\"000\",\"step\":4,\"what\":\"run\",\"opcode\":\"@p\",\"part\":\"t\",\"index\":null,\"value\":168,\"count\":1},{\"number\":4,\"user\":3,\"node\":\"000\",\"step\":null,\"what\":\"load\",\"part\":\"ram\",\"index\":2,\"value\":168,\"count\":1}]}\n{\"command\":\"whence\",\"node\":\"000\",\"step\":10,\"first\":1,\"more_from\":null,\"part\":null,\"index\":null,\"value\":null,\"rows\":[]}\n{\"command\":\"whence\",\"refused\":6,\"why\":\"nostep\"}\n",
+    );
+    Ok(())
+}
+
+#[test]
+fn a_first_program(rt: HostRuntime) -> Result<(), Fail> {
+    let alloc = rt.alloc();
+    let mut lab = lab_after_run(&rt, alloc, FIRST, Schedule::greedy(), 0)?;
+    let node = NodeId::new(0);
+    let until = [Condition::Steps { node, step: 5 }];
+    let ran = run_schedule(&mut lab, Schedule::greedy(), 1000, &until);
+    let mut stream = Vec::new(alloc);
+    let mut writer = Writer::new(&mut stream);
+    assert!(rt; write_run_json(&ran, &mut writer).is_ok());
+    assert!(rt; write_undo_json(&mut lab, &mut writer).is_ok());
+    assert!(rt; write_node_json(&lab, node, &mut writer).is_ok());
+    assert!(rt; write_memory_json(&lab, node, 1, &mut writer).is_ok());
+    assert!(rt; write_counts_json(&lab, &mut writer).is_ok());
+    assert!(rt; write_step_json(&mut lab, node, &mut writer).is_ok());
+    assert!(rt; write_back_until_json(&mut lab, &[Condition::Stops], None, &mut writer).is_ok());
+    assert_text(
+        &rt,
+        &writer,
+        "{\"command\":\"run\",\"events\":5,\"end\":\"reached\",\"condition\":1,\"node\":\"000\",\"step\":5,\"what\":\"run\",\"opcode\":\".\"}\n{\"command\":\"back\",\"removed\":1,\"kept\":4}\n{\"command\":\"node\",\"node\":\"000\",\"does\":\"runs\",\"at_right\":false,\"at_down\":false,\"at_left\":false,\"at_up\":false,\"stop\":null,\"p\":2,\"a\":0,\"b\":349,\"i\":19954,\"slot\":3,\"carry\":0,\"io\":87381,\"rows\":[{\"part\":\"t\",\"index\":null,\"value\":6},{\"part\":\"s\",\"index\":null,\"value\":87381},{\"part\":\"d\",\"index\":2,\"value\":87381},{\"part\":\"d\",\"index\":3,\"value\":87381},{\"part\":\"d\",\"index\":4,\"value\":87381},{\"part\":\"d\",\"index\":5,\"value\":87381},{\"part\":\"d\",\"index\":6,\"value\":87381},{\"part\":\"d\",\"index\":7,\"value\":87381},{\"part\":\"d\",\"index\":8,\"value\":87381},{\"part\":\"d\",\"index\":9,\"value\":87381},{\"part\":\"r\",\"index\":null,\"value\":87381},{\"part\":\"r\",\"index\":1,\"value\":87381},{\"part\":\"r\",\"index\":2,\"value\":87381},{\"part\":\"r\",\"index\":3,\"value\":87381},{\"part\":\"r\",\"index\":4,\"value\":87381},{\"part\":\"r\",\"index\":5,\"value\":87381},{\"part\":\"r\",\"index\":6,\"value\":87381},{\"part\":\"r\",\"index\":7,\"value\":87381},{\"part\":\"r\",\"index\":8,\"value\":87381}]}\n{\"command\":\"mem\",\"node\":\"000\",\"address\":1,\"word\":3}\n{\"command\":\"count\",\"kept\":4,\"made\":5,\"limit\":10000}\n{\"command\":\"step\",\"node\":\"000\",\"step\":5,\"what\":\"run\",\"opcode\":\".\"}\n{\"command\":\"back\",\"removed\":null,\"kept\":5}\n",
+    );
+    Ok(())
+}
+
+#[test]
+fn a_rollback(rt: HostRuntime) -> Result<(), Fail> {
+    let alloc = rt.alloc();
+    let mut lab = lab_after_run(&rt, alloc, FAULT, Schedule::round_robin(), 0)?;
+    let ran = run_schedule(&mut lab, Schedule::round_robin(), 1000, &[Condition::Stops]);
+    let mut stream = Vec::new(alloc);
+    let mut writer = Writer::new(&mut stream);
+    let node = NodeId::new(0);
+    assert!(rt; write_run_json(&ran, &mut writer).is_ok());
+    assert!(rt; write_rewind_json(&mut lab, node, 7, &mut writer).is_ok());
+    assert!(rt; write_rewind_json(&mut lab, node, 7, &mut writer).is_ok());
+    assert_text(
+        &rt,
+        &writer,
+        "{\"command\":\"run\",\"events\":175,\"end\":\"reached\",\"condition\":1,\"node\":\"001\",\"step\":10,\"what\":\"stop\",\"stop\":2}\n{\"command\":\"rewind\",\"removed\":12,\"kept\":163}\n{\"command\":\"rewind\",\"refused\":6,\"why\":\"nostep\"}\n",
     );
     Ok(())
 }

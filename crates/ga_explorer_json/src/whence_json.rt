@@ -10,10 +10,11 @@ ghost use Rattle.ga_json.specs.Compact.{json_line};
 ghost use Rattle.ga_json.specs.Fields.{named_field_value, row_json};
 ghost use Rattle.ga_explorer_text.specs.Whence.{word_of_value, most_lines};
 ghost use Rattle.ga_explorer_json.specs.Rows.{IsJsonLine};
-ghost use Rattle.ga_explorer_json.specs.Whence.{value_fields, no_value_fields, made_fields, line_json, line_rows, whence_fields, line_to_go_on, lines_json, no_lines_json, IsValueJson, IsWhenceJson};
+ghost use Rattle.ga_explorer_json.specs.Parts.{value_fields};
+ghost use Rattle.ga_explorer_json.specs.Whence.{no_value_fields, made_fields, line_json, line_rows, whence_fields, line_to_go_on, lines_json, no_lines_json, IsValueJson, IsWhenceJson};
 
 use crate::event::{MAX_ACTION_FIELDS, push_action};
-use crate::part::{made_step, optional_number, part_place, part_word};
+use crate::part::{number_unless_zero, optional_number, value_fields};
 use crate::refusal::write_lab_refusal;
 use crate::row::{NoRows, push_fields};
 use ga_event::NodePart;
@@ -216,17 +217,6 @@ fn query_row(
     row
 }
 
-/// A part with its word.
-fn value_fields(part: NodePart, word: Word18) -> [Field<'static>; 3]
-    ensures { map named_field_value result ≡ value_fields part word }
-{
-    [
-        Field::text(b"part", part_word(part)),
-        optional_number(b"index", part_place(part)),
-        Field::word(b"value", word),
-    ]
-}
-
 /// No part.
 fn no_value_fields() -> [Field<'static>; 3]
     ensures { map named_field_value result ≡ no_value_fields }
@@ -247,7 +237,7 @@ fn line_row<'r>(lab: &Lab, number: u32, line: ProvenanceLine, word: Word18) -> R
         Field::number(b"number", u64::from(number)),
         Field::number(b"user", u64::from(line.user)),
         Field::node(b"node", value.node),
-        made_step(b"step", value.step),
+        number_unless_zero(b"step", value.step),
     ]);
     push_made(&mut row, lab, value);
     push_fields(&mut row, &value_fields(value.part, word));

@@ -10,10 +10,11 @@ ghost use Rattle.ga_json.specs.Names.{is_field_name};
 ghost use Rattle.ga_json.specs.Compact.{json_line};
 ghost use Rattle.ga_json.specs.FieldValues.{value_json};
 ghost use Rattle.ga_json.specs.Fields.{named_field_value, row_json};
-ghost use Rattle.ga_explorer_text.specs.Waiting.{activity_name, node_activity_text};
+ghost use Rattle.ga_explorer_text.specs.Waiting.{node_activity_text};
 ghost use Rattle.ga_explorer_json.specs.Rows.{IsJsonLine};
 ghost use Rattle.ga_explorer_json.specs.Who.{neighbour_json, neighbour_activity_json, awaited_fields, activity_fields, waiting_json, is_wait, has_who_row, who_rows, who_fields, who_json, IsWhoJson};
 
+use crate::activity::activity_name;
 use crate::row::push_fields;
 use ga_explorer_text::{awaited_neighbour, ended_among, find_live, idle_among, idle_count};
 use ga_grid::{Chip, NodeId};
@@ -213,16 +214,4 @@ fn activity_of(chip: &Chip, node: NodeId) -> &'static [u8]
 {
     let at = chip.node(node);
     activity_name(at.wait(), at.stop())
-}
-
-/// What a node does that waits so, or is stopped so.
-fn activity_name(wait: Wait, stop: u8) -> &'static [u8]
-    ensures { result.now ≡ activity_name wait stop }
-{
-    match wait {
-        Wait::Fetch(_) => b"fetches",
-        Wait::Read(_) => b"reads",
-        Wait::Write(_) => b"writes",
-        Wait::Nothing => { if stop == 0 { b"runs" } else { b"stopped" } }
-    }
 }

@@ -3,7 +3,8 @@ use Rattle.std.specs.Prelude.{map}
 use Rattle.ga_explorer_text.specs.Whence.{word_of_value}
 use Rattle.ga_json.specs.Fields.{NamedValue, named_field_value}
 use Rattle.ga_json.specs.declared.field.Field.{Field}
-use Rattle.ga_explorer_json.specs.Whence.{value_fields, line_rows, whence_fields, line_to_go_on}
+use Rattle.ga_explorer_json.specs.Parts.{value_fields}
+use Rattle.ga_explorer_json.specs.Whence.{line_rows, whence_fields, line_to_go_on}
 use Rattle.ga_explorer_json.proofs.Writing.{report_as}
 use Rattle.ga_explorer_json.proofs.whence_json.write_listed_lines.Goals as goal
 
