@@ -44,12 +44,12 @@ rewind_json (Err why) kept = lab_refusal_json (codes "rewind") why
 -- ---- `run`
 
 -- which condition held, from 1 on
-abbrev pub reached_fields : ℕ → List NamedValue
-reached_fields which = (codes "end", string (codes "reached")) ∷ (codes "condition", number (pos (which + 1))) ∷ []
+abbrev pub held_condition_fields : ℕ → List NamedValue
+held_condition_fields which = (codes "end", string (codes "reached")) ∷ (codes "condition", number (pos (which + 1))) ∷ []
 
 -- why the run ended: the event after which a condition held; or the word of the refusal
 abbrev pub run_end_fields : RunEnd → List NamedValue
-run_end_fields (Reached made which) = reached_fields which ++ made_event_fields made
+run_end_fields (Reached made which) = held_condition_fields which ++ made_event_fields made
 run_end_fields AllMade = (codes "end", string (codes "made")) ∷ []
 run_end_fields Quiet = (codes "end", string (codes "quiet")) ∷ []
 run_end_fields (Refused why) = (codes "end", string (fault_word why)) ∷ []

@@ -5,7 +5,7 @@ ghost use Rattle.arrayvec.specs.ArrayVec.{array_vec_len};
 ghost use Rattle.ga_text.specs.Output.{WritesExactly};
 ghost use Rattle.ga_json.specs.Compact.{json_line};
 ghost use Rattle.ga_json.specs.Fields.{named_field_value, row_json};
-ghost use Rattle.ga_explorer_json.specs.Changes.{reached_fields, run_end_fields, run_json};
+ghost use Rattle.ga_explorer_json.specs.Changes.{held_condition_fields, run_end_fields, run_json};
 
 use crate::event::push_made_event;
 use crate::refusal::fault_word;
@@ -44,7 +44,7 @@ fn push_run_end(row: &mut RowFields<'static>, end: RunEnd)
 {
     match end {
         RunEnd::Reached { made, which } => {
-            push_fields(row, &reached_fields(which));
+            push_fields(row, &held_condition_fields(which));
             push_made_event(row, made);
         }
         RunEnd::Made => push_fields(row, &[Field::text(b"end", b"made")]),
@@ -54,8 +54,8 @@ fn push_run_end(row: &mut RowFields<'static>, end: RunEnd)
 }
 
 /// Which condition held, from 1 on.
-fn reached_fields(which: u8) -> [Field<'static>; 2]
-    ensures { map named_field_value result ≡ reached_fields which }
+fn held_condition_fields(which: u8) -> [Field<'static>; 2]
+    ensures { map named_field_value result ≡ held_condition_fields which }
 {
     [
         Field::text(b"end", b"reached"),
