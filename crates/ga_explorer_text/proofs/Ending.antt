@@ -14,8 +14,7 @@ use Rattle.ga_grid.specs.Chip.{record_at}
 use Rattle.ga_causal.specs.Dependence.{is_marked}
 use Rattle.ga_races.specs.Acts.{awaits, IsSubset}
 use Rattle.ga_event.proofs.Nexts.{neighbour_of-within}
-use Rattle.ga_explorer_text.specs.Ended.{is_ended_neighbour, is_side_ended, awaits_any, awaits_only_ended, is_ended_wait, has_ended, MarksEnded}
-use Rattle.ga_explorer_text.specs.inner.{ended_but}
+use Rattle.ga_explorer_text.specs.Ended.{is_ended_neighbour, is_side_ended, awaits_any, awaits_only_ended, is_ended_wait, has_ended, MarksEnded, ended_but}
 
 -- where more nodes are marked, more have ended
 or_more : (a b c : Bool) → (b ≡ true → c ≡ true) → (a || b) ≡ true → (a || c) ≡ true

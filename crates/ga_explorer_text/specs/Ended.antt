@@ -8,6 +8,7 @@ use Rattle.ga_node.specs.declared.wait.Wait.{Wait}
 use Rattle.ga_node.specs.declared.wait.Wait.TheVariants as wait
 use Rattle.ga_grid.specs.Grid.{neighbour_of}
 use Rattle.ga_grid.specs.Chip.{record_at}
+use Rattle.ga_causal.specs.Dependence.{is_marked}
 use Rattle.ga_races.specs.Acts.{awaits, IsSubset}
 
 -- whether the node on a side is marked, if there is one
@@ -54,3 +55,7 @@ MarksEnded chip marks = (n : ℕ) → n < 144 → has_ended chip marks n ≡ tru
 pub record AreEnded (chip : List NodeRecord) (marks : ℕ → Bool) : Type 0 where
   pub closed : MarksEnded chip marks
   pub least : (others : ℕ → Bool) → MarksEnded chip others → IsSubset marks others
+
+-- all nodes but the live ones
+abbrev pub ended_but : List Bool → ℕ → Bool
+ended_but live n = not (is_marked live n)

@@ -1,11 +1,10 @@
 -- What only private contracts and proofs name.
-use Rattle.std.specs.Prelude.{[], Option, Some, None, ℕ, ◌-◌, ◌==◌, Bool, true, false, not, if◌then◌else◌, List, ◌∷◌}
+use Rattle.std.specs.Prelude.{[], Option, Some, None, ℕ, ◌-◌, ◌==◌, Bool, true, false, if◌then◌else◌, List, ◌∷◌}
 use Rattle.std.specs.List.{slice_get}
 use Rattle.ga_lab.specs.Machine.{State, history_of}
 use Rattle.ga_event.specs.declared.flow.part.NodePart.{NodePart}
 use Rattle.ga_event.specs.declared.flow.part.NodePart.TheVariants as part
 use Rattle.ga_provenance.specs.declared.value.Value.{Value}
-use Rattle.ga_causal.specs.Dependence.{is_marked}
 use Rattle.ga_text.specs.Lines.{Text}
 use Rattle.ga_grid.specs.declared.node_id.NodeId.{NodeId}
 use Rattle.ga_event.specs.declared.event.Event.{Event}
@@ -30,10 +29,6 @@ line_at (Some e) = with_feed (saved_line e)
 -- the line of an event that is listed with its cause
 abbrev pub cause_line : Cause → Text
 cause_line cause = with_feed (saved_line cause.event)
-
--- all nodes but the live ones
-abbrev pub ended_but : List Bool → ℕ → Bool
-ended_but live n = not (is_marked live n)
 
 -- ---- which step the first of some lines is of
 

@@ -3,8 +3,7 @@
 ghost use Rattle.std.specs.Prelude.{◌≡◌, ◌<◌, ◌&&◌, not, ℕ, Bool, true, false, length, IfSome, IfNone};
 ghost use Rattle.ga_grid.specs.Chip.{records_of};
 ghost use Rattle.ga_causal.specs.Dependence.{is_marked};
-ghost use Rattle.ga_explorer_text.specs.Ended.{is_side_ended, awaits_on, awaits_any, awaits_only_ended, has_ended, AreEnded};
-ghost use Rattle.ga_explorer_text.specs.inner.{ended_but};
+ghost use Rattle.ga_explorer_text.specs.Ended.{is_side_ended, awaits_on, awaits_any, awaits_only_ended, has_ended, AreEnded, ended_but};
 
 use ga_grid::{Chip, NodeId, neighbour};
 use ga_node::Wait;
@@ -87,7 +86,7 @@ fn first_ended(chip: &Chip, live: &[bool; 144]) -> Option<NodeId>
 }
 
 /// The nodes that have not ended: a flag for each node. One that has waits for code, or to read from such nodes alone.
-pub(crate) fn find_live(chip: &Chip) -> [bool; 144]
+pub fn find_live(chip: &Chip) -> [bool; 144]
     ensures ended { AreEnded (records_of chip.now) (ended_but result) }
     ensures size { length result ≡ 144 }
 {
@@ -99,7 +98,7 @@ pub(crate) fn find_live(chip: &Chip) -> [bool; 144]
 }
 
 /// The marked nodes that have ended.
-pub(crate) fn ended_among(marks: &[bool; 144], live: &[bool; 144]) -> [bool; 144]
+pub fn ended_among(marks: &[bool; 144], live: &[bool; 144]) -> [bool; 144]
     ensures { (n : ℕ) → n < 144 → is_marked result n ≡ (is_marked marks.now n && ended_but live.now n) }
 {
     let mut ended = [false; 144];

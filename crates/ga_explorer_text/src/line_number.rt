@@ -20,7 +20,7 @@ pub(crate) const MAX_LINE_NUMBER_BYTES: usize = MAX_NUMBER_DIGITS + MAX_USER_BYT
 pub(crate) const MAX_RUN_COUNT_BYTES: usize = 2 + MAX_NUMBER_DIGITS;
 
 /// The number of the last line that is written, from line `first` on.
-pub(crate) fn most_lines(first: u32) -> u32
+pub fn most_lines(first: u32) -> u32
     ensures { result ≡ most_lines first }
 {
     first.saturating_sub(1).saturating_add(MAX_LINES)

@@ -103,7 +103,7 @@ fn only_present(
 }
 
 /// The neighbour on a side, where the node awaits it.
-fn awaited_neighbour(chip: &Chip, node: NodeId, side: Side) -> Option<NodeId>
+pub fn awaited_neighbour(chip: &Chip, node: NodeId, side: Side) -> Option<NodeId>
     ensures { optional_number result ≡ awaited_neighbour (records_of chip.now) node.number side }
 {
     if awaits(&chip.node(node).wait(), side) {

@@ -103,7 +103,13 @@ fn part_word(node: &Node, part: NodePart) -> u32
 }
 
 /// The word in a part of a node that is walked back to its first `place` steps.
-fn walked_word(lab: &Lab, node: NodeId, place: u32, walk: &NodeWalk<'_>, part: NodePart) -> Word18
+pub fn walked_word(
+    lab: &Lab,
+    node: NodeId,
+    place: u32,
+    walk: &NodeWalk<'_>,
+    part: NodePart,
+) -> Word18
     requires within { place ≤ count_steps node.number lab.now.kept }
     requires walk { walk.now ≡ node_at_step lab.now node place }
     ensures { result ≡ part_value 0 (node_after lab.now node.number place) part }

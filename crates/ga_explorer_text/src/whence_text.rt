@@ -49,7 +49,7 @@ pub fn write_whence<W: Write>(
 }
 
 /// The value of a part of a node where it is walked back to, or the one that its step selects where no part is named.
-fn selected_value(
+pub fn selected_value(
     lab: &Lab,
     near: &NodeWalk<'_>,
     node: NodeId,
@@ -81,7 +81,7 @@ fn is_first(step: u32, lines: &[ProvenanceLine]) -> bool
 }
 
 /// The lines after the first `skipped`.
-fn lines_after(lines: &[ProvenanceLine], skipped: u32) -> &[ProvenanceLine]
+pub fn lines_after(lines: &[ProvenanceLine], skipped: u32) -> &[ProvenanceLine]
     ensures { result.now ≡ drop skipped lines.now }
 {
     let skipped = lines.len().min(skipped as usize);

@@ -260,7 +260,7 @@ fn push_name_if(out: &mut Names, node: NodeId, named: bool)
 }
 
 /// How many of the marked nodes are idle.
-fn idle_among(marks: &[bool; 144], idle: &[bool; 144]) -> u8
+pub fn idle_among(marks: &[bool; 144], idle: &[bool; 144]) -> u8
     ensures { result ≡ node_count (λ n. is_marked marks.now n && is_marked idle.now n) 144 }
 {
     let mut count = 0;
@@ -278,7 +278,7 @@ fn is_both(marks: &[bool; 144], idle: &[bool; 144], node: NodeId) -> bool
 }
 
 /// How many nodes are idle.
-fn idle_count(idle: &[bool; 144]) -> u8
+pub fn idle_count(idle: &[bool; 144]) -> u8
     ensures { result ≡ node_count (is_marked idle.now) 144 }
 {
     let mut count = 0;

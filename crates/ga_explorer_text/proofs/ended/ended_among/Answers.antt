@@ -1,6 +1,6 @@
 use Rattle.std.proofs.Common.{◌∙◌, ◌&&◌, length-set, arith}
 use Rattle.ga_causal.specs.Dependence.{is_marked}
-use Rattle.ga_explorer_text.specs.inner.{ended_but}
+use Rattle.ga_explorer_text.specs.Ended.{ended_but}
 use Rattle.ga_explorer_text.proofs.Ending.{flagged_more}
 use Rattle.ga_explorer_text.proofs.ended.ended_among.Goals as goal
 

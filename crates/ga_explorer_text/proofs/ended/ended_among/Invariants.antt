@@ -1,6 +1,6 @@
 use Rattle.std.proofs.Common.{◌≡◌, ℕ, ◌<◌, ◌&&◌, length}
 use Rattle.ga_causal.specs.Dependence.{is_marked}
-use Rattle.ga_explorer_text.specs.inner.{ended_but}
+use Rattle.ga_explorer_text.specs.Ended.{ended_but}
 use Rattle.ga_explorer_text.proofs.ended.ended_among.Given as goal
 
 abbrev pub invariant-nodes : goal.invariant-nodes

@@ -2,8 +2,7 @@ use Rattle.std.proofs.Common.{◌≡◌, ℕ, Bool, length}
 use Rattle.ga_grid.specs.Chip.{records_of}
 use Rattle.ga_races.specs.Acts.{IsSubset}
 use Rattle.ga_races.proofs.Freeing.{how_many}
-use Rattle.ga_explorer_text.specs.Ended.{MarksEnded}
-use Rattle.ga_explorer_text.specs.inner.{ended_but}
+use Rattle.ga_explorer_text.specs.Ended.{MarksEnded, ended_but}
 use Rattle.ga_explorer_text.proofs.ended.find_live.Given as goal
 
 abbrev pub invariant-ending : goal.invariant-ending

@@ -1,8 +1,7 @@
 use Rattle.std.proofs.Common.{◌≡◌, ℕ, ◌<◌, true, false}
 use Rattle.ga_grid.specs.Chip.{records_of}
 use Rattle.ga_causal.specs.Dependence.{is_marked}
-use Rattle.ga_explorer_text.specs.Ended.{has_ended}
-use Rattle.ga_explorer_text.specs.inner.{ended_but}
+use Rattle.ga_explorer_text.specs.Ended.{has_ended, ended_but}
 use Rattle.ga_explorer_text.proofs.ended.first_ended.Given as goal
 
 abbrev pub invariant-loop-number : goal.invariant-loop-number

@@ -2,7 +2,7 @@ use Rattle.std.proofs.Common.{rules, ℕ, List, ◌++◌, refl, ◌∙◌}
 use Rattle.ga_grid.specs.Chip.{records_of}
 use Rattle.ga_causal.specs.Dependence.{is_marked}
 use Rattle.ga_text.proofs.WriteLemmas.{truncated_here, truncated_within, cut_assoc, said_assoc}
-use Rattle.ga_explorer_text.specs.inner.{ended_but}
+use Rattle.ga_explorer_text.specs.Ended.{ended_but}
 use Rattle.ga_explorer_text.specs.Waiting.{stuck_text, wait_cycles_text, ended_and_idle_text}
 use Rattle.ga_explorer_text.proofs.Saying.{joined_written, who_told}
 use Rattle.ga_explorer_text.proofs.who_text.write_who.Goals as goal

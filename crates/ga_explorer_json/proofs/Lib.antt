@@ -1,0 +1,10 @@
+pub mod Around
+pub mod Because
+pub mod Changes
+pub mod Effects
+pub mod NodeState
+pub mod Races
+pub mod Whence
+pub mod Who
+pub mod Writes
+pub mod Writing

@@ -1,0 +1,22 @@
+use Rattle.std.proofs.Common.{codes, ◌∙◌}
+use Rattle.ga_explorer_json.specs.Refusals.{lab_refusal_json}
+use Rattle.ga_explorer_json.specs.Effects.{listed_effects_json, IsEffectsJson}
+use Rattle.ga_explorer_json.proofs.Effects.{effects_found, effects_refused}
+use Rattle.ga_explorer_json.proofs.Writing.{line_of}
+use Rattle.ga_explorer_json.proofs.effects_json.write_effects_json.Goals as goal
+
+pub returns-in-Ok-clause-said : goal.returns-in-Ok-clause-said
+returns-in-Ok-clause-said g c =
+    let s = c.args.lab.now in
+    let node = c.args.node in
+    let step = c.args.step in
+    let events = c.in-Ok.effects.events in
+    let nodes = c.as_slice.result.now in
+    line_of g.W.Write.contents c.write_listed_effects.result c.args.writer.now c.write_listed_effects.new.writer (IsEffectsJson s node step) (listed_effects_json node step events nodes)
+    (effects_found s node step events nodes c.in-Ok.ensures.events (c.as_slice.ensures.value ∙ c.in-Ok.ensures.nodes)) c.write_listed_effects.ensures
+
+pub returns-in-Err-clause-said : goal.returns-in-Err-clause-said
+returns-in-Err-clause-said g c =
+    let s = c.args.lab.now in
+    line_of g.W.Write.contents c.write_lab_refusal.result c.args.writer.now c.write_lab_refusal.new.writer (IsEffectsJson s c.args.node c.args.step)
+    (lab_refusal_json (codes "effects") c.in-Err.fault) (effects_refused s c.args.node c.args.step c.in-Err.fault c.in-Err.ensures.err) c.write_lab_refusal.ensures

@@ -1,0 +1,44 @@
+use Rattle.std.proofs.Common.{◌≡◌, ℕ, None, Some, codes, sym, ap, ◌∙◌, refl}
+use Rattle.ga_lab.specs.Machine.{NodeAtStep}
+use Rattle.ga_lab.specs.declared.fault.LabFault.TheVariants.{NoStep}
+use Rattle.ga_provenance.proofs.Made.{has_step_so}
+use Rattle.ga_explorer_text.specs.Whence.{selected_value}
+use Rattle.ga_explorer_json.specs.Refusals.{lab_refusal_json}
+use Rattle.ga_explorer_json.specs.Whence.{no_lines_json, IsValueJson, IsWhenceJson}
+use Rattle.ga_explorer_json.proofs.Whence.{whence_nowhere, whence_here}
+use Rattle.ga_explorer_json.proofs.Writing.{line_of, line_as}
+use Rattle.ga_explorer_json.proofs.whence_json.write_whence_json.Goals as goal
+
+pub returns-then-not-has_step : goal.returns-then-not-has_step
+returns-then-not-has_step g c =
+    let s = c.args.lab.now in
+    line_of g.W.Write.contents c.write_lab_refusal.result c.args.writer.now c.write_lab_refusal.new.writer (IsWhenceJson s c.args.node c.args.step c.args.part c.args.first)
+    (lab_refusal_json (codes "whence") NoStep) (whence_nowhere s c.args.node c.args.step c.args.part c.args.first (sym c.has_step.ensures.value ∙ c.if-not-has_step.true)) c.write_lab_refusal.ensures
+
+pub selected_value-requires-clause-near : goal.selected_value-requires-clause-near
+selected_value-requires-clause-near g c = has_step_so c.args.lab.now c.args.node c.args.step c.walk-near.result c.walk-near.ensures
+
+pub returns-in-Some : goal.returns-in-Some
+returns-in-Some g c =
+    let s = c.args.lab.now in
+    let node = c.args.node in
+    let step = c.args.step in
+    let part = c.args.part in
+    let first = c.args.first in
+    let value = Some c.in-Some.value in
+    let at : c.walk-near.result.step ≡ step = ap (λ (z : NodeAtStep). z.step) c.walk-near.ensures in
+    line_as g.W.Write.contents c.write_lines.result c.args.writer.now c.write_lines.new.writer (IsValueJson s node step first value) (IsWhenceJson s node step part first)
+    (λ answer h. whence_here s node step part first value answer (sym c.has_step.ensures.value ∙ c.if-not-has_step.false)
+    (c.in-Some.ensures.value ∙ ap (λ (k : ℕ). selected_value s node k part) at) h) c.write_lines.ensures
+
+pub returns-in-None : goal.returns-in-None
+returns-in-None g c =
+    let s = c.args.lab.now in
+    let node = c.args.node in
+    let step = c.args.step in
+    let part = c.args.part in
+    let first = c.args.first in
+    let at : c.walk-near.result.step ≡ step = ap (λ (z : NodeAtStep). z.step) c.walk-near.ensures in
+    line_of g.W.Write.contents c.write_no_lines.result c.args.writer.now c.write_no_lines.new.writer (IsWhenceJson s node step part first) (no_lines_json node step first)
+    (whence_here s node step part first None (no_lines_json node step first) (sym c.has_step.ensures.value ∙ c.if-not-has_step.false)
+    (c.in-None.ensures.value ∙ ap (λ (k : ℕ). selected_value s node k part) at) refl) c.write_no_lines.ensures

@@ -1,0 +1,19 @@
+use Rattle.ga_grid.specs.Chip.{records_of}
+use Rattle.ga_causal.specs.Dependence.{is_marked}
+use Rattle.ga_explorer_text.specs.Ended.{ended_but}
+use Rattle.ga_explorer_json.specs.Who.{who_json, IsWhoJson}
+use Rattle.ga_explorer_json.proofs.Who.{who_found}
+use Rattle.ga_explorer_json.proofs.Writing.{line_of}
+use Rattle.ga_explorer_json.proofs.who_json.write_who_json.Goals as goal
+
+pub returns : goal.returns
+returns g c =
+    let s = c.args.lab.now in
+    let chip = records_of c.chip-chip.result.now in
+    let marks = is_marked c.find_deadlocked-stuck.result in
+    let over = is_marked c.ended_among-ended.result in
+    let idle = is_marked c.find_idle-idle.result in
+    line_of g.W.Write.contents c.write_waiting.result c.args.writer.now c.write_waiting.new.writer (IsWhoJson s) (who_json chip marks over idle)
+    (who_found s chip marks (ended_but c.find_live.result) over idle c.chip-chip.ensures.value c.find_deadlocked-stuck.ensures.stuck c.find_deadlocked-stuck.ensures.greatest
+    c.find_live.ensures.ended c.ended_among-ended.ensures c.find_idle-idle.ensures)
+    c.write_waiting.ensures

@@ -1,0 +1,59 @@
+-- What `at` answers, as a JSON value (docs/REFERENCE.md, "Exploring"; this project's own).
+use Rattle.std.specs.Prelude.{ℕ, zero, suc, ◌+◌, ◌-◌, min, if◌then◌else◌, pos, List, [], ◌∷◌, ◌++◌, codes, Option, option_map}
+use Rattle.std.specs.List.{slice_get}
+use Rattle.ga_node.specs.Record.{NodeRecord}
+use Rattle.ga_node.specs.Table.{t, s as second, r}
+use Rattle.ga_grid.specs.declared.node_id.NodeId.{NodeId}
+use Rattle.ga_event.specs.Told.{count_steps}
+use Rattle.ga_event.specs.declared.made.Made.{Made}
+use Rattle.ga_lab.specs.Machine.{State, has_step, history_of}
+use Rattle.ga_lab.specs.declared.fault.LabFault.TheVariants.{NoStep}
+use Rattle.ga_provenance.specs.Origins.{node_after}
+use Rattle.ga_text.specs.Digits.{name_of_node}
+use Rattle.ga_json.specs.Values.{JsonValue, number, string, JsonItems, no_items}
+use Rattle.ga_json.specs.Fields.{NamedValue, json_object, json_report}
+use Rattle.ga_explorer_json.specs.Events.{action_fields}
+use Rattle.ga_explorer_json.specs.Refusals.{lab_refusal_json}
+use Rattle.ga_explorer_json.specs.Rows.{row_before}
+
+-- the registers after a step: T, S, R, A, B and P
+abbrev pub register_fields : NodeRecord → List NamedValue
+register_fields node =
+    (codes "t", number (pos (t node)))
+    ∷ (codes "s", number (pos (second node)))
+    ∷ (codes "r", number (pos (r node)))
+    ∷ (codes "a", number (pos node.a))
+    ∷ (codes "b", number (pos node.b))
+    ∷ (codes "p", number (pos node.p))
+    ∷ []
+
+-- a step with this number and this report, and the node just after it
+abbrev pub step_fields : ℕ → NodeRecord → Made → List NamedValue
+step_fields step after made = ((codes "step", number (pos step)) ∷ action_fields made) ++ register_fields after
+
+abbrev pub numbered_step_json : ℕ → NodeRecord → Made → JsonValue
+numbered_step_json step after made = json_object (step_fields step after made)
+
+-- the step of this number of the node, if it exists
+abbrev pub step_json_at : State → ℕ → ℕ → Option JsonValue
+step_json_at s n step = option_map (numbered_step_json step (node_after s n step)) (slice_get (history_of s n) (step - 1))
+
+-- at most some steps of the node, from the step after the first `k` on
+unfoldable pub step_rows : State → ℕ → ℕ → ℕ → JsonItems
+step_rows s n k zero = no_items
+step_rows s n k (suc more) = row_before (step_json_at s n (k + 1)) (step_rows s n (k + 1) more)
+
+abbrev pub at_fields : NodeId → ℕ → List NamedValue
+at_fields node step = (codes "command", string (codes "at")) ∷ (codes "node", string (name_of_node node)) ∷ (codes "step", number (pos step)) ∷ []
+
+-- the steps of a node up to `around` before and after one
+abbrev pub rows_around : State → NodeId → ℕ → ℕ → JsonItems
+rows_around s node step around =
+    let first = step - 1 - around in step_rows s node.number first (min (step + around) (count_steps node.number s.kept) - first)
+
+abbrev pub steps_around_json : State → NodeId → ℕ → ℕ → JsonValue
+steps_around_json s node step around = json_report (at_fields node step) (rows_around s node step around)
+
+-- these, if the step exists
+abbrev pub at_json : State → NodeId → ℕ → ℕ → JsonValue
+at_json s node step around = if has_step s node.number step then steps_around_json s node step around else lab_refusal_json (codes "at") NoStep

@@ -1,0 +1,46 @@
+-- What `effects` answers, as a JSON value (docs/REFERENCE.md, "Exploring"; this project's own).
+use Rattle.std.specs.Prelude.{◌≡◌, ℕ, pos, ◌⊎◌, List, [], ◌∷◌, length, codes, Result, Ok, Err, IsOk}
+use Rattle.ga_grid.specs.declared.node_id.NodeId.{NodeId}
+use Rattle.ga_lab.specs.Machine.{State, rewind_answer}
+use Rattle.ga_lab.specs.declared.fault.LabFault.{LabFault}
+use Rattle.ga_lab.specs.declared.fault.LabFault.TheVariants.{Memory}
+use Rattle.ga_scheduler.specs.Effects.{rollback_effects}
+use Rattle.ga_scheduler.specs.declared.effects.RollbackEffect.{RollbackEffect}
+use Rattle.ga_text.specs.Digits.{name_of_node}
+use Rattle.ga_json.specs.Values.{JsonValue, number, string}
+use Rattle.ga_json.specs.Fields.{NamedValue, json_object, json_report}
+use Rattle.ga_explorer_json.specs.Refusals.{lab_refusal_json}
+use Rattle.ga_explorer_json.specs.Rows.{json_rows}
+
+-- what would go of a node: its first step that would, and how many would
+abbrev pub effect_json : RollbackEffect → JsonValue
+effect_json effect =
+    json_object
+    ((codes "node", string (name_of_node effect.node))
+    ∷ (codes "first_step", number (pos effect.first))
+    ∷ (codes "steps", number (pos effect.steps))
+    ∷ [])
+
+-- the step, how many events would go, and of how many nodes
+abbrev pub effects_fields : NodeId → ℕ → ℕ → ℕ → List NamedValue
+effects_fields node step events nodes =
+    (codes "command", string (codes "effects"))
+    ∷ (codes "node", string (name_of_node node))
+    ∷ (codes "step", number (pos step))
+    ∷ (codes "events", number (pos events))
+    ∷ (codes "nodes", number (pos nodes))
+    ∷ []
+
+abbrev pub listed_effects_json : NodeId → ℕ → ℕ → List RollbackEffect → JsonValue
+listed_effects_json node step events effects = json_report (effects_fields node step events (length effects)) (json_rows effect_json effects)
+
+-- the value about a rollback, by what `rewind` would answer
+abbrev pub effects_json : NodeId → ℕ → List RollbackEffect → Result ℕ LabFault → JsonValue
+effects_json node step effects (Ok events) = listed_effects_json node step events effects
+effects_json node step effects (Err why) = lab_refusal_json (codes "effects") why
+
+-- The answer is what a rollback would remove, or out of memory if one is possible.
+abbrev pub IsEffectsJson : State → NodeId → ℕ → JsonValue → Type 0
+IsEffectsJson s node step answer =
+    (answer ≡ effects_json node step (rollback_effects s node.number step) (rewind_answer s node.number step))
+    ⊎ (IsOk (rewind_answer s node.number step) × (answer ≡ lab_refusal_json (codes "effects") Memory))

@@ -1,0 +1,15 @@
+pub mod Around
+pub mod Because
+pub mod Changes
+pub mod Effects
+pub mod Events
+pub mod NodeState
+pub mod Parts
+pub mod Races
+pub mod Readings
+pub mod Refusals
+pub mod Rows
+pub mod Whence
+pub mod Who
+pub mod Words
+pub mod Writes

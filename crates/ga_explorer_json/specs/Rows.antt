@@ -1,0 +1,19 @@
+-- The rows of an answer as JSON values (this project's own).
+use Rattle.std.specs.Prelude.{◌≡◌, List, [], ◌∷◌, Option, Some, None}
+use Rattle.ga_text.specs.Lines.{Text}
+use Rattle.ga_json.specs.Values.{JsonValue, JsonItems, no_items, item}
+use Rattle.ga_json.specs.Compact.{json_line}
+
+-- a value for each of these
+abbrev pub json_rows : {A : Type 0} → (A → JsonValue) → List A → JsonItems
+json_rows row [] = no_items
+json_rows row (x ∷ xs) = item (row x) (json_rows row xs)
+
+-- the text is the line of such a value
+abbrev pub IsJsonLine : (JsonValue → Type 0) → Text → Type 0
+IsJsonLine IsAnswer text = (answer : JsonValue) × IsAnswer answer × (text ≡ json_line answer)
+
+-- a row before others; without one there are none
+abbrev pub row_before : Option JsonValue → JsonItems → JsonItems
+row_before None rest = no_items
+row_before (Some row) rest = item row rest

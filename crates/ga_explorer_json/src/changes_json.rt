@@ -1,0 +1,131 @@
+//! The commands that change the machine.
+
+ghost use Rattle.std.specs.Prelude.{◌≡◌, codes, length};
+ghost use Rattle.ga_lab.specs.Machine.{undo_answer, rewind_answer, state_after_undo, state_after_rewind};
+ghost use Rattle.ga_text.specs.Output.{WritesSome, WritesExactly};
+ghost use Rattle.ga_scheduler.specs.Backward.{find_newest_holding, machine_back_at_place, removed_event_count};
+ghost use Rattle.ga_json.specs.Compact.{json_line};
+ghost use Rattle.ga_json.specs.Fields.{row_json};
+ghost use Rattle.ga_explorer_json.specs.Rows.{IsJsonLine};
+ghost use Rattle.ga_explorer_json.specs.Changes.{step_json, IsStepJson, removed_json, undo_json, rewind_json};
+
+use crate::event::push_made_event;
+use crate::part::optional_number;
+use crate::refusal::write_lab_refusal;
+use ga_event::Made;
+use ga_grid::NodeId;
+use ga_json::{Field, RowFields, row_fields, write_object};
+use ga_lab::Lab;
+use ga_scheduler::{Condition, back_until};
+use ga_text::{WriteResult, Writer};
+use std::io::Write;
+
+/// `step NNN`: makes the node's next event, and writes it.
+///
+/// # Errors
+/// A write failed.
+pub fn write_step_json<W: Write>(
+    lab: &mut Lab,
+    node: NodeId,
+    writer: &mut Writer<'_, W>,
+) -> WriteResult
+    ensures { WritesSome result (IsJsonLine (IsStepJson lab.old node lab.new)) W.contents writer.old writer.new }
+{
+    match lab.step(node) {
+        Ok(made) => write_object(step_row(made).as_slice(), writer),
+        Err(fault) => write_lab_refusal(b"step", fault, writer),
+    }
+}
+
+/// `back`: undoes the newest event, and writes how many events are kept.
+///
+/// # Errors
+/// A write failed.
+pub fn write_undo_json<W: Write>(lab: &mut Lab, writer: &mut Writer<'_, W>) -> WriteResult
+    ensures said { WritesExactly result (json_line (undo_json (undo_answer lab.old) (length lab.new.kept))) W.contents writer.old writer.new }
+    ensures state { lab.new ≡ state_after_undo lab.old }
+{
+    match lab.undo() {
+        Ok(()) => write_removed(b"back", Some(1), lab.counts().kept, writer),
+        Err(fault) => write_lab_refusal(b"back", fault, writer),
+    }
+}
+
+/// `rewind NNN K`: removes a step of the node with all that depends on it, and writes how many events were removed.
+///
+/// # Errors
+/// A write failed.
+pub fn write_rewind_json<W: Write>(
+    lab: &mut Lab,
+    node: NodeId,
+    step: u32,
+    writer: &mut Writer<'_, W>,
+) -> WriteResult
+    ensures said { WritesExactly result (json_line (rewind_json (rewind_answer lab.old node.number step) (length lab.new.kept))) W.contents writer.old writer.new }
+    ensures state { lab.new ≡ state_after_rewind lab.old node.number step }
+{
+    match lab.rewind(node, step) {
+        Ok(removed) => {
+            write_removed(
+                b"rewind",
+                Some(u64::from(removed)),
+                lab.counts().kept,
+                writer,
+            )
+        }
+        Err(fault) => write_lab_refusal(b"rewind", fault, writer),
+    }
+}
+
+/// `back until COND`, `back NNN until COND`: removes the newest event after which a condition held, with those that must go with it,
+/// and writes how many events were removed, if some were.
+///
+/// # Errors
+/// A write failed.
+pub fn write_back_until_json<W: Write>(
+    lab: &mut Lab,
+    until: &[Condition],
+    only: Option<NodeId>,
+    writer: &mut Writer<'_, W>,
+) -> WriteResult
+    ensures said { WritesExactly result (json_line (removed_json (codes "back") (removed_event_count only lab.old (find_newest_holding until.now only lab.old)) (length lab.new.kept)))
+        W.contents writer.old writer.new }
+    ensures state { lab.new ≡ machine_back_at_place only lab.old (find_newest_holding until.now only lab.old) }
+{
+    match back_until(lab, until, only) {
+        Some(gone) => write_removed(b"back", Some(u64::from(gone)), lab.counts().kept, writer),
+        None => write_removed(b"back", None, lab.counts().kept, writer),
+    }
+}
+
+/// An event that was made by `step`.
+fn step_row(made: Made) -> RowFields<'static>
+    ensures { row_json result.items ≡ step_json (Ok made) }
+{
+    let mut row = row_fields(&[Field::text(b"command", b"step")]);
+    push_made_event(&mut row, made);
+    row
+}
+
+/// Writes how many events a command removed, if some, and how many are kept.
+fn write_removed<W: Write>(
+    command: &[u8],
+    removed: Option<u64>,
+    kept: u32,
+    writer: &mut Writer<'_, W>,
+) -> WriteResult
+    ensures { WritesExactly result (json_line (removed_json command.now removed kept)) W.contents writer.old writer.new }
+{
+    write_object(&removed_fields(command, removed, kept), writer)
+}
+
+/// How many events a command removed, if some, and how many are kept.
+fn removed_fields<'a>(command: &'a [u8], removed: Option<u64>, kept: u32) -> [Field<'a>; 3]
+    ensures { row_json result ≡ removed_json command.now removed kept }
+{
+    [
+        Field::text(b"command", command),
+        optional_number(b"removed", removed),
+        Field::number(b"kept", u64::from(kept)),
+    ]
+}

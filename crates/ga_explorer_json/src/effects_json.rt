@@ -1,0 +1,97 @@
+//! What a rollback would remove.
+
+ghost use Rattle.std.specs.Prelude.{◌≡◌, map};
+ghost use Rattle.ga_text.specs.Output.{WritesSome, WritesExactly};
+ghost use Rattle.ga_json.specs.Compact.{json_line};
+ghost use Rattle.ga_json.specs.Fields.{named_field_value, row_json};
+ghost use Rattle.ga_explorer_json.specs.Rows.{json_rows, IsJsonLine};
+ghost use Rattle.ga_explorer_json.specs.Effects.{effect_json, effects_fields, listed_effects_json, IsEffectsJson};
+
+use crate::refusal::write_lab_refusal;
+use ga_grid::NodeId;
+use ga_json::{Field, RowCursor, RowFields, row_fields, write_report};
+use ga_lab::Lab;
+use ga_scheduler::{RollbackEffect, find_rollback_effects};
+use ga_text::{WriteResult, Writer};
+use std::alloc::Global;
+use std::io::Write;
+
+/// `effects NNN K`: writes what `rewind NNN K` would remove. Nothing is removed. Takes memory for the list of the nodes.
+///
+/// # Errors
+/// A write failed.
+pub fn write_effects_json<W: Write>(
+    alloc: Global,
+    lab: &mut Lab,
+    node: NodeId,
+    step: u32,
+    writer: &mut Writer<'_, W>,
+) -> WriteResult
+    ensures said { WritesSome result (IsJsonLine (IsEffectsJson lab.old node step)) W.contents writer.old writer.new }
+    ensures same { lab.new ≡ lab.old }
+{
+    match find_rollback_effects(alloc, lab, node, step) {
+        Ok(effects) => {
+            write_listed_effects(node, step, effects.events, effects.nodes.as_slice(), writer)
+        }
+        Err(fault) => write_lab_refusal(b"effects", fault, writer),
+    }
+}
+
+/// Writes how many events would go, and what would go of each node.
+fn write_listed_effects<W: Write>(
+    node: NodeId,
+    step: u32,
+    events: u32,
+    effects: &[RollbackEffect],
+    writer: &mut Writer<'_, W>,
+) -> WriteResult
+    ensures { WritesExactly result (json_line (listed_effects_json node step events effects.now)) W.contents writer.old writer.new }
+{
+    let head = effects_fields(node, step, events, effects.len());
+    write_report(&head, &mut EffectRows { rest: effects }, writer)
+}
+
+/// What would go of the nodes that are not written yet.
+#[derive(Drop)]
+struct EffectRows<'e> {
+    rest: &'e [RollbackEffect],
+}
+
+impl<'e> RowCursor<'e> for EffectRows<'e> {
+    ghost left = { λ rows. json_rows effect_json rows.rest.now };
+
+    fn next(&mut self) -> Option<RowFields<'e>> {
+        match self.rest.split_first() {
+            Some((effect, rest)) => {
+                self.rest = rest;
+                Some(effect_row(*effect))
+            }
+            None => None,
+        }
+    }
+}
+
+/// The step, how many events would go, and of how many nodes.
+fn effects_fields(node: NodeId, step: u32, events: u32, nodes: usize) -> [Field<'static>; 5]
+    ensures { map named_field_value result ≡ effects_fields node step events nodes }
+{
+    [
+        Field::text(b"command", b"effects"),
+        Field::node(b"node", node),
+        Field::number(b"step", u64::from(step)),
+        Field::number(b"events", u64::from(events)),
+        Field::number(b"nodes", nodes as u64),
+    ]
+}
+
+/// What would go of a node: its first step that would, and how many would.
+fn effect_row(effect: RollbackEffect) -> RowFields<'static>
+    ensures { row_json result.items ≡ effect_json effect }
+{
+    row_fields(&[
+        Field::node(b"node", effect.node),
+        Field::number(b"first_step", u64::from(effect.first)),
+        Field::number(b"steps", u64::from(effect.steps)),
+    ])
+}

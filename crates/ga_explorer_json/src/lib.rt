@@ -1,0 +1,38 @@
+//! What a session of exploring answers, as JSON: an object on a line for each answer.
+#![tactic(auto)]
+
+mod activity;
+mod at_json;
+mod because_json;
+mod changes_json;
+mod effects_json;
+mod event;
+mod node_json;
+mod part;
+mod races_json;
+mod readings_json;
+mod refusal;
+mod row;
+mod run_json;
+mod whence_json;
+mod who_json;
+mod words_json;
+mod writes_json;
+
+pub use at_json::write_at_json;
+pub use because_json::write_because_json;
+pub use changes_json::{
+    write_back_until_json, write_rewind_json, write_step_json, write_undo_json,
+};
+pub use effects_json::write_effects_json;
+pub use node_json::write_node_json;
+pub use races_json::write_races_json;
+pub use readings_json::{write_counts_json, write_memory_json};
+pub use run_json::write_run_json;
+pub use whence_json::write_whence_json;
+pub use who_json::write_who_json;
+pub use words_json::write_words_json;
+pub use writes_json::write_writes_json;
+
+#[cfg(test)]
+mod tests;

@@ -1,0 +1,82 @@
+//! Refused queries.
+
+ghost use Rattle.std.specs.Prelude.{◌≡◌};
+ghost use Rattle.ga_text.specs.Output.{WritesExactly};
+ghost use Rattle.ga_json.specs.Compact.{json_line};
+ghost use Rattle.ga_json.specs.Fields.{row_json};
+ghost use Rattle.ga_explorer_json.specs.Refusals.{refusal_json, fault_code, fault_word, lab_refusal_json};
+
+use ga_json::{Field, write_object};
+use ga_lab::LabFault;
+use ga_text::{WriteResult, Writer};
+use std::io::Write;
+
+/// Writes that a command was refused, with the number and the word of the refusal.
+///
+/// # Errors
+/// A write failed.
+pub(crate) fn write_refusal<W: Write>(
+    command: &[u8],
+    code: u64,
+    why: &[u8],
+    writer: &mut Writer<'_, W>,
+) -> WriteResult
+    ensures { WritesExactly result (json_line (refusal_json command.now code why.now)) W.contents writer.old writer.new }
+{
+    write_object(&refusal_fields(command, code, why), writer)
+}
+
+/// A command, and the number and the word of its refusal.
+fn refusal_fields<'a>(command: &'a [u8], code: u64, why: &'a [u8]) -> [Field<'a>; 3]
+    ensures { row_json result ≡ refusal_json command.now code why.now }
+{
+    [
+        Field::text(b"command", command),
+        Field::number(b"refused", code),
+        Field::text(b"why", why),
+    ]
+}
+
+/// Writes that a lab refused a command.
+///
+/// # Errors
+/// A write failed.
+pub(crate) fn write_lab_refusal<W: Write>(
+    command: &[u8],
+    fault: LabFault,
+    writer: &mut Writer<'_, W>,
+) -> WriteResult
+    ensures { WritesExactly result (json_line (lab_refusal_json command.now fault)) W.contents writer.old writer.new }
+{
+    write_refusal(command, fault_code(fault), fault_word(fault), writer)
+}
+
+/// The number of a refusal.
+fn fault_code(fault: LabFault) -> u64
+    ensures { result ≡ fault_code fault }
+{
+    match fault {
+        LabFault::Waiting => 1,
+        LabFault::Stopped => 2,
+        LabFault::Full => 3,
+        LabFault::Memory => 4,
+        LabFault::Empty => 5,
+        LabFault::NoStep => 6,
+        LabFault::Spent => 7,
+    }
+}
+
+/// The word of a refusal.
+pub(crate) fn fault_word(fault: LabFault) -> &'static [u8]
+    ensures { result.now ≡ fault_word fault }
+{
+    match fault {
+        LabFault::Waiting => b"waiting",
+        LabFault::Stopped => b"stopped",
+        LabFault::Full => b"full",
+        LabFault::Memory => b"memory",
+        LabFault::Empty => b"empty",
+        LabFault::NoStep => b"nostep",
+        LabFault::Spent => b"spent",
+    }
+}
