@@ -17,7 +17,7 @@ returns-in-Ok g c = λ left before known held.
     let there = done.6 in
     let last = c.serve_explorer-ending.new.session.explorer.explorer in
     let Q : Bool → ExplorerState → ℕ → Type 0 = λ b e n.
-        ServesCommands (AnswersWithPrompt c.args.is_prompted b) (AnswersLast b) (16777216 - n) e done.0 done.1 done.2 last c.serve_explorer-ending.result in
+    ServesCommands (AnswersWithPrompt c.args.is_prompted b) (AnswersLast b) (16777216 - n) e done.0 done.1 done.2 last c.serve_explorer-ending.result in
     let serves = subst (λ n. Q c.new.result.is_strict c.new.result.explorer n) begun.4.3 done.7 in
     let served_here = subst (λ b. Q b c.in-Ok.begun (length text)) c.new.ensures.strict (subst (λ e. Q c.new.result.is_strict e (length text)) c.new.ensures.explorer serves) in (
       text ++ done.0,
