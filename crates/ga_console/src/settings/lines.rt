@@ -4,7 +4,7 @@ use clap::{Arg, ArgAction, Command, value_parser};
 use std::alloc::{AllocError, Global};
 
 /// What `ga144 --version` writes after the name: the version, and the kit that proves it.
-const VERSION: &str = "1.0 (rattle-kit-13b logic dac8208d650f15bf)";
+const VERSION: &str = "1.0 (rattle-kit-13f logic dac8208d650f15bf)";
 
 /// What `ga144 debug --help` writes after the options.
 const COMMANDS: &str = "\
