@@ -38,7 +38,7 @@ pub struct CheckOptions<'a> {
     pub progress: bool,
 }
 
-/// What comes of a search for the ends of the program that is read from a file of this name, or for conditions, of which a fault may be told.
+/// The result of a search for the ends of the program in a file of this name, or for conditions, or the fault of these.
 /// The search is stopped after as many seconds as the options have, if it isn't 0. Without a second thread the clock starts after the search.
 pub fn find_verdict<T: Threads + Sync>(
     threads: &T,
