@@ -9,7 +9,7 @@ _ga144() {
     fi
     case ${COMP_WORDS[1]} in
     debug) options='--limit -h --help' ;;
-    explore) is_file=yes options='--strict --chip --limit -h --help' ;;
+    explore) is_file=yes options='--strict --json --chip --limit -h --help' ;;
     race) options='--workers --calls --limit -h --help' ;;
     check) is_file=yes options='--most --seconds --settled --session --never --ends --json --progress -h --help' ;;
     dap) options='-h --help' ;;

@@ -15,6 +15,7 @@ complete -c ga144 -n '__fish_seen_subcommand_from debug' -l limit -x -d 'How man
 complete -c ga144 -n '__fish_seen_subcommand_from debug' -s h -l help -d 'Print help'
 complete -c ga144 -n '__fish_seen_subcommand_from explore' -F
 complete -c ga144 -n '__fish_seen_subcommand_from explore' -l strict -d 'End at the first refused command, with the exit status 7'
+complete -c ga144 -n '__fish_seen_subcommand_from explore' -l json -d 'Print JSON objects, one a line (docs/JSON.md)'
 complete -c ga144 -n '__fish_seen_subcommand_from explore' -l chip -r -F -d 'Begin on the chip of this file, an image as dump writes it, with the lines of the source'
 complete -c ga144 -n '__fish_seen_subcommand_from explore' -l limit -x -d 'How many events the history has at most, 1 to 100000000'
 complete -c ga144 -n '__fish_seen_subcommand_from explore' -s h -l help -d 'Print help'

@@ -21,6 +21,7 @@ use ga_asm_text::{assemble_source, disassemble, list_source};
 use ga_check_report::{ConditionFault, Verdict};
 use ga_console::{CommandLineFault, Settings, Status, arguments, race_report, session};
 use ga_explorer::{QueryUsage, explore};
+use ga_explorer_json::explore_json;
 use ga_picture::{PictureView, draw_session};
 use std::env;
 use std::io::IsTerminal;
@@ -83,10 +84,18 @@ fn main(rt: HostRuntime) -> ExitCode {
             Settings::Explore {
                 limit,
                 strict,
+                json,
                 chip,
                 file,
             },
-        ) => served(&rt, Work::Explore { limit, strict }, &chip, &file),
+        ) => {
+            let work = if json {
+                Work::ExploreJson { limit, strict }
+            } else {
+                Work::Explore { limit, strict }
+            };
+            served(&rt, work, &chip, &file)
+        }
         Ok(Settings::Assemble { file }) => served(&rt, Work::Assemble, &None, &file),
         Ok(Settings::List { file }) => served(&rt, Work::List, &None, &file),
         Ok(Settings::Disassemble { file }) => served(&rt, Work::Disassemble, &None, &file),
@@ -154,6 +163,7 @@ fn debug(rt: &HostRuntime, limit: u32) -> ExitCode {
 #[derive(Clone, Copy)]
 enum Work {
     Explore { limit: u32, strict: bool },
+    ExploreJson { limit: u32, strict: bool },
     Assemble,
     List,
     Disassemble,
@@ -185,6 +195,16 @@ fn served(rt: &HostRuntime, work: Work, chip: &Option<String>, file: &Option<Str
             is_at_terminal(rt),
             strict,
         ),
+        Work::ExploreJson { limit, strict } => explore_json(
+            alloc,
+            input,
+            output,
+            told,
+            file_name(file),
+            chip,
+            limit,
+            strict,
+        ),
         Work::Assemble => assemble_source(alloc, input, output, told),
         Work::List => list_source(alloc, input, output, told),
         Work::Disassemble => disassemble(alloc, input, output, told),
@@ -193,6 +213,14 @@ fn served(rt: &HostRuntime, work: Work, chip: &Option<String>, file: &Option<Str
         }
     };
     exit(rt, status)
+}
+
+/// The name of a file as JSON objects have it.
+fn file_name(file: &Option<String>) -> &[u8] {
+    match file {
+        Some(name) => name.as_bytes(),
+        None => b"-",
+    }
 }
 
 /// Whether both standard input and standard output are a terminal, so that a person types the commands.

@@ -1,11 +1,12 @@
 -- What `ga144 check` prints of a program that isn't opened, in the format that was asked for: as text what `explore` does, as JSON an object for each line of
 -- that and of what standard error has (docs/JSON.md; this project's own).
-use Rattle.std.specs.Prelude.{◌≡◌, ◌⊎◌, ◌++◌, None}
+use Rattle.std.specs.Prelude.{◌≡◌, ℕ, ◌⊎◌, ◌++◌, Option, None, Result, Ok, Err}
 use Rattle.ga_text.specs.Lines.{Bytes, Text}
 use Rattle.ga_text.specs.Output.{TextHasPrefix}
 use Rattle.ga_console.specs.declared.run.Status.{Status}
 use Rattle.ga_console.specs.declared.run.Status.TheVariants.{StreamFault}
-use Rattle.ga_explorer.specs.Opening.{IsUnopenedSession}
+use Rattle.ga_text.specs.Input.{UnreadInput}
+use Rattle.ga_explorer.specs.Opening.{ExplorerState, IsSessionOpened, IsUnopenedSession}
 use Rattle.ga_check_report.specs.declared.request.ReportFormat.{ReportFormat}
 use Rattle.ga_check_report.specs.declared.request.ReportFormat.TheVariants as format
 use Rattle.ga_check_report.specs.RefusalJson.{refused_json}
@@ -14,9 +15,18 @@ use Rattle.ga_check_report.specs.RefusalJson.{refused_json}
 abbrev pub IsRefusalOutput : Text → Status → Text → Status → Type 0
 IsRefusalOutput whole status written end = ((written ≡ whole) × (end ≡ status)) ⊎ (TextHasPrefix whole written × (end ≡ StreamFault))
 
+-- an object for each line of the reason, and of what standard error has
+abbrev pub HasRefusalObjects : Option Text → Text → Bytes → Bytes → Text → Status → Type 0
+HasRefusalObjects chip file read rest written end =
+    (reason told : Text) × (status : Status) × IsUnopenedSession chip read rest reason status
+    × IsRefusalOutput (refused_json file reason ++ refused_json file told) status written end
+
 -- the reason as text, and what standard error has
 abbrev pub IsUnopenedAnswer : ReportFormat → Bytes → Bytes → Text → Status → Type 0
 IsUnopenedAnswer format.Text read rest written end = IsUnopenedSession None read rest written end
-IsUnopenedAnswer (format.Json file) read rest written end =
-    (reason told : Text) × (status : Status) × IsUnopenedSession None read rest reason status
-    × IsRefusalOutput (refused_json file.now reason ++ refused_json file.now told) status written end
+IsUnopenedAnswer (format.Json file) read rest written end = HasRefusalObjects None file.now read rest written end
+
+-- A text was taken of what was left to read, and a machine opened on it; or no session begins, and there are such objects.
+abbrev pub IsOpenedForObjects : Option Text → Text → ℕ → Bytes → UnreadInput → Bytes → Text → Result ExplorerState Status → Type 0
+IsOpenedForObjects chip file limit left input rest written (Ok begun) = IsSessionOpened chip limit left input rest written (Ok begun)
+IsOpenedForObjects chip file limit left input rest written (Err status) = (read : Bytes) × (left ≡ read ++ rest) × HasRefusalObjects chip file read rest written status

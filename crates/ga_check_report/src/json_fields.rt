@@ -22,7 +22,7 @@ use ga_word::Word18;
 pub(crate) const MAX_DETAILS: usize = 6;
 
 /// A text with its name; no value if it isn't UTF-8.
-pub(crate) fn text_field<'a>(name: &'a [u8], text: &'a [u8]) -> Field<'a>
+pub fn text_field<'a>(name: &'a [u8], text: &'a [u8]) -> Field<'a>
     requires { IsTrue (is_field_name name.now) }
     ensures { named_field_value result ≡ (name.now, text_json text.now) }
 {

@@ -3,10 +3,10 @@
 ghost use Rattle.std.specs.Prelude.{◌≡◌, ◌++◌, [], Some};
 ghost use Rattle.ga_text.specs.Lines.{Bytes};
 ghost use Rattle.ga_text.specs.Output.{IsWrittenOrTruncated, IsSameStream, WritesExactly, WritesText};
-ghost use Rattle.ga_check_report.specs.Opened.{IsRefusalOutput};
+ghost use Rattle.ga_explorer.specs.Opening.{image_text_of};
+ghost use Rattle.ga_check_report.specs.Opened.{IsRefusalOutput, IsOpenedForObjects};
 ghost use Rattle.ga_check_report.specs.inner.{IsProgramOpened, told_lines};
 ghost use Rattle.ga_check_report.specs.RefusalJson.{refused_json};
-ghost use Rattle.ga_check_report.specs.declared.request.ReportFormat.TheVariants.{Json};
 
 use crate::refusal_json::write_refused;
 use crate::request::ReportFormat;
@@ -42,30 +42,35 @@ pub(crate) fn open_program<R: Read, W: Write, E: Write>(
     match format {
         ReportFormat::Text => open_lab(alloc, input, reader, writer, errors, None, limit),
         ReportFormat::Json(file) => {
-            open_for_objects(alloc, input, reader, writer, errors, file, limit)
+            open_for_objects(alloc, input, reader, writer, errors, file, None, limit)
         }
     }
 }
 
-/// The same, with an object for each line of the reason.
-fn open_for_objects<R: Read, W: Write, E: Write>(
+/// Reads an image or source up to its first line `end`, and opens a lab as `ga_explorer::open_lab` does. Where that is refused, an object is
+/// written for each line of the reason, with the name of the file; the fault of a source is written to `errors`, too.
+///
+/// # Errors
+/// The status of a program that ends so.
+pub fn open_for_objects<R: Read, W: Write, E: Write>(
     alloc: Global,
     input: &mut Input,
     reader: &mut R,
     writer: &mut W,
     errors: &mut E,
     file: &[u8],
+    chip: Option<Vec<u8>>,
     limit: u32,
 ) -> Result<Explorer, Status>
     requires fresh { input.old ≡ record { bytes = []; taken = 0 } }
     ensures begun { (left before : Bytes) →
         R.remaining reader.old ≡ Some left → W.contents writer.old ≡ Some before →
         (rest text : Bytes) × (R.remaining reader.new ≡ Some rest) × (W.contents writer.new ≡ Some (before ++ text))
-        × IsProgramOpened (Json file.entry) limit left input.new rest text result }
+        × IsOpenedForObjects (image_text_of chip) file.now limit left input.new rest text result }
 {
     let mut reason = Vec::new(alloc);
     let mut told = Vec::new(alloc);
-    let opened = open_lab(alloc, input, reader, &mut reason, &mut told, None, limit);
+    let opened = open_lab(alloc, input, reader, &mut reason, &mut told, chip, limit);
     let _written = write_all(errors, told.as_slice());
     match opened {
         Ok(begun) => Ok(begun),

@@ -7,8 +7,7 @@ use Rattle.std.proofs.Math.Seq.{take-append_seam}
 use Rattle.std.proofs.lemmas.Grind.{flat_map-append}
 use Rattle.std.proofs.lemmas.Bool.Decides.{nat_tests}
 use Rattle.ga_text.specs.Lines.{lines_of, ended, text_of, terminated_lines, HasNoLineFeed}
-use Rattle.ga_console.specs.Session.{AnswerRelation, quit_line, Answers, AnswersToRefusal, WritesAnswers, HasNoQuit, lines_within_bound, ReadsWholeLines, ReadsLines, QuitsAfter, ServesCommands, ServesToEnd, ServesToQuit, ServesToRefusal, ServesToInputLimit, ServesToReadFailure, ServesToWriteFailure}
-use Rattle.ga_display.specs.Texts.{input_limit_refusal}
+use Rattle.ga_console.specs.Session.{AnswerRelation, quit_line, Answers, AnswersToRefusal, WritesAnswersBy, HasNoQuit, lines_within_bound, ReadsWholeLines, ReadsLines, QuitsAfter, ServesCommandsBy, ServesToEnd, ServesToQuit, ServesToRefusal, ServesToInputLimit, ServesToReadFailure, ServesToWriteFailureBy}
 use Rattle.ga_console.specs.declared.commands.CommandsEnd.{CommandsEnd}
 use Rattle.ga_console.specs.declared.commands.CommandsEnd.TheVariants.{Ended, Quit, Refused, Past, ReadFailed}
 use Rattle.ga_console.proofs.Ending.{EndsAt, IsAnswered}
@@ -90,9 +89,9 @@ whole_lines room read rest heard after short (inl e) = inr (after, ap terminated
 whole_lines room read rest heard after short (inr e) = inl e.0
 
 -- If a write failed at last, what was written is in the script.
-pub cut_short : {M : Type 0} (A R : AnswerRelation M) (room : ℕ) (m : M) (read rest text : List ℕ) (last : M) (ending : Result CommandsEnd WriteError)
-    → ServesCommands A R room m read rest text last ending → ServesToWriteFailure A R room m read rest text last
-cut_short A R room m read rest text last (Ok Ended) s = record {
+pub cut_short : {M : Type 0} (past : List ℕ) (A R : AnswerRelation M) (room : ℕ) (m : M) (read rest text : List ℕ) (last : M) (ending : Result CommandsEnd WriteError)
+    → ServesCommandsBy past A R room m read rest text last ending → ServesToWriteFailureBy past A R room m read rest text last
+cut_short past A R room m read rest text last (Ok Ended) s = record {
   heard = lines_of read;
   after = [];
   front = heard_within room read s.within ∙ sym (append-nil (lines_of read));
@@ -100,7 +99,7 @@ cut_short A R room m read rest text last (Ok Ended) s = record {
   script = inl s.answers;
   whole = inl s.at_end;
 }
-cut_short A R room m read rest text last (Ok Quit) s =
+cut_short past A R room m read rest text last (Ok Quit) s =
     let behind = behind_quit read rest s.heard s.after s.quits in
     record {
       heard = s.heard;
@@ -110,7 +109,7 @@ cut_short A R room m read rest text last (Ok Quit) s =
       script = inl s.answers;
       whole = whole_quit room read rest s.heard s.after s.within s.quits;
     }
-cut_short A R room m read rest text last (Ok (Refused number)) s =
+cut_short past A R room m read rest text last (Ok (Refused number)) s =
     let behind = behind_lines read rest s.heard s.after s.front in
     record {
       heard = s.heard;
@@ -120,7 +119,7 @@ cut_short A R room m read rest text last (Ok (Refused number)) s =
       script = inr (inl s.answers);
       whole = whole_lines room read rest s.heard s.after s.within s.front;
     }
-cut_short A R room m read rest text last (Ok (Past number)) s =
+cut_short past A R room m read rest text last (Ok (Past number)) s =
     let long : room < length read = omega (arith, s.over) in
     record {
       heard = terminated_lines (take room read);
@@ -130,7 +129,7 @@ cut_short A R room m read rest text last (Ok (Past number)) s =
       script = inr (inr (long, refl, s.said, s.answers, s.told));
       whole = inr ([], sym (append-nil (terminated_lines (take room read))));
     }
-cut_short A R room m read rest text last (Ok ReadFailed) s =
+cut_short past A R room m read rest text last (Ok ReadFailed) s =
     let more = more_lines read in
     record {
       heard = terminated_lines read;
@@ -140,7 +139,7 @@ cut_short A R room m read rest text last (Ok ReadFailed) s =
       script = inl s.answers;
       whole = inr ([], ap terminated_lines (take_all room read s.within) ∙ sym (append-nil (terminated_lines read)));
     }
-cut_short A R room m read rest text last (Err failed) s = s
+cut_short past A R room m read rest text last (Err failed) s = s
 
 module _ {M : Type 0} {A : AnswerRelation M} {first : M} {whole : List ℕ} {start : ℕ} {left : List ℕ} {taken number : ℕ} {text : List ℕ} {m : M}
     (h : Heard A first whole start left taken number text m) where
@@ -170,9 +169,9 @@ module _ {M : Type 0} {A : AnswerRelation M} {first : M} {whole : List ℕ} {sta
   }
 
   -- A write failed: the lines heard were answered.
-  pub heard_cut : (R : AnswerRelation M) (bytes rest : List ℕ) → taken + length bytes ≤ 16777216 → ServesToWriteFailure A R (16777216 - start) first (read_to bytes) rest text m
+  pub heard_cut : (past : List ℕ) (R : AnswerRelation M) (bytes rest : List ℕ) → taken + length bytes ≤ 16777216 → ServesToWriteFailureBy past A R (16777216 - start) first (read_to bytes) rest text m
   unfolding read_to
-  heard_cut R bytes rest within =
+  heard_cut past R bytes rest within =
       let short : length (read_to bytes) ≤ 16777216 - start = omega (arith, within, length_to bytes, h.counts) in
       record {
         heard = h.lines;
@@ -277,10 +276,10 @@ module _ {M : Type 0} {A : AnswerRelation M} {first : M} {whole : List ℕ} {sta
   unfolding read_over
   split_over part b rest e = split_at part (b ∷ rest) e ∙ sym (append_assoc (read_to part) (b ∷ []) rest)
 
-  pub heard_past : (part : List ℕ) (b : ℕ) (rest : List ℕ) (now n : ℕ) → HasNoLineFeed part → now ≡ taken + length part → now ≡ 16777216 → n ≡ number + 1
-      → ServesToInputLimit A n (16777216 - start) first (read_over part b) rest (text ++ input_limit_refusal) m
+  pub heard_past : (past part : List ℕ) (b : ℕ) (rest : List ℕ) (now n : ℕ) → HasNoLineFeed part → now ≡ taken + length part → now ≡ 16777216 → n ≡ number + 1
+      → ServesToInputLimit past A n (16777216 - start) first (read_over part b) rest (text ++ past) m
   unfolding read_over read_to
-  heard_past part b rest now n none counts full one =
+  heard_past past part b rest now n none counts full one =
       let room : 16777216 - start ≡ length (read_to part) = omega (arith, length_to part, h.counts) in
       let same : h.lines ≡ terminated_lines (take (16777216 - start) (read_over part b)) =
       sym (ap (λ (n : ℕ). terminated_lines (take n (read_to part ++ b ∷ []))) room
@@ -322,31 +321,31 @@ module _ {M : Type 0} {A : AnswerRelation M} {first : M} {whole : List ℕ} {sta
     front = inl (ended_front (h.lines ++ part ∷ []) bytes (all_push HasNoLineFeed h.lines part h.feeds none));
   }
 
-  pub heard_ends : (R : AnswerRelation M) (part bytes rest answer : List ℕ) (now n : ℕ) (new : M) (ending : CommandsEnd) → HasNoLineFeed part → now ≡ taken + length part + 1
+  pub heard_ends : (past : List ℕ) (R : AnswerRelation M) (part bytes rest answer : List ℕ) (now n : ℕ) (new : M) (ending : CommandsEnd) → HasNoLineFeed part → now ≡ taken + length part + 1
       → now + length bytes ≤ 16777216 → n ≡ number + 1 → EndsAt R m part n answer new ending
-      → ServesCommands A R (16777216 - start) first (read_past part bytes) rest (text ++ answer) new (Ok ending)
-  heard_ends R part bytes rest answer now n new Ended none counts short one e = absurd e
-  heard_ends R part bytes rest answer now n new Quit none counts short one e =
+      → ServesCommandsBy past A R (16777216 - start) first (read_past part bytes) rest (text ++ answer) new (Ok ending)
+  heard_ends past R part bytes rest answer now n new Ended none counts short one e = absurd e
+  heard_ends past R part bytes rest answer now n new Quit none counts short one e =
       quits R (read_past part bytes) rest answer new e.1 e.2 (heard_quit part bytes rest now none e.0 counts short)
-  heard_ends R part bytes rest answer now n new (Refused k) none counts short one e =
+  heard_ends past R part bytes rest answer now n new (Refused k) none counts short one e =
       refused_here R part bytes rest answer now k new none counts short (e.0 ∙ one) (e.1, e.2)
-  heard_ends R part bytes rest answer now n new (Past k) none counts short one e = absurd e
-  heard_ends R part bytes rest answer now n new ReadFailed none counts short one e = absurd e
+  heard_ends past R part bytes rest answer now n new (Past k) none counts short one e = absurd e
+  heard_ends past R part bytes rest answer now n new ReadFailed none counts short one e = absurd e
 
-  script_push : (R : AnswerRelation M) (part read answer : List ℕ) (new : M) → IsAnswered A m part answer new ⊎ IsAnswered R m part answer new
-      → WritesAnswers A R (16777216 - start) first read (h.lines ++ part ∷ []) (text ++ answer) new
-  script_push R part read answer new (inl a) = inl (answers_push A first h.lines text m part answer new h.answers a.0)
-  script_push R part read answer new (inr a) = inr (inl (refusal_push R part answer new a.0))
+  script_push : (past : List ℕ) (R : AnswerRelation M) (part read answer : List ℕ) (new : M) → IsAnswered A m part answer new ⊎ IsAnswered R m part answer new
+      → WritesAnswersBy past A R (16777216 - start) first read (h.lines ++ part ∷ []) (text ++ answer) new
+  script_push past R part read answer new (inl a) = inl (answers_push A first h.lines text m part answer new h.answers a.0)
+  script_push past R part read answer new (inr a) = inr (inl (refusal_push R part answer new a.0))
 
   other_push : (R : AnswerRelation M) (part answer : List ℕ) (new : M) → IsAnswered A m part answer new ⊎ IsAnswered R m part answer new → HasNoQuit (h.lines ++ part ∷ [])
   other_push R part answer new (inl a) = all_push (λ l. l ≢ quit_line) h.lines part h.no_quit a.1
   other_push R part answer new (inr a) = all_push (λ l. l ≢ quit_line) h.lines part h.no_quit a.1
 
-  pub heard_broken : (R : AnswerRelation M) (part bytes rest answer : List ℕ) (now : ℕ) (new : M) → HasNoLineFeed part → now ≡ taken + length part + 1
+  pub heard_broken : (past : List ℕ) (R : AnswerRelation M) (part bytes rest answer : List ℕ) (now : ℕ) (new : M) → HasNoLineFeed part → now ≡ taken + length part + 1
       → now + length bytes ≤ 16777216 → IsAnswered A m part answer new ⊎ IsAnswered R m part answer new
-      → ServesToWriteFailure A R (16777216 - start) first (read_past part bytes) rest (text ++ answer) new
+      → ServesToWriteFailureBy past A R (16777216 - start) first (read_past part bytes) rest (text ++ answer) new
   unfolding read_past
-  heard_broken R part bytes rest answer now new none counts short a =
+  heard_broken past R part bytes rest answer now new none counts short a =
       let within : length (read_past part bytes) ≤ 16777216 - start = omega (arith, short, counts, length_past part bytes, h.counts) in
       let feeds = all_push HasNoLineFeed h.lines part h.feeds none in
       record {
@@ -354,7 +353,7 @@ module _ {M : Type 0} {A : AnswerRelation M} {first : M} {whole : List ℕ} {sta
         after = lines_of bytes;
         front = heard_within (16777216 - start) (read_past part bytes) within ∙ lines_front (h.lines ++ part ∷ []) bytes feeds;
         no_quit = other_push R part answer new a;
-        script = script_push R part (read_past part bytes) answer new a;
+        script = script_push past R part (read_past part bytes) answer new a;
         whole = inr (terminated_lines bytes, ap terminated_lines (take_all (16777216 - start) (read_past part bytes) within) ∙ ended_front (h.lines ++ part ∷ []) bytes feeds);
       }
 
@@ -372,27 +371,27 @@ module _ {M : Type 0} {A : AnswerRelation M} {first : M} {whole : List ℕ} {sta
     front = inr (nothing, sym (lines_to part none some));
   }
 
-  pub heard_last_ends : (R : AnswerRelation M) (part rest answer : List ℕ) (n : ℕ) (new : M) (ending : CommandsEnd) → HasNoLineFeed part → 0 < length part → rest ≡ []
+  pub heard_last_ends : (past : List ℕ) (R : AnswerRelation M) (part rest answer : List ℕ) (n : ℕ) (new : M) (ending : CommandsEnd) → HasNoLineFeed part → 0 < length part → rest ≡ []
       → taken + length part ≤ 16777216 → n ≡ number + 1 → EndsAt R m part n answer new ending
-      → ServesCommands A R (16777216 - start) first (read_to part) rest (text ++ answer) new (Ok ending)
-  heard_last_ends R part rest answer n new Ended none some nothing short one e = absurd e
-  heard_last_ends R part rest answer n new Quit none some nothing short one e =
+      → ServesCommandsBy past A R (16777216 - start) first (read_to part) rest (text ++ answer) new (Ok ending)
+  heard_last_ends past R part rest answer n new Ended none some nothing short one e = absurd e
+  heard_last_ends past R part rest answer n new Quit none some nothing short one e =
       quits R (read_to part) rest answer new e.1 e.2 (heard_quit_last part rest none e.0 nothing short)
-  heard_last_ends R part rest answer n new (Refused k) none some nothing short one e =
+  heard_last_ends past R part rest answer n new (Refused k) none some nothing short one e =
       refused_last R part rest answer k new none some nothing short (e.0 ∙ one) (e.1, e.2)
-  heard_last_ends R part rest answer n new (Past k) none some nothing short one e = absurd e
-  heard_last_ends R part rest answer n new ReadFailed none some nothing short one e = absurd e
+  heard_last_ends past R part rest answer n new (Past k) none some nothing short one e = absurd e
+  heard_last_ends past R part rest answer n new ReadFailed none some nothing short one e = absurd e
 
-  pub heard_last_broken : (R : AnswerRelation M) (part rest answer : List ℕ) (new : M) → HasNoLineFeed part → 0 < length part → rest ≡ []
+  pub heard_last_broken : (past : List ℕ) (R : AnswerRelation M) (part rest answer : List ℕ) (new : M) → HasNoLineFeed part → 0 < length part → rest ≡ []
       → taken + length part ≤ 16777216 → IsAnswered A m part answer new ⊎ IsAnswered R m part answer new
-      → ServesToWriteFailure A R (16777216 - start) first (read_to part) rest (text ++ answer) new
-  heard_last_broken R part rest answer new none some nothing short a =
+      → ServesToWriteFailureBy past A R (16777216 - start) first (read_to part) rest (text ++ answer) new
+  heard_last_broken past R part rest answer new none some nothing short a =
       let within : length (read_to part) ≤ 16777216 - start = omega (arith, short, length_to part, h.counts) in
       record {
         heard = h.lines ++ part ∷ [];
         after = [];
         front = heard_within (16777216 - start) (read_to part) within ∙ sym (lines_to part none some) ∙ sym (append-nil (h.lines ++ part ∷ []));
         no_quit = other_push R part answer new a;
-        script = script_push R part (read_to part) answer new a;
+        script = script_push past R part (read_to part) answer new a;
         whole = inl nothing;
       }

@@ -67,11 +67,14 @@ abbrev pub lines_within_bound : ℕ → Bytes → List Line
 lines_within_bound room read = if nat_le (length read) room then lines_of read else terminated_lines (take room read)
 
 -- All that may be written for these lines: their answers, of which the last may end the session, and, if the input exceeds its bound
--- after them, that it does.
-abbrev pub WritesAnswers : {M : Type 0} → AnswerRelation M → AnswerRelation M → ℕ → M → Bytes → List Line → Text → M → Type 0
-WritesAnswers A R room m read lines text last = Answers A m lines text last
+-- after them, the refusal of that.
+abbrev pub WritesAnswersBy : {M : Type 0} → Text → AnswerRelation M → AnswerRelation M → ℕ → M → Bytes → List Line → Text → M → Type 0
+WritesAnswersBy limit_refusal A R room m read lines text last = Answers A m lines text last
     ⊎ AnswersToRefusal A R m lines text last
-    ⊎ ((room < length read) × (lines ≡ terminated_lines (take room read)) × (said : Text) × Answers A m lines said last × (text ≡ said ++ input_limit_refusal))
+    ⊎ ((room < length read) × (lines ≡ terminated_lines (take room read)) × (said : Text) × Answers A m lines said last × (text ≡ said ++ limit_refusal))
+
+abbrev pub WritesAnswers : {M : Type 0} → AnswerRelation M → AnswerRelation M → ℕ → M → Bytes → List Line → Text → M → Type 0
+WritesAnswers A R room m read lines text last = WritesAnswersBy input_limit_refusal A R room m read lines text last
 
 -- A last line without a line feed is heard only where nothing is left to read.
 abbrev pub ReadsWholeLines : ℕ → Bytes → Bytes → List Line → Type 0
@@ -116,12 +119,12 @@ pub record ServesToRefusal {M : Type 0} (A R : AnswerRelation M) (number room : 
   pub front : ReadsLines read rest heard after
 
 -- the input went past its bound in the line of this number: each line within it was answered, and then that was said
-pub record ServesToInputLimit {M : Type 0} (A : AnswerRelation M) (number room : ℕ) (m : M) (read rest : Bytes) (text : Text) (last : M) : Type 0 where
+pub record ServesToInputLimit {M : Type 0} (limit_refusal : Text) (A : AnswerRelation M) (number room : ℕ) (m : M) (read rest : Bytes) (text : Text) (last : M) : Type 0 where
   pub over : length read ≡ room + 1
   pub no_quit : HasNoQuit (terminated_lines (take room read))
   pub said : Text
   pub answers : Answers A m (terminated_lines (take room read)) said last
-  pub told : text ≡ said ++ input_limit_refusal
+  pub told : text ≡ said ++ limit_refusal
   pub counts : number ≡ length (terminated_lines (take room read)) + 1
 
 -- a read failed: each line that was read whole was answered
@@ -131,22 +134,29 @@ pub record ServesToReadFailure {M : Type 0} (A : AnswerRelation M) (room : ℕ) 
   pub answers : Answers A m (terminated_lines read) text last
 
 -- a write failed: some lines were answered, of which none was quit
-pub record ServesToWriteFailure {M : Type 0} (A R : AnswerRelation M) (room : ℕ) (m : M) (read rest : Bytes) (text : Text) (last : M) : Type 0 where
+pub record ServesToWriteFailureBy {M : Type 0} (limit_refusal : Text) (A R : AnswerRelation M) (room : ℕ) (m : M) (read rest : Bytes) (text : Text) (last : M) : Type 0 where
   pub heard : List Line
   pub after : List Line
   pub front : lines_within_bound room read ≡ heard ++ after
   pub no_quit : HasNoQuit heard
-  pub script : WritesAnswers A R room m read heard text last
+  pub script : WritesAnswersBy limit_refusal A R room m read heard text last
   pub whole : ReadsWholeLines room read rest heard
 
--- This text may have been said at this ending.
+abbrev pub ServesToWriteFailure : {M : Type 0} → AnswerRelation M → AnswerRelation M → ℕ → M → Bytes → Bytes → Text → M → Type 0
+ServesToWriteFailure A R room m read rest text last = ServesToWriteFailureBy input_limit_refusal A R room m read rest text last
+
+-- This text may have been said at this ending, in a session with this refusal of an input past its bound.
+abbrev pub ServesCommandsBy : {M : Type 0} → Text → AnswerRelation M → AnswerRelation M → ℕ → M → Bytes → Bytes → Text → M → Result CommandsEnd WriteError → Type 0
+ServesCommandsBy limit_refusal A R room m read rest text last (Ok Ended) = ServesToEnd A room m read rest text last
+ServesCommandsBy limit_refusal A R room m read rest text last (Ok Quit) = ServesToQuit A room m read rest text last
+ServesCommandsBy limit_refusal A R room m read rest text last (Ok (Refused number)) = ServesToRefusal A R number room m read rest text last
+ServesCommandsBy limit_refusal A R room m read rest text last (Ok (Past number)) = ServesToInputLimit limit_refusal A number room m read rest text last
+ServesCommandsBy limit_refusal A R room m read rest text last (Ok ReadFailed) = ServesToReadFailure A room m read rest text last
+ServesCommandsBy limit_refusal A R room m read rest text last (Err failed) = ServesToWriteFailureBy limit_refusal A R room m read rest text last
+
+-- in one of text
 abbrev pub ServesCommands : {M : Type 0} → AnswerRelation M → AnswerRelation M → ℕ → M → Bytes → Bytes → Text → M → Result CommandsEnd WriteError → Type 0
-ServesCommands A R room m read rest text last (Ok Ended) = ServesToEnd A room m read rest text last
-ServesCommands A R room m read rest text last (Ok Quit) = ServesToQuit A room m read rest text last
-ServesCommands A R room m read rest text last (Ok (Refused number)) = ServesToRefusal A R number room m read rest text last
-ServesCommands A R room m read rest text last (Ok (Past number)) = ServesToInputLimit A number room m read rest text last
-ServesCommands A R room m read rest text last (Ok ReadFailed) = ServesToReadFailure A room m read rest text last
-ServesCommands A R room m read rest text last (Err failed) = ServesToWriteFailure A R room m read rest text last
+ServesCommands A R room m read rest text last ending = ServesCommandsBy input_limit_refusal A R room m read rest text last ending
 
 -- What is written of all that was said: the whole, or where a write failed, a front of it.
 abbrev pub IsWrittenOrPrefix : Result CommandsEnd WriteError → Text → Bytes → Type 0

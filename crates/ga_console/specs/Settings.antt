@@ -9,7 +9,7 @@ IsBetween least greatest n = (least ≤ n) × (n ≤ greatest)
 -- each number is in its range
 abbrev pub AreInRange : Settings → Type 0
 AreInRange (Debug limit) = IsBetween 1 4000000 limit
-AreInRange (Explore limit strict chip file) = IsBetween 1 100000000 limit
+AreInRange (Explore limit strict json chip file) = IsBetween 1 100000000 limit
 AreInRange (Race workers calls limit) = IsBetween 1 16 workers × IsBetween 1 100000 calls × IsBetween 1 4000000 limit
 AreInRange (Check most seconds settled session never ends json progress files) = IsBetween 1 4294967295 most × IfSome seconds (IsBetween 1 4294967295) × IfSome session (IsBetween 1 4294967295)
 AreInRange Dap = Unit {0}

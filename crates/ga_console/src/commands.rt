@@ -3,7 +3,7 @@ ghost use Rattle.std.specs.Prelude.{◌≡◌, ◌-◌, ◌++◌, Some};
 ghost use Rattle.ga_text.specs.Lines.{Bytes};
 ghost use Rattle.ga_text.specs.Input.{IsWithinInputLimit, input_limit};
 ghost use Rattle.ga_text.specs.Output.{IsWritten, IsWrittenOrTruncated, IsSameStream};
-ghost use Rattle.ga_console.specs.Session.{ServesCommands, IsWrittenOrPrefix};
+ghost use Rattle.ga_console.specs.Session.{ServesCommands, ServesCommandsBy, IsWrittenOrPrefix};
 ghost use Rattle.ga_console.specs.inner.Run.{end_at};
 
 use super::fast_path::{PrefixCommand, parse_prefix_command};
@@ -48,13 +48,39 @@ pub fn serve_commands<S: Responder, R: Read, W: Write>(
         × ServesCommands S.answers S.refuses (input_limit - input.old.taken) session.old read rest text session.new result
         × IsWrittenOrPrefix result (said ++ text) sent }
 {
-    let ending = answer_lines(alloc, input, reader, writer, session)?;
+    serve_commands_by(b"no 33 input\n", alloc, input, reader, writer, session)
+}
+
+/// The same, with this refusal of an input past its bound.
+///
+/// # Errors
+/// A write failed.
+pub fn serve_commands_by<S: Responder, R: Read, W: Write>(
+    limit_refusal: &[u8],
+    alloc: Global,
+    input: &mut Input,
+    reader: &mut R,
+    writer: &mut Writer<'_, W>,
+    session: &mut S,
+) -> Result<CommandsEnd, WriteError>
+    requires { IsWithinInputLimit input.old }
+    ensures same { IsSameStream writer.old writer.new }
+    ensures serves { (left before said : Bytes) → R.remaining reader.old ≡ Some left →
+        IsWritten (W.contents writer.old.stream.now) before said writer.old.pending.items →
+        (read rest text sent : Bytes)
+        × (input.old.bytes ++ left ≡ read ++ rest) × (R.remaining reader.new ≡ Some rest)
+        × (W.contents writer.new.stream.now ≡ Some (before ++ sent))
+        × ServesCommandsBy limit_refusal.now S.answers S.refuses (input_limit - input.old.taken) session.old read rest text session.new result
+        × IsWrittenOrPrefix result (said ++ text) sent }
+{
+    let ending = answer_lines(limit_refusal, alloc, input, reader, writer, session)?;
     writer.flush()?;
     Ok(ending)
 }
 
 /// Answers the command lines one by one, until the input ends. Some of the answers may be pending then.
 fn answer_lines<S: Responder, R: Read, W: Write>(
+    limit_refusal: &[u8],
     alloc: Global,
     input: &mut Input,
     reader: &mut R,
@@ -67,7 +93,7 @@ fn answer_lines<S: Responder, R: Read, W: Write>(
         IsWritten (W.contents writer.old.stream.now) before said writer.old.pending.items →
         (read rest text : Bytes)
         × (input.old.bytes ++ left ≡ read ++ rest) × (R.remaining reader.new ≡ Some rest)
-        × ServesCommands S.answers S.refuses (input_limit - input.old.taken) session.old read rest text session.new result
+        × ServesCommandsBy limit_refusal.now S.answers S.refuses (input_limit - input.old.taken) session.old read rest text session.new result
         × IsWrittenOrTruncated result (W.contents writer.new.stream.now) before (said ++ text) writer.new.pending.items }
 {
     let mut line = LineBuffer::new();
@@ -113,7 +139,7 @@ fn answer_lines<S: Responder, R: Read, W: Write>(
                 };
             }
             LineEnd::Past => {
-                writer.write_text(b"no 33 input\n")?;
+                writer.write_blocks(limit_refusal)?;
                 return Ok(CommandsEnd::Past(number));
             }
             LineEnd::ReadFailed => return Ok(CommandsEnd::ReadFailed),

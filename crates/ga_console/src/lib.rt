@@ -14,7 +14,7 @@ mod run;
 mod settings;
 
 pub use command::{Command, parse_debugger_command};
-pub use commands::{CommandsEnd, serve_commands};
+pub use commands::{CommandsEnd, serve_commands, serve_commands_by};
 pub use race::race_report;
 pub use responder::{LineAction, Responder, answer_in_wording, execute_in_wording};
 pub use run::{Status, open_image, refuse, session, session_with_responder, status_of};

@@ -34,10 +34,11 @@ pub enum Settings {
         limit: u32,
     },
     /// Serve a session of exploring that keeps up to this many events, 1 to 100000000. Where `strict` is set, it ends at the first refused
-    /// command.
+    /// command; with `json` the answers are JSON objects.
     Explore {
         limit: u32,
         strict: bool,
+        json: bool,
         chip: Option<String>,
         file: Option<String>,
     },
@@ -149,6 +150,7 @@ fn chosen(alloc: Global, matches: &ArgMatches<'_>) -> Result<Settings, CommandLi
             Ok(Settings::Explore {
                 limit,
                 strict: explorer.get_flag("strict"),
+                json: explorer.get_flag("json"),
                 chip: name(alloc, explorer.get_str("chip"))?,
                 file: file(alloc, explorer)?,
             })

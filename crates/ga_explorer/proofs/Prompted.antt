@@ -4,6 +4,7 @@ use Rattle.std.specs.Prelude.{◌⊎◌, Result, Ok}
 use Rattle.std.specs.Result.{IsErr}
 use Rattle.ga_text.specs.declared.output.WriteError.{WriteError}
 use Rattle.ga_text.specs.Lines.{terminated_lines}
+use Rattle.ga_display.specs.Texts.{input_limit_refusal}
 use Rattle.ga_text.specs.Output.{TextHasPrefix, IsTruncated, IsWrittenOrTruncated}
 use Rattle.ga_text.proofs.WriteLemmas.{at_err, truncated_here, truncated_within}
 use Rattle.ga_console.specs.Session.{AnswersLine, ServesCommands, ServesToWriteFailure, IsWrittenOrPrefix, lines_within_bound}
@@ -97,7 +98,7 @@ pub serves_prompted : (room : ℕ) (prompts strict : Bool) (p : PromptedExplorer
     → p.is_prompted ≡ prompts → p.explorer.is_strict ≡ strict → ServesCommands AnswersPrompted EndsPrompted room p read rest text last ending
     → ServesCommands (AnswersWithPrompt prompts strict) (AnswersLast strict) room p.explorer.explorer read rest text last.explorer.explorer ending
 serves_prompted room prompts strict p read rest text last ending is tight h =
-    serves_seen (λ (x : PromptedExplorer). x.explorer.explorer) (λ (x : PromptedExplorer). (x.is_prompted ≡ prompts) × (x.explorer.is_strict ≡ strict))
+    serves_seen input_limit_refusal (λ (x : PromptedExplorer). x.explorer.explorer) (λ (x : PromptedExplorer). (x.is_prompted ≡ prompts) × (x.explorer.is_strict ≡ strict))
     AnswersPrompted EndsPrompted (AnswersWithPrompt prompts strict) (AnswersLast strict)
     (record {
       answer = λ m line answer new k a. subst (λ b. AnswersWithPrompt b strict m.explorer.explorer line answer new.explorer.explorer) k.0

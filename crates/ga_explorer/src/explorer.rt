@@ -60,6 +60,14 @@ impl Explorer {
         &self.notes
     }
 
+    /// The lab, and what is known of the text on which it began.
+    pub fn into_parts(self) -> (Lab, Option<DebugInfo>)
+        ensures { explorer_state result.0 result.1 ≡ self }
+    {
+        let Explorer { lab, notes } = self;
+        (lab, notes)
+    }
+
     /// The lab, for which nothing is explored any more.
     pub fn into_lab(self) -> Lab
         ensures { result ≡ self.lab }

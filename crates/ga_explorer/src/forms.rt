@@ -137,7 +137,7 @@ fn say_cure<W: Write>(line: &[u8], writer: &mut Writer<'_, W>) -> WriteResult
 }
 
 /// What to write in place of a line that is no command.
-fn suggestion(line: &[u8]) -> &'static [u8]
+pub fn suggestion(line: &[u8]) -> &'static [u8]
     ensures { result.now ≡ suggestion line.now }
 {
     let word = match split_at_space(line) {

@@ -18,9 +18,11 @@ mod strict;
 mod which;
 
 pub use beginning::open_lab;
-pub use commands::{ExplorerCommand, Query};
+pub use commands::{ExplorerCommand, Query, answer_query, parse_command};
 pub use explorer::{Explorer, answer_line};
-pub use forms::QueryUsage;
+pub use forms::{QueryUsage, suggestion};
+pub use named_value::part_of_node_value;
 pub use preload::{append_end_line, lacks_end_line};
 pub use session::explore;
+pub use strict::end_session;
 pub use which::StepSelector;

@@ -19,7 +19,7 @@ pub(crate) fn parse_part_value(word: &[u8]) -> Option<NodeValue>
 }
 
 /// The part of a node that has this value; none for the number of its steps.
-pub(crate) fn part_of_node_value(value: NodeValue) -> Option<NodePart>
+pub fn part_of_node_value(value: NodeValue) -> Option<NodePart>
     ensures value { result ≡ part_of_node_value value }
     ensures part { IfSome result IsNodePart }
 {

@@ -204,7 +204,7 @@ fn is_refusal(answer: &[u8]) -> bool
 }
 
 /// The status of a session that ended so. Where it ended at a refused command, `errors` gets the number of the line, and the refusal.
-pub(crate) fn end_session<E: Write>(
+pub fn end_session<E: Write>(
     errors: &mut E,
     ending: Result<CommandsEnd, WriteError>,
     is_strict: bool,

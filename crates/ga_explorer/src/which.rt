@@ -29,7 +29,7 @@ impl StepSelector {
     }
 
     /// The number of the step: of the last of a node that made none, 0, which no step has.
-    pub(crate) fn resolve(self, lab: &Lab, node: NodeId) -> u32
+    pub fn resolve(self, lab: &Lab, node: NodeId) -> u32
         ensures { result ≡ selected_step lab.now node self }
     {
         match self {

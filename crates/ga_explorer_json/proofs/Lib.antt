@@ -8,3 +8,7 @@ pub mod Whence
 pub mod Who
 pub mod Writes
 pub mod Writing
+pub mod Commas
+pub mod Answering
+pub mod Turns
+pub mod Steps

@@ -13,3 +13,8 @@ pub mod Whence
 pub mod Who
 pub mod Words
 pub mod Writes
+pub mod Texts
+pub mod Steps
+pub mod Answers
+pub mod Session
+pub mod inner

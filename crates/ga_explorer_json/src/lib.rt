@@ -2,18 +2,24 @@
 #![tactic(auto)]
 
 mod activity;
+mod answers;
 mod at_json;
 mod because_json;
 mod changes_json;
 mod effects_json;
 mod event;
 mod node_json;
+mod noted_refusal;
 mod part;
 mod races_json;
 mod readings_json;
 mod refusal;
+mod responder;
 mod row;
 mod run_json;
+mod session;
+mod steps_json;
+mod text_json;
 mod whence_json;
 mod who_json;
 mod words_json;
@@ -29,6 +35,8 @@ pub use node_json::write_node_json;
 pub use races_json::write_races_json;
 pub use readings_json::{write_counts_json, write_memory_json};
 pub use run_json::write_run_json;
+pub use session::explore_json;
+pub use steps_json::{write_dump_json, write_trace_json, write_why_json};
 pub use whence_json::write_whence_json;
 pub use who_json::write_who_json;
 pub use words_json::write_words_json;

@@ -202,6 +202,7 @@ fn explore_line<'a>(alloc: Global) -> Result<Command<'a>, AllocError> {
         .after_help(EXPLORING)
         .arg(file_argument(alloc, "An image or source"))?
         .arg(flag(alloc, "strict", STRICT))?
+        .arg(flag(alloc, "json", OBJECTS))?
         .arg(chip_option(alloc))?
         .arg(explored_option(alloc))
 }

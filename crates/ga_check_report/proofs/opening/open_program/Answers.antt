@@ -1,7 +1,7 @@
 use Rattle.std.proofs.Common.{sym, subst}
 use Rattle.ga_check_report.specs.declared.request.ReportFormat.{ReportFormat}
-use Rattle.ga_check_report.specs.inner.{IsProgramOpened}
-use Rattle.ga_check_report.proofs.OpenedLemmas.{opened_as_text}
+use Rattle.ga_check_report.specs.Opened.{IsUnopenedAnswer}
+use Rattle.ga_check_report.proofs.OpenedLemmas.{opened_as_text, opened_as_objects}
 use Rattle.ga_check_report.proofs.opening.open_program.Goals as goal
 
 pub returns-in-Text : goal.returns-in-Text
@@ -15,6 +15,8 @@ pub returns-in-Json : goal.returns-in-Json
 returns-in-Json g c = record {
   begun = λ left before known held.
       let it = c.open_for_objects.ensures.begun left before known held in
-      let P : ReportFormat → Type 0 = λ f. IsProgramOpened f c.args.limit left c.open_for_objects.new.input it.0 it.1 c.open_for_objects.result in
-      (it.0, it.1, it.2, it.3, subst P (sym c.in-Json.is) it.4);
+      let input = c.open_for_objects.new.input in
+      let result = c.open_for_objects.result in
+      (it.0, it.1, it.2, it.3, opened_as_objects c.args.format c.in-Json.file.now c.args.limit left input it.0 it.1 result
+      (λ read status h. subst (λ (f : ReportFormat). IsUnopenedAnswer f read it.0 it.1 status) (sym c.in-Json.is) h) it.4);
 }

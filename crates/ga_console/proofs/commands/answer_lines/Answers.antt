@@ -2,8 +2,7 @@ use Rattle.std.proofs.Common.{ℕ, ◌+◌, ◌-◌, ◌++◌, [], List, take, d
 use Rattle.std.specs.Prelude.{Result, Ok}
 use Rattle.std.specs.Result.{IsErr}
 use Rattle.ga_console.specs.inner.Run.{IsAhead, IsLineAhead}
-use Rattle.ga_console.specs.Session.{AnswerRelation, ServesCommands, ServesToWriteFailure}
-use Rattle.ga_display.specs.Texts.{input_limit_refusal}
+use Rattle.ga_console.specs.Session.{AnswerRelation, ServesCommandsBy, ServesToWriteFailureBy}
 use Rattle.ga_text.specs.declared.output.WriteError.{WriteError}
 use Rattle.ga_console.specs.declared.commands.CommandsEnd.{CommandsEnd}
 use Rattle.ga_console.specs.declared.commands.CommandsEnd.TheVariants.{Past}
@@ -14,9 +13,9 @@ use Rattle.ga_console.proofs.Heard.{heard_none, heard_push, heard_cut, heard_fai
 use Rattle.ga_console.proofs.commands.answer_lines.Goals as goal
 
 -- a write failed
-serves_cut : {M : Type 0} (A R : AnswerRelation M) (room : ℕ) (m : M) (read rest text : List ℕ) (last : M) (result : Result CommandsEnd WriteError) → IsErr result
-    → ServesToWriteFailure A R room m read rest text last → ServesCommands A R room m read rest text last result
-serves_cut A R room m read rest text last result is h = at_err (λ (r : Result CommandsEnd WriteError). ServesCommands A R room m read rest text last r) result is (λ why. h)
+serves_cut : {M : Type 0} (past : List ℕ) (A R : AnswerRelation M) (room : ℕ) (m : M) (read rest text : List ℕ) (last : M) (result : Result CommandsEnd WriteError) → IsErr result
+    → ServesToWriteFailureBy past A R room m read rest text last → ServesCommandsBy past A R room m read rest text last result
+serves_cut past A R room m read rest text last result is h = at_err (λ (r : Result CommandsEnd WriteError). ServesCommandsBy past A R room m read rest text last r) result is (λ why. h)
 
 pub lines-init : goal.lines-init
 lines-init g c = record {
@@ -39,8 +38,8 @@ returns-in_err-read_line-clause-serves g c = λ left before said known held.
       inv.1,
       split_at heard part got.0 got.2.is_line.splits,
       got.1,
-      serves_cut _ _ _ _ _ _ _ _ c.from_residual-in_err-read_line.result c.from_residual-in_err-read_line.ensures.0
-          (heard_cut heard g.S.Responder.refuses part got.0 (omega (arith, got.2.counts, got.2.none_left, c.in_err-read_line.ensures.within))),
+      serves_cut c.args.limit_refusal.now _ _ _ _ _ _ _ _ c.from_residual-in_err-read_line.result c.from_residual-in_err-read_line.ensures.0
+          (heard_cut heard c.args.limit_refusal.now g.S.Responder.refuses part got.0 (omega (arith, got.2.counts, got.2.none_left, c.in_err-read_line.ensures.within))),
       truncated_here c.from_residual-in_err-read_line.result _ before (said ++ inv.1) _ c.from_residual-in_err-read_line.ensures.0 told,
     )
 
@@ -57,8 +56,8 @@ returns-in_err-turn-in-Feed-clause-serves g c = λ left before said known held.
       inv.1 ++ turn.0,
       split_past heard part c.read_line.new.input.bytes got.0 got.2.is_line.splits,
       got.1,
-      serves_cut _ _ _ _ _ _ _ _ c.from_residual-in_err-turn-in-Feed.result c.from_residual-in_err-turn-in-Feed.ensures.0
-          (heard_broken heard g.S.Responder.refuses part c.read_line.new.input.bytes got.0 turn.0 c.read_line.new.input.taken c.answer-in-Feed.new.self
+      serves_cut c.args.limit_refusal.now _ _ _ _ _ _ _ _ c.from_residual-in_err-turn-in-Feed.result c.from_residual-in_err-turn-in-Feed.ensures.0
+          (heard_broken heard c.args.limit_refusal.now g.S.Responder.refuses part c.read_line.new.input.bytes got.0 turn.0 c.read_line.new.input.taken c.answer-in-Feed.new.self
           got.2.is_line.no_feed got.2.counts c.in_ok-read_line.ensures.within
           (turn_fails g.S.Responder.answers g.S.Responder.refuses c.lines.session c.answer-in-Feed.new.self turn.0 c.as_slice.result.now part (c.as_slice.ensures.value ∙ got.2.is_line.kept) turn.1)),
       truncated_here c.from_residual-in_err-turn-in-Feed.result _ before (said ++ (inv.1 ++ turn.0)) _ c.from_residual-in_err-turn-in-Feed.ensures.0
@@ -78,7 +77,7 @@ returns-in-Some-end_at-2-clause-serves g c = λ left before said known held.
       inv.1 ++ turn.0,
       split_past heard part c.read_line.new.input.bytes got.0 got.2.is_line.splits,
       got.1,
-      heard_ends heard g.S.Responder.refuses part c.read_line.new.input.bytes got.0 turn.0 c.read_line.new.input.taken (c.lines.number + 1) c.answer-in-Feed.new.self c.in-Some-end_at-2.ending
+      heard_ends heard c.args.limit_refusal.now g.S.Responder.refuses part c.read_line.new.input.bytes got.0 turn.0 c.read_line.new.input.taken (c.lines.number + 1) c.answer-in-Feed.new.self c.in-Some-end_at-2.ending
           got.2.is_line.no_feed got.2.counts c.in_ok-read_line.ensures.within refl
           (turn_ends g.S.Responder.answers g.S.Responder.refuses c.lines.session c.answer-in-Feed.new.self turn.0 c.in_ok-turn-in-Feed.turn c.as_slice.result.now part (c.lines.number + 1) c.in-Some-end_at-2.ending (sym c.in-Some-end_at-2.ensures)
           (c.as_slice.ensures.value ∙ got.2.is_line.kept) turn.1),
@@ -138,8 +137,8 @@ returns-in_err-turn-in-Last-clause-serves g c = λ left before said known held.
       inv.1 ++ turn.0,
       split_at heard part got.0 (got.2.0.is_line.splits ∙ ap (λ (l : List ℕ). part ++ l) (sym got.2.1)),
       got.1,
-      serves_cut _ _ _ _ _ _ _ _ c.from_residual-in_err-turn-in-Last.result c.from_residual-in_err-turn-in-Last.ensures.0
-          (heard_last_broken heard g.S.Responder.refuses part got.0 turn.0 c.answer-in-Last.new.self got.2.0.is_line.no_feed some got.2.1
+      serves_cut c.args.limit_refusal.now _ _ _ _ _ _ _ _ c.from_residual-in_err-turn-in-Last.result c.from_residual-in_err-turn-in-Last.ensures.0
+          (heard_last_broken heard c.args.limit_refusal.now g.S.Responder.refuses part got.0 turn.0 c.answer-in-Last.new.self got.2.0.is_line.no_feed some got.2.1
           (omega (arith, got.2.0.counts, got.2.0.none_left, c.in_ok-read_line.ensures.within))
           (turn_fails g.S.Responder.answers g.S.Responder.refuses c.lines.session c.answer-in-Last.new.self turn.0 c.as_slice-in-Last.result.now part (c.as_slice-in-Last.ensures.value ∙ got.2.0.is_line.kept) turn.1)),
       truncated_here c.from_residual-in_err-turn-in-Last.result _ before (said ++ (inv.1 ++ turn.0)) _ c.from_residual-in_err-turn-in-Last.ensures.0
@@ -160,7 +159,7 @@ returns-in-Some-end_at-3-clause-serves g c = λ left before said known held.
       inv.1 ++ turn.0,
       split_at heard part got.0 (got.2.0.is_line.splits ∙ ap (λ (l : List ℕ). part ++ l) (sym got.2.1)),
       got.1,
-      heard_last_ends heard g.S.Responder.refuses part got.0 turn.0 (c.lines.number + 1) c.answer-in-Last.new.self c.in-Some-end_at-3.ending got.2.0.is_line.no_feed some got.2.1
+      heard_last_ends heard c.args.limit_refusal.now g.S.Responder.refuses part got.0 turn.0 (c.lines.number + 1) c.answer-in-Last.new.self c.in-Some-end_at-3.ending got.2.0.is_line.no_feed some got.2.1
           (omega (arith, got.2.0.counts, got.2.0.none_left, c.in_ok-read_line.ensures.within)) refl
           (turn_ends g.S.Responder.answers g.S.Responder.refuses c.lines.session c.answer-in-Last.new.self turn.0 c.in_ok-turn-in-Last.turn c.as_slice-in-Last.result.now part (c.lines.number + 1) c.in-Some-end_at-3.ending (sym c.in-Some-end_at-3.ensures)
           (c.as_slice-in-Last.ensures.value ∙ got.2.0.is_line.kept) turn.1),
@@ -186,8 +185,8 @@ returns-in-None-end_at-3-clause-serves g c = λ left before said known held.
       said_assoc _ before said inv.1 turn.0 _ turn.2,
     )
 
-pub returns-in_err-write_text-in-Past-clause-serves : goal.returns-in_err-write_text-in-Past-clause-serves
-returns-in_err-write_text-in-Past-clause-serves g c = λ left before said known held.
+pub returns-in_err-write_blocks-in-Past-clause-serves : goal.returns-in_err-write_blocks-in-Past-clause-serves
+returns-in_err-write_blocks-in-Past-clause-serves g c = λ left before said known held.
     let inv = c.lines.invariant.heard left before said known held in
     let got = rw c.in-Past.is at (c.in_ok-read_line.ensures.reads inv.0 inv.2) in
     let told = c.in_ok-read_line.ensures.said.1 before (said ++ inv.1) inv.3 in
@@ -195,14 +194,14 @@ returns-in_err-write_text-in-Past-clause-serves g c = λ left before said known 
     let heard = inv.4 in (
       read_over heard part got.2.byte,
       got.0,
-      inv.1 ++ input_limit_refusal,
+      inv.1 ++ c.args.limit_refusal.now,
       split_over heard part got.2.byte got.0 got.2.takes.is_line.splits,
       got.1,
-      serves_cut _ _ _ _ _ _ _ _ c.from_residual-in_err-write_text-in-Past.result c.from_residual-in_err-write_text-in-Past.ensures.0
-          (cut_short _ g.S.Responder.refuses (16777216 - c.args.input.now.taken) c.args.session.now (read_over heard part got.2.byte) got.0 (inv.1 ++ input_limit_refusal) _ (Ok (Past (c.lines.number + 1)))
-          (heard_past heard part got.2.byte got.0 c.read_line.new.input.taken (c.lines.number + 1) got.2.takes.is_line.no_feed got.2.takes.counts got.2.full refl)),
-      truncated_here c.from_residual-in_err-write_text-in-Past.result _ before (said ++ (inv.1 ++ input_limit_refusal)) _ c.from_residual-in_err-write_text-in-Past.ensures.0
-          (cut_assoc _ before said inv.1 input_limit_refusal (c.in_err-write_text-in-Past.ensures.1 before (said ++ inv.1) told)),
+      serves_cut c.args.limit_refusal.now _ _ _ _ _ _ _ _ c.from_residual-in_err-write_blocks-in-Past.result c.from_residual-in_err-write_blocks-in-Past.ensures.0
+          (cut_short c.args.limit_refusal.now _ g.S.Responder.refuses (16777216 - c.args.input.now.taken) c.args.session.now (read_over heard part got.2.byte) got.0 (inv.1 ++ c.args.limit_refusal.now) _ (Ok (Past (c.lines.number + 1)))
+          (heard_past heard c.args.limit_refusal.now part got.2.byte got.0 c.read_line.new.input.taken (c.lines.number + 1) got.2.takes.is_line.no_feed got.2.takes.counts got.2.full refl)),
+      truncated_here c.from_residual-in_err-write_blocks-in-Past.result _ before (said ++ (inv.1 ++ c.args.limit_refusal.now)) _ c.from_residual-in_err-write_blocks-in-Past.ensures.0
+          (cut_assoc _ before said inv.1 c.args.limit_refusal.now (c.in_err-write_blocks-in-Past.ensures.1 before (said ++ inv.1) told)),
     )
 
 pub returns-in-Past-clause-serves : goal.returns-in-Past-clause-serves
@@ -214,11 +213,11 @@ returns-in-Past-clause-serves g c = λ left before said known held.
     let heard = inv.4 in (
       read_over heard part got.2.byte,
       got.0,
-      inv.1 ++ input_limit_refusal,
+      inv.1 ++ c.args.limit_refusal.now,
       split_over heard part got.2.byte got.0 got.2.takes.is_line.splits,
       got.1,
-      heard_past heard part got.2.byte got.0 c.read_line.new.input.taken (c.lines.number + 1) got.2.takes.is_line.no_feed got.2.takes.counts got.2.full refl,
-      said_assoc _ before said inv.1 input_limit_refusal _ (c.in_ok-write_text-in-Past.ensures.1 before (said ++ inv.1) told),
+      heard_past heard c.args.limit_refusal.now part got.2.byte got.0 c.read_line.new.input.taken (c.lines.number + 1) got.2.takes.is_line.no_feed got.2.takes.counts got.2.full refl,
+      said_assoc _ before said inv.1 c.args.limit_refusal.now _ (c.in_ok-write_blocks-in-Past.ensures.1 before (said ++ inv.1) told),
     )
 
 pub returns-in-ReadFailed-clause-serves : goal.returns-in-ReadFailed-clause-serves
@@ -248,8 +247,8 @@ returns-in_err-turn-in-Spelled-clause-serves g c = λ left before said known hel
       inv.1 ++ done.0,
       split_past heard ahead.line c.skip.new.self.bytes inv.0 (ahead_whole c.lines.input.bytes c.skip.new.self.bytes inv.0 c.in-Spelled.command c.in-Spelled.count ahead c.skip.ensures.bytes),
       inv.2,
-      serves_cut _ _ _ _ _ _ _ _ c.from_residual.result c.from_residual.ensures.0
-          (heard_broken heard g.S.Responder.refuses ahead.line c.skip.new.self.bytes inv.0 done.0 c.skip.new.self.taken c.obey.new.self ahead.no_feed
+      serves_cut c.args.limit_refusal.now _ _ _ _ _ _ _ _ c.from_residual.result c.from_residual.ensures.0
+          (heard_broken heard c.args.limit_refusal.now g.S.Responder.refuses ahead.line c.skip.new.self.bytes inv.0 done.0 c.skip.new.self.taken c.obey.new.self ahead.no_feed
           (omega (arith, c.skip.ensures.taken, ahead.counts)) c.skip.ensures.within
           (obeyed_fails g.S.Responder.answers g.S.Responder.refuses c.lines.session c.obey.new.self done.0 c.in-Spelled.command ahead.line (omega (arith, ahead.counts, ahead.short)) ahead.spelled ahead.not_quit c.in_err-turn-in-Spelled.field-0.0 done.1)),
       truncated_here c.from_residual.result _ before (said ++ (inv.1 ++ done.0)) _ c.from_residual.ensures.0 (cut_assoc _ before said inv.1 done.0 done.2),
@@ -266,7 +265,7 @@ returns-in-Some-clause-serves g c = λ left before said known held.
       inv.1 ++ done.0,
       split_past heard ahead.line c.skip.new.self.bytes inv.0 (ahead_whole c.lines.input.bytes c.skip.new.self.bytes inv.0 c.in-Spelled.command c.in-Spelled.count ahead c.skip.ensures.bytes),
       inv.2,
-      heard_ends heard g.S.Responder.refuses ahead.line c.skip.new.self.bytes inv.0 done.0 c.skip.new.self.taken (c.lines.number + 1) c.obey.new.self c.in-Some.ending ahead.no_feed
+      heard_ends heard c.args.limit_refusal.now g.S.Responder.refuses ahead.line c.skip.new.self.bytes inv.0 done.0 c.skip.new.self.taken (c.lines.number + 1) c.obey.new.self c.in-Some.ending ahead.no_feed
           (omega (arith, c.skip.ensures.taken, ahead.counts)) c.skip.ensures.within refl
           (obeyed_ends g.S.Responder.answers g.S.Responder.refuses c.lines.session c.obey.new.self done.0 c.in-Spelled.command ahead.line (omega (arith, ahead.counts, ahead.short)) ahead.spelled ahead.not_quit c.in_ok-turn-in-Spelled.turn (c.lines.number + 1)
           c.in-Some.ending (sym c.in-Some.ensures) done.1),
@@ -309,8 +308,8 @@ returns-in_err-turn-in-Other-clause-serves g c = λ left before said known held.
       inv.1 ++ turn.0,
       split_past heard part next inv.0 (line_whole bytes inv.0 count ahead),
       inv.2,
-      serves_cut _ _ _ _ _ _ _ _ c.from_residual-in_err-turn-in-Other.result c.from_residual-in_err-turn-in-Other.ensures.0
-          (heard_broken heard g.S.Responder.refuses part next inv.0 turn.0 (c.lines.input.taken + length part + 1) c.answer.new.self ahead.no_feed refl
+      serves_cut c.args.limit_refusal.now _ _ _ _ _ _ _ _ c.from_residual-in_err-turn-in-Other.result c.from_residual-in_err-turn-in-Other.ensures.0
+          (heard_broken heard c.args.limit_refusal.now g.S.Responder.refuses part next inv.0 turn.0 (c.lines.input.taken + length part + 1) c.answer.new.self ahead.no_feed refl
           (line_within bytes count c.lines.input.taken 16777216 ahead c.lines.invariant.within)
           (turn_fails g.S.Responder.answers g.S.Responder.refuses c.lines.session c.answer.new.self turn.0 (take count c.unread-text.result.now) part (ap (take count) c.unread-text.ensures ∙ line_kept bytes count ahead) turn.1)),
       truncated_here c.from_residual-in_err-turn-in-Other.result _ before (said ++ (inv.1 ++ turn.0)) _ c.from_residual-in_err-turn-in-Other.ensures.0
@@ -331,7 +330,7 @@ returns-in-Some-end_at-clause-serves g c = λ left before said known held.
       inv.1 ++ turn.0,
       split_past heard part c.skip-in-Other.new.self.bytes inv.0 (line_taken bytes c.skip-in-Other.new.self.bytes inv.0 count ahead c.skip-in-Other.ensures.bytes),
       inv.2,
-      heard_ends heard g.S.Responder.refuses part c.skip-in-Other.new.self.bytes inv.0 turn.0 c.skip-in-Other.new.self.taken (c.lines.number + 1) c.answer.new.self c.in-Some-end_at.ending ahead.no_feed
+      heard_ends heard c.args.limit_refusal.now g.S.Responder.refuses part c.skip-in-Other.new.self.bytes inv.0 turn.0 c.skip-in-Other.new.self.taken (c.lines.number + 1) c.answer.new.self c.in-Some-end_at.ending ahead.no_feed
           (omega (arith, c.skip-in-Other.ensures.taken, ahead.below, length-take count bytes)) c.skip-in-Other.ensures.within refl
           (turn_ends g.S.Responder.answers g.S.Responder.refuses c.lines.session c.answer.new.self turn.0 c.in_ok-turn-in-Other.turn (take count c.unread-text.result.now) part (c.lines.number + 1) c.in-Some-end_at.ending (sym c.in-Some-end_at.ensures)
           (ap (take count) c.unread-text.ensures ∙ line_kept bytes count ahead) turn.1),

@@ -1,12 +1,12 @@
 use Rattle.std.proofs.Common.{◌≡◌, ℕ, ◌-◌, ◌++◌, List, sym, ap, ◌∙◌}
 use Rattle.std.specs.Prelude.{Result, Ok}
 use Rattle.std.proofs.lemmas.List.{append-nil}
-use Rattle.ga_console.specs.Session.{ServesCommands, IsWrittenOrPrefix}
+use Rattle.ga_console.specs.Session.{ServesCommandsBy, IsWrittenOrPrefix}
 use Rattle.ga_console.specs.declared.commands.CommandsEnd.{CommandsEnd}
 use Rattle.ga_text.specs.declared.output.WriteError.{WriteError}
 use Rattle.ga_console.proofs.Heard.{cut_short}
 use Rattle.ga_text.proofs.WriteLemmas.{at_err}
-use Rattle.ga_console.proofs.commands.serve_commands.Goals as goal
+use Rattle.ga_console.proofs.commands.serve_commands_by.Goals as goal
 
 pub returns-in_err-ending-clause-serves : goal.returns-in_err-ending-clause-serves
 returns-in_err-ending-clause-serves g c = λ left before said known held.
@@ -18,7 +18,7 @@ returns-in_err-ending-clause-serves g c = λ left before said known held.
       done.3,
       done.4,
       done.6.held,
-      at_err (λ (r : Result CommandsEnd WriteError). ServesCommands g.S.Responder.answers g.S.Responder.refuses (16777216 - c.args.input.now.taken) c.args.session.now done.0 done.1 done.2 c.answer_lines.new.session r) c.from_residual.result
+      at_err (λ (r : Result CommandsEnd WriteError). ServesCommandsBy c.args.limit_refusal.now g.S.Responder.answers g.S.Responder.refuses (16777216 - c.args.input.now.taken) c.args.session.now done.0 done.1 done.2 c.answer_lines.new.session r) c.from_residual.result
           c.from_residual.ensures.0 (λ why. done.5),
       at_err (λ (r : Result CommandsEnd WriteError). IsWrittenOrPrefix r (said ++ done.2) done.6.sent) c.from_residual.result c.from_residual.ensures.0 (λ why. done.6.front),
     )
@@ -27,7 +27,7 @@ pub returns-in_err-flush-clause-serves : goal.returns-in_err-flush-clause-serves
 returns-in_err-flush-clause-serves g c = λ left before said known held.
     let done = c.in_ok-ending.ensures.serves left before said known held in
     let told = c.in_err-flush.ensures.said.1 before (said ++ done.2) done.6 in
-    let cut = cut_short _ _ (16777216 - c.args.input.now.taken) c.args.session.now done.0 done.1 done.2 _ (Ok c.in_ok-ending.ending) done.5 in (
+    let cut = cut_short c.args.limit_refusal.now _ _ (16777216 - c.args.input.now.taken) c.args.session.now done.0 done.1 done.2 _ (Ok c.in_ok-ending.ending) done.5 in (
       done.0,
       done.1,
       done.2,
@@ -35,7 +35,7 @@ returns-in_err-flush-clause-serves g c = λ left before said known held.
       done.3,
       done.4,
       told.held,
-      at_err (λ (r : Result CommandsEnd WriteError). ServesCommands g.S.Responder.answers g.S.Responder.refuses (16777216 - c.args.input.now.taken) c.args.session.now done.0 done.1 done.2 c.answer_lines.new.session r) c.from_residual-in_err-flush.result
+      at_err (λ (r : Result CommandsEnd WriteError). ServesCommandsBy c.args.limit_refusal.now g.S.Responder.answers g.S.Responder.refuses (16777216 - c.args.input.now.taken) c.args.session.now done.0 done.1 done.2 c.answer_lines.new.session r) c.from_residual-in_err-flush.result
           c.from_residual-in_err-flush.ensures.0 (λ why. cut),
       at_err (λ (r : Result CommandsEnd WriteError). IsWrittenOrPrefix r (said ++ done.2) told.sent) c.from_residual-in_err-flush.result c.from_residual-in_err-flush.ensures.0 (λ why. told.front),
     )

@@ -1,0 +1,11 @@
+use Rattle.std.proofs.Common.{rules, refl}
+use Rattle.ga_explorer_json.proofs.Turns.{command_turn}
+use Rattle.ga_explorer_json.proofs.responder.JsonExplorerResponder.obey.Goals as goal
+
+pub returns : goal.returns
+returns g c = (
+  search rules,
+  λ before said h.
+      let done = c.respond.ensures.1 before said h in
+      (done.0, command_turn c.args.self.now c.new.self refl _ done.0 c.args.command c.respond.result done.1, done.2),
+)

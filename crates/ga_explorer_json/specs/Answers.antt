@@ -1,0 +1,109 @@
+-- What a session of exploring answers to a line as JSON (docs/JSON.md; this project's own).
+use Rattle.std.specs.Prelude.{◌≡◌, ℕ, ◌<◌, ◌≤◌, List, [], length, codes, Option, Some, None, option_and_then}
+use Rattle.ga_text.specs.Lines.{Text, Line, max_input_line}
+use Rattle.ga_lab.specs.Machine.{State, undo_answer, rewind_answer, state_after_undo, state_after_rewind}
+use Rattle.ga_debug_info.specs.declared.notes.DebugInfo.{DebugInfo}
+use Rattle.ga_scheduler.specs.Conditions.{active_conditions}
+use Rattle.ga_scheduler.specs.Backward.{find_newest_holding, machine_back_at_place, removed_event_count}
+use Rattle.ga_scheduler.specs.Running.{running, run_after_events, HasNextEvents, HasRunEnded}
+use Rattle.ga_scheduler.specs.declared.schedule.Schedule.{Schedule}
+use Rattle.ga_scheduler.specs.declared.condition.Condition.{Condition}
+use Rattle.ga_scheduler.specs.declared.running.RunEnd.{RunEnd}
+use Rattle.ga_console.specs.Commands.{SpellsCommand}
+use Rattle.ga_console.specs.declared.command.Command.{Command}
+use Rattle.ga_console.specs.declared.command.Command.TheVariants.{Step, Back, Rewind, Node, Memory, Trace, Why, Count, Dump, Quit}
+use Rattle.ga_explorer.specs.Reading.{selected_step, part_of_node_value}
+use Rattle.ga_explorer.specs.Commands.{command_of_line}
+use Rattle.ga_explorer.specs.Opening.{ExplorerState}
+use Rattle.ga_explorer.specs.declared.commands.ExplorerCommand.{ExplorerCommand}
+use Rattle.ga_explorer.specs.declared.commands.ExplorerCommand.TheVariants as asked
+use Rattle.ga_explorer.specs.declared.commands.Query.{Query}
+use Rattle.ga_explorer.specs.declared.commands.Query.TheVariants as query
+use Rattle.ga_json.specs.Values.{JsonValue}
+use Rattle.ga_json.specs.Compact.{json_line}
+use Rattle.ga_explorer_json.specs.Rows.{IsJsonLine}
+use Rattle.ga_explorer_json.specs.Changes.{IsStepJson, undo_json, rewind_json, removed_json, run_json}
+use Rattle.ga_explorer_json.specs.NodeState.{node_json}
+use Rattle.ga_explorer_json.specs.Readings.{memory_word_json, counts_json}
+use Rattle.ga_explorer_json.specs.Steps.{IsTraceJson, IsWhyJson, IsDumpJson}
+use Rattle.ga_explorer_json.specs.Effects.{IsEffectsJson}
+use Rattle.ga_explorer_json.specs.Words.{words_json}
+use Rattle.ga_explorer_json.specs.Writes.{writes_json}
+use Rattle.ga_explorer_json.specs.Around.{at_json}
+use Rattle.ga_explorer_json.specs.Whence.{IsWhenceJson}
+use Rattle.ga_explorer_json.specs.Because.{because_json}
+use Rattle.ga_explorer_json.specs.Races.{IsRacesJson}
+use Rattle.ga_explorer_json.specs.Who.{IsWhoJson}
+use Rattle.ga_explorer_json.specs.Texts.{IsQueryText, line_refusal_json, syntax_json}
+use Rattle.ga_explorer_json.specs.declared.answers.LineRequest.{LineRequest}
+use Rattle.ga_explorer_json.specs.declared.answers.LineRequest.TheVariants as request
+
+-- ---- a command of the debugger
+
+abbrev pub AnswersCommandJson : State → Command → Text → State → Type 0
+AnswersCommandJson s (Step node) answer new = IsJsonLine (IsStepJson s node new) answer
+AnswersCommandJson s Back answer new = (answer ≡ json_line (undo_json (undo_answer s) (length new.kept))) × (new ≡ state_after_undo s)
+AnswersCommandJson s (Rewind node k) answer new =
+    (answer ≡ json_line (rewind_json (rewind_answer s node.number k) (length new.kept))) × (new ≡ state_after_rewind s node.number k)
+AnswersCommandJson s (Node node) answer new = (answer ≡ json_line (node_json s node)) × (new ≡ s)
+AnswersCommandJson s (Memory node address) answer new = (answer ≡ json_line (memory_word_json s node address)) × (new ≡ s)
+AnswersCommandJson s (Trace node) answer new = IsJsonLine (IsTraceJson s node) answer × (new ≡ s)
+AnswersCommandJson s (Why from k to j) answer new = IsJsonLine (IsWhyJson s from.number k to.number j) answer × (new ≡ s)
+AnswersCommandJson s Count answer new = (answer ≡ json_line (counts_json s)) × (new ≡ s)
+AnswersCommandJson s Dump answer new = IsJsonLine (IsDumpJson s) answer × (new ≡ s)
+AnswersCommandJson s Quit answer new = (answer ≡ []) × (new ≡ s)
+
+-- ---- a command of exploring
+
+-- a query; of one without rows the text
+abbrev pub AnswersQueryJson : ExplorerState → Query → JsonValue → Type 0
+AnswersQueryJson e (query.Effects node which) answer = IsEffectsJson e.lab node (selected_step e.lab node which) answer
+AnswersQueryJson e (query.Words from to) answer = answer ≡ words_json e.lab from to
+AnswersQueryJson e (query.Writes node address) answer = answer ≡ writes_json e.lab node address
+AnswersQueryJson e (query.At node which around) answer = answer ≡ at_json e.lab node (selected_step e.lab node which) around
+AnswersQueryJson e (query.Whence node which value first) answer =
+    IsWhenceJson e.lab node (selected_step e.lab node which) (option_and_then part_of_node_value value) first answer
+AnswersQueryJson e (query.Because node which most) answer = answer ≡ because_json e.lab node (selected_step e.lab node which) most
+AnswersQueryJson e (query.Races only) answer = IsRacesJson e.lab only answer
+AnswersQueryJson e query.Who answer = IsWhoJson e.lab answer
+AnswersQueryJson e query.Chip answer = IsQueryText (codes "chip") e query.Chip answer
+AnswersQueryJson e query.Save answer = IsQueryText (codes "save") e query.Save answer
+AnswersQueryJson e query.Help answer = IsQueryText (codes "help") e query.Help answer
+AnswersQueryJson e (query.HelpOf place) answer = IsQueryText (codes "help") e (query.HelpOf place) answer
+
+-- Events were made as a run makes them: the answer has how many and why the run ended, and the machine is the one after them.
+pub record IsRunJson (s : State) (schedule : Schedule) (most : ℕ) (until : List Condition) (answer : Text) (new : State) : Type 0 where
+  pub events : ℕ
+  pub end : RunEnd
+  pub made : HasNextEvents (running s schedule) events
+  pub within : events ≤ most
+  pub ended : HasRunEnded (running s schedule) most until events end
+  pub state : new ≡ (run_after_events (running s schedule) events).state
+  pub line : answer ≡ json_line (run_json events end)
+
+abbrev pub AnswersExplorerJson : ExplorerState → ExplorerCommand → Text → ExplorerState → Type 0
+AnswersExplorerJson e (asked.Run schedule most until) answer new = IsRunJson e.lab schedule most (active_conditions until) answer new.lab × (new.notes ≡ e.notes)
+AnswersExplorerJson e (asked.BackUntil only until) answer new =
+    (answer ≡ json_line (removed_json (codes "back") (removed_event_count only e.lab (find_newest_holding (active_conditions until) only e.lab)) (length new.lab.kept)))
+    × (new.lab ≡ machine_back_at_place only e.lab (find_newest_holding (active_conditions until) only e.lab)) × (new.notes ≡ e.notes)
+AnswersExplorerJson e (asked.AnswerQuery question) answer new = IsJsonLine (AnswersQueryJson e question) answer × (new ≡ e)
+
+-- ---- a line
+
+-- what the line asks for
+abbrev pub IsRequest : Option DebugInfo → Line → LineRequest → Type 0
+IsRequest notes line (request.Explore asked) = (length line ≤ max_input_line) × (command_of_line notes line ≡ Some asked)
+IsRequest notes line (request.Debug command) = (length line ≤ max_input_line) × SpellsCommand command line
+IsRequest notes line request.Long = max_input_line < length line
+IsRequest notes line request.Unknown =
+    (length line ≤ max_input_line) × (command_of_line notes line ≡ None) × ((command : Command) → ¬ SpellsCommand command line)
+
+abbrev pub AnswersRequest : ExplorerState → Line → LineRequest → Text → ExplorerState → Type 0
+AnswersRequest e line (request.Explore asked) answer new = AnswersExplorerJson e asked answer new
+AnswersRequest e line (request.Debug command) answer new = AnswersCommandJson e.lab command answer new.lab × (new.notes ≡ e.notes)
+AnswersRequest e line request.Long answer new = (answer ≡ json_line (line_refusal_json 32 (codes "long"))) × (new ≡ e)
+AnswersRequest e line request.Unknown answer new = (answer ≡ json_line (syntax_json line)) × (new ≡ e)
+
+-- the line is answered by what it asks for
+abbrev pub AnswersJsonLine : ExplorerState → Line → Text → ExplorerState → Type 0
+AnswersJsonLine e line answer new = (request : LineRequest) × IsRequest e.notes line request × AnswersRequest e line request answer new

@@ -1,0 +1,66 @@
+-- What a whole session of exploring may write as JSON, and how it may end (docs/JSON.md; this project's own).
+use Rattle.std.specs.Prelude.{◌≡◌, ◌&&◌, ◌==◌, ℕ, ◌-◌, if◌then◌else◌, [], ◌∷◌, ◌++◌, length, codes, nat_eq, Bool, true, false, Option, Result, Ok, Err}
+use Rattle.std.specs.List.{starts_with}
+use Rattle.ga_text.specs.Lines.{Bytes, Text}
+use Rattle.ga_text.specs.Input.{input_limit}
+use Rattle.ga_text.specs.declared.output.WriteError.{WriteError}
+use Rattle.ga_json.specs.Values.{JsonValue, string}
+use Rattle.ga_json.specs.Fields.{json_object}
+use Rattle.ga_json.specs.Compact.{json_line}
+use Rattle.ga_console.specs.Session.{AnswerRelation, ServesCommandsBy, IsWrittenOrPrefix}
+use Rattle.ga_console.specs.declared.commands.CommandsEnd.{CommandsEnd}
+use Rattle.ga_console.specs.declared.run.Status.{Status}
+use Rattle.ga_check_report.specs.Opened.{HasRefusalObjects}
+use Rattle.ga_explorer.specs.Opening.{ExplorerState, OpensLeadingText, IsLeadingText}
+use Rattle.ga_explorer.specs.Session.{session_status}
+use Rattle.ga_explorer_json.specs.Answers.{AnswersJsonLine}
+use Rattle.ga_explorer_json.specs.Texts.{line_refusal_json}
+
+-- what begins a session
+abbrev pub ready_json : JsonValue
+ready_json = json_object ((codes "answer", string (codes "ready")) ∷ [])
+
+-- what is written of an input past its bound
+abbrev pub limit_refusal_line : Text
+limit_refusal_line = json_line (line_refusal_json 33 (codes "input"))
+
+-- ---- a session that ends at its first refused command, if it is strict
+
+-- the text after the first comma
+abbrev pub after_comma : Text → Text
+after_comma [] = []
+after_comma (b ∷ text) = if b == 44 then text else after_comma text
+
+-- the answer is a refusal: its second field is `refused`
+abbrev pub is_json_refusal : Text → Bool
+is_json_refusal answer = starts_with nat_eq (after_comma answer) (codes "\"refused\":")
+
+-- the line is answered, and the session goes on
+abbrev pub JsonOn : Bool → AnswerRelation ExplorerState
+JsonOn strict e line answer new = AnswersJsonLine e line answer new × ((strict && is_json_refusal answer) ≡ false)
+
+-- the line is refused, and so the session ends
+abbrev pub JsonLast : Bool → AnswerRelation ExplorerState
+JsonLast strict e line answer new = AnswersJsonLine e line answer new × ((strict && is_json_refusal answer) ≡ true)
+
+-- ---- the session
+
+-- The text, an image or source, was accepted, and so was the image that gives its chip, if there is one; and the commands after
+-- it were served to this ending.
+pub record IsServedJsonSession (strict : Bool) (chip : Option Text) (limit : ℕ) (read rest : Bytes) (written : Text) (ending : Result CommandsEnd WriteError) : Type 0 where
+  pub text : Text
+  pub commands : Bytes
+  pub begun : ExplorerState
+  pub said : Text
+  pub splits : read ≡ text ++ commands
+  pub front : IsLeadingText text (commands ++ rest)
+  pub opens : OpensLeadingText chip text limit begun
+  pub last : ExplorerState
+  pub serves : ServesCommandsBy limit_refusal_line (JsonOn strict) (JsonLast strict) (input_limit - length text) begun commands rest said last ending
+  pub out : IsWrittenOrPrefix ending (json_line ready_json ++ said) written
+
+-- What a session may have written, where read was read of its input and rest is left of it, and its status.
+pub data RunsJsonExplorer (strict : Bool) (file : Text) (chip : Option Text) (limit : ℕ) (read rest : Bytes) (written : Text) (status : Status) : Type 0 where
+  served : (ending : Result CommandsEnd WriteError) → status ≡ session_status strict ending → IsServedJsonSession strict chip limit read rest written ending
+      → RunsJsonExplorer strict file chip limit read rest written status
+  unbegun : HasRefusalObjects chip file read rest written status → RunsJsonExplorer strict file chip limit read rest written status

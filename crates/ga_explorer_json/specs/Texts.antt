@@ -1,0 +1,27 @@
+-- Answers that are texts, and refused lines that spell no command, as JSON values (docs/JSON.md; this project's own).
+use Rattle.std.specs.Prelude.{◌≡◌, ℕ, pos, [], ◌∷◌, codes}
+use Rattle.ga_text.specs.Lines.{Text, Line}
+use Rattle.ga_json.specs.Values.{JsonValue, null, number, string}
+use Rattle.ga_json.specs.Fields.{json_object}
+use Rattle.ga_check_report.specs.JsonValues.{text_json}
+use Rattle.ga_explorer.specs.NoCommand.{suggestion}
+use Rattle.ga_explorer.specs.Commands.{AnswersQuery}
+use Rattle.ga_explorer.specs.Opening.{ExplorerState}
+use Rattle.ga_explorer.specs.declared.commands.Query.{Query}
+
+-- the command, and the text of its answer
+abbrev pub text_answer_json : Text → Text → JsonValue
+text_answer_json command text = json_object ((codes "command", string command) ∷ (codes "text", text_json text) ∷ [])
+
+-- the text is that of the query's answer
+abbrev pub IsQueryText : Text → ExplorerState → Query → JsonValue → Type 0
+IsQueryText command e asked answer = (text : Text) × AnswersQuery e asked text × (answer ≡ text_answer_json command text)
+
+-- no command, and the number and the word of the refusal
+abbrev pub line_refusal_json : ℕ → Text → JsonValue
+line_refusal_json code why = json_object ((codes "command", null) ∷ (codes "refused", number (pos code)) ∷ (codes "why", string why) ∷ [])
+
+-- no command, and what to write in place of the line
+abbrev pub syntax_json : Line → JsonValue
+syntax_json line =
+    json_object ((codes "command", null) ∷ (codes "refused", number (pos 31)) ∷ (codes "why", string (codes "syntax")) ∷ (codes "hint", string (suggestion line)) ∷ [])

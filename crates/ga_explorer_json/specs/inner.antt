@@ -1,0 +1,39 @@
+-- What only private contracts and proofs name.
+use Rattle.std.specs.Prelude.{◌≡◌, ◌&&◌, if◌then◌else◌, Bool, true, false, Option, Result, Ok, Err}
+use Rattle.ga_text.specs.Lines.{Bytes, Text, Line}
+use Rattle.ga_text.specs.Output.{WritesSome}
+use Rattle.ga_text.specs.declared.output.Writer.{Writer}
+use Rattle.ga_text.specs.declared.output.WriteError.{WriteError}
+use Rattle.ga_console.specs.declared.responder.LineAction.{LineAction}
+use Rattle.ga_console.specs.declared.responder.LineAction.TheVariants as turn
+use Rattle.ga_explorer.specs.Opening.{ExplorerState}
+use Rattle.ga_explorer.specs.declared.commands.Query.{Query}
+use Rattle.ga_explorer_json.specs.Rows.{IsJsonLine}
+use Rattle.ga_explorer_json.specs.Answers.{AnswersQueryJson, AnswersRequest}
+use Rattle.ga_explorer_json.specs.Session.{is_json_refusal, JsonOn, JsonLast}
+use Rattle.ga_explorer_json.specs.declared.answers.LineRequest.{LineRequest}
+
+-- what is written is the answer of the query
+pub record IsToldJson {T W : Type 0} (result : Result T WriteError) (e : ExplorerState) (asked : Query) (contents : W → Option Bytes) (old new : Writer W) : Type 0 where
+  pub meant : Query
+  pub is : asked ≡ meant
+  pub said : WritesSome result (IsJsonLine (AnswersQueryJson e meant)) contents old new
+
+-- what a session does after an answer
+abbrev pub turn_after : Bool → Text → LineAction
+turn_after strict answer = if strict && is_json_refusal answer then turn.Refused else turn.Answered
+
+-- what a line asks for is answered, as far as the answer can be written, and the session goes on or ends
+abbrev pub Responds : Bool → ExplorerState → Line → LineRequest → ExplorerState → Result LineAction WriteError → Text → Type 0
+Responds strict e line request new (Ok turn.Answered) answer = AnswersRequest e line request answer new × ((strict && is_json_refusal answer) ≡ false)
+Responds strict e line request new (Ok turn.Refused) answer = AnswersRequest e line request answer new × ((strict && is_json_refusal answer) ≡ true)
+Responds strict e line request new (Ok turn.Quit) answer = ⊥
+Responds strict e line request new (Err failed) answer = AnswersRequest e line request answer new
+
+-- ---- a session that may end at its first refused command, by what its machine has
+
+abbrev pub GoesOnFor : Bool → ExplorerState → Line → Text → Bool → ExplorerState → Type 0
+GoesOnFor strict e line answer strict_on new = JsonOn strict e line answer new × (strict_on ≡ strict)
+
+abbrev pub EndsFor : Bool → ExplorerState → Line → Text → Bool → ExplorerState → Type 0
+EndsFor strict e line answer strict_on new = JsonLast strict e line answer new × (strict_on ≡ strict)

@@ -1,0 +1,108 @@
+//! Answers that are texts, and refused lines that spell no command.
+
+ghost use Rattle.std.specs.Prelude.{◌≡◌, ◌++◌, [], Some};
+ghost use Rattle.ga_text.specs.Output.{WritesSome, WritesExactly};
+ghost use Rattle.ga_json.specs.Compact.{json_line};
+ghost use Rattle.ga_json.specs.Fields.{row_json};
+ghost use Rattle.ga_explorer.specs.inner.{explorer_state};
+ghost use Rattle.ga_explorer_json.specs.Rows.{IsJsonLine};
+ghost use Rattle.ga_explorer_json.specs.Texts.{text_answer_json, IsQueryText, line_refusal_json, syntax_json};
+
+use ga_check_report::text_field;
+use ga_debug_info::DebugInfo;
+use ga_explorer::{Query, answer_query, suggestion};
+use ga_json::{Field, write_object};
+use ga_lab::Lab;
+use ga_text::{WriteResult, Writer};
+use std::alloc::Global;
+use std::io::Write;
+
+/// Writes the text of a query's answer, after the name of the command. Takes memory for a long text.
+///
+/// # Errors
+/// A write failed, or there was no memory for the text.
+pub(crate) fn write_query_text<W: Write>(
+    alloc: Global,
+    lab: &mut Lab,
+    notes: &Option<DebugInfo>,
+    command: &[u8],
+    asked: Query,
+    writer: &mut Writer<'_, W>,
+) -> WriteResult
+    ensures said { WritesSome result (IsJsonLine (IsQueryText command.now (explorer_state lab.old notes.now) asked)) W.contents writer.old writer.new }
+    ensures same { lab.new ≡ lab.old }
+{
+    let mut long = Vec::new(alloc);
+    let mut held = Writer::new(&mut long);
+    answer_query(alloc, lab, notes, asked, &mut held)?;
+    held.flush()?;
+    write_text_answer(command, held.stream.as_slice(), writer)
+}
+
+/// Writes an answer that is a text, after the name of the command.
+///
+/// # Errors
+/// A write failed.
+pub(crate) fn write_text_answer<W: Write>(
+    command: &[u8],
+    text: &[u8],
+    writer: &mut Writer<'_, W>,
+) -> WriteResult
+    ensures { WritesExactly result (json_line (text_answer_json command.now text.now)) W.contents writer.old writer.new }
+{
+    write_object(&text_answer_fields(command, text), writer)
+}
+
+/// The name of a command, and the text of its answer.
+fn text_answer_fields<'a>(command: &'a [u8], text: &'a [u8]) -> [Field<'a>; 2]
+    ensures { row_json result ≡ text_answer_json command.now text.now }
+{
+    [Field::text(b"command", command), text_field(b"text", text)]
+}
+
+/// Writes the number and the word of the refusal of a line that spells no command.
+///
+/// # Errors
+/// A write failed.
+pub(crate) fn write_line_refusal<W: Write>(
+    code: u64,
+    why: &[u8],
+    writer: &mut Writer<'_, W>,
+) -> WriteResult
+    ensures { WritesExactly result (json_line (line_refusal_json code why.now)) W.contents writer.old writer.new }
+{
+    write_object(&line_refusal_fields(code, why), writer)
+}
+
+/// No command, and the number and the word of a refusal.
+fn line_refusal_fields<'a>(code: u64, why: &'a [u8]) -> [Field<'a>; 3]
+    ensures { row_json result ≡ line_refusal_json code why.now }
+{
+    [
+        Field::absent(b"command"),
+        Field::number(b"refused", code),
+        Field::text(b"why", why),
+    ]
+}
+
+/// Writes that a line spells no command, and what to write in its place.
+///
+/// # Errors
+/// A write failed.
+pub(crate) fn write_syntax_json<W: Write>(line: &[u8], writer: &mut Writer<'_, W>) -> WriteResult
+    ensures { WritesExactly result (json_line (syntax_json line.now)) W.contents writer.old writer.new }
+{
+    write_object(&syntax_fields(line), writer)
+}
+
+/// The refusal of a line that spells no command, and what to write in its place.
+fn syntax_fields(line: &[u8]) -> [Field<'static>; 4]
+    ensures { row_json result ≡ syntax_json line.now }
+{
+    [
+        Field::absent(b"command"),
+        Field::number(b"refused", 31),
+        Field::text(b"why", b"syntax"),
+        Field::text(b"hint", suggestion(line)),
+    ]
+}

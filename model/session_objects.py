@@ -1,0 +1,189 @@
+#!/usr/bin/env python3
+"""The text of `ga144 explore`, made from the objects of `explore --json`: a second reading of docs/JSON.md, "Sessions".
+
+A text has what the objects don't: the source of a step at the end of its line, line 0 of `whence`, A after `+*`, and the line of the step that made
+what `because` tests. `comparable` leaves these out of a text. How many conditions a run has is in the line that asks.
+"""
+
+import re
+
+REFUSALS = {
+    "waiting": "", "stopped": "", "full": ": give a greater --limit; or save, dump, and go on from the dump",
+    "memory": ": save, dump, and go on from the dump", "empty": "", "nostep": "", "spent": "", "long": "", "input": "", "nolink": "",
+}
+SIDES = ("right", "down", "left", "up")
+LETTERS = {"right": "r", "down": "d", "left": "l", "up": "u"}
+OPCODES = "; ex jump call unext next if -if @p @+ @b @ !p !+ !b ! +* 2* 2/ ~ + and or drop dup pop over a . push b! a!".split(" ")
+# The parts that `whence` names after a step.
+NAMED = ("a", "b", "p", "io", "carry", "slot", "r", "wait", "stop", "d", "s")
+
+
+def hex6(word):
+    return f"{word:06x}"
+
+
+def event_text(it):
+    """An event as `step` writes it."""
+    if it["what"] == "pass":
+        return f"pass {it['from']} {it['from_step']} {it['to']} {it['to_step']} {hex6(it['word'])}"
+    tail = {"run": lambda: f" {OPCODES.index(it['opcode']):02x}", "stop": lambda: f" {it['stop']}"}.get(it["what"], str)()
+    return f"{it['node']} {it['step']} {it['what']}{tail}"
+
+
+def deed_text(it, node):
+    """What a step of a node did."""
+    if it["what"] == "pass":
+        return f"takes {hex6(it['word'])} from {it['from']} {it['from_step']}" if it["to"] == node else f"sends {hex6(it['word'])} to {it['to']} {it['to_step']}"
+    return {"run": lambda: it["opcode"], "stop": lambda: f"stop {it['stop']}"}.get(it["what"], lambda: it["what"])()
+
+
+def part_text(it, part="part", index="index"):
+    """A register, a word of a stack or a cell, as `whence` names it."""
+    if it[part] in ("ram", "rom"):
+        return f"{it[index]:02x}"
+    return it[part] + ("" if it[index] is None else str(it[index]))
+
+
+class SessionText:
+    """The text of an answer, from its object and the line that asked for it."""
+
+    def __init__(self, line):
+        self.line = line
+
+    def text(self, it):
+        if it == {"answer": "ready"}:
+            return "ready\n"
+        if it.get("answer") == "refused":
+            return (f"ga144: line {it['line']}: " if it["line"] is not None else "") + f"{it['text']}\n"
+        if "refused" in it:
+            hint = f": {it['hint']}" if "hint" in it else REFUSALS[it["why"]]
+            return f"no {it['refused']} {it['why']}{hint}\n"
+        return it["text"] if "text" in it else getattr(self, f"{it['command']}_text")(it)
+
+    def step_text(self, it):
+        return f"{event_text(it)}\n"
+
+    def back_text(self, it):
+        return "none\n" if it["removed"] is None else f"removed {it['removed']} kept {it['kept']}\n"
+
+    rewind_text = back_text
+
+    def run_text(self, it):
+        if it["end"] == "reached":
+            by = f" by {it['condition']}" if " or " in self.line else ""
+            return f"reached {it['events']}{by} {event_text(it)}\n"
+        return f"{it['end']} {it['events']}{REFUSALS.get(it['end'], '')}\n"
+
+    def node_text(self, it):
+        waits = {"fetches": "fetch", "reads": "read", "writes": "write"}
+        sides = "".join(LETTERS[side] if it[f"at_{side}"] else "-" for side in SIDES)
+        sides = sides.replace("-", "") if it["does"] == "writes" else sides
+        state = f"{waits[it['does']]} {sides}" if it["does"] in waits else f"stop {it['stop']}" if it["does"] == "stopped" else "run"
+        words = " ".join(f"{name} {hex6(it[name])}" for name in "pabi")
+        stack, returns = ([hex6(row["value"]) for row in rows] for rows in (it["rows"][:10], it["rows"][10:]))
+        return f"node {it['node']} {state} {words} slot {it['slot']} carry {it['carry']} io {hex6(it['io'])} d {' '.join(stack)} r {' '.join(returns)}\n"
+
+    def mem_text(self, it):
+        return f"mem {it['node']} {it['address']:02x} {hex6(it['word'])}\n"
+
+    def count_text(self, it):
+        return f"kept {it['kept']} made {it['made']} limit {it['limit']}\n"
+
+    def trace_text(self, it):
+        return f"trace {it['node']} {len(it['rows'])}\n" + "".join(f"{event_text(row)}\n" for row in it["rows"])
+
+    def why_text(self, it):
+        return f"chain {len(it['rows'])}\n" + "".join(f"{event_text(row)}\n" for row in it["rows"]) if it["leads"] else "independent\n"
+
+    def words_text(self, it):
+        rows = (f"{row['number']} {it['from']} {row['from_step']} {it['to']} {row['to_step']} {hex6(row['word'])}\n" for row in it["rows"])
+        assert it["count"] == len(it["rows"])
+        return f"words {it['from']} {it['to']} {it['count']}\n" + "".join(rows)
+
+    def writes_text(self, it):
+        return "".join(f"{it['node']} {row['step']} {row['opcode']} {hex6(row['value'])}\n" for row in it["rows"])
+
+    def effects_text(self, it):
+        assert it["nodes"] == len(it["rows"])
+        return f"effects {it['events']} {it['nodes']}\n" + "".join(f"{row['node']} {row['first_step']} {row['steps']}\n" for row in it["rows"])
+
+    def at_text(self, it):
+        rows = ((row, "".join(f" {name} {hex6(row[name])}" for name in "tsrabp")) for row in it["rows"])
+        return "".join(f"{it['node']} {row['step']} {deed_text(row, it['node'])}{registers}\n" for row, registers in rows)
+
+    def whence_text(self, it):
+        is_own = bool(it["rows"]) and (it["rows"][0]["node"], it["rows"][0]["step"]) == (it["node"], it["step"])
+        users = ("" if row["user"] == 0 and is_own else f">{row['user']}" for row in it["rows"])
+        lines = "".join(f"{row['number']}{user} {self.value_line(row)}\n" for row, user in zip(it["rows"], users))
+        none = "none\n" if not it["rows"] and it["part"] is not None else ""
+        return lines + none + ("" if it["more_from"] is None else f"more from {it['more_from']}\n")
+
+    @staticmethod
+    def value_line(row):
+        if row["what"] == "load":
+            return f"{row['node']} load {part_text(row)} {hex6(row['value'])}"
+        count = f" x{row['count']}" if row["count"] > 1 else ""
+        named = f" {part_text(row)}" if row["part"] in NAMED else ""
+        word = "" if row["what"] == "pass" and row["part"] in ("t", "i") else f" {hex6(row['value'])}"
+        return f"{row['node']} {row['step']} {deed_text(row, row['node'])}{named}{word}{count}"
+
+    def because_text(self, it):
+        tested = ("" if row["what"] == "pass" else f" {part_text(row)} {hex6(row['value'])}" for row in it["rows"])
+        rows = (f"{it['node']} {row['step']} {deed_text(row, it['node'])}{word}\n" for row, word in zip(it["rows"], tested))
+        return "".join(rows) or ("" if self.line.endswith(" 0") else "none\n")
+
+    def races_text(self, it):
+        assert it["count"] == len(it["rows"])
+        lines = "".join(f"{self.race_line(row)}: rewind {row['rewind_node']} {row['rewind_step']}, step {row['then_node']}\n" for row in it["rows"])
+        last = ""
+        if it["looks"]:
+            last = "looks are kept or come next: there may be other races\n"
+        elif it["node"] is None and not it["rows"]:
+            last = "every order ends on this chip\n" if it["quiet"] else "no other order, as long as no node makes more steps\n"
+        return f"races {it['count']}\n{lines}{last}"
+
+    @staticmethod
+    def race_line(row):
+        if row["what"] == "pass":
+            return f"{row['node']} {row['step']} takes {hex6(row['word'])} from {row['from']}, or {hex6(row['other_word'])} from {row['other_from']}"
+        where = "behind" if row["look_first"] else "before"
+        return f"{row['node']} {row['step']} reads {hex6(row['word'])}, or {hex6(row['other_word'])} {where} {row['neighbour']} {row['neighbour_step']}"
+
+    def who_text(self, it):
+        lines = ""
+        for row in it["rows"]:
+            if row["does"] in ("fetches", "reads", "writes"):
+                beside = "".join(f" {LETTERS[side]} {row[side]} {row[f'{side}_does']}" for side in SIDES if row[side] is not None)
+                lines += f"{row['node']} {row['does']}{beside}\n"
+        busy = [row["node"] for row in it["rows"] if row["deadlocked"] and not row["ended"]]
+        still = f" and {it['deadlocked_idle']} idle" if it["deadlocked_idle"] else ""
+        lines += f"stuck {' '.join(busy)}{still}\n" if busy else ""
+        lines += "".join(f"ring {' '.join(ring)}\n" for ring in self.rings(it["rows"]))
+        over = [row["node"] for row in it["rows"] if row["ended"]]
+        lines += f"ended {' '.join(over)}\n" if over else ""
+        return lines + (f"idle {it['idle']}\n" if it["idle"] else "")
+
+    @staticmethod
+    def rings(rows):
+        """The wait cycles of deadlocked nodes, each of which awaits only the next: each from its least node on."""
+        awaited = {row["node"]: [row[side] for side in SIDES if row[side] is not None] for row in rows if row["deadlocked"]}
+        after = {node: others[0] for node, others in awaited.items() if len(others) == 1}
+        for first in awaited:
+            ring = [first]
+            while after.get(ring[-1]) not in (None, *ring):
+                ring.append(after[ring[-1]])
+            if after.get(ring[-1]) == first and min(ring) == first:
+                yield ring
+
+
+def comparable(line, text):
+    """The text of an answer without what its object doesn't have."""
+    command = line.split(" ")[0]
+    if command not in ("at", "effects", "whence", "because", "run") or text.startswith("no "):
+        return text
+    lines = [re.sub(r"(, never set)? \\ .*|, never set$", "", it) for it in text.split("\n")]
+    if command == "whence":
+        lines = [re.sub(r"( \+\* [0-9a-f]{6}) a [0-9a-f]{6}", r"\1", it) for it in lines if not re.match("(0|[0-7](0[0-9]|1[0-7])) ", it)]
+    if command == "because":
+        lines = [it for it in lines if not it.startswith("  ")]
+    return "\n".join(lines)
