@@ -113,12 +113,34 @@ def next_node(machine, order, turn, state):
 
 class Explorer(Machine):
     notes = Notes()
-    # what to do where no further event is kept
+    # what is the case, or what to do, where a command is refused
     FULL = "give a greater --limit; or save, dump, and go on from the dump"
+    ADVICE = {
+        "no 1 waiting": "who shows for whom it waits",
+        "no 2 stopped": "whence NNN last shows why",
+        "no 3 full": FULL,
+        "no 5 empty": "the history has no event",
+    }
+
+    def advised(self, answer):
+        return f"{answer}: {self.ADVICE[answer]}" if answer in self.ADVICE else answer
+
+    def missing_step(self, node):
+        count = self.steps[node]
+        return f"no 6 nostep: {name(node)} has {count} {'step' if count == 1 else 'steps'}"
 
     def step(self, node):
-        told = super().step(node)
-        return f"{told}: {self.FULL}" if told == "no 3 full" else told
+        return self.advised(super().step(node))
+
+    def back(self):
+        return self.advised(super().back())
+
+    def rewind(self, node, step):
+        return self.missing_step(node) if self.place(node, step) is None else super().rewind(node, step)
+
+    def why(self, node, step, other, other_step):
+        lacking = next((at for at, its in ((node, step), (other, other_step)) if self.place(at, its) is None), None)
+        return super().why(node, step, other, other_step) if lacking is None else self.missing_step(lacking)
 
     def explored(self, line):
         """The answer to a command of exploring, or None."""
@@ -377,7 +399,7 @@ class Explorer(Machine):
     def answer_effects(self, node, step):
         place = self.place(node, step)
         if place is None:
-            return "no 6 nostep"
+            return self.missing_step(node)
         goes = self.dependents(place)
         left = [sum(at in event for event, gone in zip(self.events, goes) if not gone) for at in range(NODES)]
         tails = self.tails(self.followed()[0])
@@ -395,7 +417,7 @@ class Explorer(Machine):
     )  # fmt: skip
     def answer_words(self, writer, reader):
         if all(neighbour(writer, side) != reader for side in SIDES):
-            return "no 34 nolink"
+            return "no 34 nolink: only neighbours pass words"
         sent = [told.split(" ")[1:] for told in self.sent(writer, reader)]
         lines = [" ".join([str(number)] + words) for number, words in enumerate(sent, 1)]
         return "\n".join([f"words {name(writer)} {name(reader)} {len(lines)}"] + lines)
@@ -446,7 +468,7 @@ class Explorer(Machine):
     )  # fmt: skip
     def answer_at(self, node, step, around):
         if not 1 <= step <= self.steps[node]:
-            return "no 6 nostep"
+            return self.missing_step(node)
         lines, passed = [], list(self.passed_through(node))
         tails = self.tails(((node,), told, (before,)) for told, before, _ in passed)
         for number, (told, _, behind) in enumerate(passed, 1):
@@ -489,7 +511,7 @@ class Explorer(Machine):
     )  # fmt: skip
     def answer_whence(self, node, step, value, line):
         if not 1 <= step <= self.steps[node]:
-            return "no 6 nostep"
+            return self.missing_step(node)
         passed, deeds, behind = self.followed()
         asked, made = asked_of(passed, NODES)
         tails = self.tails(passed)
@@ -519,7 +541,7 @@ class Explorer(Machine):
     )  # fmt: skip
     def answer_because(self, node, step, most):
         if not 1 <= step <= self.steps[node]:
-            return "no 6 nostep"
+            return self.missing_step(node)
         passed, deeds, behind = self.followed()
         asked, made = asked_of(passed, NODES)
         tails, lines = self.tails(passed), []

@@ -103,7 +103,7 @@ def answer(machine, line):
     if explored is not None:
         return explored
     if isinstance(machine, Explorer) and not is_command(line):
-        return "no 32 long" if len(line) > LONGEST else f"no 31 syntax: {cure(line)}"
+        return "no 32 long: a command has at most 200 bytes" if len(line) > LONGEST else f"no 31 syntax: {cure(line)}"
     demand(re.fullmatch(COMMAND, line), line)
     command, *words = line.split(" ")
     if command == "mem":

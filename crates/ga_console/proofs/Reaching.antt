@@ -20,18 +20,18 @@ step_load : (s : State) (node : NodeId) (answer : Result Made LabFault) → (ste
 step_load s node (Ok made) = unless_load s (step_answer s node) (with_event s (next (chip_of s) node)) (event_load s (next (chip_of s) node))
 step_load s node (Err why) = refl
 
-back_load : (s : State) (answer : Result (Unit {0}) LabFault) → (back_reply s answer).1.load ≡ s.load
+back_load : (s : State) (answer : Result (Unit {0}) LabFault) → (back_reply Brief s answer).1.load ≡ s.load
 back_load s (Ok done) = refl
 back_load s (Err why) = refl
 
-rewind_load : (s : State) (n k : ℕ) (answer : Result ℕ LabFault) → (rewind_reply s (state_after_rewind s n k) answer).1.load ≡ s.load
-rewind_load s n k (Ok removed) = refl
-rewind_load s n k (Err why) = refl
+rewind_load : (s : State) (node : NodeId) (k : ℕ) (answer : Result ℕ LabFault) → (rewind_reply Brief s node (state_after_rewind s node.number k) answer).1.load ≡ s.load
+rewind_load s node k (Ok removed) = refl
+rewind_load s node k (Err why) = refl
 
 reply_load : (s : State) (asked : Command) → (brief_reply s asked).1.load ≡ s.load
 reply_load s (Step node) = step_load s node (step_answer s node)
 reply_load s Back = back_load s (undo_answer s)
-reply_load s (Rewind node k) = rewind_load s node.number k (rewind_answer s node.number k)
+reply_load s (Rewind node k) = rewind_load s node k (rewind_answer s node.number k)
 reply_load s (Node node) = refl
 reply_load s (Memory node address) = refl
 reply_load s (Trace node) = refl

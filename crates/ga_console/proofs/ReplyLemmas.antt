@@ -13,8 +13,9 @@ use Rattle.ga_lab.specs.Machine.{State, chip_of, step_answer, state_after_step, 
 use Rattle.ga_lab.specs.declared.fault.LabFault.{LabFault}
 use Rattle.ga_lab.specs.declared.fault.LabFault.TheVariants as fault
 use Rattle.ga_display.specs.declared.wording.Wording.{Wording}
-use Rattle.ga_display.specs.Texts.{event_text, removed_text, refusal_text, worded_refusal_text, chain_header_text, independent}
-use Rattle.ga_console.specs.Replies.{Reply, IsCommandReply, step_reply, back_reply, rewind_reply, steps_text, optional_made_text, link_text, why_text}
+use Rattle.ga_display.specs.declared.wording.Wording.TheVariants.{Brief, Advised}
+use Rattle.ga_display.specs.Texts.{event_text, removed_text, worded_refusal_text, chain_header_text, independent}
+use Rattle.ga_console.specs.Replies.{Reply, IsCommandReply, step_reply, back_reply, rewind_reply, step_refusal, node_without_step, steps_text, optional_made_text, link_text, why_text}
 use Rattle.ga_console.specs.declared.command.Command.TheVariants.{Step, Back, Rewind, Trace, Why, Dump}
 
 -- an answer with a machine
@@ -53,12 +54,12 @@ pub back_done : (w : Wording) (s : State) (text : List ℕ) (new : State) (kept 
     → new ≡ state_after_undo s → kept ≡ length new.kept → text ≡ removed_text 1 kept → IsCommandReply w s Back text new
 back_done w s text new kept e f counts t =
     inl (replies text (removed_text 1 (length (state_after_undo s).kept)) new (state_after_undo s)
-    (t ∙ ap (removed_text 1) (counts ∙ ap (λ (n : State). length n.kept) f)) f ∙ ap (back_reply s) e)
+    (t ∙ ap (removed_text 1) (counts ∙ ap (λ (n : State). length n.kept) f)) f ∙ ap (back_reply w s) e)
 
 pub back_refused : (w : Wording) (s : State) (why : LabFault) (text : List ℕ) (new : State) → let refused : Result (Unit {0}) LabFault = Err why in refused ≡ undo_answer s
-    → new ≡ state_after_undo s → text ≡ refusal_text why → IsCommandReply w s Back text new
+    → new ≡ state_after_undo s → text ≡ worded_refusal_text w why → IsCommandReply w s Back text new
 back_refused w s why text new e f t =
-    inl (replies text (refusal_text why) new s t (f ∙ go s.kept refl e) ∙ ap (back_reply s) e) where
+    inl (replies text (worded_refusal_text w why) new s t (f ∙ go s.kept refl e) ∙ ap (back_reply w s) e) where
       go : (events : List Event) → s.kept ≡ events → let refused : Result (Unit {0}) LabFault = Err why in refused ≡ ok_unless_empty events → state_after_undo s ≡ s
       go [] is refused =
           let last : List Event → State = λ es. record s { kept = take (length es - 1) es } in
@@ -74,12 +75,12 @@ pub rewind_done : (w : Wording) (s : State) (node : NodeId) (k : ℕ) (removed k
 rewind_done w s node k removed kept text new e f counts t =
     let after : State = state_after_rewind s node.number k in
     inl (replies text (removed_text removed (length after.kept)) new after (t ∙ ap (removed_text removed) (counts ∙ ap (λ (n : State). length n.kept) f)) f
-    ∙ ap (rewind_reply s after) e)
+    ∙ ap (rewind_reply w s node after) e)
 
 pub rewind_refused : (w : Wording) (s : State) (node : NodeId) (k : ℕ) (why : LabFault) (text : List ℕ) (new : State) → Err why ≡ rewind_answer s node.number k
-    → new ≡ s → text ≡ refusal_text why → IsCommandReply w s (Rewind node k) text new
+    → new ≡ s → text ≡ step_refusal w s node why → IsCommandReply w s (Rewind node k) text new
 rewind_refused w s node k why text new e f t =
-    inl (replies text (refusal_text why) new s t f ∙ ap (λ (r : Result ℕ LabFault). rewind_reply s (state_after_rewind s node.number k) r) e)
+    inl (replies text (step_refusal w s node why) new s t f ∙ ap (λ (r : Result ℕ LabFault). rewind_reply w s node (state_after_rewind s node.number k) r) e)
 
 -- ---- trace
 
@@ -100,12 +101,17 @@ dump_refused w s text t = inr (tt, t, refl)
 
 -- ---- why
 
+-- out of memory is worded without the node
+memory_refused : (w : Wording) (s : State) (node : NodeId) → step_refusal w s node fault.Memory ≡ worded_refusal_text w fault.Memory
+memory_refused Brief s node = refl
+memory_refused Advised s node = refl
+
 why_done : (w : Wording) (s : State) (from to : NodeId) (k j : ℕ) (answer : Result (Option (List Link)) LabFault) (text : List ℕ)
     → IsAnswer (why_answer s from.number k to.number j) answer
-    → text ≡ why_text w s answer → IsCommandReply w s (Why from k to j) text s
+    → text ≡ why_text w s (node_without_step s from k to) answer → IsCommandReply w s (Why from k to j) text s
 why_done w s from to k j answer text (inl e) t =
-    inl (replies text (why_text w s (why_answer s from.number k to.number j)) s s (t ∙ ap (why_text w s) e) refl)
-why_done w s from to k j answer text (inr e) t = inr (e.1, t ∙ ap (why_text w s) e.0, refl)
+    inl (replies text (why_text w s (node_without_step s from k to) (why_answer s from.number k to.number j)) s s (t ∙ ap (why_text w s (node_without_step s from k to)) e) refl)
+why_done w s from to k j answer text (inr e) t = inr (e.1, t ∙ ap (why_text w s (node_without_step s from k to)) e.0 ∙ memory_refused w s (node_without_step s from k to), refl)
 
 pub why_independent : (w : Wording) (s : State) (from to : NodeId) (k j : ℕ) → why_answer s from.number k to.number j ≡ Ok None → IsCommandReply w s (Why from k to j) independent s
 why_independent w s from to k j e = why_done w s from to k j (Ok None) independent (inl (sym e)) refl
@@ -133,6 +139,7 @@ why_told w s from to k j links told said text e same is t =
 
 pub why_refused : (w : Wording) (s : State) (from to : NodeId) (k j : ℕ) (why : LabFault) (text : List ℕ)
     → (why_answer s from.number k to.number j ≡ Err why) ⊎ ((why ≡ fault.Memory) × IsOk (why_answer s from.number k to.number j))
-    → text ≡ worded_refusal_text w why → IsCommandReply w s (Why from k to j) text s
+    → text ≡ step_refusal w s (node_without_step s from k to) why → IsCommandReply w s (Why from k to j) text s
 why_refused w s from to k j why text (inl e) t = why_done w s from to k j (Err why) text (inl (sym e)) t
-why_refused w s from to k j why text (inr e) t = inr (e.1, t ∙ ap (worded_refusal_text w) e.0, refl)
+why_refused w s from to k j why text (inr e) t =
+    inr (e.1, t ∙ ap (step_refusal w s (node_without_step s from k to)) e.0 ∙ memory_refused w s (node_without_step s from k to), refl)

@@ -1,10 +1,9 @@
 //! The commands that change the machine.
 ghost use Rattle.ga_text.specs.Output.{WritesSome};
 ghost use Rattle.ga_console.specs.Replies.{IsCommandReply};
-ghost use Rattle.ga_display.specs.declared.wording.Wording.{Wording as Worded};
 ghost use Rattle.ga_console.specs.declared.command.Command.TheVariants.{Step, Back, Rewind};
 
-use ga_display::{Wording, refusal_text, write_event, write_removed};
+use ga_display::{Wording, write_event, write_removed};
 use ga_grid::NodeId;
 use ga_lab::Lab;
 use ga_text::{WriteResult, Writer};
@@ -28,13 +27,13 @@ pub fn step<W: Write>(
 }
 
 /// `back`: takes the newest event back.
-pub fn back<W: Write>(lab: &mut Lab, writer: &mut Writer<'_, W>) -> WriteResult
-    ensures { (wording : Worded) → WritesSome result (λ text. IsCommandReply wording lab.old Back text lab.new)
+pub fn back<W: Write>(lab: &mut Lab, wording: Wording, writer: &mut Writer<'_, W>) -> WriteResult
+    ensures { WritesSome result (λ text. IsCommandReply wording lab.old Back text lab.new)
         W.contents writer.old writer.new }
 {
     match lab.undo() {
         Ok(()) => { write_removed(writer, 1, lab.counts().kept) }
-        Err(fault) => writer.write_text(refusal_text(fault)),
+        Err(fault) => writer.write_text(wording.refusal(fault)),
     }
 }
 
@@ -43,13 +42,17 @@ pub fn rewind<W: Write>(
     lab: &mut Lab,
     node: NodeId,
     step: u32,
+    wording: Wording,
     writer: &mut Writer<'_, W>,
 ) -> WriteResult
-    ensures { (wording : Worded) → WritesSome result (λ text. IsCommandReply wording lab.old (Rewind node step) text lab.new)
+    ensures { WritesSome result (λ text. IsCommandReply wording lab.old (Rewind node step) text lab.new)
         W.contents writer.old writer.new }
 {
     match lab.rewind(node, step) {
         Ok(removed) => { write_removed(writer, removed, lab.counts().kept) }
-        Err(fault) => writer.write_text(refusal_text(fault)),
+        Err(fault) => {
+            let refusal = wording.step_refusal(fault, node, lab.steps(node));
+            writer.write_blocks(refusal.as_slice())
+        }
     }
 }

@@ -2,7 +2,7 @@
 ghost use Rattle.ga_text.specs.Output.{WritesSome};
 ghost use Rattle.std.specs.Prelude.{◌≡◌, ◌++◌, length, flat_map};
 ghost use Rattle.ga_display.specs.Texts.{event_text, chain_header_text};
-ghost use Rattle.ga_console.specs.Replies.{IsCommandReply, steps_text};
+ghost use Rattle.ga_console.specs.Replies.{IsCommandReply, node_without_step, steps_text};
 ghost use Rattle.ga_display.specs.declared.wording.Wording.{Wording as Worded};
 ghost use Rattle.ga_console.specs.declared.command.Command.TheVariants.{Node, Memory, Trace, Why, Count, Dump};
 
@@ -88,8 +88,19 @@ pub fn why<W: Write>(
     match lab.explain(from, to) {
         Ok(None) => writer.write_text(b"independent\n"),
         Ok(Some(chain)) => say_chain(chain.as_slice(), writer),
-        Err(fault) => writer.write_text(wording.refusal(fault)),
+        Err(fault) => {
+            let node = node_without_step(lab, from, to.0);
+            let refusal = wording.step_refusal(fault, node, lab.steps(node));
+            writer.write_blocks(refusal.as_slice())
+        }
     }
+}
+
+/// The node of the first step, unless the step exists; else the other node.
+fn node_without_step(lab: &Lab, from: (NodeId, u32), to: NodeId) -> NodeId
+    ensures { result ≡ node_without_step lab.now from.0 from.1 to }
+{
+    if lab.has_step(from) { to } else { from.0 }
 }
 
 /// Writes how many events a chain has, then the report of each.

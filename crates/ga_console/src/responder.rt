@@ -114,7 +114,7 @@ pub fn answer_in_wording<W: Write>(
     ensures { WritesSome result (AnswersOrQuits (IsAnswerInWording wording) lab.old line.now lab.new result) W.contents writer.old writer.new }
 {
     if line.len() > LINE_LIMIT {
-        writer.write_text(b"no 32 long\n")?;
+        writer.write_text(wording.long_line_refusal())?;
         return Ok(LineAction::Answered);
     }
     match parse_debugger_command(line) {
@@ -148,8 +148,8 @@ pub fn execute_in_wording<W: Write>(
 {
     match command {
         Command::Step(at) => step(lab, at, wording, writer),
-        Command::Back => back(lab, writer),
-        Command::Rewind(at, number) => rewind(lab, at, number, writer),
+        Command::Back => back(lab, wording, writer),
+        Command::Rewind(at, number) => rewind(lab, at, number, wording, writer),
         Command::Node(at) => node(lab, at, writer),
         Command::Memory(at, address) => memory(lab, at, address, writer),
         Command::Trace(at) => trace(lab, at, wording, writer),

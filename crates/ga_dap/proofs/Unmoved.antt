@@ -116,18 +116,18 @@ step_same w s node (Ok made) is h =
     let more = stepped_made s node (ap (λ (z : Result Made LabFault). is_some (result_ok z)) is) in let same = h.1 in absurd (let no : ⊥ = omega (arith, more, same) in no)
 step_same w s node (Err why) is h = refl
 
-back_same : (s : State) (a : Result (Unit {0}) LabFault) → IsUnmoved s (back_reply s a).1 → (back_reply s a).1 ≡ s
-back_same s (Ok done) h = earlier_same s (length s.kept - 1) h.0
-back_same s (Err why) h = refl
+back_same : (w : Wording) (s : State) (a : Result (Unit {0}) LabFault) → IsUnmoved s (back_reply w s a).1 → (back_reply w s a).1 ≡ s
+back_same w s (Ok done) h = earlier_same s (length s.kept - 1) h.0
+back_same w s (Err why) h = refl
 
-rewind_same : (s : State) (n k : ℕ) (a : Result ℕ LabFault) → events_of_causes (causes_of s) ≡ s.kept → IsUnmoved s (rewind_reply s (state_after_rewind s n k) a).1 → (rewind_reply s (state_after_rewind s n k) a).1 ≡ s
-rewind_same s n k (Ok removed) caused h = rewound_same s n k caused h.0
-rewind_same s n k (Err why) caused h = refl
+rewind_same : (w : Wording) (s : State) (node : NodeId) (k : ℕ) (a : Result ℕ LabFault) → events_of_causes (causes_of s) ≡ s.kept → IsUnmoved s (rewind_reply w s node (state_after_rewind s node.number k) a).1 → (rewind_reply w s node (state_after_rewind s node.number k) a).1 ≡ s
+rewind_same w s node k (Ok removed) caused h = rewound_same s node.number k caused h.0
+rewind_same w s node k (Err why) caused h = refl
 
 reply_same : (w : Wording) (s : State) (c : Command) → events_of_causes (causes_of s) ≡ s.kept → IsUnmoved s (reply_in_wording w s c).1 → (reply_in_wording w s c).1 ≡ s
 reply_same w s (Step node) caused h = step_same w s node (step_answer s node) refl h
-reply_same w s Back caused h = back_same s (undo_answer s) h
-reply_same w s (Rewind node k) caused h = rewind_same s node.number k (rewind_answer s node.number k) caused h
+reply_same w s Back caused h = back_same w s (undo_answer s) h
+reply_same w s (Rewind node k) caused h = rewind_same w s node k (rewind_answer s node.number k) caused h
 reply_same w s (Node node) caused h = refl
 reply_same w s (Memory node address) caused h = refl
 reply_same w s (Trace node) caused h = refl

@@ -120,25 +120,48 @@ refusal_text Empty = codes "no 5 empty\n"
 refusal_text NoStep = codes "no 6 nostep\n"
 refusal_text Spent = codes "no 7 spent\n"
 
--- what to do if the history is full, or no memory is left, and the line's end (docs/REFERENCE.md, "Exploring")
+-- what is the case or what to do, and the line's end (docs/REFERENCE.md, "Exploring")
 abbrev pub advice_text : LabFault → Text
-advice_text Waiting = codes "\n"
-advice_text Stopped = codes "\n"
+advice_text Waiting = codes ": who shows for whom it waits\n"
+advice_text Stopped = codes ": whence NNN last shows why\n"
 advice_text Full = codes ": give a greater --limit; or save, dump, and go on from the dump\n"
 advice_text Memory = codes ": save, dump, and go on from the dump\n"
-advice_text Empty = codes "\n"
-advice_text NoStep = codes "\n"
-advice_text Spent = codes "\n"
+advice_text Empty = codes ": the history has no event\n"
+advice_text NoStep = codes ": trace NNN lists the steps\n"
+advice_text Spent = codes ": dump, and go on from the dump\n"
 
--- a refusal in a session of exploring, with what to do
+-- a refusal in a session of exploring
 abbrev pub advised_refusal_text : LabFault → Text
-advised_refusal_text Waiting = refusal_text Waiting
-advised_refusal_text Stopped = refusal_text Stopped
+advised_refusal_text Waiting = codes "no 1 waiting" ++ advice_text Waiting
+advised_refusal_text Stopped = codes "no 2 stopped" ++ advice_text Stopped
 advised_refusal_text Full = codes "no 3 full" ++ advice_text Full
 advised_refusal_text Memory = codes "no 4 memory" ++ advice_text Memory
-advised_refusal_text Empty = refusal_text Empty
-advised_refusal_text NoStep = refusal_text NoStep
-advised_refusal_text Spent = refusal_text Spent
+advised_refusal_text Empty = codes "no 5 empty" ++ advice_text Empty
+advised_refusal_text NoStep = codes "no 6 nostep" ++ advice_text NoStep
+advised_refusal_text Spent = codes "no 7 spent" ++ advice_text Spent
+
+-- the word after a number of steps, and the line's end
+abbrev pub steps_word : ℕ → Text
+steps_word count = if count == 1 then codes " step\n" else codes " steps\n"
+
+-- a refusal of a step that a node doesn't have, in a session of exploring: how many steps it has
+abbrev pub missing_step_text : NodeId → ℕ → Text
+missing_step_text node count = codes "no 6 nostep: " ++ name_of_node node ++ codes " has " ++ decimal count ++ steps_word count
+
+-- a refused call about a step of a node that has `count` steps, in a session of exploring
+abbrev pub advised_step_refusal_text : NodeId → ℕ → LabFault → Text
+advised_step_refusal_text node count Waiting = advised_refusal_text Waiting
+advised_step_refusal_text node count Stopped = advised_refusal_text Stopped
+advised_step_refusal_text node count Full = advised_refusal_text Full
+advised_step_refusal_text node count Memory = advised_refusal_text Memory
+advised_step_refusal_text node count Empty = advised_refusal_text Empty
+advised_step_refusal_text node count NoStep = missing_step_text node count
+advised_step_refusal_text node count Spent = advised_refusal_text Spent
+
+-- the same in a session of this kind
+abbrev pub worded_step_refusal_text : Wording → NodeId → ℕ → LabFault → Text
+worded_step_refusal_text Brief node count why = refusal_text why
+worded_step_refusal_text Advised node count why = advised_step_refusal_text node count why
 
 -- a refusal in a session of this kind
 abbrev pub worded_refusal_text : Wording → LabFault → Text
@@ -152,6 +175,11 @@ syntax_refusal = codes "no 31 syntax\n"
 -- the line has more than 200 bytes
 abbrev pub long_line_refusal : Text
 long_line_refusal = codes "no 32 long\n"
+
+-- the same in a session of this kind
+abbrev pub worded_long_line_refusal : Wording → Text
+worded_long_line_refusal Brief = long_line_refusal
+worded_long_line_refusal Advised = codes "no 32 long: a command has at most 200 bytes\n"
 
 -- the input exceeds its limit
 abbrev pub input_limit_refusal : Text

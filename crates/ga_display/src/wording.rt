@@ -1,10 +1,12 @@
 //! How refusals are worded.
 ghost use Rattle.std.specs.Prelude.{◌≡◌, ◌≤◌, length};
-ghost use Rattle.ga_display.specs.Texts.{advice_text, advised_refusal_text, worded_refusal_text};
+ghost use Rattle.ga_display.specs.Texts.{advice_text, advised_refusal_text, advised_step_refusal_text, missing_step_text, steps_word, worded_long_line_refusal, worded_refusal_text, worded_step_refusal_text};
 
 use crate::event::refusal_text;
+use arrayvec::ArrayVec;
+use ga_grid::NodeId;
 use ga_lab::LabFault;
-use ga_text::MAX_LINE_BYTES;
+use ga_text::{MAX_LINE_BYTES, TextBuffer, push_node, push_number, push_text};
 
 /// How a session words its refusals.
 #[derive(Clone, Copy, PartialEq, Eq, Debug)]
@@ -27,9 +29,76 @@ impl Wording {
             Wording::Advised => advised_refusal_text(fault),
         }
     }
+
+    /// The refusal of a line of more than 200 bytes.
+    pub fn long_line_refusal(self) -> &'static [u8]
+        ensures text { result.now ≡ worded_long_line_refusal self }
+        ensures len { length result.now ≤ MAX_LINE_BYTES }
+    {
+        match self {
+            Wording::Brief => b"no 32 long\n",
+            Wording::Advised => b"no 32 long: a command has at most 200 bytes\n",
+        }
+    }
+
+    /// The text of a refused call about a step of a node that has `count` steps.
+    pub fn step_refusal(self, fault: LabFault, node: NodeId, count: u32) -> TextBuffer
+        ensures { result.items ≡ worded_step_refusal_text self node count fault }
+    {
+        match self {
+            Wording::Brief => buffered(refusal_text(fault)),
+            Wording::Advised => advised_step_refusal(fault, node, count),
+        }
+    }
 }
 
-/// The text of a refused call in a session of `explore`: if the history is full, it adds what to do.
+/// A text in a buffer.
+fn buffered(text: &[u8]) -> TextBuffer
+    requires { length text.now ≤ MAX_LINE_BYTES }
+    ensures { result.items ≡ text.now }
+{
+    let mut out = ArrayVec::new();
+    push_text(&mut out, text);
+    out
+}
+
+/// The text of a refused call about a step of a node that has `count` steps, in a session of `explore`.
+pub fn advised_step_refusal(fault: LabFault, node: NodeId, count: u32) -> TextBuffer
+    ensures { result.items ≡ advised_step_refusal_text node count fault }
+{
+    match fault {
+        LabFault::NoStep => missing_step_refusal(node, count),
+        LabFault::Waiting => buffered(advised_refusal_text(LabFault::Waiting)),
+        LabFault::Stopped => buffered(advised_refusal_text(LabFault::Stopped)),
+        LabFault::Full => buffered(advised_refusal_text(LabFault::Full)),
+        LabFault::Memory => buffered(advised_refusal_text(LabFault::Memory)),
+        LabFault::Empty => buffered(advised_refusal_text(LabFault::Empty)),
+        LabFault::Spent => buffered(advised_refusal_text(LabFault::Spent)),
+    }
+}
+
+/// The refusal of a step that a node with `count` steps doesn't have, in a session of `explore`.
+pub fn missing_step_refusal(node: NodeId, count: u32) -> TextBuffer
+    ensures { result.items ≡ missing_step_text node count }
+{
+    let mut out = ArrayVec::new();
+    push_text(&mut out, b"no 6 nostep: ");
+    push_node(&mut out, node);
+    push_text(&mut out, b" has ");
+    push_number(&mut out, u64::from(count));
+    push_text(&mut out, steps_word(count));
+    out
+}
+
+/// The word after a number of steps, and the line's end.
+fn steps_word(count: u32) -> &'static [u8]
+    ensures text { result.now ≡ steps_word count }
+    ensures len { length result.now ≤ 7 }
+{
+    if count == 1 { b" step\n" } else { b" steps\n" }
+}
+
+/// The text of a refused call in a session of `explore`, with what is the case or what to do.
 pub fn advised_refusal_text(fault: LabFault) -> &'static [u8]
     ensures text { result.now ≡ advised_refusal_text fault }
     ensures len { length result.now ≤ MAX_LINE_BYTES }
@@ -39,11 +108,11 @@ pub fn advised_refusal_text(fault: LabFault) -> &'static [u8]
             b"no 3 full: give a greater --limit; or save, dump, and go on from the dump\n"
         }
         LabFault::Memory => b"no 4 memory: save, dump, and go on from the dump\n",
-        LabFault::Waiting => refusal_text(fault),
-        LabFault::Stopped => refusal_text(fault),
-        LabFault::Empty => refusal_text(fault),
-        LabFault::NoStep => refusal_text(fault),
-        LabFault::Spent => refusal_text(fault),
+        LabFault::Waiting => b"no 1 waiting: who shows for whom it waits\n",
+        LabFault::Stopped => b"no 2 stopped: whence NNN last shows why\n",
+        LabFault::Empty => b"no 5 empty: the history has no event\n",
+        LabFault::NoStep => b"no 6 nostep: trace NNN lists the steps\n",
+        LabFault::Spent => b"no 7 spent: dump, and go on from the dump\n",
     }
 }
 
@@ -55,10 +124,10 @@ pub fn advice_text(fault: LabFault) -> &'static [u8]
     match fault {
         LabFault::Full => b": give a greater --limit; or save, dump, and go on from the dump\n",
         LabFault::Memory => b": save, dump, and go on from the dump\n",
-        LabFault::Waiting => b"\n",
-        LabFault::Stopped => b"\n",
-        LabFault::Empty => b"\n",
-        LabFault::NoStep => b"\n",
-        LabFault::Spent => b"\n",
+        LabFault::Waiting => b": who shows for whom it waits\n",
+        LabFault::Stopped => b": whence NNN last shows why\n",
+        LabFault::Empty => b": the history has no event\n",
+        LabFault::NoStep => b": trace NNN lists the steps\n",
+        LabFault::Spent => b": dump, and go on from the dump\n",
     }
 }

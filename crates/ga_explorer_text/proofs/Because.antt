@@ -6,7 +6,7 @@ use Rattle.ga_lab.specs.Machine.{State, has_step}
 use Rattle.ga_lab.specs.declared.fault.LabFault.TheVariants.{NoStep}
 use Rattle.ga_provenance.specs.declared.deciding.Decision.{Decision}
 use Rattle.ga_provenance.specs.Deciding.{newest_decision}
-use Rattle.ga_display.specs.Texts.{refusal_text}
+use Rattle.ga_display.specs.Texts.{missing_step_text}
 use Rattle.ga_debug_info.specs.declared.notes.DebugInfo.{DebugInfo}
 use Rattle.ga_explorer_text.specs.Because.{decision_text, decisions_from_newest, decisions_text, decisions_or_none_text, because_text}
 
@@ -41,9 +41,9 @@ next_decision notes s node left less k now decision some e is step =
 pub because_here : (notes : Option DebugInfo) (s : State) (node : NodeId) (step most : ℕ) → has_step s node.number step ≡ true
     → decisions_or_none_text notes s node most (step - 1) (newest_decision s node (step - 1)) ≡ because_text notes s node step most
 because_here notes s node step most is =
-    sym (ap (λ (b : Bool). if b then decisions_or_none_text notes s node most (step - 1) (newest_decision s node (step - 1)) else refusal_text NoStep) is)
+    sym (ap (λ (b : Bool). if b then decisions_or_none_text notes s node most (step - 1) (newest_decision s node (step - 1)) else missing_step_text node (count_steps node.number s.kept)) is)
 
 pub because_nowhere : (notes : Option DebugInfo) (s : State) (node : NodeId) (step most : ℕ) → has_step s node.number step ≡ false
-    → refusal_text NoStep ≡ because_text notes s node step most
+    → missing_step_text node (count_steps node.number s.kept) ≡ because_text notes s node step most
 because_nowhere notes s node step most is =
-    sym (ap (λ (b : Bool). if b then decisions_or_none_text notes s node most (step - 1) (newest_decision s node (step - 1)) else refusal_text NoStep) is)
+    sym (ap (λ (b : Bool). if b then decisions_or_none_text notes s node most (step - 1) (newest_decision s node (step - 1)) else missing_step_text node (count_steps node.number s.kept)) is)

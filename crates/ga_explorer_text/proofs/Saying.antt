@@ -26,7 +26,7 @@ use Rattle.ga_explorer_text.specs.Ended.{AreEnded}
 use Rattle.std.proofs.lemmas.Bool.Decides.{nat_tests}
 use Rattle.ga_event.specs.Told.{count_steps}
 use Rattle.ga_lab.specs.declared.fault.LabFault.TheVariants.{NoStep, Memory}
-use Rattle.ga_display.specs.Texts.{refusal_text, advised_refusal_text}
+use Rattle.ga_display.specs.Texts.{missing_step_text, advised_refusal_text, advised_step_refusal_text}
 use Rattle.ga_explorer_text.specs.SourceSuffix.{step_suffix_text}
 use Rattle.ga_explorer_text.specs.Around.{step_registers_text, numbered_step_text, numbered_steps_text, smaller_number, steps_around_text}
 use Rattle.ga_node.specs.Record.{NodeRecord}
@@ -273,11 +273,11 @@ pub around_here : (notes : Option DebugInfo) (s : State) (node : NodeId) (step a
 around_here notes s node step around first last is e f =
     ap (λ (m : ℕ). numbered_steps_text notes s node m (last - m)) e
     ∙ ap (λ (m : ℕ). numbered_steps_text notes s node (step - 1 - around) (m - (step - 1 - around))) f
-    ∙ sym (ap (λ (b : Bool). if b then numbered_steps_text notes s node (step - 1 - around) (smaller_number (step + around) (count_steps node.number s.kept) - (step - 1 - around)) else refusal_text NoStep) is)
+    ∙ sym (ap (λ (b : Bool). if b then numbered_steps_text notes s node (step - 1 - around) (smaller_number (step + around) (count_steps node.number s.kept) - (step - 1 - around)) else missing_step_text node (count_steps node.number s.kept)) is)
 
-pub around_nowhere : (notes : Option DebugInfo) (s : State) (node : NodeId) (step around : ℕ) → has_step s node.number step ≡ false → refusal_text NoStep ≡ steps_around_text notes s node step around
+pub around_nowhere : (notes : Option DebugInfo) (s : State) (node : NodeId) (step around : ℕ) → has_step s node.number step ≡ false → missing_step_text node (count_steps node.number s.kept) ≡ steps_around_text notes s node step around
 around_nowhere notes s node step around is =
-    sym (ap (λ (b : Bool). if b then numbered_steps_text notes s node (step - 1 - around) (smaller_number (step + around) (count_steps node.number s.kept) - (step - 1 - around)) else refusal_text NoStep) is)
+    sym (ap (λ (b : Bool). if b then numbered_steps_text notes s node (step - 1 - around) (smaller_number (step + around) (count_steps node.number s.kept) - (step - 1 - around)) else missing_step_text node (count_steps node.number s.kept)) is)
 
 -- the lesser of two numbers
 lesser_is : (m n k : ℕ) → (m ≤ n → k ≡ m) → (n < m → k ≡ n) → k ≡ smaller_number m n
@@ -296,14 +296,15 @@ last_is m n capped last e f fits = lesser_is m n last (λ l. omega (arith, e, f,
 pub effects_found : (notes : Option DebugInfo) (s : State) (node : NodeId) (step events : ℕ) (nodes : List RollbackEffect) (text : List ℕ) → rewind_answer s node.number step ≡ Ok events
     → nodes ≡ rollback_effects s node.number step → text ≡ effects_text notes s events nodes → IsEffectsAnswer notes s node step text
 effects_found notes s node step events nodes text answer is t =
-    inl (t ∙ ap (effects_text notes s events) is ∙ ap (λ (r : Result ℕ LabFault). effects_answer notes s (rollback_effects s node.number step) r) (sym answer))
+    inl (t ∙ ap (effects_text notes s events) is ∙ ap (λ (r : Result ℕ LabFault). effects_answer notes s node (rollback_effects s node.number step) r) (sym answer))
 
 pub effects_refused : (notes : Option DebugInfo) (s : State) (node : NodeId) (step : ℕ) (why : LabFault) (text : List ℕ)
     → (rewind_answer s node.number step ≡ Err why) ⊎ ((why ≡ Memory) × IsOk (rewind_answer s node.number step))
-    → text ≡ advised_refusal_text why → IsEffectsAnswer notes s node step text
+    → text ≡ advised_step_refusal_text node (count_steps node.number s.kept) why → IsEffectsAnswer notes s node step text
 effects_refused notes s node step why text (inl answer) t =
-    inl (t ∙ ap (λ (r : Result ℕ LabFault). effects_answer notes s (rollback_effects s node.number step) r) (sym answer))
-effects_refused notes s node step why text (inr wanting) t = inr (wanting.1, t ∙ ap advised_refusal_text wanting.0)
+    inl (t ∙ ap (λ (r : Result ℕ LabFault). effects_answer notes s node (rollback_effects s node.number step) r) (sym answer))
+effects_refused notes s node step why text (inr wanting) t =
+    inr (wanting.1, t ∙ ap (advised_step_refusal_text node (count_steps node.number s.kept)) wanting.0)
 
 pub who_told : (s : State) (chip : List NodeRecord) (marks ended over idle : ℕ → Bool) (first second third last : List ℕ) → chip ≡ chip_of s → AreDeadlocked chip marks
     → ((others : ℕ → Bool) → AreDeadlocked chip others → IsSubset others marks) → AreEnded chip ended → ((n : ℕ) → n < 144 → over n ≡ (marks n && ended n))

@@ -9,10 +9,9 @@ use Rattle.ga_grid.specs.declared.node_id.NodeId.{NodeId}
 use Rattle.ga_event.specs.Told.{count_steps}
 use Rattle.ga_event.specs.declared.made.Made.{Made}
 use Rattle.ga_lab.specs.Machine.{State, has_step, history_of}
-use Rattle.ga_lab.specs.declared.fault.LabFault.TheVariants.{NoStep}
 use Rattle.ga_provenance.specs.Origins.{node_after}
 use Rattle.ga_text.specs.Digits.{step_text}
-use Rattle.ga_display.specs.Texts.{register_text, refusal_text}
+use Rattle.ga_display.specs.Texts.{register_text, missing_step_text}
 use Rattle.ga_debug_info.specs.declared.notes.DebugInfo.{DebugInfo}
 use Rattle.ga_explorer_text.specs.Deeds.{action_text}
 use Rattle.ga_explorer_text.specs.SourceSuffix.{step_suffix_text}
@@ -51,4 +50,4 @@ abbrev pub steps_around_text : Option DebugInfo → State → NodeId → ℕ →
 steps_around_text notes s node step around =
     if has_step s node.number step
     then (let first = step - 1 - around in numbered_steps_text notes s node first (smaller_number (step + around) (count_steps node.number s.kept) - first))
-    else refusal_text NoStep
+    else missing_step_text node (count_steps node.number s.kept)

@@ -2,15 +2,15 @@
 use Rattle.std.specs.Prelude.{ℕ, zero, suc, ◌-◌, if◌then◌else◌, [], ◌++◌, codes, Option, Some, None}
 use Rattle.ga_text.specs.Lines.{Text}
 use Rattle.ga_grid.specs.declared.node_id.NodeId.{NodeId}
+use Rattle.ga_event.specs.Told.{count_steps}
 use Rattle.ga_event.specs.declared.made.Made.{Made}
 use Rattle.ga_event.specs.declared.made.Made.TheVariants.{Own, Pass}
 use Rattle.ga_lab.specs.Machine.{State, has_step}
-use Rattle.ga_lab.specs.declared.fault.LabFault.TheVariants.{NoStep}
 use Rattle.ga_event.specs.declared.flow.part.NodePart.{NodePart}
 use Rattle.ga_provenance.specs.declared.deciding.Decision.{Decision}
 use Rattle.ga_provenance.specs.Deciding.{newest_decision}
 use Rattle.ga_text.specs.Digits.{step_text}
-use Rattle.ga_display.specs.Texts.{register_text, refusal_text}
+use Rattle.ga_display.specs.Texts.{register_text, missing_step_text}
 use Rattle.ga_debug_info.specs.declared.notes.DebugInfo.{DebugInfo}
 use Rattle.ga_explorer_text.specs.Deeds.{action_text}
 use Rattle.ga_explorer_text.specs.SourceSuffix.{step_suffix_text}
@@ -49,4 +49,5 @@ decisions_or_none_text notes s node most k (Some newest) = decisions_text notes 
 -- the decisions before a step, if it exists
 abbrev pub because_text : Option DebugInfo → State → NodeId → ℕ → ℕ → Text
 because_text notes s node step most =
-    if has_step s node.number step then decisions_or_none_text notes s node most (step - 1) (newest_decision s node (step - 1)) else refusal_text NoStep
+    if has_step s node.number step then decisions_or_none_text notes s node most (step - 1) (newest_decision s node (step - 1))
+    else missing_step_text node (count_steps node.number s.kept)

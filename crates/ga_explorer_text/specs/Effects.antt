@@ -4,12 +4,13 @@ use Rattle.std.specs.Prelude.{◌≡◌, ℕ, ◌⊎◌, List, ◌++◌, length,
 use Rattle.ga_text.specs.Lines.{Text}
 use Rattle.ga_text.specs.Digits.{step_text}
 use Rattle.ga_grid.specs.declared.node_id.NodeId.{NodeId}
+use Rattle.ga_event.specs.Told.{count_steps}
 use Rattle.ga_lab.specs.Machine.{State, rewind_answer}
 use Rattle.ga_lab.specs.declared.fault.LabFault.{LabFault}
 use Rattle.ga_lab.specs.declared.fault.LabFault.TheVariants.{Memory}
 use Rattle.ga_scheduler.specs.Effects.{rollback_effects}
 use Rattle.ga_scheduler.specs.declared.effects.RollbackEffect.{RollbackEffect}
-use Rattle.ga_display.specs.Texts.{advised_refusal_text}
+use Rattle.ga_display.specs.Texts.{advised_refusal_text, advised_step_refusal_text}
 use Rattle.ga_debug_info.specs.declared.notes.DebugInfo.{DebugInfo}
 use Rattle.ga_explorer_text.specs.SourceSuffix.{step_suffix_text}
 
@@ -29,12 +30,12 @@ abbrev pub effects_text : Option DebugInfo → State → ℕ → List RollbackEf
 effects_text notes s events effects = effects_head events (length effects) ++ flat_map (effect_text notes s) effects
 
 -- the text about a rollback, by what `rewind` would answer
-abbrev pub effects_answer : Option DebugInfo → State → List RollbackEffect → Result ℕ LabFault → Text
-effects_answer notes s effects (Ok events) = effects_text notes s events effects
-effects_answer notes s effects (Err why) = advised_refusal_text why
+abbrev pub effects_answer : Option DebugInfo → State → NodeId → List RollbackEffect → Result ℕ LabFault → Text
+effects_answer notes s node effects (Ok events) = effects_text notes s events effects
+effects_answer notes s node effects (Err why) = advised_step_refusal_text node (count_steps node.number s.kept) why
 
 -- The answer is what a rollback would remove, or out of memory if one is possible.
 abbrev pub IsEffectsAnswer : Option DebugInfo → State → NodeId → ℕ → Text → Type 0
 IsEffectsAnswer notes s node step answer =
-    (answer ≡ effects_answer notes s (rollback_effects s node.number step) (rewind_answer s node.number step))
+    (answer ≡ effects_answer notes s node (rollback_effects s node.number step) (rewind_answer s node.number step))
     ⊎ (IsOk (rewind_answer s node.number step) × (answer ≡ advised_refusal_text Memory))

@@ -104,7 +104,7 @@ words_head from to count = codes "words " ++ name_of_node from ++ codes " " ++ n
 
 -- the nodes are no neighbours
 abbrev pub no_link : Text
-no_link = codes "no 34 nolink\n"
+no_link = codes "no 34 nolink: only neighbours pass words\n"
 
 -- the link between two neighbours, and the words of it that are kept
 abbrev pub transfers_text : State → NodeId → NodeId → Text

@@ -11,7 +11,7 @@ use Rattle.ga_event.specs.declared.made.Made.TheVariants.{Own, Pass}
 use Rattle.ga_event.specs.Told.{count_steps}
 use Rattle.ga_event.specs.Flow.{part_value}
 use Rattle.ga_lab.specs.Machine.{State, has_step, history_of}
-use Rattle.ga_lab.specs.declared.fault.LabFault.TheVariants.{NoStep, Memory}
+use Rattle.ga_lab.specs.declared.fault.LabFault.TheVariants.{Memory}
 use Rattle.ga_node.specs.declared.kind.OwnEventKind.{OwnEventKind}
 use Rattle.ga_node.specs.declared.kind.OwnEventKind.TheVariants as kind
 use Rattle.ga_event.specs.declared.flow.part.NodePart.{NodePart}
@@ -21,7 +21,7 @@ use Rattle.ga_provenance.specs.declared.lines.ProvenanceLine.{ProvenanceLine}
 use Rattle.ga_provenance.specs.Origins.{value_of_step, node_after, origin_of}
 use Rattle.ga_provenance.specs.Lines.{AreLinesOf}
 use Rattle.ga_provenance.specs.Asked.{queried_value}
-use Rattle.ga_display.specs.Texts.{register_text, refusal_text, advised_refusal_text}
+use Rattle.ga_display.specs.Texts.{register_text, missing_step_text, advised_refusal_text}
 use Rattle.ga_debug_info.specs.declared.notes.DebugInfo.{DebugInfo}
 use Rattle.ga_explorer_text.specs.Deeds.{action_text}
 use Rattle.ga_explorer_text.specs.SourceSuffix.{step_suffix_text, value_suffix_text}
@@ -204,5 +204,5 @@ selected_value s node step (Some at) = Some (value_of_step node step at)
 
 abbrev pub IsWhenceAnswer : Option DebugInfo → State → NodeId → ℕ → Option NodePart → ℕ → Text → Type 0
 IsWhenceAnswer notes s node step at first answer =
-    ((has_step s node.number step ≡ false) × (answer ≡ refusal_text NoStep))
+    ((has_step s node.number step ≡ false) × (answer ≡ missing_step_text node (count_steps node.number s.kept)))
     ⊎ ((has_step s node.number step ≡ true) × IsStepOrLinesAnswer notes s node step first (selected_value s node step at) answer)

@@ -8,9 +8,9 @@ use crate::passed_text::step_registers_line;
 use crate::source_suffix::StepContext;
 use arrayvec::ArrayVec;
 use ga_debug_info::DebugInfo;
-use ga_display::refusal_text;
+use ga_display::missing_step_refusal;
 use ga_grid::NodeId;
-use ga_lab::{Lab, LabFault};
+use ga_lab::Lab;
 use ga_text::{TextBuffer, WriteResult, Writer};
 use std::io::Write;
 
@@ -33,7 +33,7 @@ pub fn write_steps_around<W: Write>(
         let last = step.saturating_add(around).min(lab.steps(node));
         StepContext::new(lab, notes, node, last).say_places(first, writer)
     } else {
-        writer.write_text(refusal_text(LabFault::NoStep))
+        writer.write_blocks(missing_step_refusal(node, lab.steps(node)).as_slice())
     }
 }
 

@@ -9,9 +9,9 @@ use crate::part_text::push_named_word;
 use crate::source_suffix::StepContext;
 use arrayvec::ArrayVec;
 use ga_debug_info::DebugInfo;
-use ga_display::refusal_text;
+use ga_display::missing_step_refusal;
 use ga_grid::NodeId;
-use ga_lab::{Lab, LabFault, Made};
+use ga_lab::{Lab, Made};
 use ga_provenance::{Decision, Decisions};
 use ga_text::{TextBuffer, WriteResult, Writer, push_step, push_text};
 use std::io::Write;
@@ -34,7 +34,7 @@ pub fn write_because<W: Write>(
     if lab.has_step((node, step)) {
         StepContext::new(lab, notes, node, step).write_decisions(most, writer)
     } else {
-        writer.write_text(refusal_text(LabFault::NoStep))
+        writer.write_blocks(missing_step_refusal(node, lab.steps(node)).as_slice())
     }
 }
 

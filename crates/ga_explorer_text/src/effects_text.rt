@@ -7,7 +7,7 @@ ghost use Rattle.ga_explorer_text.specs.Effects.{effect_text, effect_front, effe
 use crate::source_suffix::StepContext;
 use arrayvec::ArrayVec;
 use ga_debug_info::DebugInfo;
-use ga_display::advised_refusal_text;
+use ga_display::advised_step_refusal;
 use ga_grid::NodeId;
 use ga_lab::Lab;
 use ga_scheduler::{Effects, RollbackEffect, find_rollback_effects};
@@ -34,7 +34,10 @@ pub fn write_effects<W: Write>(
 {
     match find_rollback_effects(alloc, lab, node, step) {
         Ok(effects) => say_found(lab, notes, &effects, writer),
-        Err(fault) => writer.write_text(advised_refusal_text(fault)),
+        Err(fault) => {
+            let refusal = advised_step_refusal(fault, node, lab.steps(node));
+            writer.write_blocks(refusal.as_slice())
+        }
     }
 }
 

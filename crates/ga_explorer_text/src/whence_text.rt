@@ -11,7 +11,7 @@ use crate::line_number::{has_head, more_lines, most_lines, user_of_line};
 use crate::source_suffix::StepContext;
 use crate::value_line::{head_line, indented_line, numbered_line, queried_line};
 use ga_debug_info::DebugInfo;
-use ga_display::{advised_refusal_text, refusal_text};
+use ga_display::{advised_refusal_text, missing_step_refusal};
 use ga_event::NodePart;
 use ga_grid::NodeId;
 use ga_lab::{Lab, LabFault, NodeWalk};
@@ -39,7 +39,7 @@ pub fn write_whence<W: Write>(
     ensures { WritesSome result (IsWhenceAnswer notes.now lab.now node step part first) W.contents writer.old writer.new }
 {
     if !lab.has_step((node, step)) {
-        return writer.write_text(refusal_text(LabFault::NoStep));
+        return writer.write_blocks(missing_step_refusal(node, lab.steps(node)).as_slice());
     }
     let here = StepContext::new(lab, notes, node, step);
     match selected_value(lab, &here.near, node, part) {

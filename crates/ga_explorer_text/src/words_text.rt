@@ -29,7 +29,7 @@ pub fn write_words<W: Write>(
     if are_neighbours(from, to) {
         say_linked(lab, from, to, writer)
     } else {
-        writer.write_text(b"no 34 nolink\n")
+        writer.write_text(b"no 34 nolink: only neighbours pass words\n")
     }
 }
 

@@ -4,21 +4,21 @@ use Rattle.ga_console.proofs.ReplyLemmas.{back_done, back_refused}
 use Rattle.ga_console.proofs.changes.back.Goals as goal
 
 pub returns-in-Ok : goal.returns-in-Ok
-returns-in-Ok g c = λ wording. (
+returns-in-Ok g c = (
   search rules,
   λ before said h. (
     removed_text 1 c.counts.result.kept,
-    back_done wording c.args.lab.now _ c.undo.new.self c.counts.result.kept c.in-Ok.ensures.answer c.in-Ok.ensures.state c.counts.ensures.kept refl,
+    back_done c.args.wording c.args.lab.now _ c.undo.new.self c.counts.result.kept c.in-Ok.ensures.answer c.in-Ok.ensures.state c.counts.ensures.kept refl,
     c.write_removed.ensures.1 before said h,
   ),
 )
 
 pub returns-in-Err : goal.returns-in-Err
-returns-in-Err g c = λ wording. (
+returns-in-Err g c = (
   search rules,
   λ before said h. (
-    c.refusal_text.result.now,
-    back_refused wording c.args.lab.now c.in-Err.fault _ c.undo.new.self c.in-Err.ensures.answer c.in-Err.ensures.state c.refusal_text.ensures.text,
+    c.refusal.result.now,
+    back_refused c.args.wording c.args.lab.now c.in-Err.fault _ c.undo.new.self c.in-Err.ensures.answer c.in-Err.ensures.state c.refusal.ensures.text,
     c.write_text.ensures.1 before said h,
   ),
 )

@@ -1,5 +1,7 @@
-use Rattle.std.proofs.Common.{rules}
-use Rattle.ga_display.specs.Texts.{independent}
+use Rattle.std.proofs.Common.{rules, ℕ, ap, ◌∙◌}
+use Rattle.ga_grid.specs.declared.node_id.NodeId.{NodeId}
+use Rattle.ga_display.specs.Texts.{independent, worded_step_refusal_text}
+use Rattle.ga_console.specs.Replies.{step_refusal}
 use Rattle.ga_console.proofs.ReplyLemmas.{why_independent, why_told, why_refused}
 use Rattle.ga_console.proofs.readings.why.Goals as goal
 
@@ -27,8 +29,10 @@ pub returns-in-Err : goal.returns-in-Err
 returns-in-Err g c = (
   search rules,
   λ before said h. (
-    c.refusal.result.now,
-    why_refused c.args.wording c.args.lab.now c.args.from.0 c.args.to.0 c.args.from.1 c.args.to.1 c.in-Err.fault c.refusal.result.now c.in-Err.ensures.err c.refusal.ensures.text,
-    c.write_text-in-Err.ensures.1 before said h,
+    c.as_slice-in-Err.result.now,
+    why_refused c.args.wording c.args.lab.now c.args.from.0 c.args.to.0 c.args.from.1 c.args.to.1 c.in-Err.fault c.as_slice-in-Err.result.now c.in-Err.ensures.err
+        (c.as_slice-in-Err.ensures ∙ c.refusal.ensures ∙ ap (λ (n : ℕ). worded_step_refusal_text c.args.wording c.node.result n c.in-Err.fault) c.steps.ensures.steps
+        ∙ ap (λ (node : NodeId). step_refusal c.args.wording c.args.lab.now node c.in-Err.fault) c.node.ensures),
+    c.write_blocks.ensures.1 before said h,
   ),
 )

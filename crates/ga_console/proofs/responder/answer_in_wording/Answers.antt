@@ -2,7 +2,7 @@ use Rattle.std.proofs.Common.{◌≡◌, ◌≢◌, ◌<◌, ◌≤◌, ◌++◌
 use Rattle.std.specs.Result.{IsErr}
 use Rattle.std.proofs.lemmas.List.{take_all}
 use Rattle.ga_lab.specs.Machine.{State}
-use Rattle.ga_display.specs.Texts.{long_line_refusal, syntax_refusal}
+use Rattle.ga_display.specs.Texts.{worded_long_line_refusal, syntax_refusal}
 use Rattle.ga_console.specs.Commands.{SpellsCommand}
 use Rattle.ga_display.specs.declared.wording.Wording.{Wording}
 use Rattle.ga_console.specs.Replies.{IsAnswerInWording, IsCommandReply}
@@ -27,10 +27,10 @@ turns_err : (w : Wording) (s : State) (line answer : List ℕ) (new : State) (re
 turns_err w s line answer new (Ok turn) is h = absurd (search rules)
 turns_err w s line answer new (Err why) is h = h
 
-answers_long : (w : Wording) (s : State) (line : List ℕ) → 200 < length line → AnswersLine (IsAnswerInWording w) s line long_line_refusal s
-answers_long w s line past = λ part kept.
+answers_long : (w : Wording) (s : State) (line text : List ℕ) → 200 < length line → text ≡ worded_long_line_refusal w → AnswersLine (IsAnswerInWording w) s line text s
+answers_long w s line text past is = λ part kept.
     let long_part : 200 < length part = too_long line part kept past in
-    (long long_part refl refl, λ e. absurd (omega (arith, ap length e)))
+    (long long_part is refl, λ e. absurd (omega (arith, ap length e)))
 
 answers_none : (w : Wording) (s : State) (line : List ℕ) → length line ≤ 200 → ((d : Command) → ¬ SpellsCommand d line) → AnswersLine (IsAnswerInWording w) s line syntax_refusal s
 answers_none w s line short none = λ part kept.
@@ -48,9 +48,10 @@ returns-in_err-write_text g c = (
   search rules,
   λ before said h.
       let past : 200 < length c.args.line.now = omega (arith, c.if-line-gt-LINE_LIMIT.true) in (
-        long_line_refusal,
-        turns_err c.args.wording _ _ _ _ c.from_residual.result c.from_residual.ensures.0 (answers_long c.args.wording c.args.lab.now c.args.line.now past),
-        truncated_here c.from_residual.result _ before (said ++ long_line_refusal) _ c.from_residual.ensures.0 (c.in_err-write_text.ensures.1 before said h),
+        c.long_line_refusal.result.now,
+        turns_err c.args.wording _ _ _ _ c.from_residual.result c.from_residual.ensures.0
+            (answers_long c.args.wording c.args.lab.now c.args.line.now c.long_line_refusal.result.now past c.long_line_refusal.ensures.text),
+        truncated_here c.from_residual.result _ before (said ++ c.long_line_refusal.result.now) _ c.from_residual.ensures.0 (c.in_err-write_text.ensures.1 before said h),
       ),
 )
 
@@ -59,7 +60,7 @@ returns-then-line-gt-LINE_LIMIT g c = (
   search rules,
   λ before said h.
       let past : 200 < length c.args.line.now = omega (arith, c.if-line-gt-LINE_LIMIT.true) in
-      (long_line_refusal, answers_long c.args.wording c.args.lab.now c.args.line.now past, c.in_ok-write_text.ensures.1 before said h),
+      (c.long_line_refusal.result.now, answers_long c.args.wording c.args.lab.now c.args.line.now c.long_line_refusal.result.now past c.long_line_refusal.ensures.text, c.in_ok-write_text.ensures.1 before said h),
 )
 
 pub returns-in_err-write_text-in-None : goal.returns-in_err-write_text-in-None

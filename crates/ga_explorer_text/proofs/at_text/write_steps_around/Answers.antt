@@ -1,6 +1,7 @@
 use Rattle.std.proofs.Common.{rules, ◌≡◌, ℕ, ◌+◌, ◌-◌, min, ap, sym, ◌∙◌, arith}
 use Rattle.ga_event.specs.Told.{count_steps}
 use Rattle.ga_lab.specs.Machine.{NodeAtStep}
+use Rattle.ga_display.specs.Texts.{missing_step_text}
 use Rattle.ga_explorer_text.specs.Around.{numbered_steps_text}
 use Rattle.ga_explorer_text.proofs.Saying.{around_here, last_is, around_nowhere}
 use Rattle.ga_explorer_text.proofs.at_text.write_steps_around.Goals as goal
@@ -29,8 +30,8 @@ pub returns-else-has_step : goal.returns-else-has_step
 returns-else-has_step g c = (
   search rules,
   λ before said h. (
-    c.refusal_text.result.now,
-    c.refusal_text.ensures.text ∙ around_nowhere c.args.notes.now c.args.lab.now c.args.node c.args.step c.args.around (sym c.has_step.ensures.value ∙ c.if-has_step.false),
-    c.write_text.ensures.1 before said h,
+    c.as_slice.result.now,
+    c.as_slice.ensures ∙ c.missing_step_refusal.ensures ∙ ap (missing_step_text c.args.node) c.steps.ensures.steps ∙ around_nowhere c.args.notes.now c.args.lab.now c.args.node c.args.step c.args.around (sym c.has_step.ensures.value ∙ c.if-has_step.false),
+    c.write_blocks.ensures.1 before said h,
   ),
 )

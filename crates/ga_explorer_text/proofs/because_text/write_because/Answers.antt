@@ -1,6 +1,7 @@
 use Rattle.std.proofs.Common.{rules, ◌≡◌, ◌-◌, sym, ap, ◌∙◌}
 use Rattle.ga_lab.specs.Machine.{NodeAtStep}
 use Rattle.ga_provenance.specs.Deciding.{newest_decision}
+use Rattle.ga_display.specs.Texts.{missing_step_text}
 use Rattle.ga_explorer_text.specs.Because.{decisions_or_none_text}
 use Rattle.ga_explorer_text.proofs.Because.{because_here, because_nowhere}
 use Rattle.ga_explorer_text.proofs.because_text.write_because.Goals as goal
@@ -24,8 +25,8 @@ pub returns-else-has_step : goal.returns-else-has_step
 returns-else-has_step g c = (
   search rules,
   λ before said h. (
-    c.refusal_text.result.now,
-    c.refusal_text.ensures.text ∙ because_nowhere c.args.notes.now c.args.lab.now c.args.node c.args.step c.args.most (sym c.has_step.ensures.value ∙ c.if-has_step.false),
-    c.write_text.ensures.1 before said h,
+    c.as_slice.result.now,
+    c.as_slice.ensures ∙ c.missing_step_refusal.ensures ∙ ap (missing_step_text c.args.node) c.steps.ensures.steps ∙ because_nowhere c.args.notes.now c.args.lab.now c.args.node c.args.step c.args.most (sym c.has_step.ensures.value ∙ c.if-has_step.false),
+    c.write_blocks.ensures.1 before said h,
   ),
 )

@@ -1,5 +1,7 @@
-use Rattle.std.proofs.Common.{rules, ap, ◌∙◌}
+use Rattle.std.proofs.Common.{rules, ℕ, ap, ◌∙◌}
+use Rattle.ga_event.specs.Told.{count_steps}
 use Rattle.ga_lab.specs.Machine.{State}
+use Rattle.ga_display.specs.Texts.{advised_step_refusal_text}
 use Rattle.ga_explorer_text.specs.Effects.{effects_text}
 use Rattle.ga_explorer_text.proofs.Saying.{effects_found, effects_refused}
 use Rattle.ga_explorer_text.proofs.effects_text.write_effects.Goals as goal
@@ -21,8 +23,10 @@ pub returns-in-Err-clause-said : goal.returns-in-Err-clause-said
 returns-in-Err-clause-said g c = (
   search rules,
   λ before said h. (
-    c.advised_refusal_text.result.now,
-    effects_refused c.args.notes.now c.args.lab.now c.args.node c.args.step c.in-Err.fault c.advised_refusal_text.result.now c.in-Err.ensures.err c.advised_refusal_text.ensures.text,
-    c.write_text.ensures.1 before said h,
+    c.as_slice.result.now,
+    effects_refused c.args.notes.now c.args.lab.now c.args.node c.args.step c.in-Err.fault c.as_slice.result.now c.in-Err.ensures.err
+        (c.as_slice.ensures ∙ c.advised_step_refusal.ensures
+        ∙ ap (λ (n : ℕ). advised_step_refusal_text c.args.node n c.in-Err.fault) (c.steps.ensures.steps ∙ ap (λ (s : State). count_steps c.args.node.number s.kept) c.find_rollback_effects.ensures.same)),
+    c.write_blocks.ensures.1 before said h,
   ),
 )

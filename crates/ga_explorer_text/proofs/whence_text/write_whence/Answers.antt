@@ -1,6 +1,7 @@
 use Rattle.std.proofs.Common.{rules, ℕ, ◌≡◌, Some, sym, ap, ◌∙◌, inl, inr, subst}
 use Rattle.ga_lab.specs.Machine.{NodeAtStep}
 use Rattle.ga_provenance.proofs.Made.{has_step_so}
+use Rattle.ga_display.specs.Texts.{missing_step_text}
 use Rattle.ga_explorer_text.specs.Whence.{IsStepOrLinesAnswer, selected_value, queried_step_text}
 use Rattle.ga_explorer_text.proofs.whence_text.write_whence.Goals as goal
 
@@ -8,9 +9,9 @@ pub returns-then-not-has_step : goal.returns-then-not-has_step
 returns-then-not-has_step g c = (
   search rules,
   λ before said h. (
-    c.refusal_text.result.now,
-    inl (sym c.has_step.ensures.value ∙ c.if-not-has_step.true, c.refusal_text.ensures.text),
-    c.write_text.ensures.1 before said h,
+    c.as_slice.result.now,
+    inl (sym c.has_step.ensures.value ∙ c.if-not-has_step.true, c.as_slice.ensures ∙ c.missing_step_refusal.ensures ∙ ap (missing_step_text c.args.node) c.steps.ensures.steps),
+    c.write_blocks.ensures.1 before said h,
   ),
 )
 
