@@ -8,8 +8,10 @@ what `because` tests. `comparable` leaves these out of a text. How many conditio
 import re
 
 REFUSALS = {
-    "waiting": "", "stopped": "", "full": ": give a greater --limit; or save, dump, and go on from the dump",
-    "memory": ": save, dump, and go on from the dump", "empty": "", "nostep": "", "spent": "", "long": "", "input": "", "nolink": "",
+    "waiting": ": who shows for whom it waits", "stopped": ": whence NNN last shows why",
+    "full": ": give a greater --limit; or save, dump, and go on from the dump", "memory": ": save, dump, and go on from the dump",
+    "empty": ": the history has no event", "nostep": "", "spent": ": dump, and go on from the dump", "long": ": a command has at most 200 bytes",
+    "input": "", "nolink": ": only neighbours pass words",
 }
 SIDES = ("right", "down", "left", "up")
 LETTERS = {"right": "r", "down": "d", "left": "l", "up": "u"}
