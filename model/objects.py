@@ -43,6 +43,12 @@ class Answer:
         because = it["because"]
         if because == "value":
             return f"is {it['value']:06x}"
+        if because == "word":
+            return f"word {it['place']} is {it['value']:06x}"
+        if because == "further word":
+            return f"a further word is {it['value']:06x}"
+        if because == "no word":
+            return f"word {it['place']} never comes"
         if because == "stop":
             return f"stop {it['stop']}"
         if because == "event":

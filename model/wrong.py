@@ -474,6 +474,12 @@ WRONG = (
     (EXPECTATIONS, 'return 5 if any(it.startswith("broken")', 'return 5 if all(it.startswith("broken")'),
     (EXPECTATIONS, "6 if NOT_KNOWN in verdicts", "6 if len(verdicts) > 4"),
     (EXPECTATIONS, "for line in lines[:-1]:", "for line in lines[:-2]:"),
+    (EXPECTATIONS, "self.link = NUMBERS[giver], NUMBERS[taker]", "self.link = NUMBERS[taker], NUMBERS[giver]"),
+    (EXPECTATIONS, "if word == self.words[place] else", "if word >= self.words[place] else"),
+    (EXPECTATIONS, "return None if self.is_open else", "return None if not self.is_open else"),
+    (EXPECTATIONS, "if place < len(self.words) and at not in passing:", "if at not in passing:"),
+    (EXPECTATIONS, "if place < len(self.words) and at not in passing:", "if place < len(self.words) and not self.graph.edges[at]:"),
+    (EXPECTATIONS, "there = to, place + (event == self.link and place < len(self.words))", "there = to, place"),
 )
 
 

@@ -50,6 +50,7 @@ class Expectation:
     stop: int | None = None
     event: Event | None = None
     ends: int | None = None
+    place: int | None = None
 
     def found(self):
         """What was there, in the words of `ga144 check`."""
@@ -59,6 +60,9 @@ class Expectation:
             "awaits code": "waits for code",
             "reads": f"waits to read {self.sides}",
             "writes": f"waits to write {self.sides}",
+            "word": f"word {self.place} is {self.value or 0:06x}",
+            "further word": f"a further word is {self.value or 0:06x}",
+            "no word": f"word {self.place} never comes",
             "stop": f"stop {self.stop}",
             "event": str(self.event),
             "endless": "some order goes on for ever",

@@ -17,9 +17,23 @@ def test_each_expectation_of_a_right_program_holds(examples):
 def test_what_is_there_instead(examples):
     report = check(os.path.join(examples, "status-5", "lock_asked_with_a_wrong_port.f18"))
     broken = [one for one in report.expectations if one.outcome == "broken"]
-    assert [one.found() for one in broken] == ["is 000000", "waits to write up", "waits to read left"]
-    assert [one.session for one in broken] == [1, 2, 6] and (broken[0].because, broken[0].value) == ("value", 0)
+    assert [one.found() for one in broken] == ["is 000000", "waits to write up", "waits to read left", "word 1 never comes"]
+    assert [one.session for one in broken] == [1, 2, 6, 8] and (broken[0].because, broken[0].value) == ("value", 0)
     assert not report.holds and report.status == 5
+
+
+def test_words_over_a_link(examples):
+    one = check(os.path.join(examples, "status-5", "filter_a_step_short.f18")).expectations[-1]
+    assert (one.because, one.place, one.value, one.session) == ("word", 10, 56, 18) and one.found() == "word 10 is 000038"
+    one = check(os.path.join(examples, "status-5", "ring_without_a_token.f18")).expectations[-1]
+    assert (one.because, one.place, one.value) == ("no word", 7, None) and one.found() == "word 7 never comes"
+
+
+def test_a_word_too_many(tmp_path):
+    path = tmp_path / "further.f18"
+    path.write_text("node 000\nexpect pass 000 001 = 1\n: main 1 right b! !b 7 !b right push ;\nnode 001\n: main right b! @b @b right push ;\n")
+    one = check(path).expectations[0]
+    assert (one.because, one.place, one.value) == ("further word", 2, 7) and one.found() == "a further word is 000007"
 
 
 def test_an_event_that_never_should_come(examples):

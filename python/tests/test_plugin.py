@@ -18,12 +18,12 @@ def run(pytester, examples):
 
 
 def test_a_right_program_passes(run):
-    run("lock.f18").assert_outcomes(passed=7)
+    run("lock.f18").assert_outcomes(passed=8)
 
 
 def test_a_broken_expectation_fails_with_its_line(run):
     ran = run("status-5/lock_asked_with_a_wrong_port.f18")
-    ran.assert_outcomes(passed=4, failed=3)
+    ran.assert_outcomes(passed=4, failed=4)
     ran.stdout.fnmatch_lines(
         [
             "*lock_asked_with_a_wrong_port.f18:5: expect t = rounds",
@@ -54,4 +54,4 @@ def test_source_without_expectations_is_no_test(pytester):
 def test_each_expectation_is_in_the_junit_file(run, pytester):
     run("status-5/lock_asked_with_a_wrong_port.f18", "--junitxml", "found.xml")
     written = pytester.path.joinpath("found.xml").read_text()
-    assert 'failures="3"' in written and 'tests="7"' in written and "101 t = 61: broken, is 000000" in written
+    assert 'failures="4"' in written and 'tests="8"' in written and "101 t = 61: broken, is 000000" in written

@@ -22,9 +22,10 @@ use Rattle.ga_state_ends.proofs.Counting.{some_at}
 use Rattle.ga_state_ends.proofs.Making.{edge_enabled}
 use Rattle.ga_state_ends.proofs.Events.{in_place}
 use Rattle.ga_state_ends.proofs.Whole.{end_reachable, end_bound}
+use Rattle.ga_state_links.proofs.Whole.{holds_over}
 use Rattle.ga_state_conditions.proofs.Whole.{none_met}
 use Rattle.ga_state_expectations.specs.declared.source.Expectation.{Expectation}
-use Rattle.ga_state_expectations.specs.declared.source.Expectation.TheVariants.{AtEnds, Never, EveryOrderEnds, OneEnd}
+use Rattle.ga_state_expectations.specs.declared.source.Expectation.TheVariants.{AtEnds, Never, Passes, EveryOrderEnds, OneEnd}
 use Rattle.ga_state_expectations.specs.declared.source.LineExpectation.{LineExpectation}
 use Rattle.ga_state_expectations.proofs.Interleavings.{met_there, unmet_there}
 use Rattle.ga_check_report.specs.declared.request.CheckRequest.{CheckRequest}
@@ -71,6 +72,7 @@ pub held : (s : State) (found : EndSearchResult) (expectation : Expectation) →
 held s found (AtEnds expectation) are whole met = λ last events led returns. met_there (chip_of s) found are whole expectation met last events led returns
 held s found (Never conditions) are whole none = λ last events event place condition at led can met.
     none_met (chip_of s) found are whole conditions.items none place condition at last events event led can met
+held s found (Passes expected) are whole none = holds_over (chip_of s) found are whole expected none
 held s found EveryOrderEnds are whole none = (length found.searched.chips, λ last events led. end_bound (chip_of s) found are whole none last events led)
 held s found OneEnd are whole few =
     let first = end_reachable (chip_of s) found are whole (chip_of s) [] refl in (
@@ -93,6 +95,7 @@ outcome_broken s found (AtEnds expectation) breach are it =
     let there = unmet_there (chip_of s) found are expectation it.0 it.1 it.2 it.3 in
     (it.1, there.0.0, there.0.1, there.1, there.2)
 outcome_broken s found (Never conditions) breach are it = (it.0, it.1, it.2, it.3)
+outcome_broken s found (Passes expected) breach are it = (it.0, it.1, it.2, it.3)
 outcome_broken s found EveryOrderEnds breach are it =
     let cycle = are.cycle.0 it.1 in
     let size = are.is_search.explored_size in

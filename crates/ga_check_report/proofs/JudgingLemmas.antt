@@ -10,9 +10,10 @@ use Rattle.ga_event.specs.declared.made.Made.{Made}
 use Rattle.ga_event.specs.Apply.{replay}
 use Rattle.ga_lab.specs.Machine.{State, chip_of, earlier, state_after_undo}
 use Rattle.ga_state_conditions.specs.declared.condition.StateCondition.{StateCondition}
+use Rattle.ga_state_links.specs.LinkExpectations.{IsLinkBreach}
 use Rattle.ga_state_ends.specs.Ends.{EndSearchResult}
 use Rattle.ga_state_expectations.specs.declared.source.Expectation.{Expectation}
-use Rattle.ga_state_expectations.specs.declared.source.Expectation.TheVariants.{AtEnds, Never, EveryOrderEnds, OneEnd}
+use Rattle.ga_state_expectations.specs.declared.source.Expectation.TheVariants.{AtEnds, Never, Passes, EveryOrderEnds, OneEnd}
 use Rattle.ga_state_expectations.specs.declared.source.LineExpectation.{LineExpectation}
 use Rattle.ga_check_report.specs.declared.outcome.ExpectationOutcome.{ExpectationOutcome}
 use Rattle.ga_check_report.specs.declared.outcome.ExpectationOutcome.TheVariants.{Holds, Broken, Unknown}
@@ -84,6 +85,8 @@ pub outcome_as : (s t : State) (found : EndSearchResult) (expectation : Expectat
 outcome_as s t found expectation Holds same it = it
 outcome_as s t found (AtEnds expectation) (Broken breach) same it = it
 outcome_as s t found (Never conditions) (Broken breach) same it = (it.0, it.1, it.2, reached_as s t it.1 conditions.items it.0 it.2 same it.3, it.4)
+outcome_as s t found (Passes expected) (Broken breach) same it =
+    (it.0, it.1, it.2, subst (λ (load : List NodeRecord). IsLinkBreach load expected it.0 it.1 it.2) (chip_as s t same) it.3, it.4)
 outcome_as s t found EveryOrderEnds (Broken breach) same it = it
 outcome_as s t found OneEnd (Broken breach) same it = it
 outcome_as s t found expectation Unknown same it = it
@@ -135,6 +138,7 @@ pub never_report : (s : State) (found : EndSearchResult) (conditions : List Stat
 never_report s found conditions (AtEnds expectation) outcome is it = absurd is
 never_report s found conditions (Never listed) outcome is it =
     subst (λ (list : List StateCondition). IsOutcomeBy found (HasNoReachedEvent found list) (IsReachedBreach s list) outcome) (sym is) it
+never_report s found conditions (Passes expected) outcome is it = absurd is
 never_report s found conditions EveryOrderEnds outcome is it = absurd is
 never_report s found conditions OneEnd outcome is it = absurd is
 
@@ -143,6 +147,7 @@ pub never_led : (s last : State) (conditions : List StateCondition) (expectation
 never_led s last conditions (AtEnds expectation) which made is it = absurd is
 never_led s last conditions (Never listed) which made is it =
     (which, made, subst (λ (list : List StateCondition). HasReachedEvent list which s last made) (sym is) it)
+never_led s last conditions (Passes expected) which made is it = absurd is
 never_led s last conditions EveryOrderEnds which made is it = absurd is
 never_led s last conditions OneEnd which made is it = absurd is
 

@@ -1,6 +1,7 @@
 pub mod NeverTelling
 pub mod EndsOut
 pub mod Leading
+pub mod LinkBreaches
 pub mod Resting
 pub mod Telling
 pub mod ExpectationsOut

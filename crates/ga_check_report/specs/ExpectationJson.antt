@@ -10,12 +10,13 @@ use Rattle.ga_state_expectations.specs.declared.source.LineExpectation.{LineExpe
 use Rattle.ga_check_report.specs.declared.outcome.NodeObservation.{NodeObservation}
 use Rattle.ga_check_report.specs.declared.outcome.NodeObservation.TheVariants.{Is, Runs, AwaitsCode, Reads, Writes, Stopped}
 use Rattle.ga_check_report.specs.declared.outcome.Breach.{Breach}
-use Rattle.ga_check_report.specs.declared.outcome.Breach.TheVariants.{Unmet, Reached, Endless, SeveralEnds}
+use Rattle.ga_check_report.specs.declared.outcome.Breach.TheVariants.{Unmet, Reached, OverLink, Endless, SeveralEnds}
 use Rattle.ga_check_report.specs.declared.outcome.ExpectationOutcome.{ExpectationOutcome}
 use Rattle.ga_check_report.specs.declared.outcome.ExpectationOutcome.TheVariants.{Holds, Broken, Unknown}
 use Rattle.ga_check_report.specs.ExpectationTexts.{side_words}
 use Rattle.ga_check_report.specs.JsonValues.{text_json, optional_text_json, optional_number_json, search_fields}
 use Rattle.ga_check_report.specs.EventJson.{event_details}
+use Rattle.ga_check_report.specs.LinkFaults.{link_fault_word, link_fault_details}
 
 -- ---- what a node holds or does
 
@@ -58,6 +59,7 @@ outcome_word Unknown = codes "unknown"
 abbrev pub breach_word : Breach → Text
 breach_word (Unmet state observation) = observation_word observation
 breach_word (Reached made) = codes "event"
+breach_word (OverLink place fault) = link_fault_word fault
 breach_word Endless = codes "endless"
 breach_word (SeveralEnds ends) = codes "ends"
 
@@ -70,6 +72,7 @@ outcome_cause Unknown = None
 abbrev pub breach_session_number : ℕ → Breach → Option ℕ
 breach_session_number place (Unmet state observation) = Some place
 breach_session_number place (Reached made) = Some place
+breach_session_number place (OverLink words fault) = Some place
 breach_session_number place Endless = None
 breach_session_number place (SeveralEnds ends) = None
 
@@ -81,6 +84,7 @@ outcome_session_number place Unknown = None
 abbrev pub breach_details : Breach → List NamedValue
 breach_details (Unmet state observation) = observation_details observation
 breach_details (Reached made) = event_details made
+breach_details (OverLink place fault) = link_fault_details place fault
 breach_details Endless = []
 breach_details (SeveralEnds ends) = (codes "ends", number (pos ends)) ∷ []
 

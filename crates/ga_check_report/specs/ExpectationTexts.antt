@@ -12,10 +12,11 @@ use Rattle.ga_check_report.specs.declared.request.CheckRequest.{CheckRequest}
 use Rattle.ga_check_report.specs.declared.outcome.NodeObservation.{NodeObservation}
 use Rattle.ga_check_report.specs.declared.outcome.NodeObservation.TheVariants.{Is, Runs, AwaitsCode, Reads, Writes, Stopped}
 use Rattle.ga_check_report.specs.declared.outcome.Breach.{Breach}
-use Rattle.ga_check_report.specs.declared.outcome.Breach.TheVariants.{Unmet, Reached, Endless, SeveralEnds}
+use Rattle.ga_check_report.specs.declared.outcome.Breach.TheVariants.{Unmet, Reached, OverLink, Endless, SeveralEnds}
 use Rattle.ga_check_report.specs.declared.outcome.ExpectationOutcome.{ExpectationOutcome}
 use Rattle.ga_check_report.specs.declared.outcome.ExpectationOutcome.TheVariants.{Holds, Broken, Unknown}
 use Rattle.ga_check_report.specs.DecisionTexts.{made_text}
+use Rattle.ga_check_report.specs.LinkFaults.{link_fault_text}
 use Rattle.ga_check_report.specs.EndTexts.{counted_noun_text, at_least_text, is_fully_explored, search_stop_text}
 
 -- ---- what a node holds or does
@@ -47,6 +48,7 @@ session_option_text number = codes ": --session " ++ decimal number
 abbrev pub breach_text : Bool → ℕ → Breach → Text
 breach_text whole number (Unmet state observation) = observation_text observation ++ session_option_text number
 breach_text whole number (Reached made) = made_text made ++ session_option_text number
+breach_text whole number (OverLink place fault) = link_fault_text place fault ++ session_option_text number
 breach_text whole number Endless = codes "some order goes on for ever"
 breach_text whole number (SeveralEnds ends) = at_least_text whole ++ decimal ends ++ codes " ends"
 

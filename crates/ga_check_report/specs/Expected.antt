@@ -10,9 +10,11 @@ use Rattle.ga_console.specs.declared.run.Status.TheVariants.{ImageRefused}
 use Rattle.ga_debug_info.specs.declared.notes.DebugInfo.{DebugInfo}
 use Rattle.ga_explorer_text.specs.Saved.{saved_text}
 use Rattle.ga_explorer.specs.Opening.{OpensExplorer, IsLeadingText, ExplorerState}
+use Rattle.ga_state_links.specs.declared.expectation.LinkFault.{LinkFault}
+use Rattle.ga_state_links.specs.LinkExpectations.{IsLinkBreach}
 use Rattle.ga_state_ends.specs.Ends.{EndSearchResult, AreEndsOfChip}
 use Rattle.ga_state_expectations.specs.declared.source.Expectation.{Expectation}
-use Rattle.ga_state_expectations.specs.declared.source.Expectation.TheVariants.{AtEnds, Never, EveryOrderEnds, OneEnd}
+use Rattle.ga_state_expectations.specs.declared.source.Expectation.TheVariants.{AtEnds, Never, Passes, EveryOrderEnds, OneEnd}
 use Rattle.ga_state_expectations.specs.declared.source.LineExpectation.{LineExpectation}
 use Rattle.ga_state_expectations.specs.Expectations.{is_met_on}
 use Rattle.ga_state_expectations.specs.Lines.{expectations_of, expected_content}
@@ -31,11 +33,13 @@ use Rattle.ga_check_report.specs.Outcomes.{is_unknown, IsOutcome, AreOutcomes, o
 use Rattle.ga_check_report.specs.Settled.{check_start}
 
 -- Events led the machine to this one, on whose chip the expectation isn't met and to which the program can always come back; or an event that
--- came last meets one of the conditions.
+-- came last meets one of the conditions; or the words that they transfer over a link break the expectation.
 abbrev pub LeadsToBreach : State → Expectation → State → Type 0
 LeadsToBreach s (AtEnds expectation) last =
     (events : List Event) × HasAppendedEvents s events last × IsRecurrent (chip_of last) × (is_met_on expectation (chip_of last) ≡ false)
 LeadsToBreach s (Never conditions) last = (which : ℕ) × (made : Made) × HasReachedEvent conditions.items which s last made
+LeadsToBreach s (Passes expected) last =
+    (events : List Event) × (place : ℕ) × (fault : LinkFault) × HasAppendedEvents s events last × IsLinkBreach (chip_of s) expected events place fault
 LeadsToBreach s EveryOrderEnds last = ⊥
 LeadsToBreach s OneEnd last = ⊥
 

@@ -8,6 +8,7 @@ pub mod ExpectationJson
 pub mod ExpectationTexts
 pub mod Expected
 pub mod JsonValues
+pub mod LinkFaults
 pub mod Never
 pub mod NeverJson
 pub mod NeverTexts

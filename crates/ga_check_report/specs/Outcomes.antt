@@ -12,15 +12,19 @@ use Rattle.ga_lab.specs.Machine.{State, chip_of}
 use Rattle.ga_state_ends.specs.Ends.{EndSearchResult}
 use Rattle.ga_state_conditions.specs.declared.condition.StateCondition.{StateCondition}
 use Rattle.ga_state_conditions.specs.Reached.{IsConditionMet, HasNoReachedEvent}
+use Rattle.ga_state_links.specs.declared.expectation.LinkExpectation.{LinkExpectation}
+use Rattle.ga_state_links.specs.declared.expectation.LinkFault.{LinkFault}
+use Rattle.ga_state_links.specs.LinkExpectations.{HoldsOverLink, IsLinkBreach}
+use Rattle.ga_state_links.specs.Places.{HasNoLinkBreach}
 use Rattle.ga_state_expectations.specs.declared.expectation.NodeExpectation.{NodeExpectation}
 use Rattle.ga_state_expectations.specs.declared.source.Expectation.{Expectation}
-use Rattle.ga_state_expectations.specs.declared.source.Expectation.TheVariants.{AtEnds, Never, EveryOrderEnds, OneEnd}
+use Rattle.ga_state_expectations.specs.declared.source.Expectation.TheVariants.{AtEnds, Never, Passes, EveryOrderEnds, OneEnd}
 use Rattle.ga_state_expectations.specs.declared.source.LineExpectation.{LineExpectation}
 use Rattle.ga_state_expectations.specs.Expectations.{is_met_on}
 use Rattle.ga_state_expectations.specs.Recurrent.{IsRecurrent}
 use Rattle.ga_state_expectations.specs.Unmet.{IsUnmetAt, IsMetAtEnds}
 use Rattle.ga_check_report.specs.declared.outcome.Breach.{Breach}
-use Rattle.ga_check_report.specs.declared.outcome.Breach.TheVariants.{Unmet, Reached, Endless, SeveralEnds}
+use Rattle.ga_check_report.specs.declared.outcome.Breach.TheVariants.{Unmet, Reached, OverLink, Endless, SeveralEnds}
 use Rattle.ga_check_report.specs.declared.outcome.ExpectationOutcome.{ExpectationOutcome}
 use Rattle.ga_check_report.specs.declared.outcome.ExpectationOutcome.TheVariants.{Holds, Broken, Unknown}
 use Rattle.ga_check_report.specs.declared.report.Verdict.{Verdict}
@@ -41,10 +45,16 @@ IsUnmetBreach found expectation breach =
 abbrev pub IsReachedBreach : State → List StateCondition → Breach → Type 0
 IsReachedBreach s conditions breach = (which : ℕ) × (last : State) × (made : Made) × HasReachedEvent conditions which s last made × (breach ≡ Reached made)
 
+-- events from the chip on transfer words over the link that break the expectation, this number of them as expected and then by this fault
+abbrev pub IsOverLinkBreach : List NodeRecord → LinkExpectation → Breach → Type 0
+IsOverLinkBreach load expected breach =
+    (events : List Event) × (place : ℕ) × (fault : LinkFault) × IsLinkBreach load expected events place fault × (breach ≡ OverLink place fault)
+
 -- what breaks an expectation of a machine
 abbrev pub IsBreach : State → EndSearchResult → Expectation → Breach → Type 0
 IsBreach s found (AtEnds expectation) breach = IsUnmetBreach found expectation breach
 IsBreach s found (Never conditions) breach = IsReachedBreach s conditions.items breach
+IsBreach s found (Passes expected) breach = IsOverLinkBreach (chip_of s) expected breach
 IsBreach s found EveryOrderEnds breach = (breach ≡ Endless) × (found.has_cycle ≡ true)
 IsBreach s found OneEnd breach = (breach ≡ SeveralEnds (length found.ends)) × (1 < length found.ends)
 
@@ -52,6 +62,7 @@ IsBreach s found OneEnd breach = (breach ≡ SeveralEnds (length found.ends)) ×
 abbrev pub HasNoBreach : EndSearchResult → Expectation → Type 0
 HasNoBreach found (AtEnds expectation) = IsMetAtEnds found expectation
 HasNoBreach found (Never conditions) = HasNoReachedEvent found conditions.items
+HasNoBreach found (Passes expected) = HasNoLinkBreach found expected
 HasNoBreach found EveryOrderEnds = found.has_cycle ≡ false
 HasNoBreach found OneEnd = length found.ends ≤ 1
 
@@ -91,25 +102,28 @@ outcomes_verdict outcomes =
 -- ---- what that says of every interleaving
 
 -- On each chip to which the program can always come back, the node has what is required; after no event that comes does one of the conditions
--- hold; no list of events is longer than some number; one chip can still be reached from wherever a list leads.
+-- hold; each list of events transfers over a link what is expected; no list of events is longer than some number; one chip can still be reached from wherever a list leads.
 abbrev pub HoldsInEveryOrder : List NodeRecord → Expectation → Type 0
 HoldsInEveryOrder load (AtEnds expectation) =
     (last : List NodeRecord) (events : List Event) → replay load events ≡ Some last → IsRecurrent last → is_met_on expectation last ≡ true
 HoldsInEveryOrder load (Never conditions) =
     (last : List NodeRecord) (events : List Event) (event : Event) (place : ℕ) (condition : StateCondition) → slice_get conditions.items place ≡ Some condition
     → replay load events ≡ Some last → IsEnabled last event → IsConditionMet condition last event → ⊥
+HoldsInEveryOrder load (Passes expected) = HoldsOverLink load expected
 HoldsInEveryOrder load EveryOrderEnds =
     (bound : ℕ) × ((last : List NodeRecord) (events : List Event) → replay load events ≡ Some last → length events ≤ bound)
 HoldsInEveryOrder load OneEnd =
     (there : List NodeRecord) × ((last : List NodeRecord) (events : List Event) → replay load events ≡ Some last → (more : List Event) × (replay last more ≡ Some there))
 
 -- Some events lead to a chip to which the program can always come back, on which the node doesn't have what is required; or to one from which
--- further events lead back to it. Or they led the machine to one on which an event was enabled, after which one of the conditions holds. Or the
+-- further events lead back to it. Or they transfer words over a link that break the expectation. Or they led the machine to one on which an event was enabled, after which one of the conditions holds. Or the
 -- search found two ends.
 abbrev pub IsBrokenInSomeOrder : State → EndSearchResult → Expectation → Type 0
 IsBrokenInSomeOrder s found (AtEnds expectation) =
     (chip : List NodeRecord) × (events : List Event) × (replay (chip_of s) events ≡ Some chip) × IsRecurrent chip × (is_met_on expectation chip ≡ false)
 IsBrokenInSomeOrder s found (Never conditions) = (which : ℕ) × (last : State) × (made : Made) × HasReachedEvent conditions.items which s last made
+IsBrokenInSomeOrder s found (Passes expected) =
+    (events : List Event) × (place : ℕ) × (fault : LinkFault) × IsLinkBreach (chip_of s) expected events place fault
 IsBrokenInSomeOrder s found EveryOrderEnds =
     (chip : List NodeRecord) × (events : List Event) × (event : Event) × (more : List Event) × (replay (chip_of s) events ≡ Some chip)
     × (replay chip (event ∷ more) ≡ Some chip)

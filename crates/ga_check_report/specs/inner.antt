@@ -8,11 +8,11 @@ use Rattle.ga_explorer.specs.Opening.{ExplorerState, IsSessionOpened}
 use Rattle.ga_lab.specs.Machine.{State}
 use Rattle.ga_state_conditions.specs.declared.condition.StateCondition.{StateCondition}
 use Rattle.ga_state_expectations.specs.declared.source.Expectation.{Expectation}
-use Rattle.ga_state_expectations.specs.declared.source.Expectation.TheVariants.{AtEnds, Never, EveryOrderEnds, OneEnd}
+use Rattle.ga_state_expectations.specs.declared.source.Expectation.TheVariants.{AtEnds, Never, Passes, EveryOrderEnds, OneEnd}
 use Rattle.ga_state_expectations.specs.declared.source.LineExpectation.{LineExpectation}
 use Rattle.ga_check_report.specs.declared.request.CheckRequest.{CheckRequest}
 use Rattle.ga_check_report.specs.declared.outcome.Breach.{Breach}
-use Rattle.ga_check_report.specs.declared.outcome.Breach.TheVariants.{Unmet, Reached, Endless, SeveralEnds}
+use Rattle.ga_check_report.specs.declared.outcome.Breach.TheVariants.{Unmet, Reached, OverLink, Endless, SeveralEnds}
 use Rattle.ga_check_report.specs.declared.outcome.ExpectationOutcome.{ExpectationOutcome}
 use Rattle.ga_check_report.specs.declared.outcome.ExpectationOutcome.TheVariants.{Holds, Broken, Unknown}
 use Rattle.ga_check_report.specs.declared.report.Verdict.{Verdict}
@@ -30,6 +30,7 @@ WritesSessionOf request one asked s text verdict =
 abbrev pub IsNeverOf : List StateCondition → Expectation → Type 0
 IsNeverOf conditions (AtEnds expectation) = ⊥
 IsNeverOf conditions (Never listed) = listed.items ≡ conditions
+IsNeverOf conditions (Passes expected) = ⊥
 IsNeverOf conditions EveryOrderEnds = ⊥
 IsNeverOf conditions OneEnd = ⊥
 
@@ -37,6 +38,7 @@ IsNeverOf conditions OneEnd = ⊥
 abbrev pub breach_sides : Breach → Text
 breach_sides (Unmet state observation) = observation_sides observation
 breach_sides (Reached made) = []
+breach_sides (OverLink place fault) = []
 breach_sides Endless = []
 breach_sides (SeveralEnds ends) = []
 

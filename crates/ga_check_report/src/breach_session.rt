@@ -16,6 +16,7 @@ ghost use Rattle.ga_check_report.specs.EndTexts.{is_fully_explored};
 
 use crate::ends_text::is_fully_explored;
 use crate::judging::{judge_count, judge_endless, without_breach};
+use crate::link_breach::tell_link;
 use crate::making::make_all;
 use crate::never::make_reached;
 use crate::outcome::{ExpectationOutcome, is_unknown};
@@ -50,6 +51,9 @@ pub(crate) fn tell_one<W: Write>(
         }
         Expectation::Never(conditions) => {
             tell_never(alloc, lab, found, one, conditions, request, asked, writer)
+        }
+        Expectation::Passes(expected) => {
+            tell_link(alloc, lab, found, one, expected, request, asked, writer)
         }
         Expectation::EveryOrderEnds => {
             tell_unbroken(found, one, asked, &judge_endless(found), writer)
@@ -245,7 +249,7 @@ fn tell_event<W: Write>(
 }
 
 /// Writes that no session leads to what breaks the expectation, with what is known of it.
-fn tell_unbroken<W: Write>(
+pub(crate) fn tell_unbroken<W: Write>(
     found: &FoundEnds,
     one: &LineExpectation,
     asked: u32,

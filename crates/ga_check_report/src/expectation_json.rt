@@ -10,6 +10,7 @@ ghost use Rattle.ga_check_report.specs.inner.{breach_sides, outcome_sides};
 ghost use Rattle.ga_check_report.specs.ExpectationJson.{outcome_word, breach_word, outcome_cause, breach_session_number, outcome_session_number, observation_word, observation_sides, side_list_text, observation_details, breach_details, outcome_details, expectation_fields, expectation_object};
 
 use crate::json_fields::{MAX_DETAILS, event_fields, optional_number_field, text_field};
+use crate::link_fault::{link_fault_fields, link_fault_word};
 use crate::outcome::{Breach, ExpectationOutcome, NodeObservation};
 use crate::outcome_text::{push_sides, sides_of};
 use arrayvec::ArrayVec;
@@ -36,6 +37,7 @@ fn breach_word(breach: Breach) -> &'static [u8]
     match breach {
         Breach::Unmet { observation, .. } => observation_word(observation),
         Breach::Reached(_) => b"event",
+        Breach::OverLink { fault, .. } => link_fault_word(fault),
         Breach::Endless => b"endless",
         Breach::SeveralEnds(_) => b"ends",
     }
@@ -83,6 +85,7 @@ fn breach_session_number(number: u64, breach: Breach) -> Option<u64>
     match breach {
         Breach::Unmet { .. } => Some(number),
         Breach::Reached(_) => Some(number),
+        Breach::OverLink { .. } => Some(number),
         Breach::Endless => None,
         Breach::SeveralEnds(_) => None,
     }
@@ -105,6 +108,7 @@ fn breach_sides(breach: Breach) -> TextBuffer
     match breach {
         Breach::Unmet { observation, .. } => observation_sides(observation),
         Breach::Reached(_) => ArrayVec::new(),
+        Breach::OverLink { .. } => ArrayVec::new(),
         Breach::Endless => ArrayVec::new(),
         Breach::SeveralEnds(_) => ArrayVec::new(),
     }
@@ -157,6 +161,7 @@ fn breach_fields<'a>(breach: Breach, sides: &'a [u8]) -> RowFields<'a>
     match breach {
         Breach::Unmet { observation, .. } => observation_fields(observation, sides),
         Breach::Reached(made) => event_fields(made),
+        Breach::OverLink { place, fault } => link_fault_fields(place, fault),
         Breach::Endless => ArrayVec::new(),
         Breach::SeveralEnds(ends) => row_fields(&[Field::number(b"ends", ends as u64)]),
     }

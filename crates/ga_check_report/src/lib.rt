@@ -13,6 +13,8 @@ mod expected;
 mod json_fields;
 mod judging;
 pub mod laws;
+mod link_breach;
+mod link_fault;
 mod making;
 mod never;
 mod never_json;

@@ -7,6 +7,7 @@ ghost use Rattle.ga_check_report.specs.Outcomes.{is_broken, is_unknown, outcomes
 use crate::report::Verdict;
 use ga_lab::Made;
 use ga_ports::{PortSet, Side};
+use ga_state_links::LinkFault;
 use ga_word::Word18;
 
 /// What a node holds or does at one moment.
@@ -36,6 +37,11 @@ pub(crate) enum Breach {
     },
     /// An event after which one of the conditions holds.
     Reached(Made),
+    /// A word over a link that isn't the expected one, or never comes; and the number of words that come before it.
+    OverLink {
+        place: u32,
+        fault: LinkFault,
+    },
     /// Some order goes on for ever.
     Endless,
     /// The program has this number of ends, two or more.
@@ -54,7 +60,7 @@ pub(crate) enum ExpectationOutcome {
 }
 
 /// The types within an outcome: where outcomes are in a `Vec`, this kit's borrow checker has to meet them in the function.
-pub(crate) type OutcomeParts = (Breach, NodeObservation, Made);
+pub(crate) type OutcomeParts = (Breach, NodeObservation, Made, LinkFault);
 
 /// Whether the expectation doesn't hold in some order.
 fn is_broken(outcome: ExpectationOutcome) -> bool

@@ -8,6 +8,7 @@ ghost use Rattle.ga_check_report.specs.ExpectationTexts.{optional_side_text, sid
 
 use crate::decision_text::{MADE_ROOM, push_made};
 use crate::ends_text::{at_least_text, push_counted};
+use crate::link_fault::push_link_fault;
 use crate::outcome::{Breach, ExpectationOutcome, NodeObservation};
 use arrayvec::ArrayVec;
 use ga_ports::{PortSet, Side};
@@ -110,6 +111,10 @@ fn push_breach(out: &mut TextBuffer, whole: bool, number: usize, breach: Breach)
         }
         Breach::Reached(made) => {
             push_made(out, made);
+            push_session_option(out, number);
+        }
+        Breach::OverLink { place, fault } => {
+            push_link_fault(out, place, fault);
             push_session_option(out, number);
         }
         Breach::Endless => push_text(out, b"some order goes on for ever"),

@@ -19,7 +19,7 @@ never_text CountsWords = codes "a state counts no words: give the word, as pass 
 never_text TooMany = codes "too many conditions: at most 8 after a never, others on a line of their own"
 
 abbrev pub expectation_cause_text : ExpectationCause → Text
-expectation_cause_text cause.Nothing = codes "nothing is expected: [NNN] VALUE OP NUMBER, [NNN] reads SIDE .., [NNN] writes SIDE, [NNN] awaits code, [NNN] stops N, never COND or COND .., every order ends, or one end"
+expectation_cause_text cause.Nothing = codes "nothing is expected: [NNN] VALUE OP NUMBER, [NNN] reads SIDE .., [NNN] writes SIDE, [NNN] awaits code, [NNN] stops N, pass NNN MMM = NUMBERS [..], never COND or COND .., every order ends, or one end"
 expectation_cause_text cause.NoSuchWhole = codes "no such expectation: every order ends, or one end"
 expectation_cause_text cause.NoNode = codes "no node has begun: NNN before it names one"
 expectation_cause_text cause.NoSuchNode = codes "no such node: a row of 0 to 7, then a column of 00 to 17"
@@ -34,6 +34,11 @@ expectation_cause_text cause.NoSuchSide = codes "no such side: left, right, up o
 expectation_cause_text cause.ManySides = codes "too many sides: a node writes to one, and reads from four at most"
 expectation_cause_text cause.NotCode = codes "no such wait: awaits code, reads SIDE .. or writes SIDE"
 expectation_cause_text cause.NoSuchStop = codes "no such stop: stops 1, stops 2 or stops 3"
+expectation_cause_text cause.NotLink = codes "no such expectation: pass NNN MMM = NUMBERS, or pass NNN MMM = NUMBERS .. if others may come after them"
+expectation_cause_text cause.NotNeighbours = codes "not neighbours: words pass between a node and the next one in its row or column"
+expectation_cause_text cause.NoLinkWords = codes "no words: pass NNN MMM = NUMBERS, or never pass NNN MMM >= 0 if none may come"
+expectation_cause_text cause.ManyLinkWords = codes "too many words: at most 64, then .. for any others"
+expectation_cause_text cause.WordsAfterEnd = codes "words after ..: it comes last, for any others"
 expectation_cause_text (cause.Never fault) = never_text fault
 
 -- a fault with its line

@@ -16,10 +16,11 @@ use Rattle.ga_state_expectations.specs.Spelling.{split_word, is_of_whole, begins
 
 -- ---- of which nodes a line speaks
 
--- the text says itself of what it speaks: a node, or all of them
+-- the text says itself of what it speaks: a node, a link, or all nodes
 abbrev pub names_its_subject : Text → Bool
 names_its_subject text =
-    bytes_eq (split_word text).0 (codes "never") || (is_of_whole (split_word text).0 || begins_as_node (split_word text).0)
+    bytes_eq (split_word text).0 (codes "never")
+    || (bytes_eq (split_word text).0 (codes "pass") || (is_of_whole (split_word text).0 || begins_as_node (split_word text).0))
 
 abbrev pub has_nodes : List NodeId → Bool
 has_nodes [] = false

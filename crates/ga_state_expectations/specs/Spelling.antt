@@ -1,6 +1,6 @@
 -- What a line of source expects of a program, as text: words with one space between two of them, after `expect` (docs/REFERENCE.md,
 -- "Expectations"; this project's own). Values, comparisons and numbers are those of conditions.
-use Rattle.std.specs.Prelude.{ℕ, zero, suc, ◌+◌, ◌==◌, nat_le, nat_eq, Bool, true, false, ◌&&◌, ◌||◌, not, if◌then◌else◌, List, [], ◌∷◌, codes, bytes_eq, Option, Some, None, Result, Ok, Err}
+use Rattle.std.specs.Prelude.{ℕ, zero, suc, ◌+◌, ◌==◌, nat_le, nat_eq, Bool, true, false, ◌&&◌, ◌||◌, not, if◌then◌else◌, List, [], ◌∷◌, ◌++◌, ◌^◌, nat_lt, codes, bytes_eq, Option, Some, None, Result, Ok, Err}
 use Rattle.ga_text.specs.Lines.{Text}
 use Rattle.ga_text.specs.Parsing.{split_at_space, parse_node}
 use Rattle.ga_ports.specs.declared.side.Side.{Side}
@@ -16,6 +16,8 @@ use Rattle.ga_scheduler.specs.declared.value_test.ValueTest.{ValueTest}
 use Rattle.ga_conditions.specs.Conditions.{labels_in}
 use Rattle.ga_conditions.specs.Numbers.{operand_in}
 use Rattle.ga_conditions.specs.Tests.{named_value_in, comparison_in}
+use Rattle.ga_races.specs.HappensBefore.{are_neighbours}
+use Rattle.ga_state_links.specs.declared.expectation.LinkExpectation.{LinkExpectation}
 use Rattle.ga_state_conditions.specs.Asked.{state_conditions_in}
 use Rattle.ga_state_conditions.specs.declared.condition.StateCondition.{StateCondition}
 use Rattle.ga_state_conditions.specs.declared.asked.ConditionFault.{ConditionFault}
@@ -23,9 +25,9 @@ use Rattle.ga_state_expectations.specs.declared.expectation.NodeExpectation.{Nod
 use Rattle.ga_state_expectations.specs.declared.expectation.NodeRequirement.{NodeRequirement}
 use Rattle.ga_state_expectations.specs.declared.expectation.NodeRequirement.TheVariants.{Holds, Reads, Writes, AwaitsCode, Stopped}
 use Rattle.ga_state_expectations.specs.declared.source.Expectation.{Expectation}
-use Rattle.ga_state_expectations.specs.declared.source.Expectation.TheVariants.{AtEnds, Never as IsNever, EveryOrderEnds, OneEnd}
+use Rattle.ga_state_expectations.specs.declared.source.Expectation.TheVariants.{AtEnds, Never as IsNever, Passes, EveryOrderEnds, OneEnd}
 use Rattle.ga_state_expectations.specs.declared.cause.ExpectationCause.{ExpectationCause}
-use Rattle.ga_state_expectations.specs.declared.cause.ExpectationCause.TheVariants.{Nothing, NoSuchWhole, NoNode, NoSuchNode, NoSuchValue, CountsSteps, NoSuchComparison, NoNumber, NoSuchNumber, OutOfRange, NoSide, NoSuchSide, ManySides, NotCode, NoSuchStop, Never}
+use Rattle.ga_state_expectations.specs.declared.cause.ExpectationCause.TheVariants.{Nothing, NoSuchWhole, NoNode, NoSuchNode, NoSuchValue, CountsSteps, NoSuchComparison, NoNumber, NoSuchNumber, OutOfRange, NoSide, NoSuchSide, ManySides, NotCode, NoSuchStop, NotLink, NotNeighbours, NoLinkWords, ManyLinkWords, WordsAfterEnd, Never}
 
 -- the first word of a text and those after it; without a space, nothing comes after it
 abbrev pub word_from_split : Option (Text × Text) → Text → Text × Text
@@ -131,6 +133,62 @@ unfoldable pub requirement_in : List LabelAddress → NodeId → Text → Result
 requirement_in names node text =
     if has_no_words text then Err Nothing else requirement_of_words names node (split_word text).0 (split_word text).1
 
+-- ---- the words over a link
+
+-- the number of a word, if it is one of a word of the chip
+abbrev pub fitting_number : Option ℕ → Result ℕ ExpectationCause
+fitting_number None = Err NoSuchNumber
+fitting_number (Some number) = if nat_lt number (2 ^ 18) then Ok number else Err OutOfRange
+
+-- the word that a text names, with the labels of the node that gives it
+abbrev pub link_word_in : List LabelAddress → NodeId → Text → Result ℕ ExpectationCause
+link_word_in names giver word = fitting_number (operand_in names giver word)
+
+abbrev pub with_link_word : LinkExpectation → ℕ → LinkExpectation
+with_link_word expected word = record expected { words = record { items = expected.words.items ++ word ∷ [] } }
+
+-- `..`, and these words after it
+abbrev pub open_words : LinkExpectation → Text → Result LinkExpectation ExpectationCause
+open_words expected rest = if has_no_words rest then Ok (record expected { is_open = true }) else Err WordsAfterEnd
+
+-- one word more, and those after it
+abbrev pub words_after : (LinkExpectation → Text → Result LinkExpectation ExpectationCause) → LinkExpectation → Result ℕ ExpectationCause → Text → Result LinkExpectation ExpectationCause
+words_after others expected (Err cause) rest = Err cause
+words_after others expected (Ok word) rest = if has_no_words rest then Ok (with_link_word expected word) else others (with_link_word expected word) rest
+
+-- an expectation with the words that a text names after its own, at most this number of them; `..` comes last, if others may come
+unfoldable pub link_words_within : List LabelAddress → ℕ → LinkExpectation → Text → Result LinkExpectation ExpectationCause
+link_words_within names zero expected text =
+    if bytes_eq (split_word text).0 (codes "..") then open_words expected (split_word text).1 else Err ManyLinkWords
+link_words_within names (suc more) expected text =
+    if bytes_eq (split_word text).0 (codes "..") then open_words expected (split_word text).1
+    else words_after (link_words_within names more) expected (link_word_in names expected.from (split_word text).0) (split_word text).1
+
+abbrev pub no_link_words : NodeId → NodeId → LinkExpectation
+no_link_words from to = record { from = from; to = to; words = record { items = [] }; is_open = false }
+
+-- `NUMBER ..` after two nodes and `=`
+abbrev pub link_words_in : List LabelAddress → NodeId → NodeId → Text → Result LinkExpectation ExpectationCause
+link_words_in names from to text = if has_no_words text then Err NoLinkWords else link_words_within names 64 (no_link_words from to) text
+
+-- the same after what two names name
+abbrev pub link_between : List LabelAddress → Option NodeId → Option NodeId → Text → Result LinkExpectation ExpectationCause
+link_between names None to text = Err NoSuchNode
+link_between names (Some from) None text = Err NoSuchNode
+link_between names (Some from) (Some to) text = if are_neighbours from.number to.number then link_words_in names from to text else Err NotNeighbours
+
+-- the same after two names and a sign
+abbrev pub link_of_words : List LabelAddress → Text → Text → Text → Text → Result LinkExpectation ExpectationCause
+link_of_words names from to sign text = if bytes_eq sign (codes "=") then link_between names (parse_node from) (parse_node to) text else Err NotLink
+
+-- `NNN MMM = NUMBER ..` after `pass`, split after `NNN` and after `MMM`
+abbrev pub link_of_split : List LabelAddress → Text × Text → Text × Text → Text × Text → Result LinkExpectation ExpectationCause
+link_of_split names first second third = link_of_words names first.0 second.0 third.0 third.1
+
+unfoldable pub link_in : List LabelAddress → Text → Result LinkExpectation ExpectationCause
+link_in names text =
+    link_of_split names (split_word text) (split_word (split_word text).1) (split_word (split_word (split_word text).1).1)
+
 -- ---- what a line expects
 
 abbrev pub expected_of_node : NodeId → Result NodeRequirement ExpectationCause → Result Expectation ExpectationCause
@@ -145,6 +203,10 @@ node_expectation_in notes (Some node) cause text = expected_of_node node (requir
 abbrev pub expected_never : Result (List StateCondition) ConditionFault → Result Expectation ExpectationCause
 expected_never (Ok conditions) = Ok (IsNever (record { items = conditions }))
 expected_never (Err fault) = Err (Never fault)
+
+abbrev pub expected_passes : Result LinkExpectation ExpectationCause → Result Expectation ExpectationCause
+expected_passes (Ok expected) = Ok (Passes expected)
+expected_passes (Err cause) = Err cause
 
 -- `every order ends` and `one end`
 abbrev pub whole_expectation_in : Text → Result Expectation ExpectationCause
@@ -166,6 +228,7 @@ begins_as_node (byte ∷ word) = nat_le 48 byte && nat_le byte 57
 abbrev pub expectation_of_words : Option DebugInfo → Option NodeId → Text → Text → Text → Result Expectation ExpectationCause
 expectation_of_words notes node text word rest =
     if bytes_eq word (codes "never") then expected_never (state_conditions_in notes rest)
+    else if bytes_eq word (codes "pass") then expected_passes (link_in (labels_in notes) rest)
     else if is_of_whole word then whole_expectation_in text
     else if begins_as_node word then node_expectation_in notes (parse_node word) NoSuchNode rest
     else node_expectation_in notes node NoNode text

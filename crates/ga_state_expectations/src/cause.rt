@@ -52,6 +52,21 @@ pub enum ExpectationCause {
     /// No stop has this number.
     #[error("no such stop")]
     NoSuchStop,
+    /// The words after `pass` aren't two names and `=`.
+    #[error("no words over a link")]
+    NotLink,
+    /// The nodes have no link.
+    #[error("not neighbours")]
+    NotNeighbours,
+    /// No word is expected over the link, and none may come.
+    #[error("no words are given")]
+    NoLinkWords,
+    /// More words over a link than 64.
+    #[error("too many words")]
+    ManyLinkWords,
+    /// A word comes after `..`.
+    #[error("words after the end")]
+    WordsAfterEnd,
     /// What should never be, has this fault.
     #[error("no conditions")]
     Never(ConditionFault),

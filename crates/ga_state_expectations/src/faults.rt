@@ -42,7 +42,7 @@ fn expectation_cause_text(cause: ExpectationCause) -> &'static [u8]
 {
     match cause {
         ExpectationCause::Nothing => {
-            b"nothing is expected: [NNN] VALUE OP NUMBER, [NNN] reads SIDE .., [NNN] writes SIDE, [NNN] awaits code, [NNN] stops N, never COND or COND .., every order ends, or one end"
+            b"nothing is expected: [NNN] VALUE OP NUMBER, [NNN] reads SIDE .., [NNN] writes SIDE, [NNN] awaits code, [NNN] stops N, pass NNN MMM = NUMBERS [..], never COND or COND .., every order ends, or one end"
         }
         ExpectationCause::NoSuchWhole => b"no such expectation: every order ends, or one end",
         ExpectationCause::NoNode => b"no node has begun: NNN before it names one",
@@ -66,6 +66,17 @@ fn expectation_cause_text(cause: ExpectationCause) -> &'static [u8]
         }
         ExpectationCause::NotCode => b"no such wait: awaits code, reads SIDE .. or writes SIDE",
         ExpectationCause::NoSuchStop => b"no such stop: stops 1, stops 2 or stops 3",
+        ExpectationCause::NotLink => {
+            b"no such expectation: pass NNN MMM = NUMBERS, or pass NNN MMM = NUMBERS .. if others may come after them"
+        }
+        ExpectationCause::NotNeighbours => {
+            b"not neighbours: words pass between a node and the next one in its row or column"
+        }
+        ExpectationCause::NoLinkWords => {
+            b"no words: pass NNN MMM = NUMBERS, or never pass NNN MMM >= 0 if none may come"
+        }
+        ExpectationCause::ManyLinkWords => { b"too many words: at most 64, then .. for any others" }
+        ExpectationCause::WordsAfterEnd => { b"words after ..: it comes last, for any others" }
         ExpectationCause::Never(fault) => never_text(fault),
     }
 }

@@ -8,6 +8,7 @@ mod faults;
 mod finding;
 pub mod laws;
 mod lines;
+mod link;
 mod parsing;
 mod requirement;
 mod source;

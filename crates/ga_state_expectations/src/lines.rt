@@ -21,7 +21,10 @@ fn names_its_subject(text: &[u8]) -> bool
     ensures { result ≡ names_its_subject text.now }
 {
     let (word, _) = split_word(text);
-    word == b"never".as_slice() || is_of_whole(word) || begins_as_node(word)
+    word == b"never".as_slice()
+        || word == b"pass".as_slice()
+        || is_of_whole(word)
+        || begins_as_node(word)
 }
 
 /// Whether a line speaks of each node in whose program it is.

@@ -3,10 +3,11 @@
 ghost use Rattle.std.specs.Prelude.{◌≡◌};
 ghost use Rattle.ga_conditions.specs.Conditions.{labels_in};
 ghost use Rattle.ga_state_conditions.specs.Asked.{state_conditions_in};
-ghost use Rattle.ga_state_expectations.specs.Spelling.{node_expectation_in, expected_never, whole_expectation_in, is_of_whole, begins_as_node, expectation_of_words, expectation_in};
+ghost use Rattle.ga_state_expectations.specs.Spelling.{node_expectation_in, expected_never, link_in, expected_passes, whole_expectation_in, is_of_whole, begins_as_node, expectation_of_words, expectation_in};
 
 use crate::cause::ExpectationCause;
 use crate::expectation::NodeExpectation;
+use crate::link::parse_link;
 use crate::requirement::{has_no_words, parse_requirement, split_word};
 use crate::source::Expectation;
 use ga_debug_info::{DebugInfo, LabelAddress};
@@ -52,6 +53,16 @@ fn parse_never(notes: &Option<DebugInfo>, text: &[u8]) -> Result<Expectation, Ex
     }
 }
 
+/// `NNN MMM = NUMBER ..` after `pass`.
+fn parse_passes(notes: &Option<DebugInfo>, text: &[u8]) -> Result<Expectation, ExpectationCause>
+    ensures { result ≡ expected_passes (link_in (labels_in notes.now) text.now) }
+{
+    match parse_link(labels_of(notes), text) {
+        Ok(expected) => Ok(Expectation::Passes(expected)),
+        Err(cause) => Err(cause),
+    }
+}
+
 /// `every order ends` and `one end`.
 fn parse_whole_expectation(text: &[u8]) -> Result<Expectation, ExpectationCause>
     ensures { result ≡ whole_expectation_in text.now }
@@ -94,6 +105,8 @@ fn parse_words(
 {
     if word == b"never".as_slice() {
         parse_never(notes, rest)
+    } else if word == b"pass".as_slice() {
+        parse_passes(notes, rest)
     } else if is_of_whole(word) {
         parse_whole_expectation(text)
     } else if begins_as_node(word) {

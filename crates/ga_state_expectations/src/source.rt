@@ -2,6 +2,7 @@
 
 use crate::expectation::NodeExpectation;
 use ga_state_conditions::StateConditions;
+use ga_state_links::LinkExpectation;
 
 /// What is expected of a program, in whatever order its nodes run.
 #[derive(Clone, PartialEq, Eq, Debug, Drop)]
@@ -10,6 +11,8 @@ pub enum Expectation {
     AtEnds(NodeExpectation),
     /// None of these conditions holds after any event.
     Never(StateConditions),
+    /// These words pass over a link.
+    Passes(LinkExpectation),
     /// No order goes on for ever.
     EveryOrderEnds,
     /// The program has one end.

@@ -4,10 +4,12 @@ use crate::{
     Expectation, ExpectationCause, ExpectationFault, NodeRequirement, format_expectation_faults,
     parse_expectation,
 };
+use arrayvec::ArrayVec;
 use ga_grid::NodeId;
 use ga_ports::{PortSet, Side};
 use ga_scheduler::{Comparison, Condition, NodeValue, ValueTest};
 use ga_state_conditions::{ConditionFault, StateCondition};
+use ga_state_links::MAX_LINK_WORDS;
 use std::process::Abort;
 use std::test::Fail;
 
@@ -16,6 +18,7 @@ fn required(text: &[u8]) -> Result<Option<(u8, NodeRequirement)>, ExpectationCau
     match parse_expectation(&None, Some(NodeId::new(7)), text) {
         Ok(Expectation::AtEnds(it)) => Ok(Some((it.node.number, it.requirement))),
         Ok(Expectation::Never(_)) => Ok(None),
+        Ok(Expectation::Passes(_)) => Ok(None),
         Ok(Expectation::EveryOrderEnds) => Ok(None),
         Ok(Expectation::OneEnd) => Ok(None),
         Err(cause) => Err(cause),
@@ -65,6 +68,54 @@ fn what_all_nodes_do(rt: HostRuntime) -> Result<(), Fail> {
     Ok(())
 }
 
+// The words over the link from 006 to 007, and whether others may come after them.
+fn passed(rt: &impl Abort, text: &[u8]) -> (ArrayVec<u32, MAX_LINK_WORDS>, bool) {
+    match parse_expectation(&None, None, text) {
+        Ok(Expectation::Passes(expected)) => {
+            assert!(rt; expected.from.number == 6);
+            assert!(rt; expected.to.number == 7);
+            (expected.words, expected.is_open)
+        }
+        _ => rt.abort(),
+    }
+}
+
+#[test]
+fn what_passes_over_a_link(rt: HostRuntime) -> Result<(), Fail> {
+    let (words, is_open) = passed(&rt, b"pass 006 007 = 1 0x12 -1 right 00ff00");
+    assert!(rt; words.as_slice() == [1, 18, 262143, 0x1d5, 0xff00].as_slice());
+    assert!(rt; !is_open);
+    let (words, is_open) = passed(&rt, b"pass 006 007 = 7 ..");
+    assert!(rt; words.as_slice() == [7].as_slice());
+    assert!(rt; is_open);
+    let (words, is_open) = passed(&rt, b"pass 006 007 = ..");
+    assert!(rt; words.is_empty());
+    assert!(rt; is_open);
+    Ok(())
+}
+
+#[test]
+fn as_many_words_as_there_may_be(rt: HostRuntime) -> Result<(), Fail> {
+    let mut text = Vec::new(rt.alloc());
+    text.extend_from_slice(b"pass 006 007 =")?;
+    'words: for _place in 0..64 {
+        text.extend_from_slice(b" 5")?;
+    }
+    let (words, is_open) = passed(&rt, text.as_slice());
+    assert!(rt; words.len() == 64);
+    assert!(rt; !is_open);
+    text.extend_from_slice(b" ..")?;
+    let (words, is_open) = passed(&rt, text.as_slice());
+    assert!(rt; words.len() == 64);
+    assert!(rt; is_open);
+    text.extend_from_slice(b" 5")?;
+    refuses(&rt, text.as_slice(), ExpectationCause::WordsAfterEnd);
+    text.truncate(14 + 2 * 64);
+    text.extend_from_slice(b" 5")?;
+    refuses(&rt, text.as_slice(), ExpectationCause::ManyLinkWords);
+    Ok(())
+}
+
 #[test]
 fn what_has_a_fault(rt: HostRuntime) -> Result<(), Fail> {
     refuses(&rt, b"100", ExpectationCause::Nothing);
@@ -81,6 +132,25 @@ fn what_has_a_fault(rt: HostRuntime) -> Result<(), Fail> {
     refuses(&rt, b"writes left up", ExpectationCause::ManySides);
     refuses(&rt, b"awaits word", ExpectationCause::NotCode);
     refuses(&rt, b"stops 4", ExpectationCause::NoSuchStop);
+    refuses(&rt, b"pass", ExpectationCause::NotLink);
+    refuses(&rt, b"pass 006 007", ExpectationCause::NotLink);
+    refuses(&rt, b"pass 006 007 1 2", ExpectationCause::NotLink);
+    refuses(&rt, b"pass 007 = 1 2", ExpectationCause::NotLink);
+    refuses(&rt, b"pass 006 807 = 1", ExpectationCause::NoSuchNode);
+    refuses(&rt, b"pass 118 007 = 1", ExpectationCause::NoSuchNode);
+    refuses(&rt, b"pass 006 008 = 1", ExpectationCause::NotNeighbours);
+    refuses(&rt, b"pass 006 007 =", ExpectationCause::NoLinkWords);
+    refuses(&rt, b"pass 006 007 = 1 x", ExpectationCause::NoSuchNumber);
+    refuses(
+        &rt,
+        b"pass 006 007 = 1 262144 ..",
+        ExpectationCause::OutOfRange,
+    );
+    refuses(
+        &rt,
+        b"pass 006 007 = 1 .. 2",
+        ExpectationCause::WordsAfterEnd,
+    );
     refuses(
         &rt,
         b"never step 001 3",

@@ -1,5 +1,6 @@
 use Rattle.std.proofs.Common.{List, [], sym, subst}
 use Rattle.std.specs.Prelude.{IfOk}
+use Rattle.ga_lab.specs.Machine.{chip_of}
 use Rattle.ga_state_conditions.specs.declared.condition.StateCondition.{StateCondition}
 use Rattle.ga_state_conditions.specs.Reached.{HasNoReachedEvent}
 use Rattle.ga_state_expectations.specs.declared.source.Expectation.{Expectation}
@@ -16,6 +17,14 @@ returns-in-Never-clause-known c =
     subst (λ (e : Expectation). IfOk c.judge_never.result (λ (o : ExpectationOutcome). IsOutcome c.args.lab.now c.args.found.now e o)) (sym c.in-Never.is)
     (subst (λ (list : List StateCondition). IfOk c.judge_never.result (IsOutcomeBy c.args.found.now (HasNoReachedEvent c.args.found.now list) (IsReachedBreach c.args.lab.now list)))
     c.as_slice.ensures.value c.judge_never.ensures.known)
+
+pub returns-in-Passes-clause-known : goal.returns-in-Passes-clause-known
+returns-in-Passes-clause-known c =
+    subst (λ (e : Expectation). IfOk c.judge_link.result (λ (o : ExpectationOutcome). IsOutcome c.args.lab.now c.args.found.now e o)) (sym c.in-Passes.is)
+    (c.judge_link.ensures.known (chip_of c.args.lab.now) c.requires)
+
+pub returns-in-Passes-clause-led : goal.returns-in-Passes-clause-led
+returns-in-Passes-clause-led c = on_ok c.judge_link.result ([], same_first c.args.lab.now)
 
 pub returns-in-EveryOrderEnds-clause-known : goal.returns-in-EveryOrderEnds-clause-known
 returns-in-EveryOrderEnds-clause-known c =

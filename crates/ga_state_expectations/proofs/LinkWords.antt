@@ -1,0 +1,58 @@
+-- Words over a link that are read from a text one after another.
+use Rattle.std.proofs.Common.{◌≡◌, ◌∙◌, ℕ, zero, suc, false, true, cond, List, ◌∷◌, [], ◌++◌, Result, Ok, Err, sym, ap}
+use Rattle.std.specs.Prelude.{codes, bytes_eq}
+use Rattle.std.proofs.lemmas.Bool.{cond-true, cond-false}
+use Rattle.ga_text.specs.Lines.{Text}
+use Rattle.ga_debug_info.specs.declared.notes.LabelAddress.{LabelAddress}
+use Rattle.ga_state_links.specs.declared.expectation.LinkExpectation.{LinkExpectation}
+use Rattle.ga_state_expectations.specs.declared.cause.ExpectationCause.{ExpectationCause}
+use Rattle.ga_state_expectations.specs.declared.cause.ExpectationCause.TheVariants.{ManyLinkWords}
+use Rattle.ga_state_expectations.specs.Spelling.{split_word, has_no_words, link_word_in, with_link_word, open_words, words_after, link_words_within}
+
+pub open_first : (names : List LabelAddress) (more : ℕ) (expected : LinkExpectation) (text word rest : Text) (whole : Result LinkExpectation ExpectationCause) → split_word text ≡ (word, rest)
+    → bytes_eq word (codes "..") ≡ true → link_words_within names more expected text ≡ whole → open_words expected rest ≡ whole
+unfolding link_words_within
+open_first names zero expected text word rest whole splits dots e =
+    sym (ap (λ (parts : Text × Text). cond (bytes_eq parts.0 (codes "..")) (open_words expected parts.1) (Err ManyLinkWords)) splits
+    ∙ cond-true (bytes_eq word (codes "..")) (open_words expected rest) (Err ManyLinkWords) dots) ∙ e
+open_first names (suc more) expected text word rest whole splits dots e =
+    sym (ap (λ (parts : Text × Text). cond (bytes_eq parts.0 (codes "..")) (open_words expected parts.1)
+    (words_after (link_words_within names more) expected (link_word_in names expected.from parts.0) parts.1)) splits
+    ∙ cond-true (bytes_eq word (codes "..")) (open_words expected rest) (words_after (link_words_within names more) expected (link_word_in names expected.from word) rest) dots) ∙ e
+
+-- the words of a text whose first word, which this is, isn't `..`
+first_word : (names : List LabelAddress) (more : ℕ) (expected : LinkExpectation) (text word rest : Text) (read : Result ℕ ExpectationCause) → split_word text ≡ (word, rest)
+    → bytes_eq word (codes "..") ≡ false → link_word_in names expected.from word ≡ read
+    → link_words_within names (suc more) expected text ≡ words_after (link_words_within names more) expected read rest
+unfolding link_words_within
+first_word names more expected text word rest read splits dots is =
+    ap (λ (parts : Text × Text). cond (bytes_eq parts.0 (codes "..")) (open_words expected parts.1)
+    (words_after (link_words_within names more) expected (link_word_in names expected.from parts.0) parts.1)) splits
+    ∙ cond-false (bytes_eq word (codes "..")) (open_words expected rest) (words_after (link_words_within names more) expected (link_word_in names expected.from word) rest) dots
+    ∙ ap (λ (z : Result ℕ ExpectationCause). words_after (link_words_within names more) expected z rest) is
+
+pub no_word : (names : List LabelAddress) (more : ℕ) (expected : LinkExpectation) (text word rest : Text) (cause : ExpectationCause) (whole : Result LinkExpectation ExpectationCause)
+    → split_word text ≡ (word, rest) → bytes_eq word (codes "..") ≡ false → link_word_in names expected.from word ≡ Err cause
+    → link_words_within names (suc more) expected text ≡ whole → Err cause ≡ whole
+no_word names more expected text word rest cause whole splits dots is e = sym (first_word names more expected text word rest (Err cause) splits dots is) ∙ e
+
+pub last_word : (names : List LabelAddress) (more : ℕ) (expected : LinkExpectation) (text word rest : Text) (number : ℕ) (whole : Result LinkExpectation ExpectationCause)
+    → split_word text ≡ (word, rest) → bytes_eq word (codes "..") ≡ false → link_word_in names expected.from word ≡ Ok number → has_no_words rest ≡ true
+    → link_words_within names (suc more) expected text ≡ whole → Ok (with_link_word expected number) ≡ whole
+last_word names more expected text word rest number whole splits dots is none e =
+    sym (first_word names more expected text word rest (Ok number) splits dots is
+    ∙ cond-true (has_no_words rest) (Ok (with_link_word expected number)) (link_words_within names more (with_link_word expected number) rest) none) ∙ e
+
+pub next_word : (names : List LabelAddress) (more : ℕ) (expected : LinkExpectation) (text word rest : Text) (number : ℕ) (whole : Result LinkExpectation ExpectationCause)
+    → split_word text ≡ (word, rest) → bytes_eq word (codes "..") ≡ false → link_word_in names expected.from word ≡ Ok number → has_no_words rest ≡ false
+    → link_words_within names (suc more) expected text ≡ whole → link_words_within names more (with_link_word expected number) rest ≡ whole
+next_word names more expected text word rest number whole splits dots is some e =
+    sym (first_word names more expected text word rest (Ok number) splits dots is
+    ∙ cond-false (has_no_words rest) (Ok (with_link_word expected number)) (link_words_within names more (with_link_word expected number) rest) some) ∙ e
+
+pub many_words : (names : List LabelAddress) (expected : LinkExpectation) (text word rest : Text) (whole : Result LinkExpectation ExpectationCause) → split_word text ≡ (word, rest)
+    → bytes_eq word (codes "..") ≡ false → link_words_within names zero expected text ≡ whole → Err ManyLinkWords ≡ whole
+unfolding link_words_within
+many_words names expected text word rest whole splits dots e =
+    sym (ap (λ (parts : Text × Text). cond (bytes_eq parts.0 (codes "..")) (open_words expected parts.1) (Err ManyLinkWords)) splits
+    ∙ cond-false (bytes_eq word (codes "..")) (open_words expected rest) (Err ManyLinkWords) dots) ∙ e

@@ -1,0 +1,48 @@
+use Rattle.std.proofs.Common.{◌≡◌, ◌∙◌, ℕ, suc, ◌+◌, ◌-◌, List, ◌∷◌, [], ◌++◌, length, Result, Ok, Err, true, false, sym, ap, arith}
+use Rattle.std.proofs.lemmas.List.{length_push}
+use Rattle.ga_state_links.specs.declared.expectation.LinkExpectation.{LinkExpectation}
+use Rattle.ga_state_expectations.specs.declared.cause.ExpectationCause.{ExpectationCause}
+use Rattle.ga_state_expectations.specs.Spelling.{with_link_word, no_link_words, link_words_within}
+use Rattle.ga_state_expectations.proofs.LinkWords.{open_first, no_word, last_word, next_word, many_words}
+use Rattle.ga_state_expectations.proofs.link.parse_words_within.Goals as goal
+
+pub returns-then-is_open_end : goal.returns-then-is_open_end
+returns-then-is_open_end c =
+    c.open_words.ensures
+    ∙ open_first c.args.names.now (64 - c.words._place) c.words.expected c.words.left.now c.split_word.result.0.now c.split_word.result.1.now
+    (link_words_within c.args.names.now 64 (no_link_words c.args.from c.args.to) c.args.text.now) (sym c.split_word.ensures) (sym c.is_open_end.ensures ∙ c.if-is_open_end.true)
+    c.words.invariant.rest
+
+pub returns-in-Err : goal.returns-in-Err
+returns-in-Err c =
+    let k : ℕ = 63 - c.words._place in
+    let size : 64 - c.words._place ≡ suc k = omega (arith, c.words-test.true) in
+    no_word c.args.names.now k c.words.expected c.words.left.now c.split_word.result.0.now c.split_word.result.1.now c.in-Err.cause
+    (link_words_within c.args.names.now 64 (no_link_words c.args.from c.args.to) c.args.text.now) (sym c.split_word.ensures) (sym c.is_open_end.ensures ∙ c.if-is_open_end.false)
+    (sym c.parse_link_word.ensures ∙ c.in-Err.is)
+    (ap (λ (n : ℕ). link_words_within c.args.names.now n c.words.expected c.words.left.now) (sym size) ∙ c.words.invariant.rest)
+
+pub returns-then-has_no_words : goal.returns-then-has_no_words
+returns-then-has_no_words c =
+    let k : ℕ = 63 - c.words._place in
+    let size : 64 - c.words._place ≡ suc k = omega (arith, c.words-test.true) in
+    ap (λ (items : List ℕ). Ok (record c.words.expected { words = record { items = items } })) c.push.ensures.items
+    ∙ last_word c.args.names.now k c.words.expected c.words.left.now c.split_word.result.0.now c.split_word.result.1.now c.in-Ok.number
+    (link_words_within c.args.names.now 64 (no_link_words c.args.from c.args.to) c.args.text.now) (sym c.split_word.ensures) (sym c.is_open_end.ensures ∙ c.if-is_open_end.false)
+    (sym c.parse_link_word.ensures ∙ c.in-Ok.is) (sym c.has_no_words.ensures ∙ c.if-has_no_words.true)
+    (ap (λ (n : ℕ). link_words_within c.args.names.now n c.words.expected c.words.left.now) (sym size) ∙ c.words.invariant.rest)
+
+pub words-preserved : goal.words-preserved
+words-preserved c =
+    let k : ℕ = 63 - c.words._place in
+    let size : 64 - c.words._place ≡ suc k = omega (arith, c.words-test.true) in
+    let left : 64 - (c.words._place + 1) ≡ k = omega arith in
+    record {
+      size = omega (arith, ap (λ (z : List ℕ). length z) c.push.ensures.items, length_push c.words.expected.words.items c.in-Ok.number, c.words.invariant.size);
+      rest = ap (λ (n : ℕ). link_words_within c.args.names.now n (record c.words.expected { words = c.push.new.self }) c.split_word.result.1.now) left
+          ∙ ap (λ (items : List ℕ). link_words_within c.args.names.now k (record c.words.expected { words = record { items = items } }) c.split_word.result.1.now) c.push.ensures.items
+          ∙ next_word c.args.names.now k c.words.expected c.words.left.now c.split_word.result.0.now c.split_word.result.1.now c.in-Ok.number
+          (link_words_within c.args.names.now 64 (no_link_words c.args.from c.args.to) c.args.text.now) (sym c.split_word.ensures) (sym c.is_open_end.ensures ∙ c.if-is_open_end.false)
+          (sym c.parse_link_word.ensures ∙ c.in-Ok.is) (sym c.has_no_words.ensures ∙ c.if-has_no_words.false)
+          (ap (λ (n : ℕ). link_words_within c.args.names.now n c.words.expected c.words.left.now) (sym size) ∙ c.words.invariant.rest);
+    }
