@@ -474,6 +474,8 @@ WRONG = (
     (EXPECTATIONS, 'return 5 if any(it.startswith("broken")', 'return 5 if all(it.startswith("broken")'),
     (EXPECTATIONS, "6 if NOT_KNOWN in verdicts", "6 if len(verdicts) > 4"),
     (EXPECTATIONS, "for line in lines[:-1]:", "for line in lines[:-2]:"),
+    (EXPECTATIONS, " and component[at] not in broken", ""),
+    (EXPECTATIONS, "component[at] not in broken", "chip not in unmet"),
 )
 
 

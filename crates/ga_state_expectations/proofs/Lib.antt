@@ -1,5 +1,6 @@
 pub mod Ends
 pub mod Interleavings
+pub mod Meeting
 pub mod Sides
 pub mod Sources
 pub mod Unmet
