@@ -20,6 +20,11 @@ def event_text(it):
     return f"{it['node']} {it['step']} {it['event']}{number}"
 
 
+def decided_text(it):
+    """What an object of what decides adds to the text."""
+    return f"  decided by {event_text(it)}" if it["taken"] else f", not {event_text(it)}\n"
+
+
 class Answer:
     """The text of the objects about one file."""
 
@@ -65,7 +70,8 @@ class Answer:
 
     def expectations(self):
         head = f"{self.at_least}{counted(self.head['states'], 'state')}, {counted(self.head['expectations'], 'expectation')}\n"
-        return head + "".join(f"line {it['line']}: {it['text']}: {self.known(it)}\n" for it in self.rows) + self.stop_text()
+        lines = [decided_text(it) if it["answer"] == "decision" else f"line {it['line']}: {it['text']}: {self.known(it)}\n" for it in self.rows]
+        return head + "".join(lines) + self.stop_text()
 
     # ---- ends
 
@@ -87,10 +93,7 @@ class Answer:
         assert len(kinds) == self.head["kinds"]
         text = f"{self.at_least}{counted(self.head['states'], 'state')}, {self.at_least}{counted(len(kinds), 'kind')} of end\n"
         for it in self.rows:
-            if it["answer"] == "end":
-                text += self.end(it)
-            else:
-                text += f"  decided by {event_text(it)}" if it["taken"] else f", not {event_text(it)}\n"
+            text += self.end(it) if it["answer"] == "end" else decided_text(it)
         return text + (self.stop_text() if self.head["stopped"] else ENDLESS[self.head["endless"]])
 
     # ---- conditions

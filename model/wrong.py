@@ -480,6 +480,8 @@ WRONG = (
     (EXPECTATIONS, "if place < len(self.words) and at not in passing:", "if at not in passing:"),
     (EXPECTATIONS, "if place < len(self.words) and at not in passing:", "if place < len(self.words) and not self.graph.edges[at]:"),
     (EXPECTATIONS, "there = to, place + (event == self.link and place < len(self.words))", "there = to, place"),
+    (EXPECTATIONS, " and component[at] not in broken", ""),
+    (EXPECTATIONS, "component[at] not in broken", "chip not in unmet"),
 )
 
 

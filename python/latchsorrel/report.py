@@ -37,7 +37,8 @@ class Event:
 
 @dataclass(frozen=True)
 class Expectation:
-    """An expectation of a source, with what is known of it: it `holds` in every order, is `broken`, or is `unknown`."""
+    """An expectation of a source, with what is known of it: it `holds` in every order, is `broken`, or is `unknown`; and the event that decides that
+    it is broken, with the other."""
 
     number: int
     line: int
@@ -51,6 +52,7 @@ class Expectation:
     event: Event | None = None
     ends: int | None = None
     place: int | None = None
+    decision: tuple[Event, ...] = ()
 
     def found(self):
         """What was there, in the words of `ga144 check`."""
@@ -141,14 +143,22 @@ def event_of(it):
     return chosen(Event, it) if "event" in it else None
 
 
+def decision_of(objects, number):
+    """What decides of the kind of end or the expectation of this number: the event that is taken, and the other."""
+    return tuple(event_of(it) for it in objects if it["answer"] == "decision" and it["number"] == number)
+
+
 def ends_of(objects):
-    taken = {}
-    for it in (it for it in objects if it["answer"] == "decision"):
-        taken.setdefault(it["number"], []).append(event_of(it))
     return tuple(
-        chosen(End, it, nodes=tuple(chosen(NodeEnd, row) for row in it["rows"]), decision=tuple(taken.get(it["number"], ())))
+        chosen(End, it, nodes=tuple(chosen(NodeEnd, row) for row in it["rows"]), decision=decision_of(objects, it["number"]))
         for it in objects
         if it["answer"] == "end"
+    )
+
+
+def expectations_of(objects):
+    return tuple(
+        chosen(Expectation, it, event=event_of(it), decision=decision_of(objects, it["number"])) for it in objects if it["answer"] == "expectation"
     )
 
 
@@ -160,7 +170,7 @@ def report_of(objects, file, status):
         file,
         status,
         **{name: search.get(name) for name in ("states", "explored", "stopped", "endless")},
-        expectations=tuple(chosen(Expectation, it, event=event_of(it)) for it in objects if it["answer"] == "expectation"),
+        expectations=expectations_of(objects),
         ends=ends_of(objects),
         never=never,
         refusals=tuple(chosen(Refusal, it) for it in objects if it["answer"] == "refused"),

@@ -20,6 +20,9 @@ def test_what_is_there_instead(examples):
     assert [one.found() for one in broken] == ["is 000000", "waits to write up", "waits to read left", "word 1 never comes"]
     assert [one.session for one in broken] == [1, 2, 6, 8] and (broken[0].because, broken[0].value) == ("value", 0)
     assert not report.holds and report.status == 5
+    # 102 asks first with the wrong port; 100 could have
+    assert [str(it) for it in broken[0].decision] == ["pass 102 9 101 12 000145", "pass 100 9 101 12 0001d5"]
+    assert report.expectations[2].decision == ()
 
 
 def test_words_over_a_link(examples):

@@ -7,6 +7,7 @@ pub mod Telling
 pub mod ExpectationsOut
 pub mod JudgingLemmas
 pub mod ExpectationTelling
+pub mod BreachDecisions
 pub mod BreachSessions
 pub mod JsonWriting
 pub mod ObjectsOut

@@ -2,7 +2,6 @@
 use Rattle.std.proofs.Common.{◌≡◌, ℕ, zero, suc, ◌+◌, ◌-◌, ◌<◌, Bool, true, false, List, ◌++◌, length, get_or, drop, Option, None, refl, sym, ◌∙◌, ap, arith}
 use Rattle.std.proofs.lemmas.List.{drop_more}
 use Rattle.ga_json.specs.Values.{item, no_items}
-use Rattle.ga_json.specs.Compact.{json_line}
 use Rattle.ga_json.specs.Fields.{json_object}
 use Rattle.ga_state_ends.specs.Decisions.{EndDecision}
 use Rattle.ga_state_ends.specs.declared.end_kind.EndKind.{EndKind}
@@ -11,20 +10,20 @@ use Rattle.ga_check_report.specs.declared.outcome.ExpectationOutcome.{Expectatio
 use Rattle.ga_check_report.specs.declared.outcome.ExpectationOutcome.TheVariants.{Unknown}
 use Rattle.ga_check_report.specs.EndTexts.{node_end_at}
 use Rattle.ga_check_report.specs.EndJson.{is_listed_end, node_row_fields, node_row, node_rows, optional_row, kind_objects, kinds_objects}
-use Rattle.ga_check_report.specs.ExpectationJson.{expectation_object, expectation_objects}
+use Rattle.ga_check_report.specs.ExpectationJson.{decided_objects, expectation_objects}
 use Rattle.std.specs.Prelude.{slice_index_or}
 
-abbrev one_object : List ℕ → ℕ → LineExpectation → ExpectationOutcome → List ℕ
-one_object file place one outcome = json_line (expectation_object file place one.line one.text.items outcome)
-
-pub next_object : (file : List ℕ) (outcomes : List ExpectationOutcome) (expectations : List LineExpectation) (i : ℕ) (one : LineExpectation) (outcome : ExpectationOutcome)
-    → one ≡ get_or expectations i one → i < length expectations → outcome ≡ get_or outcomes i Unknown
-    → expectation_objects file outcomes i (drop i expectations)
-    ≡ json_line (expectation_object file (i + 1) one.line one.text.items outcome) ++ expectation_objects file outcomes (i + 1) (drop (i + 1) expectations)
-next_object file outcomes expectations i one outcome at within is =
-    ap (expectation_objects file outcomes i) (drop_more expectations i one within)
-    ∙ ap (λ (x : LineExpectation). one_object file (i + 1) x (get_or outcomes i Unknown) ++ expectation_objects file outcomes (i + 1) (drop (i + 1) expectations)) (sym at)
-    ∙ ap (λ (x : ExpectationOutcome). one_object file (i + 1) one x ++ expectation_objects file outcomes (i + 1) (drop (i + 1) expectations)) (sym is)
+pub next_objects : (file : List ℕ) (outcomes : List ExpectationOutcome) (decisions : List (Option EndDecision)) (expectations : List LineExpectation) (i : ℕ)
+    (one : LineExpectation) (outcome : ExpectationOutcome) (decision : Option EndDecision) → one ≡ get_or expectations i one → i < length expectations
+    → outcome ≡ get_or outcomes i Unknown → decision ≡ get_or decisions i None
+    → expectation_objects file outcomes decisions i (drop i expectations)
+    ≡ decided_objects file (i + 1) one outcome decision ++ expectation_objects file outcomes decisions (i + 1) (drop (i + 1) expectations)
+next_objects file outcomes decisions expectations i one outcome decision at within is decides =
+    let rest = expectation_objects file outcomes decisions (i + 1) (drop (i + 1) expectations) in
+    ap (expectation_objects file outcomes decisions i) (drop_more expectations i one within)
+    ∙ ap (λ (x : LineExpectation). decided_objects file (i + 1) x (get_or outcomes i Unknown) (get_or decisions i None) ++ rest) (sym at)
+    ∙ ap (λ (x : ExpectationOutcome). decided_objects file (i + 1) one x (get_or decisions i None) ++ rest) (sym is)
+    ∙ ap (λ (x : Option EndDecision). decided_objects file (i + 1) one outcome x ++ rest) (sym decides)
 
 pub next_kind : (file : List ℕ) (decisions : List (Option EndDecision)) (kinds : List EndKind) (i : ℕ) (default : EndKind) (decision : Option EndDecision) → i < length kinds
     → decision ≡ get_or decisions i None

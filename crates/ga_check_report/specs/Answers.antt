@@ -1,11 +1,12 @@
 -- What `ga144 check` prints, in the format that was asked for: text (docs/REFERENCE.md, "Every order" and "Every expectation") or JSON (docs/JSON.md; both
 -- this project's own). A session is text in either.
-use Rattle.std.specs.Prelude.{ℕ, Bool, true, false, List, length}
+use Rattle.std.specs.Prelude.{ℕ, Bool, true, false, List, length, Option}
 use Rattle.ga_text.specs.Lines.{Text}
 use Rattle.ga_event.specs.declared.made.Made.{Made}
 use Rattle.ga_lab.specs.Machine.{State}
 use Rattle.ga_lab.specs.declared.fault.LabFault.{LabFault}
 use Rattle.ga_display.specs.Texts.{refusal_text}
+use Rattle.ga_state_ends.specs.Decisions.{EndDecision}
 use Rattle.ga_state_ends.specs.Ends.{EndSearchResult}
 use Rattle.ga_state_expectations.specs.declared.source.LineExpectation.{LineExpectation}
 use Rattle.ga_check_report.specs.declared.outcome.ExpectationOutcome.{ExpectationOutcome}
@@ -32,12 +33,12 @@ ends_answer_by (format.Json file) request found = ends_json file.now found
 abbrev pub ends_answer : CheckRequest → EndSearchResult → Text
 ends_answer request found = ends_answer_by request.format request found
 
-abbrev pub expectations_answer_by : ReportFormat → CheckRequest → EndSearchResult → List LineExpectation → List ExpectationOutcome → Text
-expectations_answer_by format.Text request found expectations outcomes = expectations_text request found expectations outcomes
-expectations_answer_by (format.Json file) request found expectations outcomes = expectations_json file.now found expectations outcomes
+abbrev pub expectations_answer_by : ReportFormat → CheckRequest → EndSearchResult → List LineExpectation → List ExpectationOutcome → List (Option EndDecision) → Text
+expectations_answer_by format.Text request found expectations outcomes decisions = expectations_text request found expectations outcomes decisions
+expectations_answer_by (format.Json file) request found expectations outcomes decisions = expectations_json file.now found expectations outcomes decisions
 
-abbrev pub expectations_answer : CheckRequest → EndSearchResult → List LineExpectation → List ExpectationOutcome → Text
-expectations_answer request found expectations outcomes = expectations_answer_by request.format request found expectations outcomes
+abbrev pub expectations_answer : CheckRequest → EndSearchResult → List LineExpectation → List ExpectationOutcome → List (Option EndDecision) → Text
+expectations_answer request found expectations outcomes decisions = expectations_answer_by request.format request found expectations outcomes decisions
 
 abbrev pub unreached_answer_by : ReportFormat → CheckRequest → EndSearchResult → Text
 unreached_answer_by format.Text request found = unreached_text request found

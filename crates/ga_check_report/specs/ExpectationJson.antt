@@ -5,6 +5,7 @@ use Rattle.ga_ports.specs.Address.{only}
 use Rattle.ga_json.specs.Values.{JsonValue, number, string}
 use Rattle.ga_json.specs.Fields.{NamedValue, json_object}
 use Rattle.ga_json.specs.Compact.{json_line}
+use Rattle.ga_state_ends.specs.Decisions.{EndDecision}
 use Rattle.ga_state_ends.specs.Ends.{EndSearchResult}
 use Rattle.ga_state_expectations.specs.declared.source.LineExpectation.{LineExpectation}
 use Rattle.ga_check_report.specs.declared.outcome.NodeObservation.{NodeObservation}
@@ -17,6 +18,7 @@ use Rattle.ga_check_report.specs.ExpectationTexts.{side_words}
 use Rattle.ga_check_report.specs.JsonValues.{text_json, optional_text_json, optional_number_json, search_fields}
 use Rattle.ga_check_report.specs.EventJson.{event_details}
 use Rattle.ga_check_report.specs.LinkFaults.{link_fault_word, link_fault_details}
+use Rattle.ga_check_report.specs.EndJson.{decision_objects}
 
 -- ---- what a node holds or does
 
@@ -104,18 +106,23 @@ expectation_fields file place line words outcome =
 abbrev pub expectation_object : Text → ℕ → ℕ → Text → ExpectationOutcome → JsonValue
 expectation_object file place line words outcome = json_object (expectation_fields file place line words outcome ++ outcome_details outcome)
 
+-- and those of what decides that it is broken
+abbrev pub decided_objects : Text → ℕ → LineExpectation → ExpectationOutcome → Option EndDecision → Text
+decided_objects file place one outcome decision =
+    json_line (expectation_object file place one.line one.text.items outcome) ++ decision_objects file place decision
+
 -- the objects of the expectations from this place on
-abbrev pub expectation_objects : Text → List ExpectationOutcome → ℕ → List LineExpectation → Text
-expectation_objects file outcomes place [] = []
-expectation_objects file outcomes place (one ∷ others) =
-    json_line (expectation_object file (place + 1) one.line one.text.items (slice_index_or outcomes place Unknown))
-    ++ expectation_objects file outcomes (place + 1) others
+abbrev pub expectation_objects : Text → List ExpectationOutcome → List (Option EndDecision) → ℕ → List LineExpectation → Text
+expectation_objects file outcomes decisions place [] = []
+expectation_objects file outcomes decisions place (one ∷ others) =
+    decided_objects file (place + 1) one (slice_index_or outcomes place Unknown) (slice_index_or decisions place None)
+    ++ expectation_objects file outcomes decisions (place + 1) others
 
 -- ---- the whole answer
 
 abbrev pub expectations_head : Text → EndSearchResult → ℕ → List NamedValue
 expectations_head file found count = search_fields (codes "expectations") file found ++ (codes "expectations", number (pos count)) ∷ []
 
-abbrev pub expectations_json : Text → EndSearchResult → List LineExpectation → List ExpectationOutcome → Text
-expectations_json file found expectations outcomes =
-    json_line (json_object (expectations_head file found (length expectations))) ++ expectation_objects file outcomes 0 expectations
+abbrev pub expectations_json : Text → EndSearchResult → List LineExpectation → List ExpectationOutcome → List (Option EndDecision) → Text
+expectations_json file found expectations outcomes decisions =
+    json_line (json_object (expectations_head file found (length expectations))) ++ expectation_objects file outcomes decisions 0 expectations

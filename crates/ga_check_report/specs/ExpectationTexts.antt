@@ -1,11 +1,12 @@
 -- What `ga144 check` prints of the expectations of a program (docs/REFERENCE.md, "Every expectation"; this project's own): the numbers of states and
--- of expectations, the line of each, and which bound was met.
+-- of expectations, the line of each with what decides that it is broken, and which bound was met.
 use Rattle.std.specs.Prelude.{ℕ, ◌+◌, Bool, true, false, List, [], ◌∷◌, ◌++◌, length, codes, decimal, slice_index_or, Option, Some, None}
 use Rattle.ga_word.specs.Word.{hex6_of}
 use Rattle.ga_ports.specs.Address.{only, has_side}
 use Rattle.ga_ports.specs.declared.side.Side.TheVariants as side
 use Rattle.ga_text.specs.Lines.{Text}
 use Rattle.ga_state_search.specs.declared.fault.SearchFault.{SearchFault}
+use Rattle.ga_state_ends.specs.Decisions.{EndDecision}
 use Rattle.ga_state_ends.specs.Ends.{EndSearchResult}
 use Rattle.ga_state_expectations.specs.declared.source.LineExpectation.{LineExpectation}
 use Rattle.ga_check_report.specs.declared.request.CheckRequest.{CheckRequest}
@@ -15,8 +16,8 @@ use Rattle.ga_check_report.specs.declared.outcome.Breach.{Breach}
 use Rattle.ga_check_report.specs.declared.outcome.Breach.TheVariants.{Unmet, Reached, OverLink, Endless, SeveralEnds}
 use Rattle.ga_check_report.specs.declared.outcome.ExpectationOutcome.{ExpectationOutcome}
 use Rattle.ga_check_report.specs.declared.outcome.ExpectationOutcome.TheVariants.{Holds, Broken, Unknown}
-use Rattle.ga_check_report.specs.DecisionTexts.{made_text}
 use Rattle.ga_check_report.specs.LinkFaults.{link_fault_text}
+use Rattle.ga_check_report.specs.DecisionTexts.{made_text, end_decision_text}
 use Rattle.ga_check_report.specs.EndTexts.{counted_noun_text, at_least_text, is_fully_explored, search_stop_text}
 
 -- ---- what a node holds or does
@@ -65,11 +66,16 @@ expectation_front line = codes "line " ++ decimal line ++ codes ": "
 abbrev pub expectation_line : Bool → ℕ → LineExpectation → ExpectationOutcome → Text
 expectation_line whole number one outcome = expectation_front one.line ++ one.text.items ++ outcome_text whole number outcome
 
+-- and what decides that it is broken
+abbrev pub decided_line : Bool → ℕ → LineExpectation → ExpectationOutcome → Option EndDecision → Text
+decided_line whole number one outcome decision = expectation_line whole number one outcome ++ end_decision_text decision
+
 -- the lines of the expectations from this place on
-abbrev pub expectations_lines_text : Bool → List ExpectationOutcome → ℕ → List LineExpectation → Text
-expectations_lines_text whole outcomes place [] = []
-expectations_lines_text whole outcomes place (one ∷ others) =
-    expectation_line whole (place + 1) one (slice_index_or outcomes place Unknown) ++ expectations_lines_text whole outcomes (place + 1) others
+abbrev pub expectations_lines_text : Bool → List ExpectationOutcome → List (Option EndDecision) → ℕ → List LineExpectation → Text
+expectations_lines_text whole outcomes decisions place [] = []
+expectations_lines_text whole outcomes decisions place (one ∷ others) =
+    decided_line whole (place + 1) one (slice_index_or outcomes place Unknown) (slice_index_or decisions place None)
+    ++ expectations_lines_text whole outcomes decisions (place + 1) others
 
 -- ---- the whole answer
 
@@ -83,10 +89,10 @@ abbrev pub optional_stop_text : CheckRequest → Option SearchFault → Text
 optional_stop_text request None = []
 optional_stop_text request (Some fault) = search_stop_text request fault
 
-abbrev pub expectations_text : CheckRequest → EndSearchResult → List LineExpectation → List ExpectationOutcome → Text
-expectations_text request found expectations outcomes =
+abbrev pub expectations_text : CheckRequest → EndSearchResult → List LineExpectation → List ExpectationOutcome → List (Option EndDecision) → Text
+expectations_text request found expectations outcomes decisions =
     expectations_header (is_fully_explored found.fault) (length found.searched.chips) (length expectations)
-    ++ expectations_lines_text (is_fully_explored found.fault) outcomes 0 expectations ++ optional_stop_text request found.fault
+    ++ expectations_lines_text (is_fully_explored found.fault) outcomes decisions 0 expectations ++ optional_stop_text request found.fault
 
 -- ---- no session
 

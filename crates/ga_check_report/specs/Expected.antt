@@ -12,6 +12,7 @@ use Rattle.ga_explorer_text.specs.Saved.{saved_text}
 use Rattle.ga_explorer.specs.Opening.{OpensExplorer, IsLeadingText, ExplorerState}
 use Rattle.ga_state_links.specs.declared.expectation.LinkFault.{LinkFault}
 use Rattle.ga_state_links.specs.LinkExpectations.{IsLinkBreach}
+use Rattle.ga_state_ends.specs.Decisions.{EndDecision}
 use Rattle.ga_state_ends.specs.Ends.{EndSearchResult, AreEndsOfChip}
 use Rattle.ga_state_expectations.specs.declared.source.Expectation.{Expectation}
 use Rattle.ga_state_expectations.specs.declared.source.Expectation.TheVariants.{AtEnds, Never, Passes, EveryOrderEnds, OneEnd}
@@ -27,6 +28,7 @@ use Rattle.ga_check_report.specs.Checking.{HasAppendedEvents, IsReportOutput, Wr
 use Rattle.ga_check_report.specs.EndTexts.{is_fully_explored}
 use Rattle.ga_check_report.specs.ExpectationTexts.{missing_session_text, unbroken_text}
 use Rattle.ga_check_report.specs.Answers.{refusal_answer, expectations_answer}
+use Rattle.ga_check_report.specs.BreachDecisions.{AreBreachesDecided}
 use Rattle.ga_check_report.specs.Opened.{IsUnopenedAnswer}
 use Rattle.ga_check_report.specs.Never.{HasReachedEvent}
 use Rattle.ga_check_report.specs.Outcomes.{is_unknown, IsOutcome, AreOutcomes, outcomes_verdict}
@@ -47,11 +49,12 @@ LeadsToBreach s OneEnd last = ⊥
 abbrev pub unbroken_verdict : ExpectationOutcome → Verdict
 unbroken_verdict outcome = if is_unknown outcome then Unknown else Ended ImageRefused
 
--- The text about a machine: what is known of each expectation; or the session of one that is named by its number; or that no session leads to
+-- The text about a machine: what is known of each expectation, and what decides that it is broken; or the session of one that is named by its number; or that no session leads to
 -- what breaks it, or that there is no such expectation; or that there was no memory; or that the machine keeps fewer events than a session has.
 pub data WritesExpectationsReport (request : CheckRequest) (expectations : List LineExpectation) (asked : ℕ) (s : State) (text : Text) (verdict : Verdict) : Type 0 where
-  all : (found : EndSearchResult) (outcomes : List ExpectationOutcome) → AreEndsOfChip (chip_of s) found → AreOutcomes s found expectations outcomes → asked ≡ 0
-      → IsReportOutput (expectations_answer request found expectations outcomes) (outcomes_verdict outcomes) text verdict
+  all : (found : EndSearchResult) (outcomes : List ExpectationOutcome) (decisions : List (Option EndDecision)) → AreEndsOfChip (chip_of s) found
+      → AreOutcomes s found expectations outcomes → AreBreachesDecided found expectations outcomes decisions → asked ≡ 0
+      → IsReportOutput (expectations_answer request found expectations outcomes decisions) (outcomes_verdict outcomes) text verdict
       → WritesExpectationsReport request expectations asked s text verdict
   led : (one : LineExpectation) (last : State) → slice_get expectations (asked - 1) ≡ Some one → LeadsToBreach s one.expectation last
       → IsReportOutput (saved_text last) Saved text verdict → WritesExpectationsReport request expectations asked s text verdict

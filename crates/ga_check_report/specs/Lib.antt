@@ -1,4 +1,5 @@
 pub mod Answers
+pub mod BreachDecisions
 pub mod Checking
 pub mod DecisionTexts
 pub mod EndJson

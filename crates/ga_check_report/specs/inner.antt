@@ -1,11 +1,14 @@
 -- What private contracts cite: the session of one expectation, the conditions of one and the sides that its node awaits, and a program that is opened.
-use Rattle.std.specs.Prelude.{ℕ, ◌≡◌, ◌-◌, List, [], ◌∷◌, ◌++◌, slice_get, Some, None, Result, Ok, Err, codes}
+use Rattle.std.specs.Prelude.{ℕ, ◌≡◌, ◌-◌, List, [], ◌∷◌, ◌++◌, slice_get, Option, Some, None, Result, Ok, Err, codes}
 use Rattle.ga_text.specs.Lines.{Bytes, Text}
 use Rattle.ga_text.specs.Input.{UnreadInput}
 use Rattle.ga_console.specs.declared.run.Status.{Status}
 use Rattle.ga_console.specs.declared.run.Status.TheVariants as status
 use Rattle.ga_explorer.specs.Opening.{ExplorerState, IsSessionOpened}
 use Rattle.ga_lab.specs.Machine.{State}
+use Rattle.ga_lab.specs.declared.fault.LabFault.TheVariants as fault
+use Rattle.ga_state_ends.specs.Decisions.{EndDecision}
+use Rattle.ga_state_ends.specs.Ends.{EndSearchResult}
 use Rattle.ga_state_conditions.specs.declared.condition.StateCondition.{StateCondition}
 use Rattle.ga_state_expectations.specs.declared.source.Expectation.{Expectation}
 use Rattle.ga_state_expectations.specs.declared.source.Expectation.TheVariants.{AtEnds, Never, Passes, EveryOrderEnds, OneEnd}
@@ -16,6 +19,11 @@ use Rattle.ga_check_report.specs.declared.outcome.Breach.TheVariants.{Unmet, Rea
 use Rattle.ga_check_report.specs.declared.outcome.ExpectationOutcome.{ExpectationOutcome}
 use Rattle.ga_check_report.specs.declared.outcome.ExpectationOutcome.TheVariants.{Holds, Broken, Unknown}
 use Rattle.ga_check_report.specs.declared.report.Verdict.{Verdict}
+use Rattle.ga_check_report.specs.declared.report.Verdict.TheVariants.{Ended}
+use Rattle.ga_check_report.specs.Answers.{refusal_answer, expectations_answer}
+use Rattle.ga_check_report.specs.BreachDecisions.{AreBreachesDecided}
+use Rattle.ga_check_report.specs.Checking.{IsReportOutput}
+use Rattle.ga_check_report.specs.Outcomes.{outcomes_verdict}
 use Rattle.ga_check_report.specs.declared.request.ReportFormat.{ReportFormat}
 use Rattle.ga_check_report.specs.ExpectationJson.{observation_sides}
 use Rattle.ga_check_report.specs.Opened.{IsUnopenedAnswer}
@@ -25,6 +33,15 @@ use Rattle.ga_check_report.specs.Expected.{WritesExpectationsReport}
 abbrev pub WritesSessionOf : CheckRequest → LineExpectation → ℕ → State → Text → Verdict → Type 0
 WritesSessionOf request one asked s text verdict =
     (expectations : List LineExpectation) → slice_get expectations (asked - 1) ≡ Some one → WritesExpectationsReport request expectations asked s text verdict
+
+-- The text is what is known of the expectations and what decides that they are broken; or there was no memory for that.
+pub data WritesOutcomes (request : CheckRequest) (found : EndSearchResult) (expectations : List LineExpectation) (outcomes : List ExpectationOutcome) (text : Text)
+    (verdict : Verdict) : Type 0 where
+  decided : (decisions : List (Option EndDecision)) → AreBreachesDecided found expectations outcomes decisions
+      → IsReportOutput (expectations_answer request found expectations outcomes decisions) (outcomes_verdict outcomes) text verdict
+      → WritesOutcomes request found expectations outcomes text verdict
+  undecided : IsReportOutput (refusal_answer request.format fault.Memory) (Ended status.ImageRefused) text verdict
+      → WritesOutcomes request found expectations outcomes text verdict
 
 -- the expectation is that none of these conditions ever holds
 abbrev pub IsNeverOf : List StateCondition → Expectation → Type 0

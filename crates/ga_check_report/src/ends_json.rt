@@ -163,7 +163,7 @@ fn end_fields<'a>(file: &'a [u8], number: u64, kind: &EndKind) -> RowFields<'a>
 ///
 /// # Errors
 /// A write failed.
-fn write_decision_objects<W: Write>(
+pub(crate) fn write_decision_objects<W: Write>(
     file: &[u8],
     number: u64,
     decision: Option<EndDecision>,

@@ -6,17 +6,18 @@ ghost use Rattle.ga_json.specs.Compact.{json_line};
 ghost use Rattle.ga_json.specs.Fields.{named_field_value, json_object};
 ghost use Rattle.ga_check_report.specs.ExpectationJson.{expectation_object, expectation_objects, expectations_head, expectations_json};
 
+use crate::breach_decisions::{decision_at, write_decided_objects};
 use crate::expectation_json::write_expectation_object;
 use crate::expected::outcome_at;
 use crate::json_fields::search_fields;
 use crate::outcome::ExpectationOutcome;
 use ga_json::{Field, RowFields, write_object};
-use ga_state_ends::FoundEnds;
+use ga_state_ends::{EndDecision, FoundEnds};
 use ga_state_expectations::LineExpectation;
 use ga_text::{WriteResult, Writer};
 use std::io::Write;
 
-/// Writes the object of the search, and then that of each expectation.
+/// Writes the object of the search, and then those of each expectation.
 ///
 /// # Errors
 /// A write failed.
@@ -25,12 +26,13 @@ pub(crate) fn write_expectations_json<W: Write>(
     found: &FoundEnds,
     expectations: &[LineExpectation],
     outcomes: &[ExpectationOutcome],
+    decisions: &[Option<EndDecision>],
     writer: &mut Writer<'_, W>,
 ) -> WriteResult
-    ensures { WritesExactly result (expectations_json file.now found.now expectations.now outcomes.now) W.contents writer.old writer.new }
+    ensures { WritesExactly result (expectations_json file.now found.now expectations.now outcomes.now decisions.now) W.contents writer.old writer.new }
 {
     write_expectations_head(file, found, expectations.len(), writer)?;
-    write_objects(file, expectations, outcomes, writer)
+    write_objects(file, expectations, outcomes, decisions, writer)
 }
 
 /// Writes the object of the search.
@@ -58,7 +60,7 @@ fn expectations_head<'a>(file: &'a [u8], found: &FoundEnds, count: u64) -> RowFi
     fields
 }
 
-/// Writes the object of each expectation.
+/// Writes the objects of each expectation, and of what decides that it is broken.
 ///
 /// # Errors
 /// A write failed.
@@ -66,13 +68,22 @@ fn write_objects<W: Write>(
     file: &[u8],
     expectations: &[LineExpectation],
     outcomes: &[ExpectationOutcome],
+    decisions: &[Option<EndDecision>],
     writer: &mut Writer<'_, W>,
 ) -> WriteResult
-    ensures { WritesExactly result (expectation_objects file.now outcomes.now 0 expectations.now) W.contents writer.old writer.new }
+    ensures { WritesExactly result (expectation_objects file.now outcomes.now decisions.now 0 expectations.now) W.contents writer.old writer.new }
 {
     'expectations: for place in 0..expectations.len() {
         let outcome = outcome_at(outcomes, place);
-        write_one(file, place + 1, &expectations[place], outcome, writer)?;
+        let decision = decision_at(decisions, place);
+        write_decided_objects(
+            file,
+            place + 1,
+            &expectations[place],
+            outcome,
+            decision,
+            writer,
+        )?;
     }
     Ok(())
 }
@@ -81,7 +92,7 @@ fn write_objects<W: Write>(
 ///
 /// # Errors
 /// A write failed.
-fn write_one<W: Write>(
+pub(crate) fn write_one<W: Write>(
     file: &[u8],
     number: usize,
     one: &LineExpectation,

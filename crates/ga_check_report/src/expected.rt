@@ -1,8 +1,9 @@
 //! The expectations of a program, and the text about them.
 
-ghost use Rattle.std.specs.Prelude.{◌≡◌, ◌≤◌, ◌-◌, Some, slice_get, slice_index_or, length};
+ghost use Rattle.std.specs.Prelude.{◌≡◌, ◌≤◌, ◌-◌, List, Some, slice_get, slice_index_or, length};
+ghost use Rattle.ga_node.specs.Record.{NodeRecord};
 ghost use Rattle.ga_text.specs.Output.{WritesExactly, WritesText, ReadsAndWrites};
-ghost use Rattle.ga_lab.specs.Machine.{chip_of};
+ghost use Rattle.ga_lab.specs.Machine.{State, chip_of};
 ghost use Rattle.ga_console.specs.declared.run.Status.TheVariants.{ImageRefused};
 ghost use Rattle.ga_state_ends.specs.Ends.{AreEndsOfChip};
 ghost use Rattle.ga_check_report.specs.declared.outcome.ExpectationOutcome.TheVariants.{Unknown};
@@ -13,21 +14,23 @@ ghost use Rattle.ga_check_report.specs.ExpectationTexts.{expectations_lines_text
 ghost use Rattle.ga_check_report.specs.Outcomes.{AreOutcomes, outcomes_verdict};
 ghost use Rattle.ga_check_report.specs.Expected.{WritesForNotes, WritesExpectationsReport, WritesProgramReport, IsProgramOutcome};
 ghost use Rattle.ga_check_report.specs.Settled.{check_start};
+ghost use Rattle.ga_check_report.specs.inner.{WritesOutcomes};
 
+use crate::breach_decisions::{decide_breaches, decision_at, write_decided_line};
 use crate::breach_session::tell_one;
 use crate::ends_text::{is_fully_explored, stopped_line};
 use crate::expectations_json::write_expectations_json;
 use crate::judging::judge_all;
 use crate::opening::open_program;
 use crate::outcome::{ExpectationOutcome, OutcomeParts, outcomes_verdict};
-use crate::outcome_text::{expectations_header, missing_session_text, write_expectation};
+use crate::outcome_text::{expectations_header, missing_session_text};
 use crate::report::{Verdict, sent, tell_ends, tell_refused};
 use crate::request::{CheckRequest, ReportFormat};
 use crate::settling::settle_waiting_nodes;
 use ga_console::Status;
 use ga_explorer::Explorer;
 use ga_lab::{Lab, LabFault};
-use ga_state_ends::{FoundEnds, find_ends};
+use ga_state_ends::{EndDecision, FoundEnds, find_ends};
 use ga_state_expectations::{ExpectationsError, LineExpectation, parse_expectations};
 use ga_state_search::SearchControl;
 use ga_text::{Input, WriteResult, Writer};
@@ -210,8 +213,41 @@ fn tell_each<W: Write>(
 {
     let _parts: Option<OutcomeParts> = None;
     match judge_all(alloc, lab, found, expectations) {
-        Ok(outcomes) => tell_outcomes(request, found, expectations, outcomes.as_slice(), writer),
+        Ok(outcomes) => decide_and_tell(
+            alloc,
+            found,
+            request,
+            expectations,
+            outcomes.as_slice(),
+            writer,
+        ),
         Err(LabFault::Full) => tell_refused(request.format, LabFault::Full, writer),
+        Err(_) => tell_refused(request.format, LabFault::Memory, writer),
+    }
+}
+
+/// Writes the expectations with what is known of them, and what decides that they are broken.
+fn decide_and_tell<W: Write>(
+    alloc: Global,
+    found: &mut FoundEnds,
+    request: CheckRequest<'_>,
+    expectations: &[LineExpectation],
+    outcomes: &[ExpectationOutcome],
+    writer: &mut W,
+) -> Verdict
+    requires ends { (load : List NodeRecord) × AreEndsOfChip load found.old }
+    requires known { (s : State) × AreOutcomes s found.old expectations.now outcomes.now }
+    ensures { WritesText (λ text. WritesOutcomes request.entry found.old expectations.now outcomes.now text result) (W.contents writer.old) (W.contents writer.new) }
+{
+    match decide_breaches(alloc, found, expectations, outcomes) {
+        Ok(decisions) => tell_outcomes(
+            request,
+            found,
+            expectations,
+            outcomes,
+            decisions.as_slice(),
+            writer,
+        ),
         Err(_) => tell_refused(request.format, LabFault::Memory, writer),
     }
 }
@@ -222,13 +258,21 @@ fn tell_outcomes<W: Write>(
     found: &FoundEnds,
     expectations: &[LineExpectation],
     outcomes: &[ExpectationOutcome],
+    decisions: &[Option<EndDecision>],
     writer: &mut W,
 ) -> Verdict
-    ensures { WritesText (λ text. IsReportOutput (expectations_answer request.entry found.now expectations.now outcomes.now) (outcomes_verdict outcomes.now) text result)
+    ensures { WritesText (λ text. IsReportOutput (expectations_answer request.entry found.now expectations.now outcomes.now decisions.now) (outcomes_verdict outcomes.now) text result)
         (W.contents writer.old) (W.contents writer.new) }
 {
     let mut out = Writer::new(writer);
-    let said = write_expectations(request, found, expectations, outcomes, &mut out);
+    let said = write_expectations(
+        request,
+        found,
+        expectations,
+        outcomes,
+        decisions,
+        &mut out,
+    );
     sent(said, outcomes_verdict(outcomes), &mut out)
 }
 
@@ -241,21 +285,22 @@ fn write_expectations<W: Write>(
     found: &FoundEnds,
     expectations: &[LineExpectation],
     outcomes: &[ExpectationOutcome],
+    decisions: &[Option<EndDecision>],
     writer: &mut Writer<'_, W>,
 ) -> WriteResult
-    ensures { WritesExactly result (expectations_answer request.entry found.now expectations.now outcomes.now) W.contents writer.old writer.new }
+    ensures { WritesExactly result (expectations_answer request.entry found.now expectations.now outcomes.now decisions.now) W.contents writer.old writer.new }
 {
     match request.format {
         ReportFormat::Text => {
-            write_expectations_text(request, found, expectations, outcomes, writer)
+            write_expectations_text(request, found, expectations, outcomes, decisions, writer)
         }
         ReportFormat::Json(file) => {
-            write_expectations_json(file, found, expectations, outcomes, writer)
+            write_expectations_json(file, found, expectations, outcomes, decisions, writer)
         }
     }
 }
 
-/// Writes the numbers of states and of expectations, the line of each, and which bound was met.
+/// Writes the numbers of states and of expectations, the lines of each, and which bound was met.
 ///
 /// # Errors
 /// A write failed.
@@ -264,18 +309,19 @@ fn write_expectations_text<W: Write>(
     found: &FoundEnds,
     expectations: &[LineExpectation],
     outcomes: &[ExpectationOutcome],
+    decisions: &[Option<EndDecision>],
     writer: &mut Writer<'_, W>,
 ) -> WriteResult
-    ensures { WritesExactly result (expectations_text request.entry found.now expectations.now outcomes.now) W.contents writer.old writer.new }
+    ensures { WritesExactly result (expectations_text request.entry found.now expectations.now outcomes.now decisions.now) W.contents writer.old writer.new }
 {
     let whole = is_fully_explored(found);
     let header = expectations_header(whole, found.count_states(), expectations.len());
     writer.write_blocks(header.as_slice())?;
-    write_lines(whole, expectations, outcomes, writer)?;
+    write_lines(whole, expectations, outcomes, decisions, writer)?;
     write_stop(request, found, writer)
 }
 
-/// Writes the line of each expectation.
+/// Writes the line of each expectation, and what decides that it is broken.
 ///
 /// # Errors
 /// A write failed.
@@ -283,13 +329,22 @@ fn write_lines<W: Write>(
     whole: bool,
     expectations: &[LineExpectation],
     outcomes: &[ExpectationOutcome],
+    decisions: &[Option<EndDecision>],
     writer: &mut Writer<'_, W>,
 ) -> WriteResult
-    ensures { WritesExactly result (expectations_lines_text whole outcomes.now 0 expectations.now) W.contents writer.old writer.new }
+    ensures { WritesExactly result (expectations_lines_text whole outcomes.now decisions.now 0 expectations.now) W.contents writer.old writer.new }
 {
     'expectations: for place in 0..expectations.len() {
         let outcome = outcome_at(outcomes, place);
-        write_expectation(whole, place + 1, &expectations[place], outcome, writer)?;
+        let decision = decision_at(decisions, place);
+        write_decided_line(
+            whole,
+            place + 1,
+            &expectations[place],
+            outcome,
+            decision,
+            writer,
+        )?;
     }
     Ok(())
 }

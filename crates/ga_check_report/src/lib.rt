@@ -2,6 +2,7 @@
 //! may rely on.
 #![tactic(auto)]
 
+mod breach_decisions;
 mod breach_session;
 mod decision_text;
 mod end_nodes;

@@ -5,3 +5,5 @@ pub mod Spelling
 pub mod Recurrent
 pub mod Sources
 pub mod Unmet
+pub mod Meeting
+pub mod inner

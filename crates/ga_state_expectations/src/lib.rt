@@ -3,6 +3,7 @@
 
 mod cause;
 mod checking;
+mod deciding;
 mod expectation;
 mod faults;
 mod finding;
@@ -15,6 +16,7 @@ mod source;
 
 pub use cause::{ExpectationCause, ExpectationFault, ExpectationsError};
 pub use checking::check_source_expectations;
+pub use deciding::decide_unmet;
 pub use expectation::{NodeExpectation, NodeRequirement};
 pub use faults::{format_expectation_faults, report_expectations_error};
 pub use finding::find_unmet;

@@ -1,25 +1,26 @@
 use Rattle.std.proofs.Common.{◌+◌, drop, ap, arith}
 use Rattle.std.proofs.lemmas.List.{drop_all}
-use Rattle.ga_json.specs.Compact.{json_line}
-use Rattle.ga_check_report.specs.ExpectationJson.{expectation_object, expectation_objects}
-use Rattle.ga_check_report.proofs.ObjectsOut.{next_object}
+use Rattle.ga_check_report.specs.ExpectationJson.{decided_objects, expectation_objects}
+use Rattle.ga_check_report.proofs.ObjectsOut.{next_objects}
 use Rattle.ga_json.proofs.Says.{begins, goes_on, ends, cuts}
 use Rattle.ga_check_report.proofs.expectations_json.write_objects.Goals as goal
 
 pub expectations-init : goal.expectations-init
-expectations-init g c = begins g.W.Write.contents c.args.writer.now (expectation_objects c.args.file.now c.args.outcomes.now 0 c.args.expectations.now)
+expectations-init g c = begins g.W.Write.contents c.args.writer.now (expectation_objects c.args.file.now c.args.outcomes.now c.args.decisions.now 0 c.args.expectations.now)
 
-pub returns-in_err-write_one : goal.returns-in_err-write_one
-returns-in_err-write_one g c =
-    cuts c.from_residual.result c.write_one.new.writer (json_line (expectation_object c.args.file.now (c.expectations.place + 1) c.index-expectations-place.result.line c.index-expectations-place.result.text.items c.outcome_at-outcome.result)) (expectation_objects c.args.file.now c.args.outcomes.now (c.expectations.place + 1) (drop (c.expectations.place + 1) c.args.expectations.now)) c.from_residual.ensures.0 c.expectations.invariant
-    (next_object c.args.file.now c.args.outcomes.now c.args.expectations.now c.expectations.place c.index-expectations-place.result c.outcome_at-outcome.result c.index-expectations-place.is (omega arith) c.outcome_at-outcome.ensures)
-    c.in_err-write_one.ensures
+pub returns-in_err-write_decided_objects : goal.returns-in_err-write_decided_objects
+returns-in_err-write_decided_objects g c =
+    cuts c.from_residual.result c.write_decided_objects.new.writer (decided_objects c.args.file.now (c.expectations.place + 1) c.index-expectations-place.result c.outcome_at-outcome.result c.decision_at-decision.result) (expectation_objects c.args.file.now c.args.outcomes.now c.args.decisions.now (c.expectations.place + 1) (drop (c.expectations.place + 1) c.args.expectations.now)) c.from_residual.ensures.0 c.expectations.invariant
+    (next_objects c.args.file.now c.args.outcomes.now c.args.decisions.now c.args.expectations.now c.expectations.place c.index-expectations-place.result c.outcome_at-outcome.result
+    c.decision_at-decision.result c.index-expectations-place.is (omega arith) c.outcome_at-outcome.ensures c.decision_at-decision.ensures)
+    c.in_err-write_decided_objects.ensures
 
 pub expectations-preserved : goal.expectations-preserved
 expectations-preserved g c =
-    goes_on c.write_one.new.writer (json_line (expectation_object c.args.file.now (c.expectations.place + 1) c.index-expectations-place.result.line c.index-expectations-place.result.text.items c.outcome_at-outcome.result)) (expectation_objects c.args.file.now c.args.outcomes.now (c.expectations.place + 1) (drop (c.expectations.place + 1) c.args.expectations.now)) c.expectations.invariant
-    (next_object c.args.file.now c.args.outcomes.now c.args.expectations.now c.expectations.place c.index-expectations-place.result c.outcome_at-outcome.result c.index-expectations-place.is (omega arith) c.outcome_at-outcome.ensures)
-    c.in_ok-write_one.ensures
+    goes_on c.write_decided_objects.new.writer (decided_objects c.args.file.now (c.expectations.place + 1) c.index-expectations-place.result c.outcome_at-outcome.result c.decision_at-decision.result) (expectation_objects c.args.file.now c.args.outcomes.now c.args.decisions.now (c.expectations.place + 1) (drop (c.expectations.place + 1) c.args.expectations.now)) c.expectations.invariant
+    (next_objects c.args.file.now c.args.outcomes.now c.args.decisions.now c.args.expectations.now c.expectations.place c.index-expectations-place.result c.outcome_at-outcome.result
+    c.decision_at-decision.result c.index-expectations-place.is (omega arith) c.outcome_at-outcome.ensures c.decision_at-decision.ensures)
+    c.in_ok-write_decided_objects.ensures
 
 pub returns : goal.returns
-returns g c = ends (ap (expectation_objects c.args.file.now c.args.outcomes.now c.expectations.place) (drop_all c.expectations.place c.args.expectations.now (omega arith))) c.expectations.invariant
+returns g c = ends (ap (expectation_objects c.args.file.now c.args.outcomes.now c.args.decisions.now c.expectations.place) (drop_all c.expectations.place c.args.expectations.now (omega arith))) c.expectations.invariant

@@ -7,5 +7,5 @@ use Rattle.ga_check_report.proofs.expected.write_lines.Given as goal
 abbrev pub invariant-expectations : goal.invariant-expectations
 invariant-expectations g l = (l.writer.stream.ghost_name ≡ l.fn.writer.stream.ghost_name)
     × ((before said : List ℕ) → IsWritten (g.W.Write.contents l.fn.writer.stream.now) before said l.fn.writer.pending.items
-    → IsWrittenUpTo (g.W.Write.contents l.writer.stream.now) before said (expectations_lines_text l.whole l.outcomes 0 l.expectations)
-    (expectations_lines_text l.whole l.outcomes l.place (drop l.place l.expectations)) l.writer.pending.items)
+    → IsWrittenUpTo (g.W.Write.contents l.writer.stream.now) before said (expectations_lines_text l.whole l.outcomes l.decisions 0 l.expectations)
+    (expectations_lines_text l.whole l.outcomes l.decisions l.place (drop l.place l.expectations)) l.writer.pending.items)

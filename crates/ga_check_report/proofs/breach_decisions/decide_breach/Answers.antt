@@ -1,0 +1,16 @@
+use Rattle.std.proofs.Common.{ℕ, Option, sym, subst}
+use Rattle.std.specs.Prelude.{IfOk, IfSome, ◌<◌, length}
+use Rattle.std.proofs.lemmas.Result.{MatchResult-weaker}
+use Rattle.ga_state_ends.specs.Decisions.{EndDecision}
+use Rattle.ga_state_expectations.specs.declared.source.Expectation.{Expectation}
+use Rattle.ga_check_report.specs.Outcomes.{IsOutcome}
+use Rattle.ga_check_report.specs.BreachDecisions.{IsNodeBreachDecided, IsBreachDecided}
+use Rattle.ga_check_report.proofs.BreachDecisions.{unmet_inside}
+use Rattle.ga_check_report.proofs.breach_decisions.decide_breach.Goals as goal
+
+pub decide_at_ends-requires-clause-state : goal.decide_at_ends-requires-clause-state
+decide_at_ends-requires-clause-state c =
+    let found = c.args.found.now in
+    subst (λ (o : Option ℕ). IfSome o (λ number. number < length found.searched.chips)) (sym c.unmet_state.ensures)
+    (unmet_inside c.requires.known.0 found c.in-AtEnds.expectation.now c.args.outcome
+    (subst (λ (e : Expectation). IsOutcome c.requires.known.0 found e c.args.outcome) c.in-AtEnds.is c.requires.known.1))

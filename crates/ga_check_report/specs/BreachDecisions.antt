@@ -1,0 +1,50 @@
+-- What decides that an expectation is broken (docs/REFERENCE.md, "Every expectation"; this project's own): of a node at an end, the last event of the
+-- path to the state on which it isn't met, before which an end could still be reached at which it is met.
+use Rattle.std.specs.Prelude.{ℕ, ◌≡◌, List, length, slice_get, slice_index_or, Option, Some, None}
+use Rattle.ga_state_search.specs.declared.fault.SearchFault.{SearchFault}
+use Rattle.ga_state_ends.specs.Decisions.{EndDecision, IsDecided}
+use Rattle.ga_state_ends.specs.Ends.{EndSearchResult}
+use Rattle.ga_state_expectations.specs.declared.expectation.NodeExpectation.{NodeExpectation}
+use Rattle.ga_state_expectations.specs.declared.source.Expectation.{Expectation}
+use Rattle.ga_state_expectations.specs.declared.source.Expectation.TheVariants.{AtEnds, Never, EveryOrderEnds, OneEnd}
+use Rattle.ga_state_expectations.specs.declared.source.LineExpectation.{LineExpectation}
+use Rattle.ga_state_expectations.specs.Meeting.{CanMeetAtEnd}
+use Rattle.ga_check_report.specs.declared.outcome.Breach.{Breach}
+use Rattle.ga_check_report.specs.declared.outcome.Breach.TheVariants.{Unmet, Reached, Endless, SeveralEnds}
+use Rattle.ga_check_report.specs.declared.outcome.ExpectationOutcome.{ExpectationOutcome}
+use Rattle.ga_check_report.specs.declared.outcome.ExpectationOutcome.TheVariants.{Holds, Broken, Unknown}
+
+-- the state of an end on which an expectation of a node isn't met, if that breaks it
+abbrev pub breach_state : Breach → Option ℕ
+breach_state (Unmet state observation) = Some state
+breach_state (Reached made) = None
+breach_state Endless = None
+breach_state (SeveralEnds ends) = None
+
+abbrev pub unmet_state : ExpectationOutcome → Option ℕ
+unmet_state Holds = None
+unmet_state (Broken breach) = breach_state breach
+unmet_state Unknown = None
+
+-- what decides that the expectation isn't met on the state; nothing is said to where the search was cut
+abbrev pub IsUnmetDecided : EndSearchResult → NodeExpectation → ℕ → Option SearchFault → Option EndDecision → Type 0
+IsUnmetDecided found expectation state None decision = IsDecided found.searched found.searched.edges (CanMeetAtEnd found expectation) state decision
+IsUnmetDecided found expectation state (Some fault) decision = decision ≡ None
+
+abbrev pub IsNodeBreachDecided : EndSearchResult → NodeExpectation → Option ℕ → Option EndDecision → Type 0
+IsNodeBreachDecided found expectation None decision = decision ≡ None
+IsNodeBreachDecided found expectation (Some state) decision = IsUnmetDecided found expectation state found.fault decision
+
+-- what decides that an expectation is broken, of which this is known
+abbrev pub IsBreachDecided : EndSearchResult → Expectation → ExpectationOutcome → Option EndDecision → Type 0
+IsBreachDecided found (AtEnds expectation) outcome decision = IsNodeBreachDecided found expectation (unmet_state outcome) decision
+IsBreachDecided found (Never conditions) outcome decision = decision ≡ None
+IsBreachDecided found EveryOrderEnds outcome decision = decision ≡ None
+IsBreachDecided found OneEnd outcome decision = decision ≡ None
+
+-- Each expectation has what decides that it is broken, if something does.
+pub record AreBreachesDecided (found : EndSearchResult) (expectations : List LineExpectation) (outcomes : List ExpectationOutcome)
+    (decisions : List (Option EndDecision)) : Type 0 where
+  pub size : length decisions ≡ length expectations
+  pub decided : (place : ℕ) (one : LineExpectation) → slice_get expectations place ≡ Some one
+      → IsBreachDecided found one.expectation (slice_index_or outcomes place Unknown) (slice_index_or decisions place None)
