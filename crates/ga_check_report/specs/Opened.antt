@@ -6,9 +6,9 @@ use Rattle.ga_text.specs.Output.{TextHasPrefix}
 use Rattle.ga_console.specs.declared.run.Status.{Status}
 use Rattle.ga_console.specs.declared.run.Status.TheVariants.{StreamFault}
 use Rattle.ga_explorer.specs.Opening.{IsUnopenedSession}
-use Rattle.ga_check_report.specs.declared.request.ReportFormat.{ReportFormat}
-use Rattle.ga_check_report.specs.declared.request.ReportFormat.TheVariants as format
-use Rattle.ga_check_report.specs.RefusalJson.{refused_json}
+use Rattle.ga_json.specs.declared.format.ReportFormat.{ReportFormat}
+use Rattle.ga_json.specs.declared.format.ReportFormat.TheVariants as format
+use Rattle.ga_json.specs.Diagnostics.{diagnostics_json}
 
 -- a text was written whole, and this is the status; or that failed
 abbrev pub IsRefusalOutput : Text → Status → Text → Status → Type 0
@@ -19,4 +19,4 @@ abbrev pub IsUnopenedAnswer : ReportFormat → Bytes → Bytes → Text → Stat
 IsUnopenedAnswer format.Text read rest written end = IsUnopenedSession None read rest written end
 IsUnopenedAnswer (format.Json file) read rest written end =
     (reason told : Text) × (status : Status) × IsUnopenedSession None read rest reason status
-    × IsRefusalOutput (refused_json file.now reason ++ refused_json file.now told) status written end
+    × IsRefusalOutput (diagnostics_json file.now reason ++ diagnostics_json file.now told) status written end

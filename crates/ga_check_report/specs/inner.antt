@@ -16,7 +16,7 @@ use Rattle.ga_check_report.specs.declared.outcome.Breach.TheVariants.{Unmet, Rea
 use Rattle.ga_check_report.specs.declared.outcome.ExpectationOutcome.{ExpectationOutcome}
 use Rattle.ga_check_report.specs.declared.outcome.ExpectationOutcome.TheVariants.{Holds, Broken, Unknown}
 use Rattle.ga_check_report.specs.declared.report.Verdict.{Verdict}
-use Rattle.ga_check_report.specs.declared.request.ReportFormat.{ReportFormat}
+use Rattle.ga_json.specs.declared.format.ReportFormat.{ReportFormat}
 use Rattle.ga_check_report.specs.ExpectationJson.{observation_sides}
 use Rattle.ga_check_report.specs.Opened.{IsUnopenedAnswer}
 use Rattle.ga_check_report.specs.Expected.{WritesExpectationsReport}
