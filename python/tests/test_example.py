@@ -21,7 +21,7 @@ def run(pytester):
         text = program.read_text()
         assert old in text
         program.write_text(text.replace(old, new, 1))
-        return pytester.runpytest("test_doubling.py")
+        return pytester.runpytest_subprocess("test_doubling.py")
 
     return run_on
 
@@ -46,4 +46,4 @@ def test_that_of_the_document_passes(pytester):
         pytester.makepyfile(re.search(r"```python\n(.*?)```", document.read(), re.DOTALL)[1])
     pytester.mkdir("examples")
     shutil.copy(os.path.join(ROOT, "examples", "transfer.f18"), pytester.path / "examples")
-    pytester.runpytest().assert_outcomes(passed=1)
+    pytester.runpytest_subprocess().assert_outcomes(passed=1)
