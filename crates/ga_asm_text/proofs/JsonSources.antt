@@ -1,12 +1,11 @@
 -- From what comes of a source to the objects that are written.
-use Rattle.std.proofs.Common.{◌≡◌, List, ℕ, [], ◌++◌, inl, inr, refl, sym, subst}
+use Rattle.std.proofs.Common.{◌≡◌, List, ℕ, ◌++◌, inl, inr, refl, sym, subst}
 use Rattle.ga_text.specs.Output.{IsReadWhole}
 use Rattle.ga_json.specs.Diagnostics.{diagnostics_json}
 use Rattle.ga_console.specs.inner.Run.{Writes}
 use Rattle.ga_console.specs.declared.run.Status.{Status}
 use Rattle.ga_console.specs.declared.run.Status.TheVariants.{Done, ImageRefused, StreamFault, NotFinished, CommandRefused}
-use Rattle.ga_debug_info.specs.Faults.{out_of_memory_text, input_too_long_text}
-use Rattle.ga_asm_text.specs.SourceJson.{image_json, IsImageWithWarnings, IsImageJson, AreLinesOfFaults, IsRefusalJson, IsUnreadJson, WritesAssemblyJson}
+use Rattle.ga_asm_text.specs.SourceJson.{image_json, IsImageWithWarnings, AreLinesOfFaults, IsUnreadJson, WritesAssemblyJson}
 use Rattle.ga_asm_text.specs.inner.{with_fault, WritesRefusal, AssemblyJson}
 
 -- a text was written, and the status is that of a refusal
