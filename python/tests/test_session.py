@@ -31,6 +31,9 @@ def test_from_a_stop_back_to_the_fault(session):
     assert (found["part"], found["value"]) == ("a", 0x150)
     assert [(row["number"], row["user"], row["node"], row["step"]) for row in found["rows"]][:2] == [(1, 0, "001", 5), (2, 1, "000", 7)]
     assert (found["rows"][1]["opcode"], found["rows"][1]["value"]) == ("2*", 0x150)
+    assert [row["number"] for row in fault.whence("001", 10, "a", first=3)["rows"]] == [3, 4]
+    assert [row["what"] for row in fault.trace("001")["rows"]][-1] == "stop"
+    assert fault.why("000", 7, "001", 10)["leads"] and not fault.why("000", 9, "000", 7)["leads"]
     assert fault.effects("000", 7)["events"] == 12
     rolled_back = fault.rewind("000", 7)
     assert (rolled_back["removed"], rolled_back["kept"]) == (12, 163)
@@ -67,7 +70,11 @@ def test_races_and_who(session):
     first_come.run()
     (race,) = first_come.races()["rows"]
     assert (race["node"], race["step"], race["word"], race["from"], race["other_word"], race["other_from"]) == ("101", 5, 5, "100", 7, "102")
-    assert {row["node"]: row["does"] for row in first_come.who()["rows"]}["102"] == "writes"
+    assert first_come.races("100")["rows"] == []
+    transfer = session("transfer.f18")
+    transfer.run(until="wait 000", order="greedy")
+    (row,) = transfer.who()["rows"]
+    assert (row["node"], row["does"], row["right"], row["right_does"], row["deadlocked"]) == ("000", "writes", "001", "runs", False)
 
 
 def test_what_is_asked_of_a_step(session):
@@ -77,7 +84,6 @@ def test_what_is_asked_of_a_step(session):
     (decision,) = pipeline.because("007", "last", 1)["rows"]
     assert (decision["step"], decision["opcode"], decision["part"], decision["value"]) == (148, "if", "t", 16)
     assert [row["step"] for row in pipeline.at("007", 150, 1)["rows"]] == [149, 150, 151]
-    assert pipeline.whence("007", "last", first=3)["rows"][0]["number"] == 3
     assert pipeline.writes("007", 0)["rows"] == [] and pipeline.count()["limit"] == 20000000
 
 
@@ -89,7 +95,7 @@ def test_options(session):
 def test_a_word_that_is_no_command(session):
     with pytest.raises(Refused) as refusal:
         session("first.f18").command("foo")
-    assert (refusal.value.number, refusal.value.word) == (31, "syntax")
+    assert (refusal.value.number, refusal.value.word, refusal.value.cure) == (31, "syntax", "help")
     with pytest.raises(ValueError):
         session("first.f18").command("count\ncount")
 
