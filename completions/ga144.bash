@@ -13,7 +13,7 @@ _ga144() {
     race) options='--workers --calls --limit -h --help' ;;
     check) is_file=yes options='--most --seconds --settled --session --never --ends --json --progress -h --help' ;;
     dap) options='-h --help' ;;
-    asm) is_file=yes options='-h --help' ;;
+    asm) is_file=yes options='--json -h --help' ;;
     list) is_file=yes options='-h --help' ;;
     dis) is_file=yes options='-h --help' ;;
     draw) is_file=yes options='--cause --rewind --from --to --all --only --fold --races --chip --limit -h --help' ;;

@@ -35,6 +35,7 @@ complete -c ga144 -n '__fish_seen_subcommand_from check' -l progress -d 'Print o
 complete -c ga144 -n '__fish_seen_subcommand_from check' -s h -l help -d 'Print help'
 complete -c ga144 -n '__fish_seen_subcommand_from dap' -s h -l help -d 'Print help'
 complete -c ga144 -n '__fish_seen_subcommand_from asm' -F
+complete -c ga144 -n '__fish_seen_subcommand_from asm' -l json -d 'Print JSON objects, one a line (docs/JSON.md)'
 complete -c ga144 -n '__fish_seen_subcommand_from asm' -s h -l help -d 'Print help'
 complete -c ga144 -n '__fish_seen_subcommand_from list' -F
 complete -c ga144 -n '__fish_seen_subcommand_from list' -s h -l help -d 'Print help'

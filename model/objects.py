@@ -1,5 +1,5 @@
 #!/usr/bin/env python3
-"""The text of `ga144 check`, made from the objects of `check --json`: a second reading of docs/JSON.md.
+"""The text of `ga144 check` and `ga144 asm`, made from the objects of `--json`: a second reading of docs/JSON.md.
 
 A text has what the objects don't: the bounds of the search, which the caller set, and whether several conditions were looked for.
 """
@@ -112,3 +112,15 @@ class Answer:
         """The lines of standard error, or the refusal of an image."""
         lines = [self.head, *self.rows]
         return "".join((f"ga144: line {it['line']}: " if it["line"] is not None else "") + f"{it['text']}\n" for it in lines)
+
+
+def assembly(objects):
+    """Standard output and standard error of `asm`."""
+    images = [it for it in objects if it["answer"] == "image"]
+    errors = ""
+    for it in objects:
+        line = f"line {it['line']}: " if it.get("line") is not None else ""
+        if it["answer"] in ("warning", "refused"):
+            errors += f"ga144: {line}{'warning: ' * (it['answer'] == 'warning')}{it['text']}\n"
+    assert len(images) <= 1 and not (images and "refused" in {it["answer"] for it in objects})
+    return "".join(it["text"] for it in images), errors

@@ -18,7 +18,7 @@ def project():
 
 def sources(package):
     """The files of the package, each with its bytes."""
-    for name in sorted(it for it in os.listdir(f"{HERE}/{package}") if it.endswith(".py")):
+    for name in sorted(it for it in os.listdir(f"{HERE}/{package}") if it.endswith((".py", ".typed"))):
         with open(f"{HERE}/{package}/{name}", "rb") as file:
             yield f"{package}/{name}", file.read()
 

@@ -1,5 +1,8 @@
-"""What `ga144 check` finds of a program, as data (docs/JSON.md)."""
+"""What `ga144 check` finds of a program, and sessions of `ga144 explore`, as data (docs/JSON.md)."""
 
 from .report import CheckError, End, Event, Expectation, Never, NodeEnd, Refusal, Report, check, report_of
+from .session import Answer, Refused, Session, SessionError
 
-__all__ = ["CheckError", "End", "Event", "Expectation", "Never", "NodeEnd", "Refusal", "Report", "check", "report_of"]
+__all__ = [
+    "Answer", "CheckError", "End", "Event", "Expectation", "Never", "NodeEnd", "Refusal", "Refused", "Report", "Session", "SessionError", "check", "report_of",
+]

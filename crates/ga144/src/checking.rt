@@ -110,7 +110,7 @@ fn search(
 }
 
 /// Text, or JSON objects that name a file.
-fn format_of<'a>(json: bool, name: &'a str) -> ReportFormat<'a> {
+pub fn format_of<'a>(json: bool, name: &'a str) -> ReportFormat<'a> {
     if json {
         ReportFormat::Json(name.as_bytes())
     } else {

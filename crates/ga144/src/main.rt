@@ -15,9 +15,9 @@ ghost use Rattle.ga_console.specs.Settings.{AreInRange};
 
 use adapter::{report_adapter_out_of_memory, serve_editor};
 use arriving::spawn_reader;
-use checking::{CheckOptions, find_verdict};
+use checking::{CheckOptions, find_verdict, format_of};
 use files::{read_chip_file, read_input_prefix};
-use ga_asm_text::{assemble_source, disassemble, list_source};
+use ga_asm_text::{assemble_as, disassemble, list_source};
 use ga_check_report::{ConditionFault, Verdict};
 use ga_console::{CommandLineFault, Settings, Status, arguments, race_report, session};
 use ga_explorer::{QueryUsage, explore};
@@ -96,7 +96,9 @@ fn main(rt: HostRuntime) -> ExitCode {
             };
             served(&rt, work, &chip, &file)
         }
-        Ok(Settings::Assemble { file }) => served(&rt, Work::Assemble, &None, &file),
+        Ok(Settings::Assemble { json, file }) => {
+            served(&rt, Work::Assemble { json }, &None, &file)
+        }
         Ok(Settings::List { file }) => served(&rt, Work::List, &None, &file),
         Ok(Settings::Disassemble { file }) => served(&rt, Work::Disassemble, &None, &file),
         Ok(
@@ -164,7 +166,7 @@ fn debug(rt: &HostRuntime, limit: u32) -> ExitCode {
 enum Work {
     Explore { limit: u32, strict: bool },
     ExploreJson { limit: u32, strict: bool },
-    Assemble,
+    Assemble { json: bool },
     List,
     Disassemble,
     Draw { view: PictureView, limit: u32 },
@@ -205,7 +207,10 @@ fn served(rt: &HostRuntime, work: Work, chip: &Option<String>, file: &Option<Str
             limit,
             strict,
         ),
-        Work::Assemble => assemble_source(alloc, input, output, told),
+        Work::Assemble { json } => {
+            let name = file.as_ref().map_or("-", |name| name.as_str());
+            assemble_as(alloc, input, output, told, format_of(json, name))
+        }
         Work::List => list_source(alloc, input, output, told),
         Work::Disassemble => disassemble(alloc, input, output, told),
         Work::Draw { view, limit } => {

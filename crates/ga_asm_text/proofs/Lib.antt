@@ -1,5 +1,6 @@
 pub mod FaultListing
 pub mod Sources
+pub mod JsonSources
 pub mod HexLemmas
 pub mod Telling
 pub mod SourceLines

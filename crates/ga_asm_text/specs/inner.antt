@@ -20,6 +20,9 @@ use Rattle.ga_console.specs.Run.{IsFaultOfImage}
 use Rattle.ga_console.specs.Race.{IsTruncationOf}
 use Rattle.ga_console.specs.declared.run.Status.{Status}
 use Rattle.ga_console.specs.declared.run.Status.TheVariants.{Done, ImageRefused, StreamFault, NotFinished, CommandRefused}
+use Rattle.ga_asm_text.specs.declared.assembling.SourceAssembly.{SourceAssembly}
+use Rattle.ga_asm_text.specs.declared.assembling.SourceAssembly.TheVariants.{Image, Faulty, NoMemory}
+use Rattle.ga_asm_text.specs.SourceJson.{IsImageWithWarnings, AreLinesOfFaults, IsImageJson, IsRefusalJson}
 use Rattle.ga_asm_text.specs.Source.{IsAssembledImage, IsDisassembly, HasAssembledChip, IsUnsoundSource, listed_fault_text, HasPartsInOrder, HasListedFaults}
 
 -- ---- what the source of an image says, line by line (docs/REFERENCE.md, "Source"; this project's own)
@@ -175,6 +178,28 @@ Assembly source text ImageRefused = text ≡ []
 Assembly source text StreamFault = IsTruncationOf (IsAssembledImage source) text
 Assembly source text NotFinished = ⊥
 Assembly source text CommandRefused = ⊥
+
+-- what comes of a source
+abbrev pub IsSourceAssembly : Text → SourceAssembly → Type 0
+IsSourceAssembly source (Image it) = IsImageWithWarnings source it.image.items it.nodes it.warnings.items
+IsSourceAssembly source (Faulty lines) = AreLinesOfFaults source lines.items
+IsSourceAssembly source NoMemory = Unit {0}
+
+-- a refusal is written whole or in part
+abbrev pub WritesRefusal : Text → Text → Status → Type 0
+WritesRefusal whole text ImageRefused = text ≡ whole
+WritesRefusal whole text StreamFault = TextHasPrefix whole text
+WritesRefusal whole text Done = ⊥
+WritesRefusal whole text NotFinished = ⊥
+WritesRefusal whole text CommandRefused = ⊥
+
+-- What may be written as JSON once the source was read.
+abbrev pub AssemblyJson : Text → Text → Text → Status → Type 0
+AssemblyJson file source text Done = IsImageJson file source text
+AssemblyJson file source text ImageRefused = IsRefusalJson file source text
+AssemblyJson file source text StreamFault = IsTruncationOf (IsImageJson file source) text ⊎ IsTruncationOf (IsRefusalJson file source) text
+AssemblyJson file source text NotFinished = ⊥
+AssemblyJson file source text CommandRefused = ⊥
 
 -- a listing of the source, with a fault or without
 abbrev pub IsListed : Text → Bool → Text → Type 0

@@ -1,18 +1,22 @@
 //! Source in, the image of its chip out.
 ghost use Rattle.ga_text.specs.Output.{ReadsAndWrites};
-ghost use Rattle.std.specs.Prelude.{◌≡◌, ◌++◌, Some, IfSome};
+ghost use Rattle.std.specs.Prelude.{◌≡◌, ◌++◌, Some, IfOk, IfSome};
 ghost use Rattle.ga_text.specs.Lines.{Bytes};
 ghost use Rattle.ga_console.specs.inner.Run.{Writes};
 ghost use Rattle.ga_asm_text.specs.Source.{IsAssembledImage, WritesAssembly};
+ghost use Rattle.ga_asm_text.specs.SourceJson.{warnings_text};
+ghost use Rattle.ga_asm_text.specs.inner.{IsSourceAssembly};
 
 use super::reading::read_source;
 use ga_console::Status;
-use ga_debug_info::{report_code_stores, report_faults, report_out_of_memory};
+use ga_debug_info::{format_faults, report_code_stores, report_out_of_memory};
 use ga_image::print;
-use ga_source::assemble;
-use ga_state_expectations::{check_source_expectations, report_expectations_error};
+use ga_source::{AssembledChip, assemble};
+use ga_state_expectations::{
+    ExpectationsError, check_source_expectations, format_expectation_faults,
+};
 use ga_text::{WriteError, write_all};
-use std::alloc::Global;
+use std::alloc::{AllocError, Global};
 use std::io::{Read, Write};
 
 /// Reads source up to its end or to its first line `end`, and writes the image of its chip, in format 2. Source that has a fault
@@ -48,27 +52,97 @@ pub fn write_text<W: Write>(writer: &mut W, text: Vec<u8>) -> Status
     }
 }
 
-/// The image of a source, and on `errors` its stores over code; or none, and a fault is written there.
+/// The image of a source, and on `errors` its stores over code; or none, and why is written there.
 fn image_of<E: Write>(alloc: Global, errors: &mut E, source: Vec<u8>) -> Option<Vec<u8>>
     ensures { IfSome result (λ image. IsAssembledImage source.items image.items) }
 {
-    if let Err(why) = check_source_expectations(alloc, source.as_slice()) {
-        let _written = report_expectations_error(alloc, errors, &why);
-        return None;
-    }
-    match assemble(alloc, source.as_slice()) {
-        Ok(assembled) => {
-            if let Ok(image) = print(alloc, &assembled.chip) {
-                if report_code_stores(alloc, errors, &assembled).is_ok() {
-                    return Some(image);
-                }
-            }
+    match assemble_image(alloc, source.as_slice()) {
+        SourceAssembly::Image(AssembledImage {
+            image, warnings, ..
+        }) => {
+            let _written = write_all(errors, warnings.as_slice());
+            Some(image)
+        }
+        SourceAssembly::Faulty(lines) => {
+            let _written = write_all(errors, lines.as_slice());
+            None
+        }
+        SourceAssembly::NoMemory => {
             let _written = report_out_of_memory(errors);
             None
         }
-        Err(fault) => {
-            let _written = report_faults(alloc, errors, source.as_slice(), fault);
-            None
+    }
+}
+
+/// The image of a source.
+#[derive(Drop)]
+pub(crate) struct AssembledImage {
+    pub(crate) image: Vec<u8>,
+    /// The number of nodes that have a program.
+    pub(crate) nodes: u64,
+    /// The lines of standard error about stores over code.
+    pub(crate) warnings: Vec<u8>,
+}
+
+/// What comes of a source.
+#[derive(Drop)]
+pub(crate) enum SourceAssembly {
+    Image(AssembledImage),
+    /// It has faults; these are the lines of standard error about them.
+    Faulty(Vec<u8>),
+    NoMemory,
+}
+
+/// Assembles a source whose lines `expect` have no fault.
+pub(crate) fn assemble_image(alloc: Global, source: &[u8]) -> SourceAssembly
+    ensures { IsSourceAssembly source.now result }
+{
+    match check_source_expectations(alloc, source) {
+        Ok(()) => assemble_programs(alloc, source),
+        Err(ExpectationsError::Memory) => SourceAssembly::NoMemory,
+        Err(ExpectationsError::Faulty(faults)) => {
+            match format_expectation_faults(alloc, b"ga144: ", faults.as_slice()) {
+                Ok(lines) => SourceAssembly::Faulty(lines),
+                Err(_) => SourceAssembly::NoMemory,
+            }
         }
+    }
+}
+
+/// Assembles the programs of a source.
+fn assemble_programs(alloc: Global, source: &[u8]) -> SourceAssembly
+    ensures { IsSourceAssembly source.now result }
+{
+    match assemble(alloc, source) {
+        Ok(assembled) => {
+            if let Ok(image) = print(alloc, &assembled.chip) {
+                if let Ok(warnings) = warnings_of(alloc, &assembled) {
+                    return SourceAssembly::Image(AssembledImage {
+                        image,
+                        nodes: assembled.programs.len() as u64,
+                        warnings,
+                    });
+                }
+            }
+            SourceAssembly::NoMemory
+        }
+        Err(fault) => match format_faults(alloc, b"ga144: ", source, fault) {
+            Ok(lines) => SourceAssembly::Faulty(lines),
+            Err(_) => SourceAssembly::NoMemory,
+        },
+    }
+}
+
+/// The lines of standard error about the stores over code of a source.
+///
+/// # Errors
+/// Out of memory.
+fn warnings_of(alloc: Global, assembled: &AssembledChip<'_>) -> Result<Vec<u8>, AllocError>
+    ensures { IfOk result (λ warnings. warnings.items ≡ warnings_text assembled.now.programs.items) }
+{
+    let mut warnings = Vec::new(alloc);
+    match report_code_stores(alloc, &mut warnings, assembled)? {
+        Ok(()) => Ok(warnings),
+        Err(WriteError) => Err(AllocError),
     }
 }

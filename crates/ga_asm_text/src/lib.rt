@@ -3,6 +3,7 @@
 #![tactic(auto)]
 
 mod assembling;
+mod assembly_json;
 mod comment;
 mod disassembly;
 mod fault_lines;
@@ -11,5 +12,6 @@ mod listing;
 mod reading;
 
 pub use assembling::assemble_source;
+pub use assembly_json::assemble_as;
 pub use disassembly::disassemble;
 pub use listing::list_source;

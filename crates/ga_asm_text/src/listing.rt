@@ -95,7 +95,7 @@ fn status_behind(written: Status, is_faulty: bool) -> Status
 }
 
 /// The status after a listing with a fault.
-fn refused(written: Status) -> Status
+pub(crate) fn refused(written: Status) -> Status
     ensures { result ≡ with_fault written }
 {
     match written {

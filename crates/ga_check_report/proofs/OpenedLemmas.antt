@@ -3,8 +3,8 @@ use Rattle.std.proofs.Common.{◌≡◌, ℕ, List, Result, Ok, Err, None, sym, 
 use Rattle.ga_text.specs.Input.{UnreadInput}
 use Rattle.ga_console.specs.declared.run.Status.{Status}
 use Rattle.ga_explorer.specs.Opening.{ExplorerState, IsSessionOpened}
-use Rattle.ga_check_report.specs.declared.request.ReportFormat.{ReportFormat}
-use Rattle.ga_check_report.specs.declared.request.ReportFormat.TheVariants as format
+use Rattle.ga_json.specs.declared.format.ReportFormat.{ReportFormat}
+use Rattle.ga_json.specs.declared.format.ReportFormat.TheVariants as format
 use Rattle.ga_check_report.specs.Opened.{IsUnopenedAnswer, HasRefusalObjects, IsOpenedForObjects}
 use Rattle.ga_check_report.specs.inner.{IsProgramOpened}
 

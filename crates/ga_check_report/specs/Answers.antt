@@ -11,20 +11,20 @@ use Rattle.ga_state_ends.specs.Ends.{EndSearchResult}
 use Rattle.ga_state_expectations.specs.declared.source.LineExpectation.{LineExpectation}
 use Rattle.ga_check_report.specs.declared.outcome.ExpectationOutcome.{ExpectationOutcome}
 use Rattle.ga_check_report.specs.declared.request.CheckRequest.{CheckRequest}
-use Rattle.ga_check_report.specs.declared.request.ReportFormat.{ReportFormat}
-use Rattle.ga_check_report.specs.declared.request.ReportFormat.TheVariants as format
+use Rattle.ga_json.specs.declared.format.ReportFormat.{ReportFormat}
+use Rattle.ga_json.specs.declared.format.ReportFormat.TheVariants as format
 use Rattle.ga_check_report.specs.EndTexts.{ends_text}
 use Rattle.ga_check_report.specs.EndJson.{ends_json}
 use Rattle.ga_check_report.specs.ExpectationTexts.{expectations_text}
 use Rattle.ga_check_report.specs.ExpectationJson.{expectations_json}
 use Rattle.ga_check_report.specs.NeverTexts.{unreached_text, reached_text}
 use Rattle.ga_check_report.specs.NeverJson.{unreached_json, reached_json}
-use Rattle.ga_check_report.specs.RefusalJson.{refused_json}
+use Rattle.ga_json.specs.Diagnostics.{diagnostics_json}
 
 -- nothing was found out
 abbrev pub refusal_answer : ReportFormat → LabFault → Text
 refusal_answer format.Text fault = refusal_text fault
-refusal_answer (format.Json file) fault = refused_json file.now (refusal_text fault)
+refusal_answer (format.Json file) fault = diagnostics_json file.now (refusal_text fault)
 
 abbrev pub ends_answer_by : ReportFormat → CheckRequest → EndSearchResult → Text
 ends_answer_by format.Text request found = ends_text request found

@@ -5,6 +5,7 @@ use Rattle.ga_text.specs.Lines.{Text}
 use Rattle.ga_explorer_text.specs.Waiting.{name_text_of_node}
 use Rattle.ga_event.specs.declared.made.Made.{Made}
 use Rattle.ga_json.specs.Values.{JsonValue, boolean, number, string, JsonItems, no_items, item}
+use Rattle.ga_json.specs.FieldValues.{text_json}
 use Rattle.ga_json.specs.Fields.{NamedValue, json_object, json_report}
 use Rattle.ga_json.specs.Compact.{json_line}
 use Rattle.ga_state_search.specs.declared.fault.SearchFault.{SearchFault}
@@ -14,7 +15,7 @@ use Rattle.ga_state_ends.specs.declared.end_kind.EndKind.{EndKind}
 use Rattle.ga_state_ends.specs.declared.end_kind.NodeEnd.{NodeEnd}
 use Rattle.ga_state_ends.specs.declared.end_kind.NodeEnd.TheVariants.{KeepsRunning, Idle, Reads, Writes, Stopped}
 use Rattle.ga_check_report.specs.EndTexts.{node_end_at}
-use Rattle.ga_check_report.specs.JsonValues.{text_json, optional_text_json, search_fields}
+use Rattle.ga_check_report.specs.JsonValues.{optional_text_json, search_fields}
 use Rattle.ga_check_report.specs.EventJson.{event_details}
 
 -- ---- the row of a node

@@ -3,6 +3,7 @@ use Rattle.std.specs.Prelude.{ℕ, ◌+◌, pos, List, [], ◌∷◌, ◌++◌, 
 use Rattle.ga_text.specs.Lines.{Text}
 use Rattle.ga_ports.specs.Address.{only}
 use Rattle.ga_json.specs.Values.{JsonValue, number, string}
+use Rattle.ga_json.specs.FieldValues.{text_json, optional_number_json}
 use Rattle.ga_json.specs.Fields.{NamedValue, json_object}
 use Rattle.ga_json.specs.Compact.{json_line}
 use Rattle.ga_state_ends.specs.Decisions.{EndDecision}
@@ -15,7 +16,7 @@ use Rattle.ga_check_report.specs.declared.outcome.Breach.TheVariants.{Unmet, Rea
 use Rattle.ga_check_report.specs.declared.outcome.ExpectationOutcome.{ExpectationOutcome}
 use Rattle.ga_check_report.specs.declared.outcome.ExpectationOutcome.TheVariants.{Holds, Broken, Unknown}
 use Rattle.ga_check_report.specs.ExpectationTexts.{side_words}
-use Rattle.ga_check_report.specs.JsonValues.{text_json, optional_text_json, optional_number_json, search_fields}
+use Rattle.ga_check_report.specs.JsonValues.{optional_text_json, search_fields}
 use Rattle.ga_check_report.specs.EventJson.{event_details}
 use Rattle.ga_check_report.specs.LinkFaults.{link_fault_word, link_fault_details}
 use Rattle.ga_check_report.specs.EndJson.{decision_objects}

@@ -1,27 +1,18 @@
 -- The values of the objects that `ga144 check --json` prints (docs/JSON.md; this project's own), and what each answer says of the search.
-use Rattle.std.specs.Prelude.{ℕ, pos, if◌then◌else◌, List, [], ◌∷◌, length, codes, Option, Some, None}
-use Rattle.std.specs.Str.{is_utf8}
+use Rattle.std.specs.Prelude.{pos, List, [], ◌∷◌, length, codes, Option, Some, None}
 use Rattle.ga_text.specs.Lines.{Text}
 use Rattle.ga_json.specs.Values.{JsonValue, null, boolean, number, string}
+use Rattle.ga_json.specs.FieldValues.{text_json}
 use Rattle.ga_json.specs.Fields.{NamedValue}
 use Rattle.ga_state_search.specs.declared.fault.SearchFault.{SearchFault}
 use Rattle.ga_state_search.specs.declared.fault.SearchFault.TheVariants as fault
 use Rattle.ga_state_ends.specs.Ends.{EndSearchResult}
 use Rattle.ga_check_report.specs.EndTexts.{is_fully_explored}
 
--- a text; null if it isn't UTF-8
-abbrev pub text_json : Text → JsonValue
-text_json text = if is_utf8 text then string text else null
-
 -- a text, if there is one
 abbrev pub optional_text_json : Option Text → JsonValue
 optional_text_json None = null
 optional_text_json (Some text) = string text
-
--- a number, if there is one
-abbrev pub optional_number_json : Option ℕ → JsonValue
-optional_number_json None = null
-optional_number_json (Some n) = number (pos n)
 
 -- the bound that was met, in a word
 abbrev pub stop_word : SearchFault → Text

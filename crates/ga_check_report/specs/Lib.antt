@@ -16,6 +16,5 @@ pub mod NeverTexts
 pub mod Observations
 pub mod Opened
 pub mod Outcomes
-pub mod RefusalJson
 pub mod Settled
 pub mod inner

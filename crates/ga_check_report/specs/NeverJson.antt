@@ -4,11 +4,12 @@ use Rattle.std.specs.Prelude.{ℕ, ◌+◌, pos, if◌then◌else◌, List, [], 
 use Rattle.ga_text.specs.Lines.{Text}
 use Rattle.ga_event.specs.declared.made.Made.{Made}
 use Rattle.ga_json.specs.Values.{JsonValue, number, string}
+use Rattle.ga_json.specs.FieldValues.{text_json}
 use Rattle.ga_json.specs.Fields.{NamedValue, json_object}
 use Rattle.ga_json.specs.Compact.{json_line}
 use Rattle.ga_state_ends.specs.Ends.{EndSearchResult}
 use Rattle.ga_check_report.specs.EndTexts.{is_fully_explored}
-use Rattle.ga_check_report.specs.JsonValues.{text_json, search_fields}
+use Rattle.ga_check_report.specs.JsonValues.{search_fields}
 use Rattle.ga_check_report.specs.EventJson.{event_details}
 
 -- no such event was found: none comes if each state was explored

@@ -7,9 +7,9 @@ use Rattle.ga_console.specs.declared.run.Status.{Status}
 use Rattle.ga_console.specs.declared.run.Status.TheVariants.{StreamFault}
 use Rattle.ga_text.specs.Input.{UnreadInput}
 use Rattle.ga_explorer.specs.Opening.{ExplorerState, IsSessionOpened, IsUnopenedSession}
-use Rattle.ga_check_report.specs.declared.request.ReportFormat.{ReportFormat}
-use Rattle.ga_check_report.specs.declared.request.ReportFormat.TheVariants as format
-use Rattle.ga_check_report.specs.RefusalJson.{refused_json}
+use Rattle.ga_json.specs.declared.format.ReportFormat.{ReportFormat}
+use Rattle.ga_json.specs.declared.format.ReportFormat.TheVariants as format
+use Rattle.ga_json.specs.Diagnostics.{diagnostics_json}
 
 -- a text was written whole, and this is the status; or that failed
 abbrev pub IsRefusalOutput : Text → Status → Text → Status → Type 0
@@ -19,7 +19,7 @@ IsRefusalOutput whole status written end = ((written ≡ whole) × (end ≡ stat
 abbrev pub HasRefusalObjects : Option Text → Text → Bytes → Bytes → Text → Status → Type 0
 HasRefusalObjects chip file read rest written end =
     (reason told : Text) × (status : Status) × IsUnopenedSession chip read rest reason status
-    × IsRefusalOutput (refused_json file reason ++ refused_json file told) status written end
+    × IsRefusalOutput (diagnostics_json file reason ++ diagnostics_json file told) status written end
 
 -- the reason as text, and what standard error has
 abbrev pub IsUnopenedAnswer : ReportFormat → Bytes → Bytes → Text → Status → Type 0

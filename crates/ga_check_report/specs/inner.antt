@@ -24,7 +24,7 @@ use Rattle.ga_check_report.specs.Answers.{refusal_answer, expectations_answer}
 use Rattle.ga_check_report.specs.BreachDecisions.{AreBreachesDecided}
 use Rattle.ga_check_report.specs.Checking.{IsReportOutput}
 use Rattle.ga_check_report.specs.Outcomes.{outcomes_verdict}
-use Rattle.ga_check_report.specs.declared.request.ReportFormat.{ReportFormat}
+use Rattle.ga_json.specs.declared.format.ReportFormat.{ReportFormat}
 use Rattle.ga_check_report.specs.ExpectationJson.{observation_sides}
 use Rattle.ga_check_report.specs.Opened.{IsUnopenedAnswer}
 use Rattle.ga_check_report.specs.Expected.{WritesExpectationsReport}

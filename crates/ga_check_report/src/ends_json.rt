@@ -9,10 +9,10 @@ ghost use Rattle.ga_check_report.specs.EventJson.{event_details};
 ghost use Rattle.ga_check_report.specs.EndJson.{end_fields, end_object, decision_fields, decision_object, decision_objects, kind_objects, kinds_objects, endless_word, known_endless_word, ends_head, ends_json};
 
 use crate::ends_text::is_fully_explored;
-use crate::json_fields::{event_fields, search_fields, text_field};
+use crate::json_fields::{event_fields, search_fields};
 use crate::node_rows::NodeRows;
 use ga_event::Made;
-use ga_json::{Field, RowFields, row_fields, write_object, write_report};
+use ga_json::{Field, RowFields, row_fields, text_field, write_object, write_report};
 use ga_state_ends::{EndDecision, EndKind, FoundEnds};
 use ga_text::{WriteResult, Writer};
 use std::io::Write;

@@ -9,12 +9,14 @@ ghost use Rattle.ga_check_report.specs.JsonValues.{optional_text_json};
 ghost use Rattle.ga_check_report.specs.inner.{breach_sides, outcome_sides};
 ghost use Rattle.ga_check_report.specs.ExpectationJson.{outcome_word, breach_word, outcome_cause, breach_session_number, outcome_session_number, observation_word, observation_sides, side_list_text, observation_details, breach_details, outcome_details, expectation_fields, expectation_object};
 
-use crate::json_fields::{MAX_DETAILS, event_fields, optional_number_field, text_field};
+use crate::json_fields::{MAX_DETAILS, event_fields};
 use crate::link_fault::{link_fault_fields, link_fault_word};
 use crate::outcome::{Breach, ExpectationOutcome, NodeObservation};
 use crate::outcome_text::{push_sides, sides_of};
 use arrayvec::ArrayVec;
-use ga_json::{Field, RowFields, row_fields, write_object};
+use ga_json::{
+    Field, RowFields, optional_number_field, row_fields, text_field, write_object,
+};
 use ga_ports::PortSet;
 use ga_text::{TextBuffer, WriteResult, Writer, push_text};
 use std::io::Write;

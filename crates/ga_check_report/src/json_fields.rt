@@ -1,18 +1,17 @@
 //! The fields of the objects that are written as JSON.
 
-ghost use Rattle.std.specs.Prelude.{◌≡◌, ◌≤◌, IsTrue, [], codes, map};
+ghost use Rattle.std.specs.Prelude.{◌≡◌, ◌≤◌, [], codes, map};
 ghost use Rattle.arrayvec.specs.ArrayVec.{array_vec_len};
 ghost use Rattle.ga_node.specs.declared.kind.OwnEventKind.TheVariants.{Run, Stop};
 ghost use Rattle.ga_event.specs.declared.made.Made.TheVariants.{Own, Pass};
-ghost use Rattle.ga_json.specs.Names.{is_field_name};
 ghost use Rattle.ga_json.specs.Fields.{named_field_value};
-ghost use Rattle.ga_check_report.specs.JsonValues.{text_json, optional_number_json, stop_word, stop_json, search_fields};
+ghost use Rattle.ga_check_report.specs.JsonValues.{stop_word, stop_json, search_fields};
 ghost use Rattle.ga_check_report.specs.EventJson.{step_details, event_details};
 
 use crate::ends_text::is_fully_explored;
 use ga_event::Made;
 use ga_grid::NodeId;
-use ga_json::{Field, RowFields, row_fields};
+use ga_json::{Field, RowFields, row_fields, text_field};
 use ga_node::OwnEventKind;
 use ga_state_ends::FoundEnds;
 use ga_state_search::SearchFault;
@@ -20,28 +19,6 @@ use ga_word::Word18;
 
 /// The most fields of an event, or of what else breaks an expectation.
 pub(crate) const MAX_DETAILS: usize = 6;
-
-/// A text with its name; no value if it isn't UTF-8.
-pub fn text_field<'a>(name: &'a [u8], text: &'a [u8]) -> Field<'a>
-    requires { IsTrue (is_field_name name.now) }
-    ensures { named_field_value result ≡ (name.now, text_json text.now) }
-{
-    match str::from_utf8(text) {
-        Ok(_) => Field::text(name, text),
-        Err(_) => Field::absent(name),
-    }
-}
-
-/// A number with its name, if there is one.
-pub(crate) fn optional_number_field<'a>(name: &'a [u8], number: Option<u64>) -> Field<'a>
-    requires { IsTrue (is_field_name name.now) }
-    ensures { named_field_value result ≡ (name.now, optional_number_json number) }
-{
-    match number {
-        Some(number) => Field::number(name, number),
-        None => Field::absent(name),
-    }
-}
 
 /// The fields of an event: what it was, and its steps.
 pub(crate) fn event_fields<'a>(made: Made) -> RowFields<'a>

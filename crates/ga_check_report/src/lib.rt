@@ -26,15 +26,14 @@ mod observation;
 mod opening;
 mod outcome;
 mod outcome_text;
-mod refusal_json;
 mod report;
 mod request;
 mod settling;
 
 pub use expected::check_program;
+pub use ga_json::ReportFormat;
 pub use ga_state_conditions::ConditionFault;
-pub use json_fields::text_field;
 pub use never::check_never;
 pub use opening::open_for_objects;
 pub use report::{Verdict, check_ends};
-pub use request::{CheckRequest, ReportFormat};
+pub use request::CheckRequest;

@@ -19,9 +19,10 @@ use crate::never_json::{write_reached_json, write_unreached_json};
 use crate::never_text::{write_made, write_unreached_text};
 use crate::opening::open_program;
 use crate::report::{Verdict, sent, tell_refused, tell_saved_as};
-use crate::request::{CheckRequest, ReportFormat};
+use crate::request::CheckRequest;
 use crate::settling::settle_waiting_nodes;
 use ga_explorer::Explorer;
+use ga_json::ReportFormat;
 use ga_lab::{Lab, LabFault, Made};
 use ga_state_conditions::{
     ConditionFault, ReachedEvent, StateCondition, find_event, find_session, parse_state_conditions,

@@ -8,8 +8,8 @@ ghost use Rattle.ga_check_report.specs.EventJson.{event_details};
 ghost use Rattle.ga_check_report.specs.NeverJson.{unreached_word, unreached_fields, unreached_json, reached_fields, reached_json};
 
 use crate::ends_text::is_fully_explored;
-use crate::json_fields::{event_fields, search_fields, text_field};
-use ga_json::{Field, RowFields, row_fields, write_object};
+use crate::json_fields::{event_fields, search_fields};
+use ga_json::{Field, RowFields, row_fields, text_field, write_object};
 use ga_lab::Made;
 use ga_state_ends::FoundEnds;
 use ga_text::{WriteResult, Writer};

@@ -6,12 +6,12 @@ ghost use Rattle.ga_text.specs.Output.{IsWrittenOrTruncated, IsSameStream, Write
 ghost use Rattle.ga_explorer.specs.Opening.{image_text_of};
 ghost use Rattle.ga_check_report.specs.Opened.{IsRefusalOutput, IsOpenedForObjects};
 ghost use Rattle.ga_check_report.specs.inner.{IsProgramOpened, told_lines};
-ghost use Rattle.ga_check_report.specs.RefusalJson.{refused_json};
+ghost use Rattle.ga_json.specs.Diagnostics.{diagnostics_json};
+ghost use Rattle.ga_json.specs.declared.format.ReportFormat.TheVariants.{Json};
 
-use crate::refusal_json::write_refused;
-use crate::request::ReportFormat;
 use ga_console::Status;
 use ga_explorer::{Explorer, open_lab};
+use ga_json::{ReportFormat, write_diagnostics};
 use ga_text::{Input, WriteResult, Writer, write_all};
 use std::alloc::Global;
 use std::io::{Read, Write};
@@ -106,7 +106,7 @@ fn tell_unopened<W: Write>(
     status: Status,
     writer: &mut W,
 ) -> Status
-    ensures { WritesText (λ text. IsRefusalOutput (refused_json file.now reason.now ++ refused_json file.now told.now) status text result)
+    ensures { WritesText (λ text. IsRefusalOutput (diagnostics_json file.now reason.now ++ diagnostics_json file.now told.now) status text result)
         (W.contents writer.old) (W.contents writer.new) }
 {
     let mut out = Writer::new(writer);
@@ -139,8 +139,8 @@ fn write_reasons<W: Write>(
     told: &[u8],
     writer: &mut Writer<'_, W>,
 ) -> WriteResult
-    ensures { WritesExactly result (refused_json file.now reason.now ++ refused_json file.now told.now) W.contents writer.old writer.new }
+    ensures { WritesExactly result (diagnostics_json file.now reason.now ++ diagnostics_json file.now told.now) W.contents writer.old writer.new }
 {
-    write_refused(file, reason, writer)?;
-    write_refused(file, told, writer)
+    write_diagnostics(file, reason, writer)?;
+    write_diagnostics(file, told, writer)
 }

@@ -19,12 +19,12 @@ use crate::ends_json::write_ends_json;
 use crate::ends_text::{is_fully_explored, write_ends, write_no_kind};
 use crate::making::make_all;
 use crate::opening::open_program;
-use crate::refusal_json::write_refused;
-use crate::request::{CheckRequest, ReportFormat};
+use crate::request::CheckRequest;
 use crate::settling::settle_waiting_nodes;
 use ga_console::Status;
 use ga_display::refusal_text;
 use ga_explorer_text::write_save;
+use ga_json::{ReportFormat, write_diagnostics};
 use ga_lab::{Lab, LabFault};
 use ga_state_ends::{EndKind, FoundEnds, find_ends};
 use ga_state_search::SearchControl;
@@ -268,7 +268,7 @@ fn write_refusal<W: Write>(
     let text = refusal_text(fault);
     match format {
         ReportFormat::Text => writer.write_text(text),
-        ReportFormat::Json(file) => write_refused(file, text, writer),
+        ReportFormat::Json(file) => write_diagnostics(file, text, writer),
     }
 }
 

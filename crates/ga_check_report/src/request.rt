@@ -1,13 +1,6 @@
 //! What a person asks of a search.
 
-/// How an answer is written.
-#[derive(Clone, Copy)]
-pub enum ReportFormat<'a> {
-    /// As lines of text.
-    Text,
-    /// As JSON objects that name this file, one a line.
-    Json(&'a [u8]),
-}
+use ga_json::ReportFormat;
 
 /// How far to search, and how to answer.
 #[derive(Clone, Copy)]

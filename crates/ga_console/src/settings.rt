@@ -67,8 +67,9 @@ pub enum Settings {
     },
     /// Serve an editor, by the Debug Adapter Protocol.
     Dap,
-    /// Assemble source into an image.
+    /// Assemble source into an image; with `json` the answer is JSON objects.
     Assemble {
+        json: bool,
         file: Option<String>,
     },
     /// List the cells of source.
@@ -167,6 +168,7 @@ fn chosen(alloc: Global, matches: &ArgMatches<'_>) -> Result<Settings, CommandLi
         Some(("check", check)) => checked(alloc, check),
         Some(("dap", _)) => Ok(Settings::Dap),
         Some(("asm", source)) => Ok(Settings::Assemble {
+            json: source.get_flag("json"),
             file: file(alloc, source)?,
         }),
         Some(("list", source)) => Ok(Settings::List {

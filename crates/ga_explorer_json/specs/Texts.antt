@@ -3,7 +3,7 @@ use Rattle.std.specs.Prelude.{◌≡◌, ℕ, pos, [], ◌∷◌, codes}
 use Rattle.ga_text.specs.Lines.{Text, Line}
 use Rattle.ga_json.specs.Values.{JsonValue, null, number, string}
 use Rattle.ga_json.specs.Fields.{json_object}
-use Rattle.ga_check_report.specs.JsonValues.{text_json}
+use Rattle.ga_json.specs.FieldValues.{text_json}
 use Rattle.ga_explorer.specs.NoCommand.{suggestion}
 use Rattle.ga_explorer.specs.Commands.{AnswersQuery}
 use Rattle.ga_explorer.specs.Opening.{ExplorerState}

@@ -8,10 +8,9 @@ ghost use Rattle.ga_explorer.specs.inner.{explorer_state};
 ghost use Rattle.ga_explorer_json.specs.Rows.{IsJsonLine};
 ghost use Rattle.ga_explorer_json.specs.Texts.{text_answer_json, IsQueryText, line_refusal_json, syntax_json};
 
-use ga_check_report::text_field;
 use ga_debug_info::DebugInfo;
 use ga_explorer::{Query, answer_query, suggestion};
-use ga_json::{Field, write_object};
+use ga_json::{Field, text_field, write_object};
 use ga_lab::Lab;
 use ga_text::{WriteResult, Writer};
 use std::alloc::Global;

@@ -1,4 +1,5 @@
 pub mod Compact
+pub mod Diagnostics
 pub mod FieldValues
 pub mod Fields
 pub mod Grammar

@@ -4,7 +4,7 @@ ghost use Rattle.std.specs.Prelude.{◌≡◌, ◌++◌, length, take, false};
 ghost use Rattle.ga_text.specs.Lines.{Bytes};
 ghost use Rattle.ga_check_report.specs.Expected.{IsProgramOutcome};
 ghost use Rattle.ga_check_report.specs.declared.report.Verdict.{Verdict as Found};
-ghost use Rattle.ga_check_report.specs.declared.request.ReportFormat.TheVariants.{Text as AsText};
+ghost use Rattle.ga_json.specs.declared.format.ReportFormat.TheVariants.{Text as AsText};
 
 use crate::buffer::{put_front, streams};
 use ga_check_report::{CheckRequest, ReportFormat, check_program};

@@ -242,6 +242,7 @@ fn source_line<'a>(alloc: Global) -> Result<Command<'a>, AllocError> {
     Command::new(alloc, "asm")
         .about("Read source up to its end or to a line 'end', and write the image of its chip")
         .after_help(NOTATION)
+        .arg(flag(alloc, "json", OBJECTS))?
         .arg(file_argument(alloc, "The source"))
 }
 

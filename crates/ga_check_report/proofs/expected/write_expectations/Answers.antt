@@ -1,6 +1,6 @@
 use Rattle.std.proofs.Common.{sym, ap}
 use Rattle.ga_json.proofs.Says.{says_as}
-use Rattle.ga_check_report.specs.declared.request.ReportFormat.{ReportFormat}
+use Rattle.ga_json.specs.declared.format.ReportFormat.{ReportFormat}
 use Rattle.ga_check_report.specs.ExpectationJson.{expectations_json}
 use Rattle.ga_check_report.specs.Answers.{expectations_answer, expectations_answer_by}
 use Rattle.ga_check_report.proofs.expected.write_expectations.Goals as goal

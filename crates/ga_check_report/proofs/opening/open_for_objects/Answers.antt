@@ -2,7 +2,7 @@ use Rattle.std.proofs.Common.{◌≡◌, Some, List, ℕ, [], ◌++◌, refl, ap
 use Rattle.std.proofs.lemmas.List.{append-nil}
 use Rattle.std.proofs.lemmas.Option.{same_Some}
 use Rattle.ga_check_report.specs.Opened.{IsRefusalOutput}
-use Rattle.ga_check_report.specs.RefusalJson.{refused_json}
+use Rattle.ga_json.specs.Diagnostics.{diagnostics_json}
 use Rattle.ga_check_report.proofs.opening.open_for_objects.Goals as goal
 
 pub returns-in-Ok : goal.returns-in-Ok
@@ -19,7 +19,7 @@ returns g c = record {
       let sent = c.tell_unopened.ensures before held in
       let file : List ℕ = c.args.file.now in
       let told : List ℕ = c.told_lines-lines.result.now in
-      let P : List ℕ → Type 0 = λ reason. IsRefusalOutput (refused_json file reason ++ refused_json file told) c.in-Err.status sent.0 c.tell_unopened.result in
+      let P : List ℕ → Type 0 = λ reason. IsRefusalOutput (diagnostics_json file reason ++ diagnostics_json file told) c.in-Err.status sent.0 c.tell_unopened.result in
       let said : c.open_lab-opened.new.writer.items ≡ it.1 = same_Some c.open_lab-opened.new.writer.items it.1 it.3 in
       (it.0, sent.0, it.2, sent.1, (it.4.0, it.4.1, (it.1, told, c.in-Err.status, it.4.2, subst P (c.as_slice-in-Err-3.ensures.value ∙ said) sent.2)));
 }

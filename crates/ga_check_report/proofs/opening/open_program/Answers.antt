@@ -1,5 +1,5 @@
 use Rattle.std.proofs.Common.{sym, subst}
-use Rattle.ga_check_report.specs.declared.request.ReportFormat.{ReportFormat}
+use Rattle.ga_json.specs.declared.format.ReportFormat.{ReportFormat}
 use Rattle.ga_check_report.specs.Opened.{IsUnopenedAnswer}
 use Rattle.ga_check_report.proofs.OpenedLemmas.{opened_as_text, opened_as_objects}
 use Rattle.ga_check_report.proofs.opening.open_program.Goals as goal

@@ -1,11 +1,11 @@
 use Rattle.std.proofs.Common.{rules, ℕ, List, ◌++◌, ap, ◌∙◌, []}
 use Rattle.ga_console.proofs.RunLemmas.{written_fresh}
-use Rattle.ga_check_report.specs.RefusalJson.{refused_json}
+use Rattle.ga_json.specs.Diagnostics.{diagnostics_json}
 use Rattle.ga_check_report.proofs.opening.tell_unopened.Goals as goal
 
 pub returns : goal.returns
 returns g c = λ before held.
-    let text : List ℕ = refused_json c.args.file.now c.args.reason.now ++ refused_json c.args.file.now c.args.told.now in
+    let text : List ℕ = diagnostics_json c.args.file.now c.args.reason.now ++ diagnostics_json c.args.file.now c.args.told.now in
     let done = c.write_reasons-said.ensures.1 before [] (written_fresh _ before [] _ (ap g.W.Write.contents c.new-out.ensures.stream ∙ held) c.new-out.ensures.nothing) in
     let sent = c.status_sent.ensures.written before text done in
     let there = sent.1 in

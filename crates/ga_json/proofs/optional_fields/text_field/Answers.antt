@@ -4,8 +4,8 @@ use Rattle.std.specs.Str.{is_utf8}
 use Rattle.std.proofs.lemmas.Str.{is_utf8-from_IsUtf8, IsUtf8-from_is_utf8}
 use Rattle.ga_text.specs.Lines.{Text}
 use Rattle.ga_json.specs.Values.{null, string}
-use Rattle.ga_check_report.specs.JsonValues.{text_json}
-use Rattle.ga_check_report.proofs.json_fields.text_field.Goals as goal
+use Rattle.ga_json.specs.FieldValues.{text_json}
+use Rattle.ga_json.proofs.optional_fields.text_field.Goals as goal
 
 pub returns-in-Ok : goal.returns-in-Ok
 returns-in-Ok c =

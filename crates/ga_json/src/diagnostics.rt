@@ -1,30 +1,31 @@
-//! The objects that say why a program isn't checked.
+//! The objects of what standard error has of a source: warnings, and why it is refused.
 
 ghost use Rattle.std.specs.Prelude.{◌≡◌, option_map};
 ghost use Rattle.ga_text.specs.Output.{WritesExactly};
 ghost use Rattle.ga_json.specs.Compact.{json_line};
-ghost use Rattle.ga_check_report.specs.RefusalJson.{text_after, without_program_name, is_colon, without_last_colon, numbered_parts, refusal_parts, refused_object, refused_json};
+ghost use Rattle.ga_json.specs.Diagnostics.{text_after, without_word, is_colon, without_last_colon, numbered_parts, diagnostic_parts, diagnostic_word, diagnostic_object, diagnostics_json};
 
-use crate::json_fields::{optional_number_field, text_field};
-use ga_json::{Field, write_object};
+use crate::field::Field;
+use crate::optional_fields::{optional_number_field, text_field};
+use crate::report::write_object;
 use ga_text::{WriteResult, Writer, first_line, parse_number, split_at_space};
 use std::io::Write;
 
-/// Writes an object for each line of a text that says why a program isn't checked.
+/// Writes an object for each line of standard error about the source of a file, or of a refusal of its program.
 ///
 /// # Errors
 /// A write failed.
-pub(crate) fn write_refused<W: Write>(
+pub fn write_diagnostics<W: Write>(
     file: &[u8],
     text: &[u8],
     writer: &mut Writer<'_, W>,
 ) -> WriteResult
-    ensures { WritesExactly result (refused_json file.now text.now) W.contents writer.old writer.new }
+    ensures { WritesExactly result (diagnostics_json file.now text.now) W.contents writer.old writer.new }
 {
     let mut rest = text;
     'lines: while !rest.is_empty() {
         let (line, after) = first_line(rest);
-        write_refused_line(file, line, writer)?;
+        write_diagnostic(file, line, writer)?;
         rest = after;
     }
     Ok(())
@@ -34,40 +35,50 @@ pub(crate) fn write_refused<W: Write>(
 ///
 /// # Errors
 /// A write failed.
-fn write_refused_line<W: Write>(file: &[u8], line: &[u8], writer: &mut Writer<'_, W>) -> WriteResult
-    ensures { WritesExactly result (json_line (refused_object file.now line.now)) W.contents writer.old writer.new }
+fn write_diagnostic<W: Write>(file: &[u8], line: &[u8], writer: &mut Writer<'_, W>) -> WriteResult
+    ensures { WritesExactly result (json_line (diagnostic_object file.now line.now)) W.contents writer.old writer.new }
 {
-    let (number, reason) = refusal_parts(line);
+    let (number, reason) = diagnostic_parts(line);
     write_object(
         &[
-            Field::text(b"answer", b"refused"),
+            Field::text(b"answer", diagnostic_word(reason)),
             text_field(b"file", file),
             optional_number_field(b"line", number),
-            text_field(b"text", reason),
+            text_field(b"text", without_word(b"warning:", reason)),
         ],
         writer,
     )
 }
 
-/// The number of the source's line, if a line names one, and the reason.
-fn refusal_parts(line: &[u8]) -> (Option<u64>, &[u8])
-    ensures number { result.0 ≡ (refusal_parts line.now).0 }
-    ensures reason { result.1.now ≡ (refusal_parts line.now).1 }
+/// What a reason is: a warning, or that of a refusal.
+fn diagnostic_word(reason: &[u8]) -> &'static [u8]
+    ensures { result.now ≡ diagnostic_word reason.now }
 {
-    let text = without_program_name(line);
+    match text_after(b"warning:", reason) {
+        Some(_) => b"warning",
+        None => b"refused",
+    }
+}
+
+/// The number of the source's line, if a line names one, and the reason.
+fn diagnostic_parts(line: &[u8]) -> (Option<u64>, &[u8])
+    ensures number { result.0 ≡ (diagnostic_parts line.now).0 }
+    ensures reason { result.1.now ≡ (diagnostic_parts line.now).1 }
+{
+    let text = without_word(b"ga144:", line);
     match numbered_parts(text) {
         Some((number, reason)) => (Some(u64::from(number)), reason),
         None => (None, text),
     }
 }
 
-/// A line without the name of the program in front.
-fn without_program_name(line: &[u8]) -> &[u8]
-    ensures { result.now ≡ without_program_name line.now }
+/// A text without this word, if it begins with it.
+fn without_word<'a>(word: &[u8], text: &'a [u8]) -> &'a [u8]
+    ensures { result.now ≡ without_word word.now text.now }
 {
-    match text_after(b"ga144:", line) {
+    match text_after(word, text) {
         Some(rest) => rest,
-        None => line,
+        None => text,
     }
 }
 

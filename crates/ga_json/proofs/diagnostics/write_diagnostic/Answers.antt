@@ -4,12 +4,12 @@ use Rattle.ga_json.specs.Compact.{json_line}
 use Rattle.ga_json.specs.Fields.{NamedValue, named_field_value, json_object, row_json}
 use Rattle.ga_json.specs.declared.field.Field.{Field}
 use Rattle.ga_json.proofs.Says.{says_as}
-use Rattle.ga_check_report.specs.RefusalJson.{refused_fields, refused_object}
-use Rattle.ga_check_report.proofs.refusal_json.write_refused_line.Goals as goal
+use Rattle.ga_json.specs.Diagnostics.{diagnostic_fields, diagnostic_object}
+use Rattle.ga_json.proofs.diagnostics.write_diagnostic.Goals as goal
 
 pub returns : goal.returns
 returns g c =
     let fields : List Field = c.text.result ∷ c.text_field.result ∷ c.optional_number_field.result ∷ c.text_field-2.result ∷ [] in
-    let same : map named_field_value fields ≡ refused_fields c.args.file.now c.args.line.now = cc in
-    says_as g.W.Write.contents c.write_object.result c.args.writer.now c.write_object.new.writer (json_line (row_json fields)) (json_line (refused_object c.args.file.now c.args.line.now))
+    let same : map named_field_value fields ≡ diagnostic_fields c.args.file.now c.args.line.now = cc in
+    says_as g.W.Write.contents c.write_object.result c.args.writer.now c.write_object.new.writer (json_line (row_json fields)) (json_line (diagnostic_object c.args.file.now c.args.line.now))
     (ap (λ (values : List NamedValue). json_line (json_object values)) same) c.write_object.ensures
