@@ -73,9 +73,6 @@ WritesAnswersBy limit_refusal A R room m read lines text last = Answers A m line
     ⊎ AnswersToRefusal A R m lines text last
     ⊎ ((room < length read) × (lines ≡ terminated_lines (take room read)) × (said : Text) × Answers A m lines said last × (text ≡ said ++ limit_refusal))
 
-abbrev pub WritesAnswers : {M : Type 0} → AnswerRelation M → AnswerRelation M → ℕ → M → Bytes → List Line → Text → M → Type 0
-WritesAnswers A R room m read lines text last = WritesAnswersBy input_limit_refusal A R room m read lines text last
-
 -- A last line without a line feed is heard only where nothing is left to read.
 abbrev pub ReadsWholeLines : ℕ → Bytes → Bytes → List Line → Type 0
 ReadsWholeLines room read rest heard = (rest ≡ []) ⊎ ((more : List Line) × (terminated_lines (take room read) ≡ heard ++ more))
@@ -141,9 +138,6 @@ pub record ServesToWriteFailureBy {M : Type 0} (limit_refusal : Text) (A R : Ans
   pub no_quit : HasNoQuit heard
   pub script : WritesAnswersBy limit_refusal A R room m read heard text last
   pub whole : ReadsWholeLines room read rest heard
-
-abbrev pub ServesToWriteFailure : {M : Type 0} → AnswerRelation M → AnswerRelation M → ℕ → M → Bytes → Bytes → Text → M → Type 0
-ServesToWriteFailure A R room m read rest text last = ServesToWriteFailureBy input_limit_refusal A R room m read rest text last
 
 -- This text may have been said at this ending, in a session with this refusal of an input past its bound.
 abbrev pub ServesCommandsBy : {M : Type 0} → Text → AnswerRelation M → AnswerRelation M → ℕ → M → Bytes → Bytes → Text → M → Result CommandsEnd WriteError → Type 0

@@ -7,7 +7,7 @@ use Rattle.ga_text.specs.Lines.{terminated_lines}
 use Rattle.ga_display.specs.Texts.{input_limit_refusal}
 use Rattle.ga_text.specs.Output.{TextHasPrefix, IsTruncated, IsWrittenOrTruncated}
 use Rattle.ga_text.proofs.WriteLemmas.{at_err, truncated_here, truncated_within}
-use Rattle.ga_console.specs.Session.{AnswersLine, ServesCommands, ServesToWriteFailure, IsWrittenOrPrefix, lines_within_bound}
+use Rattle.ga_console.specs.Session.{AnswersLine, ServesCommands, ServesToWriteFailureBy, IsWrittenOrPrefix, lines_within_bound}
 use Rattle.ga_console.specs.inner.Run.{AnswersOrEnds, AnswersCommand, ObeysCommand}
 use Rattle.ga_console.specs.declared.command.Command.{Command}
 use Rattle.ga_console.specs.declared.commands.CommandsEnd.{CommandsEnd}
@@ -110,7 +110,7 @@ serves_prompted room prompts strict p read rest text last ending is tight h =
 
 -- where nothing was answered yet when a write failed
 pub nothing_served : (prompts strict : Bool) (room : ℕ) (e : ExplorerState) (read rest : List ℕ)
-    → ServesToWriteFailure (AnswersWithPrompt prompts strict) (AnswersLast strict) room e read rest [] e
+    → ServesToWriteFailureBy input_limit_refusal (AnswersWithPrompt prompts strict) (AnswersLast strict) room e read rest [] e
 nothing_served prompts strict room e read rest = record {
   heard = [];
   after = lines_within_bound room read;

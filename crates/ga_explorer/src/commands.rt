@@ -199,7 +199,7 @@ fn query_with_arguments(name: &[u8], arguments: &[u8]) -> Option<Query>
 ///
 /// # Errors
 /// A write failed.
-pub fn answer_query<W: Write>(
+pub(crate) fn answer_query<W: Write>(
     alloc: Global,
     lab: &mut Lab,
     notes: &Option<DebugInfo>,

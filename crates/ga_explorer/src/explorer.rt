@@ -62,7 +62,7 @@ impl Explorer {
 
     /// The lab, and what is known of the text on which it began.
     pub fn into_parts(self) -> (Lab, Option<DebugInfo>)
-        ensures { explorer_state result.0 result.1 ≡ self }
+        ensures { record { lab = result.0; notes = result.1 } ≡ self }
     {
         let Explorer { lab, notes } = self;
         (lab, notes)

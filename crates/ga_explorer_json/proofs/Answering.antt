@@ -23,7 +23,7 @@ use Rattle.ga_json.specs.Values.{JsonValue}
 use Rattle.ga_json.specs.Compact.{json_line}
 use Rattle.ga_explorer_json.specs.Rows.{IsJsonLine}
 use Rattle.ga_explorer_json.specs.Changes.{run_json, removed_json}
-use Rattle.ga_explorer_json.specs.Answers.{AnswersCommandJson, AnswersQueryJson, AnswersExplorerJson, AnswersRequest}
+use Rattle.ga_explorer_json.specs.Answers.{AnswersCommandJson, AnswersQueryJson, AnswersExplorerJson, AnswersLineRequest}
 use Rattle.ga_explorer_json.specs.inner.{IsToldJson}
 use Rattle.ga_explorer_json.specs.declared.answers.LineRequest.{LineRequest}
 
@@ -54,8 +54,8 @@ module _ {T W : Type 0} (contents : W → Option Bytes) (result : Result T Write
   explored_as e asked meant now is h = subst (λ (z : ExplorerCommand). WritesSome result (λ text. AnswersExplorerJson e z text now) contents old new) (sym is) h
 
   pub requested : (e : ExplorerState) (line : List ℕ) (asked meant : LineRequest) (now : ExplorerState) → asked ≡ meant
-      → WritesSome result (λ text. AnswersRequest e line meant text now) contents old new → WritesSome result (λ text. AnswersRequest e line asked text now) contents old new
-  requested e line asked meant now is h = subst (λ (z : LineRequest). WritesSome result (λ text. AnswersRequest e line z text now) contents old new) (sym is) h
+      → WritesSome result (λ text. AnswersLineRequest e line meant text now) contents old new → WritesSome result (λ text. AnswersLineRequest e line asked text now) contents old new
+  requested e line asked meant now is h = subst (λ (z : LineRequest). WritesSome result (λ text. AnswersLineRequest e line z text now) contents old new) (sym is) h
 
   -- the answer of the query that is meant, after which nothing is changed
   pub queried : (e : ExplorerState) (asked : Query) (now : ExplorerState) → now ≡ e → IsToldJson result e asked contents old new

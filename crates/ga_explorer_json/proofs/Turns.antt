@@ -14,7 +14,7 @@ use Rattle.ga_debug_info.specs.declared.notes.DebugInfo.{DebugInfo}
 use Rattle.ga_explorer.specs.Opening.{ExplorerState}
 use Rattle.ga_explorer.specs.inner.{explorer_state}
 use Rattle.ga_explorer.proofs.Serving.{serves_seen}
-use Rattle.ga_explorer_json.specs.Answers.{IsRequest, AnswersRequest, AnswersJsonLine}
+use Rattle.ga_explorer_json.specs.Answers.{IsLineRequest, AnswersLineRequest, AnswersJsonLine}
 use Rattle.ga_explorer_json.specs.Session.{is_json_refusal, JsonOn, JsonLast, limit_refusal_line}
 use Rattle.ga_explorer_json.specs.inner.{turn_after, Responds, GoesOnFor, EndsFor}
 use Rattle.ga_explorer_json.specs.declared.answers.LineRequest.{LineRequest}
@@ -23,7 +23,7 @@ use Rattle.ga_explorer_json.specs.declared.responder.JsonExplorer.{JsonExplorer}
 
 -- ---- what is done after an answer
 
-pub responded : (strict : Bool) (e new : ExplorerState) (line : List ℕ) (asked : LineRequest) (answer : List ℕ) → AnswersRequest e line asked answer new
+pub responded : (strict : Bool) (e new : ExplorerState) (line : List ℕ) (asked : LineRequest) (answer : List ℕ) → AnswersLineRequest e line asked answer new
     → (result : Result LineAction WriteError) → IfOk result (λ t. t ≡ turn_after strict answer) → Responds strict e line asked new result answer
 responded strict e new line asked answer h (Ok t) same =
     subst (λ (u : LineAction). Responds strict e line asked new (Ok u) answer) (sym same) (go (strict && is_json_refusal answer) refl) where
@@ -37,18 +37,18 @@ responded strict e new line asked answer h (Err why) same = h
 whole : (line part : List ℕ) → line ≡ take 201 part → length line ≤ 200 → part ≡ line
 whole line part e h = sym (e ∙ take_all 201 part (omega (arith, ap length e, length-take 201 part)))
 
-request_of_part : (notes : Option DebugInfo) (line part : List ℕ) (asked : LineRequest) → line ≡ take 201 part → IsRequest notes line asked → IsRequest notes part asked
-request_of_part notes line part (request.Explore it) e h = subst (λ (z : List ℕ). IsRequest notes z (request.Explore it)) (sym (whole line part e h.0)) h
-request_of_part notes line part (request.Debug it) e h = subst (λ (z : List ℕ). IsRequest notes z (request.Debug it)) (sym (whole line part e h.0)) h
+request_of_part : (notes : Option DebugInfo) (line part : List ℕ) (asked : LineRequest) → line ≡ take 201 part → IsLineRequest notes line asked → IsLineRequest notes part asked
+request_of_part notes line part (request.Explore it) e h = subst (λ (z : List ℕ). IsLineRequest notes z (request.Explore it)) (sym (whole line part e h.0)) h
+request_of_part notes line part (request.Debug it) e h = subst (λ (z : List ℕ). IsLineRequest notes z (request.Debug it)) (sym (whole line part e h.0)) h
 request_of_part notes line part request.Long e h = omega (arith, h, ap length e, length-take 201 part)
-request_of_part notes line part request.Unknown e h = subst (λ (z : List ℕ). IsRequest notes z request.Unknown) (sym (whole line part e h.0)) h
+request_of_part notes line part request.Unknown e h = subst (λ (z : List ℕ). IsLineRequest notes z request.Unknown) (sym (whole line part e h.0)) h
 
-answer_of_part : (e : ExplorerState) (line part : List ℕ) (asked : LineRequest) (answer : List ℕ) (new : ExplorerState) → line ≡ take 201 part → IsRequest e.notes line asked
-    → AnswersRequest e line asked answer new → AnswersRequest e part asked answer new
+answer_of_part : (e : ExplorerState) (line part : List ℕ) (asked : LineRequest) (answer : List ℕ) (new : ExplorerState) → line ≡ take 201 part → IsLineRequest e.notes line asked
+    → AnswersLineRequest e line asked answer new → AnswersLineRequest e part asked answer new
 answer_of_part e line part (request.Explore it) answer new kept is h = h
 answer_of_part e line part (request.Debug it) answer new kept is h = h
 answer_of_part e line part request.Long answer new kept is h = h
-answer_of_part e line part request.Unknown answer new kept is h = subst (λ (z : List ℕ). AnswersRequest e z request.Unknown answer new) (sym (whole line part kept is.0)) h
+answer_of_part e line part request.Unknown answer new kept is h = subst (λ (z : List ℕ). AnswersLineRequest e z request.Unknown answer new) (sym (whole line part kept is.0)) h
 
 not_quit_part : (line part : List ℕ) → line ≡ take 201 part → line ≢ quit_line → part ≢ quit_line
 not_quit_part line part kept other = λ q. other (kept ∙ ap (take 201) q)
@@ -69,7 +69,7 @@ module _ (p new : JsonExplorer) (same : new.is_strict ≡ p.is_strict) where
   abbrev after : ExplorerState
   after = explorer_state new.lab new.notes
 
-  module _ (line answer : List ℕ) (asked : LineRequest) (is : IsRequest p.notes line asked) (other : line ≢ quit_line) (h : AnswersRequest before line asked answer after) where
+  module _ (line answer : List ℕ) (asked : LineRequest) (is : IsLineRequest p.notes line asked) (other : line ≢ quit_line) (h : AnswersLineRequest before line asked answer after) where
     line_answered : (part : List ℕ) → line ≡ take 201 part → AnswersJsonLine before part answer after
     line_answered part kept = (asked, request_of_part p.notes line part asked kept is, answer_of_part before line part asked answer after kept is h)
 
@@ -85,14 +85,14 @@ module _ (p new : JsonExplorer) (same : new.is_strict ≡ p.is_strict) where
       go true test = inr (line_ends test)
       go false test = inl (line_goes test)
 
-  pub line_turn : (line answer : List ℕ) (asked : LineRequest) → IsRequest p.notes line asked → line ≢ quit_line → (result : Result LineAction WriteError)
+  pub line_turn : (line answer : List ℕ) (asked : LineRequest) → IsLineRequest p.notes line asked → line ≢ quit_line → (result : Result LineAction WriteError)
       → Responds p.is_strict before line asked after result answer → AnswersOrEnds GoesOn EndsThere p line new result answer
   line_turn line answer asked is other (Ok turn.Answered) h = line_goes line answer asked is other h.0 h.1
   line_turn line answer asked is other (Ok turn.Refused) h = line_ends line answer asked is other h.0 h.1
   line_turn line answer asked is other (Ok turn.Quit) h = absurd h
   line_turn line answer asked is other (Err failed) h = line_fails line answer asked is other h
 
-  module _ (line answer : List ℕ) (asked : Command) (h : AnswersRequest before line (request.Debug asked) answer after) where
+  module _ (line answer : List ℕ) (asked : Command) (h : AnswersLineRequest before line (request.Debug asked) answer after) where
     command_goes : (p.is_strict && is_json_refusal answer) ≡ false → AnswersCommand GoesOn p asked new answer
     command_goes test = λ spelled short is. (((request.Debug asked, (short, is), h), test), same)
 

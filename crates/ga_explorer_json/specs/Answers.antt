@@ -91,19 +91,19 @@ AnswersExplorerJson e (asked.AnswerQuery question) answer new = IsJsonLine (Answ
 -- ---- a line
 
 -- what the line asks for
-abbrev pub IsRequest : Option DebugInfo → Line → LineRequest → Type 0
-IsRequest notes line (request.Explore asked) = (length line ≤ max_input_line) × (command_of_line notes line ≡ Some asked)
-IsRequest notes line (request.Debug command) = (length line ≤ max_input_line) × SpellsCommand command line
-IsRequest notes line request.Long = max_input_line < length line
-IsRequest notes line request.Unknown =
+abbrev pub IsLineRequest : Option DebugInfo → Line → LineRequest → Type 0
+IsLineRequest notes line (request.Explore asked) = (length line ≤ max_input_line) × (command_of_line notes line ≡ Some asked)
+IsLineRequest notes line (request.Debug command) = (length line ≤ max_input_line) × SpellsCommand command line
+IsLineRequest notes line request.Long = max_input_line < length line
+IsLineRequest notes line request.Unknown =
     (length line ≤ max_input_line) × (command_of_line notes line ≡ None) × ((command : Command) → ¬ SpellsCommand command line)
 
-abbrev pub AnswersRequest : ExplorerState → Line → LineRequest → Text → ExplorerState → Type 0
-AnswersRequest e line (request.Explore asked) answer new = AnswersExplorerJson e asked answer new
-AnswersRequest e line (request.Debug command) answer new = AnswersCommandJson e.lab command answer new.lab × (new.notes ≡ e.notes)
-AnswersRequest e line request.Long answer new = (answer ≡ json_line (line_refusal_json 32 (codes "long"))) × (new ≡ e)
-AnswersRequest e line request.Unknown answer new = (answer ≡ json_line (syntax_json line)) × (new ≡ e)
+abbrev pub AnswersLineRequest : ExplorerState → Line → LineRequest → Text → ExplorerState → Type 0
+AnswersLineRequest e line (request.Explore asked) answer new = AnswersExplorerJson e asked answer new
+AnswersLineRequest e line (request.Debug command) answer new = AnswersCommandJson e.lab command answer new.lab × (new.notes ≡ e.notes)
+AnswersLineRequest e line request.Long answer new = (answer ≡ json_line (line_refusal_json 32 (codes "long"))) × (new ≡ e)
+AnswersLineRequest e line request.Unknown answer new = (answer ≡ json_line (syntax_json line)) × (new ≡ e)
 
 -- the line is answered by what it asks for
 abbrev pub AnswersJsonLine : ExplorerState → Line → Text → ExplorerState → Type 0
-AnswersJsonLine e line answer new = (request : LineRequest) × IsRequest e.notes line request × AnswersRequest e line request answer new
+AnswersJsonLine e line answer new = (request : LineRequest) × IsLineRequest e.notes line request × AnswersLineRequest e line request answer new

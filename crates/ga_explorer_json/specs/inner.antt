@@ -9,7 +9,7 @@ use Rattle.ga_console.specs.declared.responder.LineAction.TheVariants as turn
 use Rattle.ga_explorer.specs.Opening.{ExplorerState}
 use Rattle.ga_explorer.specs.declared.commands.Query.{Query}
 use Rattle.ga_explorer_json.specs.Rows.{IsJsonLine}
-use Rattle.ga_explorer_json.specs.Answers.{AnswersQueryJson, AnswersRequest}
+use Rattle.ga_explorer_json.specs.Answers.{AnswersQueryJson, AnswersLineRequest}
 use Rattle.ga_explorer_json.specs.Session.{is_json_refusal, JsonOn, JsonLast}
 use Rattle.ga_explorer_json.specs.declared.answers.LineRequest.{LineRequest}
 
@@ -25,10 +25,10 @@ turn_after strict answer = if strict && is_json_refusal answer then turn.Refused
 
 -- what a line asks for is answered, as far as the answer can be written, and the session goes on or ends
 abbrev pub Responds : Bool → ExplorerState → Line → LineRequest → ExplorerState → Result LineAction WriteError → Text → Type 0
-Responds strict e line request new (Ok turn.Answered) answer = AnswersRequest e line request answer new × ((strict && is_json_refusal answer) ≡ false)
-Responds strict e line request new (Ok turn.Refused) answer = AnswersRequest e line request answer new × ((strict && is_json_refusal answer) ≡ true)
+Responds strict e line request new (Ok turn.Answered) answer = AnswersLineRequest e line request answer new × ((strict && is_json_refusal answer) ≡ false)
+Responds strict e line request new (Ok turn.Refused) answer = AnswersLineRequest e line request answer new × ((strict && is_json_refusal answer) ≡ true)
 Responds strict e line request new (Ok turn.Quit) answer = ⊥
-Responds strict e line request new (Err failed) answer = AnswersRequest e line request answer new
+Responds strict e line request new (Err failed) answer = AnswersLineRequest e line request answer new
 
 -- ---- a session that may end at its first refused command, by what its machine has
 

@@ -5,7 +5,7 @@ ghost use Rattle.ga_event.specs.Flow.{IsNodePart};
 ghost use Rattle.ga_text.specs.Output.{WritesSome};
 ghost use Rattle.ga_explorer.specs.Reading.{part_of_node_value};
 ghost use Rattle.ga_explorer.specs.inner.{explorer_state};
-ghost use Rattle.ga_explorer_json.specs.Answers.{AnswersCommandJson, AnswersExplorerJson, IsRequest, AnswersRequest};
+ghost use Rattle.ga_explorer_json.specs.Answers.{AnswersCommandJson, AnswersExplorerJson, IsLineRequest, AnswersLineRequest};
 ghost use Rattle.ga_explorer_json.specs.inner.{IsToldJson};
 
 use crate::steps_json::{write_dump_json, write_trace_json, write_why_json};
@@ -42,7 +42,7 @@ pub enum LineRequest {
 
 /// What a line asks for, of which at least the first 201 bytes are here.
 pub(crate) fn line_request(notes: &Option<DebugInfo>, line: &[u8]) -> LineRequest
-    ensures { IsRequest notes.now line.now result }
+    ensures { IsLineRequest notes.now line.now result }
 {
     if line.len() > LINE_LIMIT {
         return LineRequest::Long;
@@ -68,7 +68,7 @@ pub(crate) fn answer_request<W: Write>(
     request: LineRequest,
     writer: &mut Writer<'_, W>,
 ) -> WriteResult
-    ensures { WritesSome result (λ text. AnswersRequest (explorer_state lab.old notes.now) line.now request text (explorer_state lab.new notes.now))
+    ensures { WritesSome result (λ text. AnswersLineRequest (explorer_state lab.old notes.now) line.now request text (explorer_state lab.new notes.now))
         W.contents writer.old writer.new }
 {
     match request {

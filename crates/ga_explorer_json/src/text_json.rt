@@ -9,7 +9,7 @@ ghost use Rattle.ga_explorer_json.specs.Rows.{IsJsonLine};
 ghost use Rattle.ga_explorer_json.specs.Texts.{text_answer_json, IsQueryText, line_refusal_json, syntax_json};
 
 use ga_debug_info::DebugInfo;
-use ga_explorer::{Query, answer_query, suggestion};
+use ga_explorer::{Query, suggestion, write_query_answer};
 use ga_json::{Field, text_field, write_object};
 use ga_lab::Lab;
 use ga_text::{WriteResult, Writer};
@@ -33,7 +33,7 @@ pub(crate) fn write_query_text<W: Write>(
 {
     let mut long = Vec::new(alloc);
     let mut held = Writer::new(&mut long);
-    answer_query(alloc, lab, notes, asked, &mut held)?;
+    write_query_answer(alloc, lab, notes, asked, &mut held)?;
     held.flush()?;
     write_text_answer(command, held.stream.as_slice(), writer)
 }

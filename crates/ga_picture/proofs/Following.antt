@@ -2,7 +2,7 @@
 use Rattle.std.proofs.Common.{◌≡◌, Option, ℕ, List, [], ◌∷◌, ◌++◌, false, inl, inr, sym, ap, ◌∙◌, Result, Ok, Err, ◌≢◌, refl, subst, ◌-◌, length, ◌↔◌, Bool, true≢false, IsTrue, Some, arith}
 use Rattle.ga_explorer.specs.Opening.{ExplorerState, OpensLeadingText, IsLeadingText}
 use Rattle.ga_console.specs.Run.{status_of}
-use Rattle.ga_console.specs.Session.{Answers, WritesAnswers, ServesCommands, EndsAtNoAnswer, IsWrittenOrPrefix, AnswerRelation}
+use Rattle.ga_console.specs.Session.{Answers, WritesAnswersBy, ServesCommands, EndsAtNoAnswer, IsWrittenOrPrefix, AnswerRelation}
 use Rattle.ga_console.specs.inner.Run.{AnswersOrEnds, ObeysCommand}
 use Rattle.ga_console.specs.declared.command.Command.{Command}
 use Rattle.ga_console.specs.declared.commands.CommandsEnd.{CommandsEnd}
@@ -15,6 +15,7 @@ use Rattle.ga_picture.specs.declared.silent.SilentSession.{SilentSession}
 use Rattle.ga_lab.specs.declared.fault.LabFault.TheVariants.{Memory}
 use Rattle.ga_console.specs.declared.run.Status.{Status}
 use Rattle.ga_text.specs.Input.{input_limit}
+use Rattle.ga_display.specs.Texts.{input_limit_refusal}
 use Rattle.ga_picture.specs.Following.HasNoMachine.{broken, short}
 use Rattle.std.proofs.lemmas.List.{append-nil}
 use Rattle.std.proofs.lemmas.Option.{same_Some}
@@ -48,8 +49,8 @@ nothing_said s [] text last h = h.0
 nothing_said s (line ∷ lines) text last h =
     h.5 ∙ ap (λ (t : List ℕ). t ++ h.2) h.3.0 ∙ nothing_said h.1 lines h.2 last h.4
 
-script_heard : (room : ℕ) (m : SilentSession) (read : List ℕ) (lines : List (List ℕ)) (text : List ℕ) (last : SilentSession) → WritesAnswers Silently EndsAtNoAnswer room m read lines text last
-    → WritesAnswers IsSilentAnswer EndsAtNoAnswer room m.explorer read lines text last.explorer
+script_heard : (room : ℕ) (m : SilentSession) (read : List ℕ) (lines : List (List ℕ)) (text : List ℕ) (last : SilentSession) → WritesAnswersBy input_limit_refusal Silently EndsAtNoAnswer room m read lines text last
+    → WritesAnswersBy input_limit_refusal IsSilentAnswer EndsAtNoAnswer room m.explorer read lines text last.explorer
 script_heard room m read lines text last (inl h) = inl (answers_heard m lines text last h)
 script_heard room m read lines text last (inr (inl h)) = absurd h.7
 script_heard room m read lines text last (inr (inr h)) = inr (inr (h.0, h.1, h.2, answers_heard m lines h.2 last h.3, h.4))

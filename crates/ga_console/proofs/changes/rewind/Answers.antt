@@ -22,7 +22,7 @@ returns-in-Err g c = (
   λ before said h. (
     c.as_slice.result.now,
     rewind_refused c.args.wording c.args.lab.now c.args.node c.args.step c.in-Err.fault _ c.rewind.new.self c.in-Err.ensures.answer c.in-Err.ensures.same
-        (c.as_slice.ensures ∙ c.refusal.ensures ∙ ap (λ (n : ℕ). worded_step_refusal_text c.args.wording c.args.node n c.in-Err.fault) (c.steps.ensures.steps ∙ ap (λ (s : State). count_steps c.args.node.number s.kept) c.in-Err.ensures.same)),
+        (c.as_slice.ensures.value ∙ c.step_refusal-refusal.ensures ∙ ap (λ (n : ℕ). worded_step_refusal_text c.args.wording c.args.node n c.in-Err.fault) (c.steps.ensures.steps ∙ ap (λ (s : State). count_steps c.args.node.number s.kept) c.in-Err.ensures.same)),
     c.write_blocks.ensures.1 before said h,
   ),
 )

@@ -31,8 +31,8 @@ returns-in-Err g c = (
   λ before said h. (
     c.as_slice-in-Err.result.now,
     why_refused c.args.wording c.args.lab.now c.args.from.0 c.args.to.0 c.args.from.1 c.args.to.1 c.in-Err.fault c.as_slice-in-Err.result.now c.in-Err.ensures.err
-        (c.as_slice-in-Err.ensures ∙ c.refusal.ensures ∙ ap (λ (n : ℕ). worded_step_refusal_text c.args.wording c.node.result n c.in-Err.fault) c.steps.ensures.steps
-        ∙ ap (λ (node : NodeId). step_refusal c.args.wording c.args.lab.now node c.in-Err.fault) c.node.ensures),
+        (c.as_slice-in-Err.ensures.value ∙ c.step_refusal-refusal.ensures ∙ ap (λ (n : ℕ). worded_step_refusal_text c.args.wording c.node_without_step-node.result n c.in-Err.fault) c.steps.ensures.steps
+        ∙ ap (λ (node : NodeId). step_refusal c.args.wording c.args.lab.now node c.in-Err.fault) c.node_without_step-node.ensures),
     c.write_blocks.ensures.1 before said h,
   ),
 )

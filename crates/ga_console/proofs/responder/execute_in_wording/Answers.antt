@@ -4,10 +4,10 @@ pub returns-in-Step : goal.returns-in-Step
 returns-in-Step g c = rw c.in-Step.is c.step.ensures
 
 pub returns-in-Back : goal.returns-in-Back
-returns-in-Back g c = rw c.in-Back.is (c.back.ensures c.args.wording)
+returns-in-Back g c = rw c.in-Back.is c.back.ensures
 
 pub returns-in-Rewind : goal.returns-in-Rewind
-returns-in-Rewind g c = rw c.in-Rewind.is (c.rewind.ensures c.args.wording)
+returns-in-Rewind g c = rw c.in-Rewind.is c.rewind.ensures
 
 pub returns-in-Node : goal.returns-in-Node
 returns-in-Node g c = rw c.in-Node.is (c.node.ensures c.args.wording)

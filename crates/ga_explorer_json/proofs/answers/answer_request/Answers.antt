@@ -1,6 +1,6 @@
 use Rattle.std.proofs.Common.{refl}
 use Rattle.ga_explorer.specs.inner.{explorer_state}
-use Rattle.ga_explorer_json.specs.Answers.{AnswersCommandJson, AnswersRequest}
+use Rattle.ga_explorer_json.specs.Answers.{AnswersCommandJson, AnswersLineRequest}
 use Rattle.ga_explorer_json.specs.Texts.{line_refusal_json, syntax_json}
 use Rattle.ga_explorer_json.specs.declared.answers.LineRequest.TheVariants as request
 use Rattle.ga_json.specs.Compact.{json_line}
@@ -22,18 +22,18 @@ returns-in-Debug g c =
     requested g.W.Write.contents c.obey_for_json.result c.args.writer.now c.obey_for_json.new.writer e c.args.line.now c.args.request (request.Debug c.in-Debug.command) now c.in-Debug.is
     (some_as g.W.Write.contents c.obey_for_json.result c.args.writer.now c.obey_for_json.new.writer
     (λ text. AnswersCommandJson c.args.lab.now c.in-Debug.command text c.obey_for_json.new.lab)
-    (λ text. AnswersRequest e c.args.line.now (request.Debug c.in-Debug.command) text now) (λ text h. (h, refl)) c.obey_for_json.ensures)
+    (λ text. AnswersLineRequest e c.args.line.now (request.Debug c.in-Debug.command) text now) (λ text h. (h, refl)) c.obey_for_json.ensures)
 
 pub returns-in-Long : goal.returns-in-Long
 returns-in-Long g c =
     let e = explorer_state c.args.lab.now c.args.notes.now in
     requested g.W.Write.contents c.write_line_refusal.result c.args.writer.now c.write_line_refusal.new.writer e c.args.line.now c.args.request request.Long e c.in-Long.is
     (exact_as g.W.Write.contents c.write_line_refusal.result c.args.writer.now c.write_line_refusal.new.writer
-    (λ text. AnswersRequest e c.args.line.now request.Long text e) (json_line (line_refusal_json 32 (codes "long"))) (refl, refl) c.write_line_refusal.ensures)
+    (λ text. AnswersLineRequest e c.args.line.now request.Long text e) (json_line (line_refusal_json 32 (codes "long"))) (refl, refl) c.write_line_refusal.ensures)
 
 pub returns-in-Unknown : goal.returns-in-Unknown
 returns-in-Unknown g c =
     let e = explorer_state c.args.lab.now c.args.notes.now in
     requested g.W.Write.contents c.write_syntax_json.result c.args.writer.now c.write_syntax_json.new.writer e c.args.line.now c.args.request request.Unknown e c.in-Unknown.is
     (exact_as g.W.Write.contents c.write_syntax_json.result c.args.writer.now c.write_syntax_json.new.writer
-    (λ text. AnswersRequest e c.args.line.now request.Unknown text e) (json_line (syntax_json c.args.line.now)) (refl, refl) c.write_syntax_json.ensures)
+    (λ text. AnswersLineRequest e c.args.line.now request.Unknown text e) (json_line (syntax_json c.args.line.now)) (refl, refl) c.write_syntax_json.ensures)

@@ -25,7 +25,7 @@ returns-in-Err-clause-said g c = (
   λ before said h. (
     c.as_slice.result.now,
     effects_refused c.args.notes.now c.args.lab.now c.args.node c.args.step c.in-Err.fault c.as_slice.result.now c.in-Err.ensures.err
-        (c.as_slice.ensures ∙ c.advised_step_refusal.ensures
+        (c.as_slice.ensures.value ∙ c.advised_step_refusal-refusal.ensures
         ∙ ap (λ (n : ℕ). advised_step_refusal_text c.args.node n c.in-Err.fault) (c.steps.ensures.steps ∙ ap (λ (s : State). count_steps c.args.node.number s.kept) c.find_rollback_effects.ensures.same)),
     c.write_blocks.ensures.1 before said h,
   ),

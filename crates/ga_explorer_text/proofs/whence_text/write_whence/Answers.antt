@@ -10,7 +10,7 @@ returns-then-not-has_step g c = (
   search rules,
   λ before said h. (
     c.as_slice.result.now,
-    inl (sym c.has_step.ensures.value ∙ c.if-not-has_step.true, c.as_slice.ensures ∙ c.missing_step_refusal.ensures ∙ ap (missing_step_text c.args.node) c.steps.ensures.steps),
+    inl (sym c.has_step.ensures.value ∙ c.if-not-has_step.true, c.as_slice.ensures.value ∙ c.missing_step_refusal.ensures ∙ ap (missing_step_text c.args.node) c.steps.ensures.steps),
     c.write_blocks.ensures.1 before said h,
   ),
 )
