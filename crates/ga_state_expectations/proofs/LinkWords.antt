@@ -7,7 +7,7 @@ use Rattle.ga_debug_info.specs.declared.notes.LabelAddress.{LabelAddress}
 use Rattle.ga_state_links.specs.declared.expectation.LinkExpectation.{LinkExpectation}
 use Rattle.ga_state_expectations.specs.declared.cause.ExpectationCause.{ExpectationCause}
 use Rattle.ga_state_expectations.specs.declared.cause.ExpectationCause.TheVariants.{ManyLinkWords}
-use Rattle.ga_state_expectations.specs.Spelling.{split_word, has_no_words, link_word_in, with_link_word, open_words, words_after, link_words_within}
+use Rattle.ga_state_expectations.specs.Spelling.{split_word, has_no_words, link_word_in, with_link_word, open_words, words_after, link_words_within, link_of_split, link_of_words, link_in}
 
 pub open_first : (names : List LabelAddress) (more : ℕ) (expected : LinkExpectation) (text word rest : Text) (whole : Result LinkExpectation ExpectationCause) → split_word text ≡ (word, rest)
     → bytes_eq word (codes "..") ≡ true → link_words_within names more expected text ≡ whole → open_words expected rest ≡ whole
@@ -56,3 +56,12 @@ unfolding link_words_within
 many_words names expected text word rest whole splits dots e =
     sym (ap (λ (parts : Text × Text). cond (bytes_eq parts.0 (codes "..")) (open_words expected parts.1) (Err ManyLinkWords)) splits
     ∙ cond-false (bytes_eq word (codes "..")) (open_words expected rest) (Err ManyLinkWords) dots) ∙ e
+
+-- the expectation by the parts of a text: each begins with its first word
+pub split_thrice : (names : List LabelAddress) (text from rest to others sign words : Text) → split_word text ≡ (from, rest) → split_word rest ≡ (to, others)
+    → split_word others ≡ (sign, words) → link_in names text ≡ link_of_words names from to sign words
+unfolding link_in
+split_thrice names text from rest to others sign words first second third =
+    ap (λ (parts : Text × Text). link_of_split names parts (split_word parts.1) (split_word (split_word parts.1).1)) first
+    ∙ ap (λ (parts : Text × Text). link_of_split names (from, rest) parts (split_word parts.1)) second
+    ∙ ap (λ (parts : Text × Text). link_of_split names (from, rest) (to, others) parts) third

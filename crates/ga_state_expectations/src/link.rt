@@ -13,13 +13,16 @@ use ga_races::are_neighbours;
 use ga_state_links::{LinkExpectation, MAX_LINK_WORDS};
 use ga_text::parse_node;
 
+/// The number of words that there are.
+const WORDS: u32 = 1 << 18;
+
 /// The number, if there is one and it is one of a word.
 fn fitting_number(number: Option<u32>) -> Result<u32, ExpectationCause>
     ensures { result ≡ fitting_number number }
 {
     match number {
         Some(number) => {
-            if number < 1 << 18 {
+            if number < WORDS {
                 Ok(number)
             } else {
                 Err(ExpectationCause::OutOfRange)
