@@ -3,7 +3,7 @@
 import re
 
 from conditions import asked_with
-from explore import mixed, next_node
+from explore import CHANGE, CLASSES, mixed, next_node
 from files import answer, load_of
 from machine import NODES, name
 from shown import SCOPES, Places, Shown, Watched, address_of, cell_of, node_of_frame, node_of_thread, thread_of
@@ -405,8 +405,8 @@ class Session:
             raise Refused("evaluate: no register and no cell")
         if text == "quit":
             raise Refused("evaluate: disconnect ends the session")
-        before = len(self.machine.events), self.machine.made
-        self.respond({"result": answer(self.machine, text), "variablesReference": 0})
-        if before != (len(self.machine.events), self.machine.made):
+        said = answer(self.machine, text)
+        self.respond({"result": said, "variablesReference": 0})
+        if CLASSES.get(text.split(" ")[0]) == CHANGE and not said.startswith("no "):
             self.stands(node, "goto", "by a command")
         return None

@@ -22,9 +22,11 @@ CONDITION = re.compile(
 MOST_CONDITIONS = 8
 RUN = re.compile(rf"run(?: (greedy|random ({NUMBER})))?(?: ({NUMBER}))?(?: until (.+))?")
 BACK = re.compile(rf"back (?:({NODE}) )?until (.+)")
-# The commands in the order of `help`: the form of each, what `help` says of it, and what `help` of this one says besides: what it answers,
-# and an example. One of exploring has how often it comes in generated sessions, of about 1000 lines.
+# The commands in the order of `help`: the form of each, its class, what `help` says of it, and what `help` of this one says besides: what it
+# answers, and an example. One of exploring has how often it comes in generated sessions, of about 1000 lines.
 COMMANDS = []
+# A query changes nothing; a change makes events or removes some.
+QUERY, CHANGE = "query", "change"
 
 
 def command(*row):
@@ -211,7 +213,7 @@ class Explorer(Machine):
         return [number_of(condition.split(" ")[1]) for condition in conditions if condition.startswith("change ")]
 
     @command(
-        "run [greedy|random SEED] [N] [until COND]",
+        "run [greedy|random SEED] [N] [until COND]", CHANGE,
         "make up to N events, in rounds or in this order\n"
         "COND: NNN VALUE OP N, pass NNN MMM OP N, pass NNN MMM J, step NNN K, stop, stop NNN,\n"
         "      wait NNN, mem NNN HH = N, p NNN X, reach NNN X, change NNN HH [= N], COND or COND\n"
@@ -313,7 +315,7 @@ class Explorer(Machine):
         return " " + {"fetch": "@", "read": "?", "write": "!"}[it.wait[0]] + (it.wait[1] if len(it.wait[1]) == 1 else "+")
 
     @command(
-        "chip", "what each node does",
+        "chip", QUERY, "what each node does",
         "rows 7 to 0 of nodes: . made no step, * runs, x stopped, @ waits for code, ? reads, ! writes", "chip", 20,
     )  # fmt: skip
     def answer_chip(self):
@@ -349,7 +351,7 @@ class Explorer(Machine):
         return idle | {node for node in range(NODES) if not self.steps[node] and vars(self.load[node]) == vars(waiting(node))}
 
     @command(
-        "who", "who waits for whom, and which nodes can never go on",
+        "who", QUERY, "who waits for whom, and which nodes can never go on",
         "for each that waits what it does, and the nodes that it awaits; then stuck, ring, ended and idle", "who", 30,
     )  # fmt: skip
     def answer_who(self):
@@ -393,7 +395,7 @@ class Explorer(Machine):
                 yield ring
 
     @command(
-        "effects NNN K", "what rewind NNN K would remove",
+        "effects NNN K", QUERY, "what rewind NNN K would remove",
         "effects X N, and for each of N nodes its first step that it would remove, and their number", "effects 001 last", 50,
     )  # fmt: skip
     def answer_effects(self, node, step):
@@ -412,7 +414,7 @@ class Explorer(Machine):
         return [told for event, told in zip(self.events, self.told) if event == (writer, reader)]
 
     @command(
-        "words NNN MMM", "the words transferred from NNN to MMM",
+        "words NNN MMM", QUERY, "the words transferred from NNN to MMM",
         "words NNN MMM C, and for each of C words its number, the steps of both nodes and the word", "words 000 001", 60,
     )  # fmt: skip
     def answer_words(self, writer, reader):
@@ -432,7 +434,7 @@ class Explorer(Machine):
                 yield again.told[-1], before, again.chip[node].copy()
 
     @command(
-        "writes NNN HH", "the steps that wrote the cell HH of NNN, the newest first",
+        "writes NNN HH", QUERY, "the steps that wrote the cell HH of NNN, the newest first",
         "for each the step, the opcode and the word", "writes 001 20", 70,
     )  # fmt: skip
     def answer_writes(self, node, address):
@@ -463,7 +465,7 @@ class Explorer(Machine):
         return NAMES[int(words[3], 16)] if words[2] == "run" else " ".join(words[2:])
 
     @command(
-        "at NNN K [N]", "N steps before and after step K of NNN, with registers",
+        "at NNN K [N]", QUERY, "N steps before and after step K of NNN, with registers",
         "for each the step, what it did, and the registers t, s, r, a, b and p after it", "at 001 last 5", 80,
     )  # fmt: skip
     def answer_at(self, node, step, around):
@@ -504,7 +506,7 @@ class Explorer(Machine):
         return f"{name(node)} {told}"
 
     @command(
-        f"whence NNN K [{VALUE}] [from L]",
+        f"whence NNN K [{VALUE}] [from L]", QUERY,
         "the steps whose values went into what step K of NNN made, or\n"
         "                      into a register, a word of a stack or a cell as it is after step K",
         "the nearest 100, each with its number and > the number of the step that used its value", "whence 001 last, or whence 001 last r", 160,
@@ -534,7 +536,7 @@ class Explorer(Machine):
         return self.made_line(run[0], deeds, tails, behind, f" x{len(run)}" if len(run) > 1 else "")
 
     @command(
-        "because NNN K [N]",
+        "because NNN K [N]", QUERY,
         "N steps before step K at which a value decided where NNN continued\n"
         "K of effects, at, whence, because: a step's number, or last",
         "for each the step and the word that it tested, and below it the step that made that word", "because 001 last", 100,
@@ -638,7 +640,7 @@ class Explorer(Machine):
         return [line for look, change in pairs if only is None or self.events[look] == (only,) for line in self.reading(words[look], look, change)]
 
     @command(
-        "races [NNN]", "steps that yield another word in another order, and how",
+        "races [NNN]", QUERY, "steps that yield another word in another order, and how",
         "races N, and for each of N steps the other word, and two commands that lead there", "races 001", 40,
     )  # fmt: skip
     def answer_races(self, only):
@@ -660,14 +662,14 @@ class Explorer(Machine):
         return "\n".join([f"races {len(lines)}"] + lines + last)
 
     @command(
-        "save", "the history as lines of debug",
+        "save", QUERY, "the history as lines of debug",
         "step NNN for each event, the oldest first", "save", 10,
     )  # fmt: skip
     def answer_save(self):
         return "\n".join(f"step {name(event[0])}" for event in self.events)
 
     @command(
-        "help [COMMAND]", "these lines, or more of one command",
+        "help [COMMAND]", QUERY, "these lines, or more of one command",
         "the command's form and what it does, what it answers, and an example", "help why", 6,
     )  # fmt: skip
     def answer_help(self, command):
@@ -676,34 +678,35 @@ class Explorer(Machine):
 
 # Those of the debugger, of which `back until` is one of exploring.
 COMMANDS += [
-    ("step NNN", "make the next event of NNN",
+    ("step NNN", CHANGE, "make the next event of NNN",
      "NNN K and what the step did, or pass WWW K RRR J W: it moved the word W from WWW to RRR", "step 001"),
-    ("back [[NNN] until COND]",
+    ("back [[NNN] until COND]", CHANGE,
      "undo the newest event; or the newest after which COND held, and all\n"
      "                      later ones; or such a step of NNN, with its dependents",
      "removed X kept M: X events were removed, and M are left; or none if there is no such event", "back until change 001 20", 40),
-    ("rewind NNN K", "remove step K of NNN, with its dependents",
+    ("rewind NNN K", CHANGE, "remove step K of NNN, with its dependents",
      "removed X kept M: X events were removed, and M are left", "rewind 001 4"),
-    ("node NNN", "the state of NNN",
+    ("node NNN", QUERY, "the state of NNN",
      "the state, the registers and both stacks, the top first", "node 001"),
-    ("mem NNN HH", "the word at HH of the memory of NNN",
+    ("mem NNN HH", QUERY, "the word at HH of the memory of NNN",
      "mem NNN HH W: RAM below 80, ROM from there on", "mem 001 20"),
-    ("trace NNN", "the steps of NNN",
+    ("trace NNN", QUERY, "the steps of NNN",
      "trace NNN C, and C events, the oldest first", "trace 001"),
-    ("why NNN K MMM J", "by which events step K of NNN led to step J of MMM",
+    ("why NNN K MMM J", QUERY, "by which events step K of NNN led to step J of MMM",
      "chain C, and C events from the cause to its effect; or independent",
      "why 000 3 001 7, did step 3 of 000 lead to step 7 of 001?"),
-    ("count", "how many events the history has, and how many were made",
+    ("count", QUERY, "how many events the history has, and how many were made",
      "kept K made M limit L", "count"),
-    ("dump", "the chip as an image",
+    ("dump", QUERY, "the chip as an image",
      "an image of format 2, which every command reads", "dump"),
-    ("quit", "end",
+    ("quit", QUERY, "end",
      "nothing", "quit"),
 ]  # fmt: skip
 FORMS = {form.split(" ")[0]: form for form, *_ in COMMANDS}
+CLASSES = {name: class_ for name, (_, class_, *_) in zip(FORMS, COMMANDS)}
 # how often one comes in generated sessions
-OFTEN = {name: often for name, (_, _, _, _, *given) in zip(FORMS, COMMANDS) for often in given}
+OFTEN = {name: often for name, (_, _, _, _, _, *given) in zip(FORMS, COMMANDS) for often in given}
 # what `help` says of each command, by its name
-ROWS = {name: f"{form:22}{does}" if len(form) < 22 else f"{form}\n{'':22}{does}" for name, (form, does, *_) in zip(FORMS, COMMANDS)}
-MORE = {name: f"{row}\nanswers: {answers}\nexample: {example}" for (name, row), (_, _, answers, example, *_) in zip(ROWS.items(), COMMANDS)}
+ROWS = {name: f"{form:22}{does}" if len(form) < 22 else f"{form}\n{'':22}{does}" for name, (form, _, does, *_) in zip(FORMS, COMMANDS)}
+MORE = {name: f"{row}\nanswers: {answers}\nexample: {example}" for (name, row), (_, _, _, answers, example, *_) in zip(ROWS.items(), COMMANDS)}
 HELP = "\n".join(ROWS.values())

@@ -17,6 +17,7 @@ sys.dont_write_bytecode = True
 TOP = os.path.dirname(os.path.dirname(os.path.dirname(os.path.abspath(__file__))))
 sys.path.insert(0, f"{TOP}/model")
 from browser import Browser
+from explore import CHANGE, CLASSES
 from runs import ends, orders, races, until_stop, whence
 from listing import listed
 from looks import commands, from_afar, shots, shown, times
@@ -308,6 +309,7 @@ def main():
     with Browser(size=(1280, 720)) as browser:
         ready(browser, PAGE)
         began = time.time() - start
+        check(browser.run("return CHANGES") == [name for name, it in CLASSES.items() if it == CHANGE], "other commands change the machine")
         compared, assembled = conformance(browser), sources(browser)
         dice, taken = random.Random(7), 0
         for name in browser.run("return [...document.getElementById('examples').options].map(it => it.value).filter(it => it)"):

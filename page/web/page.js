@@ -16,7 +16,7 @@ class Page {
     this.log.clear(); find("examples").value = "";
     if (refused) return this.refuse(text, refused);
     this.session = session; this.undone = [];
-    const end = commands.indexOf("quit"), lines = commands.slice(0, end < 0 ? commands.length : end).filter(it => KEEPS.test(it));
+    const end = commands.indexOf("quit"), lines = commands.slice(0, end < 0 ? commands.length : end).filter(is_change);
     if (session.told) this.say("source", session.told.split("\n"));
     if (lines.length) session.obey(lines);
     this.working = nodes_named(session.image);
@@ -58,7 +58,7 @@ class Page {
   command(line) {
     if (line === "redo") return this.redo();
     if (line === "check") return this.check();
-    if (!KEEPS.test(line)) {
+    if (!is_change(line)) {
       const answer = (this.session.ask([line]) || [[NO_MEMORY]])[0];
       if (line === "help") show_help(answer, "commands"); else this.say(line, answer);
       return answer;

@@ -3,7 +3,10 @@
 const PAST = 1, GOES = 2;
 // Words are named of a source up to this length; of a longer one lines.
 const MOST_NAMED = 1000000;
-const KEEPS = /^(step|back|rewind|run)\b/, STEPS_ALONE = /^step\b|^back$/;
+// Whether a line changes the chip, by the class of its command.
+const is_change = line => CHANGES.includes(line.split(" ")[0]);
+// Lines that make or undo one event each: several are one question, and what each did is read off its answer.
+const STEPS_ALONE = /^step\b|^back$/;
 
 // A run of the same order with a number of events.
 const bounded = (line, count) => `${/^run(?: greedy| random \d+)?/.exec(line)[0]} ${count}`;

@@ -1,5 +1,4 @@
 pub mod Known
 pub mod Serves
-pub mod Unmoved
 pub mod LaunchedProgram
 pub mod Turned

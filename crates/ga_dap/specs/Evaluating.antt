@@ -9,6 +9,7 @@ use Rattle.ga_grid.specs.declared.node_id.NodeId.{NodeId}
 use Rattle.ga_lab.specs.Machine.{chip_of}
 use Rattle.ga_console.specs.Session.{quit_line}
 use Rattle.ga_explorer.specs.Answers.{AnswersExplorerLine}
+use Rattle.ga_explorer.specs.Classes.{class_of_line}
 use Rattle.ga_dap_views.specs.Json.{whole_number}
 use Rattle.ga_dap_queries.specs.Evaluating.{DenotesVariable, DenotesNoVariable, evaluate_body}
 use Rattle.ga_dap_views.specs.declared.variable.Variable.{Variable}
@@ -21,7 +22,7 @@ use Rattle.ga_dap_queries.specs.Readings.{IsDeadlockStatus}
 use Rattle.ga_dap_queries.specs.Sending.{Messages, success_response, refused_response}
 use Rattle.ga_dap_control.specs.Configuring.{AreThreadMarks}
 use Rattle.ga_dap.specs.Opening.{program_explorer_state}
-use Rattle.ga_dap.specs.Telling.{AreMachineChangeMessages, has_machine_changed}
+use Rattle.ga_dap.specs.Telling.{AreMachineChangeMessages, is_change_done}
 
 -- the node of an expression: that of the frame, otherwise the first that has something to show
 abbrev pub IsFrameOrFirstNode : Debuggee → Option NodeId → NodeId → Type 0
@@ -50,15 +51,15 @@ abbrev pub AreAnswerMessagesSince : ClientRequest → Text → Bool → (ℕ →
 AreAnswerMessagesSince request answer moved before new node messages = (shown : Text) × (rest : Messages) × IsTrimAsciiEnd answer shown
     × AreMachineChangeMessages moved before new node rest × (messages ≡ success_response request (answer_object (utf8_lossy shown)) ∷ rest)
 
-abbrev pub AreAnswerMessages : ClientRequest → Text → Debuggee → Debuggee → NodeId → Messages → Type 0
-AreAnswerMessages request answer p new node messages = (before : ℕ → Bool) × AreThreadMarks p before × AreAnswerMessagesSince request answer (has_machine_changed p.lab new.lab) before new node messages
+abbrev pub AreAnswerMessages : ClientRequest → Text → Text → Debuggee → Debuggee → NodeId → Messages → Type 0
+AreAnswerMessages request line answer p new node messages = (before : ℕ → Bool) × AreThreadMarks p before × AreAnswerMessagesSince request answer (is_change_done (class_of_line line) answer) before new node messages
 
-abbrev pub AreCommandMessages : ClientRequest → Option Text → Debuggee → Debuggee → NodeId → Messages → Type 0
-AreCommandMessages request (Some answer) p new node messages = AreAnswerMessages request answer p new node messages
-AreCommandMessages request None p new node messages = messages ≡ refused_response request (codes "evaluate: disconnect ends the session") ∷ []
+abbrev pub AreCommandMessages : ClientRequest → Text → Option Text → Debuggee → Debuggee → NodeId → Messages → Type 0
+AreCommandMessages request line (Some answer) p new node messages = AreAnswerMessages request line answer p new node messages
+AreCommandMessages request line None p new node messages = messages ≡ refused_response request (codes "evaluate: disconnect ends the session") ∷ []
 
 abbrev pub EvaluatesCommand : Debuggee → ClientRequest → NodeId → Text → Messages → Debuggee → Type 0
-EvaluatesCommand p request node line messages new = (told : Option Text) × Commands p line new told × AreCommandMessages request told p new node messages
+EvaluatesCommand p request node line messages new = (told : Option Text) × Commands p line new told × AreCommandMessages request line told p new node messages
 
 -- a client that only shows a value gives no commands
 abbrev pub is_repl_request : ClientRequest → Bool

@@ -1,8 +1,10 @@
 -- The messages about a change of the machine (Debug Adapter Protocol, "ThreadEvent", "StoppedEvent", "OutputEvent").
-use Rattle.std.specs.Prelude.{◌≡◌, ℕ, Bool, true, false, not, ◌||◌, ◌==◌, [], ◌∷◌, ◌++◌, length, codes, Option, Some, None}
+use Rattle.std.specs.Prelude.{◌≡◌, ℕ, Bool, true, false, not, [], ◌∷◌, ◌++◌, codes, Option, Some, None}
 use Rattle.ga_text.specs.Lines.{Text}
 use Rattle.ga_grid.specs.declared.node_id.NodeId.{NodeId}
-use Rattle.ga_lab.specs.Machine.{State}
+use Rattle.ga_explorer.specs.Session.{is_refusal}
+use Rattle.ga_explorer.specs.declared.forms.CommandClass.{CommandClass}
+use Rattle.ga_explorer.specs.declared.forms.CommandClass.TheVariants.{Query, Change}
 use Rattle.ga_dap_protocol.specs.declared.request.ClientRequest.{ClientRequest}
 use Rattle.ga_dap_queries.specs.declared.debuggee.Debuggee.{Debuggee}
 use Rattle.ga_dap_queries.specs.Events.{thread_changes_below}
@@ -38,11 +40,13 @@ abbrev pub AreReverseMessages : (ℕ → Bool) → Debuggee → ClientRequest �
 AreReverseMessages before new request node gone reason messages = (rest : Messages) × AreStoppedMessages before new reason (codes "gone back") node rest
     × (messages ≡ bare_success_response request ∷ output_message (codes "console") gone ∷ rest)
 
--- events were made or taken back
-abbrev pub has_machine_changed : State → State → Bool
-has_machine_changed old new = not (length old.kept == length new.kept) || not (old.made == new.made)
+-- a command that changes the machine was carried out, and not refused
+abbrev pub is_change_done : Option CommandClass → Text → Bool
+is_change_done (Some Change) answer = not (is_refusal answer)
+is_change_done (Some Query) answer = false
+is_change_done None answer = false
 
--- the messages after a command, which moved the machine or not
+-- the messages after a command, by whether it is such a change
 abbrev pub AreMachineChangeMessages : Bool → (ℕ → Bool) → Debuggee → NodeId → Messages → Type 0
 AreMachineChangeMessages true before new node messages = AreStoppedMessages before new (codes "goto") (codes "by a command") node messages
 AreMachineChangeMessages false before new node messages = messages ≡ []

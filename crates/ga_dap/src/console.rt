@@ -1,13 +1,13 @@
 //! `evaluate`.
 
-ghost use Rattle.std.specs.Prelude.{◌≡◌, ◌||◌, ◌==◌, [], not, length};
+ghost use Rattle.std.specs.Prelude.{◌≡◌, []};
 ghost use Rattle.serde_json.specs.View.{view};
 ghost use Rattle.ga_text.specs.Lines.{Text};
 ghost use Rattle.ga_dap_queries.specs.Sending.{SendsAll, Messages};
 ghost use Rattle.ga_dap_queries.specs.Evaluating.{DenotesNoVariable};
 ghost use Rattle.ga_dap_views.specs.Shown.{IsVariable};
 ghost use Rattle.ga_dap.specs.Evaluating.{Evaluates, EvaluatesIn, EvaluatesCommand, EvaluatesCommandIfAllowed, AreVariableValueMessages, is_repl_request};
-ghost use Rattle.ga_dap.specs.Telling.{has_machine_changed};
+ghost use Rattle.ga_dap.specs.Telling.{is_change_done};
 ghost use Rattle.ga_dap.specs.inner.Carrying.{Carries};
 
 use crate::back::refuse;
@@ -17,16 +17,19 @@ use crate::unanswered::NoResponse;
 use ga_dap_protocol::{ClientRequest, Outbox, member_text};
 use ga_dap_queries::{Debuggee, parse_variable, thread_marks};
 use ga_dap_views::Variable;
+use ga_explorer::{CommandClass, class_of_line, is_refusal};
 use ga_grid::NodeId;
-use ga_lab::{EventCounts, Lab};
 use std::alloc::Global;
 
-/// Whether events were made or removed since these counts.
-fn has_machine_changed(before: EventCounts, lab: &Lab) -> bool
-    ensures { result ≡ (not (before.kept == length lab.now.kept) || not (before.made == lab.now.made)) }
+/// Whether a command of this class changes the machine and was carried out, by its answer.
+fn is_change_done(class: Option<CommandClass>, answer: &[u8]) -> bool
+    ensures { result ≡ is_change_done class answer.now }
 {
-    let now = lab.counts();
-    before.kept != now.kept || before.made != now.made
+    match class {
+        Some(CommandClass::Change) => !is_refusal(answer),
+        Some(CommandClass::Query) => false,
+        None => false,
+    }
 }
 
 /// Whether a request may give commands: a client that only shows a value doesn't.
@@ -70,29 +73,17 @@ fn obey(
     ensures { Carries result (λ messages. EvaluatesCommand program.old request.now node line.now messages program.new) (program.new ≡ program.old) out.old out.new }
 {
     let before = thread_marks(&program.lab, program.nodes.as_slice());
-    let counts = program.lab.counts();
-    match command_text(alloc, program, line.as_bytes()) {
+    let bytes = line.as_bytes();
+    let class = class_of_line(bytes);
+    match command_text(alloc, program, bytes) {
         Ok(Some(answer)) => {
-            let moved = has_machine_changed(counts, &program.lab);
-            emit_command_with_retry(
-                alloc,
-                program,
-                &before,
-                request,
-                answer.as_slice(),
-                moved,
-                node,
-                out,
-            )
+            let text = answer.as_slice();
+            let moved = is_change_done(class, text);
+            emit_command_with_retry(alloc, program, &before, request, text, moved, node, out)
         }
         Ok(None) => refuse(request, "evaluate: disconnect ends the session", out),
-        Err(_) => {
-            if has_machine_changed(counts, &program.lab) {
-                Err(NoResponse::Untold)
-            } else {
-                Err(NoResponse::Memory)
-            }
-        }
+        Err(NoResponse::Memory) => Err(NoResponse::Memory),
+        Err(NoResponse::Untold) => Err(NoResponse::Untold),
     }
 }
 

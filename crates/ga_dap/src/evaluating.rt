@@ -1,6 +1,6 @@
 //! What `evaluate` is answered: registers, cells, and the commands of exploring.
 
-ghost use Rattle.std.specs.Prelude.{◌≡◌, ◌≤◌, [], Bool, Ok, Err, Some, None, length, take, option_map, false, IfOk, OnErr, Result, Option};
+ghost use Rattle.std.specs.Prelude.{◌≡◌, ◌≤◌, [], Bool, Ok, Err, Some, None, length, take, option_map, IfOk, Result, Option};
 ghost use Rattle.std.specs.Str.{IsTrimAsciiEnd};
 ghost use Rattle.std.specs.Str.Lossy.{utf8_lossy};
 ghost use Rattle.ga_text.specs.Lines.{Bytes, Text};
@@ -10,13 +10,15 @@ ghost use Rattle.ga_dap_views.specs.Shown.{IsVariable};
 ghost use Rattle.ga_dap_queries.specs.Evaluating.{evaluate_body};
 ghost use Rattle.ga_dap_queries.specs.Readings.{IsDeadlockStatus};
 ghost use Rattle.ga_dap.specs.Evaluating.{IsEvaluationNode, Commands, answer_object};
-ghost use Rattle.ga_dap.specs.Telling.{has_machine_changed};
+ghost use Rattle.ga_dap.specs.inner.Carrying.{no_response_of_class};
+ghost use Rattle.ga_explorer.specs.Classes.{class_of_line};
 
+use crate::unanswered::NoResponse;
 use ga_console::LineAction;
 use ga_dap_protocol::ClientRequest;
 use ga_dap_queries::{Debuggee, evaluate, first_thread_node, frame_argument, is_deadlocked};
 use ga_dap_views::Variable;
-use ga_explorer::answer_line;
+use ga_explorer::{CommandClass, answer_line, class_of_line};
 use ga_grid::NodeId;
 use ga_text::{OUTPUT_CAPACITY, Writer};
 use serde_json::{Value, json};
@@ -61,19 +63,34 @@ fn front_of_line(line: &[u8]) -> &[u8]
     }
 }
 
+/// Why a command has no answer, if an allocation failed after it was carried out: only a query changed nothing.
+fn no_response_to(line: &[u8]) -> NoResponse
+    ensures { result ≡ no_response_of_class (class_of_line line.now) }
+{
+    match class_of_line(line) {
+        Some(CommandClass::Change) => NoResponse::Untold,
+        Some(CommandClass::Query) => NoResponse::Memory,
+        None => NoResponse::Memory,
+    }
+}
+
 /// Carries out a command of exploring. It is answered by a text, or would end the session. Room for a short answer is taken before.
+///
+/// # Errors
+/// An allocation failed, before anything changed or after a change.
 pub(crate) fn command_text(
     alloc: Global,
     program: &mut Debuggee,
     line: &[u8],
-) -> Result<Option<Vec<u8>>, AllocError>
+) -> Result<Option<Vec<u8>>, NoResponse>
     ensures told { IfOk result (λ told. Commands program.old line.now program.new (option_map (λ text. text.items) told)) }
-    ensures unmoved { OnErr result (has_machine_changed program.old.lab program.new.lab ≡ false → program.new ≡ program.old) }
+    ensures unmoved { result ≡ Err NoResponse.Memory → program.new ≡ program.old }
 {
     let mut answer = Vec::new(alloc);
-    answer.reserve(OUTPUT_CAPACITY)?;
+    let Ok(()) = answer.reserve(OUTPUT_CAPACITY) else {
+        return Err(NoResponse::Memory);
+    };
     let mut said = Writer::new(&mut answer);
-    let _is_replayed = program.lab.has_step((NodeId::new(0), 0));
     match answer_line(
         alloc,
         &mut program.lab,
@@ -83,11 +100,11 @@ pub(crate) fn command_text(
     ) {
         Ok(LineAction::Answered) => match said.flush() {
             Ok(()) => Ok(Some(answer)),
-            Err(_) => Err(AllocError),
+            Err(_) => Err(no_response_to(line)),
         },
         Ok(LineAction::Refused) => Ok(None),
         Ok(LineAction::Quit) => Ok(None),
-        Err(_) => Err(AllocError),
+        Err(_) => Err(no_response_to(line)),
     }
 }
 

@@ -1,5 +1,6 @@
 pub mod Done
 pub mod LineAnswers
+pub mod Classes
 pub mod Fronts
 pub mod Finding
 pub mod Leading

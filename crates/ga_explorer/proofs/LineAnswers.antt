@@ -93,7 +93,7 @@ debugged_line s line answer new none same done = λ part kept.
     let answered = done part kept in
     (debugged (λ fits. let within : length line ≤ 200 = short line part kept fits in ap (command_of_line s.notes) (whole line part kept within) ∙ none within) answered.0 same, answered.1)
 
-same_explored : (s new : ExplorerState) → new.lab ≡ s.lab → new.notes ≡ s.notes → new ≡ s
+pub same_explored : (s new : ExplorerState) → new.lab ≡ s.lab → new.notes ≡ s.notes → new ≡ s
 same_explored s new e f = ap (λ lab. explorer_state lab new.notes) e ∙ ap (explorer_state s.lab) f
 
 pub debugged_turn : (s : ExplorerState) (line : List ℕ) (new : ExplorerState) (result : Result LineAction WriteError) (answer : List ℕ) → (length line ≤ 200 → command_of_line s.notes line ≡ None)

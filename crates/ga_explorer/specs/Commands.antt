@@ -25,7 +25,7 @@ use Rattle.ga_explorer_text.specs.Because.{because_text}
 use Rattle.ga_explorer_text.specs.Races.{IsRacesAnswer}
 use Rattle.ga_explorer.specs.Reading.{selected_step, part_of_node_value, parse_run_arguments, parse_back_arguments, max_run_events, node_and_step, two_nodes, node_and_cell, node_and_value, node_and_steps}
 use Rattle.ga_conditions.specs.Conditions.{no_conditions}
-use Rattle.ga_explorer.specs.Forms.{CommandForm, entry, command_place_from, form_rows_text, found_command_details}
+use Rattle.ga_explorer.specs.Forms.{CommandForm, entry, change_entry, command_place_from, form_rows_text, found_command_details}
 use Rattle.ga_explorer.specs.Opening.{ExplorerState}
 use Rattle.ga_explorer.specs.declared.commands.ExplorerCommand.{ExplorerCommand}
 use Rattle.ga_explorer.specs.declared.commands.ExplorerCommand.TheVariants as asked
@@ -37,7 +37,7 @@ use Rattle.ga_explorer.specs.declared.commands.Query.TheVariants as told
 -- the commands of exploring and those of the debugger, in the order of `help`
 unfoldable pub command_table : List CommandForm
 command_table =
-    entry (codes "run") (codes "run [greedy|random SEED] [N] [until COND]") (codes "\n                      make up to N events, in rounds or in this order\nCOND: NNN VALUE OP N, pass NNN MMM OP N, pass NNN MMM J, step NNN K, stop, stop NNN,\n      wait NNN, mem NNN HH = N, p NNN X, reach NNN X, change NNN HH [= N], COND or COND\nVALUE: t s r p a b i, d2 to d9, r1 to r8, io, slot, carry, step, [HH]\nOP: = != < <= > >=   N: a number, a port, a label   X: an address, a label, line N\n") (codes "answers: reached M EVENT, made M, quiet M or full M: how many events, and why no more\nexample: run 1000 until stop or 001 t = 0x150\n")
+    change_entry (codes "run") (codes "run [greedy|random SEED] [N] [until COND]") (codes "\n                      make up to N events, in rounds or in this order\nCOND: NNN VALUE OP N, pass NNN MMM OP N, pass NNN MMM J, step NNN K, stop, stop NNN,\n      wait NNN, mem NNN HH = N, p NNN X, reach NNN X, change NNN HH [= N], COND or COND\nVALUE: t s r p a b i, d2 to d9, r1 to r8, io, slot, carry, step, [HH]\nOP: = != < <= > >=   N: a number, a port, a label   X: an address, a label, line N\n") (codes "answers: reached M EVENT, made M, quiet M or full M: how many events, and why no more\nexample: run 1000 until stop or 001 t = 0x150\n")
     ∷ entry (codes "chip") (codes "chip") (codes "                  what each node does\n") (codes "answers: rows 7 to 0 of nodes: . made no step, * runs, x stopped, @ waits for code, ? reads, ! writes\nexample: chip\n")
     ∷ entry (codes "who") (codes "who") (codes "                   who waits for whom, and which nodes can never go on\n") (codes "answers: for each that waits what it does, and the nodes that it awaits; then stuck, ring, ended and idle\nexample: who\n")
     ∷ entry (codes "effects") (codes "effects NNN K") (codes "         what rewind NNN K would remove\n") (codes "answers: effects X N, and for each of N nodes its first step that it would remove, and their number\nexample: effects 001 last\n")
@@ -49,9 +49,9 @@ command_table =
     ∷ entry (codes "races") (codes "races [NNN]") (codes "           steps that yield another word in another order, and how\n") (codes "answers: races N, and for each of N steps the other word, and two commands that lead there\nexample: races 001\n")
     ∷ entry (codes "save") (codes "save") (codes "                  the history as lines of debug\n") (codes "answers: step NNN for each event, the oldest first\nexample: save\n")
     ∷ entry (codes "help") (codes "help [COMMAND]") (codes "        these lines, or more of one command\n") (codes "answers: the command's form and what it does, what it answers, and an example\nexample: help why\n")
-    ∷ entry (codes "step") (codes "step NNN") (codes "              make the next event of NNN\n") (codes "answers: NNN K and what the step did, or pass WWW K RRR J W: it moved the word W from WWW to RRR\nexample: step 001\n")
-    ∷ entry (codes "back") (codes "back [[NNN] until COND]") (codes "\n                      undo the newest event; or the newest after which COND held, and all\n                      later ones; or such a step of NNN, with its dependents\n") (codes "answers: removed X kept M: X events were removed, and M are left; or none if there is no such event\nexample: back until change 001 20\n")
-    ∷ entry (codes "rewind") (codes "rewind NNN K") (codes "          remove step K of NNN, with its dependents\n") (codes "answers: removed X kept M: X events were removed, and M are left\nexample: rewind 001 4\n")
+    ∷ change_entry (codes "step") (codes "step NNN") (codes "              make the next event of NNN\n") (codes "answers: NNN K and what the step did, or pass WWW K RRR J W: it moved the word W from WWW to RRR\nexample: step 001\n")
+    ∷ change_entry (codes "back") (codes "back [[NNN] until COND]") (codes "\n                      undo the newest event; or the newest after which COND held, and all\n                      later ones; or such a step of NNN, with its dependents\n") (codes "answers: removed X kept M: X events were removed, and M are left; or none if there is no such event\nexample: back until change 001 20\n")
+    ∷ change_entry (codes "rewind") (codes "rewind NNN K") (codes "          remove step K of NNN, with its dependents\n") (codes "answers: removed X kept M: X events were removed, and M are left\nexample: rewind 001 4\n")
     ∷ entry (codes "node") (codes "node NNN") (codes "              the state of NNN\n") (codes "answers: the state, the registers and both stacks, the top first\nexample: node 001\n")
     ∷ entry (codes "mem") (codes "mem NNN HH") (codes "            the word at HH of the memory of NNN\n") (codes "answers: mem NNN HH W: RAM below 80, ROM from there on\nexample: mem 001 20\n")
     ∷ entry (codes "trace") (codes "trace NNN") (codes "             the steps of NNN\n") (codes "answers: trace NNN C, and C events, the oldest first\nexample: trace 001\n")

@@ -2,17 +2,25 @@
 use Rattle.std.specs.Prelude.{ℕ, ◌+◌, nat_eq, if◌then◌else◌, List, [], ◌∷◌, ◌++◌, flat_map, Option, Some, None}
 use Rattle.std.specs.Cmp.Lexicographic.{pointwise}
 use Rattle.ga_text.specs.Lines.{Text, Line}
+use Rattle.ga_explorer.specs.declared.forms.CommandClass.{CommandClass}
+use Rattle.ga_explorer.specs.declared.forms.CommandClass.TheVariants.{Query, Change}
 
--- a command: the word that its line begins with, its form, what `help` writes after that, and what `help` of this command
--- writes in addition
+-- a command: the word that its line begins with, its class, its form, what `help` writes after that, and what `help` of this
+-- command writes in addition
 pub record CommandForm : Type 0 where
   pub name : Text
+  pub class : CommandClass
   pub form : Text
   pub does : Text
   pub more : Text
 
+-- the row of a query
 abbrev pub entry : Text → Text → Text → Text → CommandForm
-entry name form does more = record { name = name; form = form; does = does; more = more }
+entry name form does more = record { name = name; class = Query; form = form; does = does; more = more }
+
+-- the row of a command that changes the machine
+abbrev pub change_entry : Text → Text → Text → Text → CommandForm
+change_entry name form does more = record { name = name; class = Change; form = form; does = does; more = more }
 
 abbrev pub form_row_text : CommandForm → Text
 form_row_text row = row.form ++ row.does

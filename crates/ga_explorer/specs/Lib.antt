@@ -2,6 +2,7 @@ pub mod Forms
 pub mod Reading
 pub mod Leading
 pub mod Commands
+pub mod Classes
 pub mod NoCommand
 pub mod Answers
 pub mod Opening

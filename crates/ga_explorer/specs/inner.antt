@@ -29,7 +29,7 @@ explorer_state lab notes = record { lab = lab; notes = notes }
 -- ---- A row of the code's table of commands
 
 abbrev pub entry_of : Row → CommandForm
-entry_of row = record { name = row.name.now; form = row.form.now; does = row.does.now; more = row.more.now }
+entry_of row = record { name = row.name.now; class = row.class; form = row.form.now; does = row.does.now; more = row.more.now }
 
 -- ---- what is written once an image or source was read
 

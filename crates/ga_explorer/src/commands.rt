@@ -8,7 +8,7 @@ ghost use Rattle.ga_explorer.specs.inner.{explorer_state, IsTold, entry_of};
 
 use crate::arguments::{node_and_cell, node_and_step, node_and_steps, node_and_value, two_nodes};
 use crate::back_request::parse_back;
-use crate::forms::{Row, place_of, say_command, say_help};
+use crate::forms::{CommandClass, Row, place_of, say_command, say_help};
 use crate::named_value::part_of_node_value;
 use crate::run_request::{MOST_EVENTS, parse_run};
 use crate::which::StepSelector;
@@ -257,6 +257,7 @@ fn part_of(value: Option<NodeValue>) -> Option<NodePart>
 static ROWS: &[Row] = &[
     Row {
         name: b"run",
+        class: CommandClass::Change,
         form: b"run [greedy|random SEED] [N] [until COND]",
         does: b"\n                      make up to N events, in rounds or in this order\nCOND: NNN VALUE OP N, pass NNN MMM OP N, pass NNN MMM J, step NNN K, stop, stop NNN,\n      wait NNN, mem NNN HH = N, p NNN X, reach NNN X, change NNN HH [= N], COND or COND\nVALUE: t s r p a b i, d2 to d9, r1 to r8, io, slot, carry, step, [HH]\nOP: = != < <= > >=   N: a number, a port, a label   X: an address, a label, line N\n",
         more: b"answers: reached M EVENT, made M, quiet M or full M: how many events, and why no more\nexample: run 1000 until stop or 001 t = 0x150\n",
@@ -264,6 +265,7 @@ static ROWS: &[Row] = &[
     },
     Row {
         name: b"chip",
+        class: CommandClass::Query,
         form: b"chip",
         does: b"                  what each node does\n",
         more: b"answers: rows 7 to 0 of nodes: . made no step, * runs, x stopped, @ waits for code, ? reads, ! writes\nexample: chip\n",
@@ -271,6 +273,7 @@ static ROWS: &[Row] = &[
     },
     Row {
         name: b"who",
+        class: CommandClass::Query,
         form: b"who",
         does: b"                   who waits for whom, and which nodes can never go on\n",
         more: b"answers: for each that waits what it does, and the nodes that it awaits; then stuck, ring, ended and idle\nexample: who\n",
@@ -278,6 +281,7 @@ static ROWS: &[Row] = &[
     },
     Row {
         name: b"effects",
+        class: CommandClass::Query,
         form: b"effects NNN K",
         does: b"         what rewind NNN K would remove\n",
         more: b"answers: effects X N, and for each of N nodes its first step that it would remove, and their number\nexample: effects 001 last\n",
@@ -285,6 +289,7 @@ static ROWS: &[Row] = &[
     },
     Row {
         name: b"words",
+        class: CommandClass::Query,
         form: b"words NNN MMM",
         does: b"         the words transferred from NNN to MMM\n",
         more: b"answers: words NNN MMM C, and for each of C words its number, the steps of both nodes and the word\nexample: words 000 001\n",
@@ -292,6 +297,7 @@ static ROWS: &[Row] = &[
     },
     Row {
         name: b"writes",
+        class: CommandClass::Query,
         form: b"writes NNN HH",
         does: b"         the steps that wrote the cell HH of NNN, the newest first\n",
         more: b"answers: for each the step, the opcode and the word\nexample: writes 001 20\n",
@@ -299,6 +305,7 @@ static ROWS: &[Row] = &[
     },
     Row {
         name: b"at",
+        class: CommandClass::Query,
         form: b"at NNN K [N]",
         does: b"          N steps before and after step K of NNN, with registers\n",
         more: b"answers: for each the step, what it did, and the registers t, s, r, a, b and p after it\nexample: at 001 last 5\n",
@@ -306,6 +313,7 @@ static ROWS: &[Row] = &[
     },
     Row {
         name: b"whence",
+        class: CommandClass::Query,
         form: b"whence NNN K [VALUE] [from L]",
         does: b"\n                      the steps whose values went into what step K of NNN made, or\n                      into a register, a word of a stack or a cell as it is after step K\n",
         more: b"answers: the nearest 100, each with its number and > the number of the step that used its value\nexample: whence 001 last, or whence 001 last r\n",
@@ -313,6 +321,7 @@ static ROWS: &[Row] = &[
     },
     Row {
         name: b"because",
+        class: CommandClass::Query,
         form: b"because NNN K [N]",
         does: b"     N steps before step K at which a value decided where NNN continued\nK of effects, at, whence, because: a step's number, or last\n",
         more: b"answers: for each the step and the word that it tested, and below it the step that made that word\nexample: because 001 last\n",
@@ -320,6 +329,7 @@ static ROWS: &[Row] = &[
     },
     Row {
         name: b"races",
+        class: CommandClass::Query,
         form: b"races [NNN]",
         does: b"           steps that yield another word in another order, and how\n",
         more: b"answers: races N, and for each of N steps the other word, and two commands that lead there\nexample: races 001\n",
@@ -327,6 +337,7 @@ static ROWS: &[Row] = &[
     },
     Row {
         name: b"save",
+        class: CommandClass::Query,
         form: b"save",
         does: b"                  the history as lines of debug\n",
         more: b"answers: step NNN for each event, the oldest first\nexample: save\n",
@@ -334,6 +345,7 @@ static ROWS: &[Row] = &[
     },
     Row {
         name: b"help",
+        class: CommandClass::Query,
         form: b"help [COMMAND]",
         does: b"        these lines, or more of one command\n",
         more: b"answers: the command's form and what it does, what it answers, and an example\nexample: help why\n",
@@ -341,6 +353,7 @@ static ROWS: &[Row] = &[
     },
     Row {
         name: b"step",
+        class: CommandClass::Change,
         form: b"step NNN",
         does: b"              make the next event of NNN\n",
         more: b"answers: NNN K and what the step did, or pass WWW K RRR J W: it moved the word W from WWW to RRR\nexample: step 001\n",
@@ -348,6 +361,7 @@ static ROWS: &[Row] = &[
     },
     Row {
         name: b"back",
+        class: CommandClass::Change,
         form: b"back [[NNN] until COND]",
         does: b"\n                      undo the newest event; or the newest after which COND held, and all\n                      later ones; or such a step of NNN, with its dependents\n",
         more: b"answers: removed X kept M: X events were removed, and M are left; or none if there is no such event\nexample: back until change 001 20\n",
@@ -355,6 +369,7 @@ static ROWS: &[Row] = &[
     },
     Row {
         name: b"rewind",
+        class: CommandClass::Change,
         form: b"rewind NNN K",
         does: b"          remove step K of NNN, with its dependents\n",
         more: b"answers: removed X kept M: X events were removed, and M are left\nexample: rewind 001 4\n",
@@ -362,6 +377,7 @@ static ROWS: &[Row] = &[
     },
     Row {
         name: b"node",
+        class: CommandClass::Query,
         form: b"node NNN",
         does: b"              the state of NNN\n",
         more: b"answers: the state, the registers and both stacks, the top first\nexample: node 001\n",
@@ -369,6 +385,7 @@ static ROWS: &[Row] = &[
     },
     Row {
         name: b"mem",
+        class: CommandClass::Query,
         form: b"mem NNN HH",
         does: b"            the word at HH of the memory of NNN\n",
         more: b"answers: mem NNN HH W: RAM below 80, ROM from there on\nexample: mem 001 20\n",
@@ -376,6 +393,7 @@ static ROWS: &[Row] = &[
     },
     Row {
         name: b"trace",
+        class: CommandClass::Query,
         form: b"trace NNN",
         does: b"             the steps of NNN\n",
         more: b"answers: trace NNN C, and C events, the oldest first\nexample: trace 001\n",
@@ -383,6 +401,7 @@ static ROWS: &[Row] = &[
     },
     Row {
         name: b"why",
+        class: CommandClass::Query,
         form: b"why NNN K MMM J",
         does: b"       by which events step K of NNN led to step J of MMM\n",
         more: b"answers: chain C, and C events from the cause to its effect; or independent\nexample: why 000 3 001 7, did step 3 of 000 lead to step 7 of 001?\n",
@@ -390,6 +409,7 @@ static ROWS: &[Row] = &[
     },
     Row {
         name: b"count",
+        class: CommandClass::Query,
         form: b"count",
         does: b"                 how many events the history has, and how many were made\n",
         more: b"answers: kept K made M limit L\nexample: count\n",
@@ -397,6 +417,7 @@ static ROWS: &[Row] = &[
     },
     Row {
         name: b"dump",
+        class: CommandClass::Query,
         form: b"dump",
         does: b"                  the chip as an image\n",
         more: b"answers: an image of format 2, which every command reads\nexample: dump\n",
@@ -404,6 +425,7 @@ static ROWS: &[Row] = &[
     },
     Row {
         name: b"quit",
+        class: CommandClass::Query,
         form: b"quit",
         does: b"                  end\n",
         more: b"answers: nothing\nexample: quit\n",

@@ -4,8 +4,10 @@ ghost use Rattle.std.specs.Prelude.{◌≡◌, ◌++◌, codes, map, option_map,
 ghost use Rattle.ga_text.specs.Output.{WritesSome, WritesExactly};
 ghost use Rattle.ga_explorer.specs.Forms.{form_row_text, form_rows_text, command_details_text, command_place_from};
 ghost use Rattle.ga_explorer.specs.Commands.{command_table, command_help_text, command_place};
-ghost use Rattle.ga_explorer.specs.NoCommand.{form_of_command, near_form_in, suggested_form, begins_with_byte_order_mark, ends_with_carriage_return, has_blank_end, is_upper, suggestion, unknown_command_text};
+ghost use Rattle.ga_explorer.specs.NoCommand.{form_of_command, near_form_in, suggested_form, command_word, begins_with_byte_order_mark, ends_with_carriage_return, has_blank_end, is_upper, suggestion, unknown_command_text};
+ghost use Rattle.ga_explorer.specs.Classes.{class_of_line};
 ghost use Rattle.ga_explorer.specs.inner.{entry_of};
+ghost use Rattle.ga_text.specs.Parsing.{split_at_space};
 
 use crate::commands::command_table;
 use ga_parser::is_within_one_edit;
@@ -13,10 +15,21 @@ use ga_text::{WriteResult, Writer, split_at_space};
 use std::fmt;
 use std::io::Write;
 
+/// Whether a command changes the machine.
+#[derive(Clone, Copy, PartialEq, Eq)]
+pub enum CommandClass {
+    /// It reads the machine, and changes nothing.
+    Query,
+    /// It makes events or removes some.
+    Change,
+}
+
 /// A command of a session of exploring.
 pub(crate) struct Row {
     /// The word that a line of it begins with.
     pub(crate) name: &'static [u8],
+    /// Whether it changes the machine.
+    pub(crate) class: CommandClass,
     /// The form of the command. What is in brackets may be left out.
     pub(crate) form: &'static [u8],
     /// What `help` writes after the form, up to the line's end.
@@ -116,6 +129,36 @@ pub(crate) fn row_in(rows: &'static [Row], place: usize) -> Option<&'static Row>
     rows.get(place)
 }
 
+/// The class of the command whose name a line begins with; none if that is no command.
+pub fn class_of_line(line: &[u8]) -> Option<CommandClass>
+    ensures { result ≡ class_of_line line.now }
+{
+    match place_of(command_word(line)) {
+        Some(place) => class_at(place),
+        None => None,
+    }
+}
+
+/// The class of the command at a place.
+fn class_at(place: usize) -> Option<CommandClass>
+    ensures { result ≡ option_map (λ row. row.class) (slice_get command_table place) }
+{
+    match row_in(command_table(), place) {
+        Some(row) => Some(row.class),
+        None => None,
+    }
+}
+
+/// The word that a line begins with.
+fn command_word(line: &[u8]) -> &[u8]
+    ensures { result.now ≡ command_word (split_at_space line.now) line.now }
+{
+    match split_at_space(line) {
+        Some((word, _)) => word,
+        None => line,
+    }
+}
+
 /// Says that a line is no command, and what to write in its place.
 ///
 /// # Errors
@@ -140,10 +183,7 @@ fn say_cure<W: Write>(line: &[u8], writer: &mut Writer<'_, W>) -> WriteResult
 pub fn suggestion(line: &[u8]) -> &'static [u8]
     ensures { result.now ≡ suggestion line.now }
 {
-    let word = match split_at_space(line) {
-        Some((word, _)) => word,
-        None => line,
-    };
+    let word = command_word(line);
     if begins_with_byte_order_mark(line) {
         b"a byte order mark stands before the command; leave it out"
     } else if ends_with_carriage_return(line) {

@@ -197,7 +197,7 @@ fn front_of(answer: &[u8]) -> &[u8]
 }
 
 /// Whether an answer is a refusal.
-fn is_refusal(answer: &[u8]) -> bool
+pub fn is_refusal(answer: &[u8]) -> bool
     ensures { result ≡ is_refusal answer.now }
 {
     answer.starts_with(b"no ".as_slice())

@@ -1,7 +1,9 @@
 -- How a call ends that answers: with messages that were sent, or memory was refused to it.
-use Rattle.std.specs.Prelude.{Result, Ok, Err}
+use Rattle.std.specs.Prelude.{Option, Some, None, Result, Ok, Err}
 use Rattle.ga_dap_protocol.specs.Sent.{SentMessages}
 use Rattle.ga_dap_queries.specs.Sending.{Messages, SendsAll}
+use Rattle.ga_explorer.specs.declared.forms.CommandClass.{CommandClass}
+use Rattle.ga_explorer.specs.declared.forms.CommandClass.TheVariants.{Query, Change}
 use Rattle.ga_dap.specs.declared.unanswered.NoResponse.{NoResponse}
 use Rattle.ga_dap.specs.declared.unanswered.NoResponse.TheVariants.{Memory, Untold}
 
@@ -11,3 +13,9 @@ abbrev pub Carries : Result (Unit {0}) NoResponse → (Messages → Type 0) → 
 Carries (Ok done) IsCommandReply Stays old new = (messages : Messages) × IsCommandReply messages × SendsAll old messages new
 Carries (Err Memory) IsCommandReply Stays old new = Stays
 Carries (Err Untold) IsCommandReply Stays old new = Unit {0}
+
+-- why there is no answer to a command of this class: memory was wanting for the answer, after the command was carried out
+abbrev pub no_response_of_class : Option CommandClass → NoResponse
+no_response_of_class (Some Change) = Untold
+no_response_of_class (Some Query) = Memory
+no_response_of_class None = Memory

@@ -1,9 +1,11 @@
-use Rattle.std.proofs.Common.{◌≡◌, ◌∙◌, ℕ, Bool, Some, length, ap, subst}
-use Rattle.std.specs.Prelude.{◌||◌, ◌==◌, not}
+use Rattle.std.proofs.Common.{◌≡◌, ◌∙◌, Bool, List, ℕ, Some, ap, subst}
+use Rattle.std.specs.Prelude.{Option}
 use Rattle.ga_causal.specs.Dependence.{is_marked}
 use Rattle.ga_text.specs.Lines.{Text}
+use Rattle.ga_explorer.specs.Classes.{class_of_line}
+use Rattle.ga_explorer.specs.declared.forms.CommandClass.{CommandClass}
 use Rattle.ga_dap.specs.Evaluating.{Commands, AreAnswerMessagesSince}
-use Rattle.ga_dap.specs.Telling.{has_machine_changed}
+use Rattle.ga_dap.specs.Telling.{is_change_done}
 use Rattle.ga_dap.proofs.Known.{carries_so, shown_so}
 use Rattle.ga_dap.proofs.console.obey.Goals as goal
 
@@ -12,19 +14,21 @@ returns-in-Ok-Some c =
     let before = is_marked c.thread_marks-before.result in
     let shown = shown_so c.args.program.now c.as_slice.result.now before c.as_slice.ensures.value c.thread_marks-before.ensures.marks in
     let told = rw c.in-Ok-Some.field-0-is at c.in-Ok-Some.ensures.told in
-    let moved : c.has_machine_changed-moved.result ≡ has_machine_changed c.args.program.now.lab c.command_text.new.program.lab =
-    c.has_machine_changed-moved.ensures
-    ∙ ap (λ (z : ℕ). not (z == length c.command_text.new.program.lab.kept) || not (c.counts-counts.result.made == c.command_text.new.program.lab.made)) c.counts-counts.ensures.kept
-    ∙ ap (λ (z : ℕ). not (length c.args.program.now.lab.kept == length c.command_text.new.program.lab.kept) || not (z == c.command_text.new.program.lab.made)) c.counts-counts.ensures.made in
+    let answer : List ℕ = c.in-Ok-Some.answer.items in
+    let line : List ℕ = c.args.line.now in
+    let moved : c.is_change_done-moved.result ≡ is_change_done (class_of_line line) answer =
+    c.is_change_done-moved.ensures
+    ∙ ap (λ (z : Option CommandClass). is_change_done z c.as_slice-text.result.now) (c.class_of_line-class.ensures ∙ ap class_of_line c.as_bytes-bytes.ensures.value)
+    ∙ ap (is_change_done (class_of_line line)) c.as_slice-text.ensures.value in
     carries_so c.emit_command_with_retry.result _ _ _ _ _ _ c.emit_command_with_retry.ensures
     (λ messages success_response. (
-      Some c.in-Ok-Some.answer.items,
-      subst (λ (z : Text). Commands c.args.program.now z c.command_text.new.program (Some c.in-Ok-Some.answer.items)) c.as_bytes.ensures.value told,
+      Some answer,
+      subst (λ (z : Text). Commands c.args.program.now z c.command_text.new.program (Some answer)) c.as_bytes-bytes.ensures.value told,
       (
         before,
         shown,
-        subst (λ (z : Bool). AreAnswerMessagesSince c.args.request.now c.in-Ok-Some.answer.items z before c.command_text.new.program c.args.node messages) moved
-            (subst (λ (z : Text). AreAnswerMessagesSince c.args.request.now z c.has_machine_changed-moved.result before c.command_text.new.program c.args.node messages) c.as_slice-in-Ok-Some.ensures.value success_response),
+        subst (λ (z : Bool). AreAnswerMessagesSince c.args.request.now answer z before c.command_text.new.program c.args.node messages) moved
+            (subst (λ (z : Text). AreAnswerMessagesSince c.args.request.now z c.is_change_done-moved.result before c.command_text.new.program c.args.node messages) c.as_slice-text.ensures.value success_response),
       ),
     ))
     (λ stays. absurd stays)
