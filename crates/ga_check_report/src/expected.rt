@@ -266,14 +266,7 @@ fn tell_outcomes<W: Write>(
         (W.contents writer.old) (W.contents writer.new) }
 {
     let mut out = Writer::new(writer);
-    let said = write_expectations(
-        request,
-        found,
-        expectations,
-        outcomes,
-        decisions,
-        &mut out,
-    );
+    let said = write_expectations(request, found, expectations, outcomes, decisions, &mut out);
     sent(said, outcomes_verdict(outcomes), &mut out)
 }
 

@@ -72,11 +72,7 @@ pub fn write_dump_json<W: Write>(
 }
 
 /// Writes the steps of a node.
-fn write_steps<W: Write>(
-    node: NodeId,
-    steps: &[Made],
-    writer: &mut Writer<'_, W>,
-) -> WriteResult
+fn write_steps<W: Write>(node: NodeId, steps: &[Made], writer: &mut Writer<'_, W>) -> WriteResult
     ensures { WritesExactly result (json_line (trace_json node steps.now)) W.contents writer.old writer.new }
 {
     let head = trace_fields(node);
@@ -84,11 +80,7 @@ fn write_steps<W: Write>(
 }
 
 /// Writes whether a chain leads there, and its events.
-fn write_chain<W: Write>(
-    leads: bool,
-    events: &[Made],
-    writer: &mut Writer<'_, W>,
-) -> WriteResult
+fn write_chain<W: Write>(leads: bool, events: &[Made], writer: &mut Writer<'_, W>) -> WriteResult
     ensures { WritesExactly result (json_line (chain_json leads events.now)) W.contents writer.old writer.new }
 {
     let head = chain_fields(leads);
@@ -128,12 +120,18 @@ fn event_row(made: Made) -> RowFields<'static>
 fn trace_fields(node: NodeId) -> [Field<'static>; 2]
     ensures { map named_field_value result ≡ trace_fields node }
 {
-    [Field::text(b"command", b"trace"), Field::node(b"node", node)]
+    [
+        Field::text(b"command", b"trace"),
+        Field::node(b"node", node),
+    ]
 }
 
 /// Whether a chain leads there.
 fn chain_fields(leads: bool) -> [Field<'static>; 2]
     ensures { map named_field_value result ≡ chain_fields leads }
 {
-    [Field::text(b"command", b"why"), Field::flag(b"leads", leads)]
+    [
+        Field::text(b"command", b"why"),
+        Field::flag(b"leads", leads),
+    ]
 }

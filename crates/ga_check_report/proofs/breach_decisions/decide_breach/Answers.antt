@@ -1,7 +1,5 @@
 use Rattle.std.proofs.Common.{ℕ, Option, sym, subst}
 use Rattle.std.specs.Prelude.{IfOk, IfSome, ◌<◌, length}
-use Rattle.std.proofs.lemmas.Result.{MatchResult-weaker}
-use Rattle.ga_state_ends.specs.Decisions.{EndDecision}
 use Rattle.ga_state_expectations.specs.declared.source.Expectation.{Expectation}
 use Rattle.ga_check_report.specs.Outcomes.{IsOutcome}
 use Rattle.ga_check_report.specs.BreachDecisions.{IsNodeBreachDecided, IsBreachDecided}
@@ -14,3 +12,9 @@ decide_at_ends-requires-clause-state c =
     subst (λ (o : Option ℕ). IfSome o (λ number. number < length found.searched.chips)) (sym c.unmet_state.ensures)
     (unmet_inside c.requires.known.0 found c.in-AtEnds.expectation.now c.args.outcome
     (subst (λ (e : Expectation). IsOutcome c.requires.known.0 found e c.args.outcome) c.in-AtEnds.is c.requires.known.1))
+
+pub returns-in-AtEnds-clause-decided : goal.returns-in-AtEnds-clause-decided
+returns-in-AtEnds-clause-decided c =
+    subst (λ (e : Expectation). IfOk c.decide_at_ends.result (IsBreachDecided c.args.found.now e c.args.outcome)) (sym c.in-AtEnds.is)
+    (subst (λ (o : Option ℕ). IfOk c.decide_at_ends.result (IsNodeBreachDecided c.args.found.now c.in-AtEnds.expectation.now o)) c.unmet_state.ensures
+    c.decide_at_ends.ensures.decided)

@@ -11,6 +11,9 @@ returns-in-Ok g c = λ before held.
     let P : List ExpectationOutcome → Type 0 =
     λ list. WritesOutcomes c.args.request c.judge_all.new.found c.args.expectations.now list sent.0 c.decide_and_tell.result in
     let Q : EndSearchResult → Type 0 =
-    λ found. WritesOutcomes c.args.request found c.args.expectations.now c.in-Ok.outcomes.items sent.0 c.decide_and_tell.result in
-    (sent.0, sent.1, by_outcomes c.args.request c.args.found.now c.args.expectations.now c.in-Ok.outcomes.items c.args.lab.now sent.0 c.decide_and_tell.result c.requires
-    c.in-Ok.ensures.known (subst Q c.judge_all.ensures.same (subst P c.as_slice.ensures.value sent.2)))
+    λ found. WritesOutcomes c.args.request found c.args.expectations.now c.in-Ok.outcomes.items sent.0 c.decide_and_tell.result in (
+      sent.0,
+      sent.1,
+      by_outcomes c.args.request c.args.found.now c.args.expectations.now c.in-Ok.outcomes.items c.args.lab.now sent.0 c.decide_and_tell.result c.requires
+          c.in-Ok.ensures.known (subst Q c.judge_all.ensures.same (subst P c.as_slice.ensures.value sent.2)),
+    )

@@ -16,7 +16,12 @@ returns-in-Json g c = record {
   begun = λ left before known held.
       let it = c.open_for_objects.ensures.begun left before known held in
       let input = c.open_for_objects.new.input in
-      let result = c.open_for_objects.result in
-      (it.0, it.1, it.2, it.3, opened_as_objects c.args.format c.in-Json.file.now c.args.limit left input it.0 it.1 result
-      (λ read status h. subst (λ (f : ReportFormat). IsUnopenedAnswer f read it.0 it.1 status) (sym c.in-Json.is) h) it.4);
+      let result = c.open_for_objects.result in (
+        it.0,
+        it.1,
+        it.2,
+        it.3,
+        opened_as_objects c.args.format c.in-Json.file.now c.args.limit left input it.0 it.1 result
+            (λ read status h. subst (λ (f : ReportFormat). IsUnopenedAnswer f read it.0 it.1 status) (sym c.in-Json.is) h) it.4,
+      );
 }
