@@ -6,11 +6,11 @@ use Rattle.ga_state_ends.specs.Decisions.{EndDecision, IsDecided}
 use Rattle.ga_state_ends.specs.Ends.{EndSearchResult}
 use Rattle.ga_state_expectations.specs.declared.expectation.NodeExpectation.{NodeExpectation}
 use Rattle.ga_state_expectations.specs.declared.source.Expectation.{Expectation}
-use Rattle.ga_state_expectations.specs.declared.source.Expectation.TheVariants.{AtEnds, Never, EveryOrderEnds, OneEnd}
+use Rattle.ga_state_expectations.specs.declared.source.Expectation.TheVariants.{AtEnds, Never, Passes, EveryOrderEnds, OneEnd}
 use Rattle.ga_state_expectations.specs.declared.source.LineExpectation.{LineExpectation}
 use Rattle.ga_state_expectations.specs.Meeting.{CanMeetAtEnd}
 use Rattle.ga_check_report.specs.declared.outcome.Breach.{Breach}
-use Rattle.ga_check_report.specs.declared.outcome.Breach.TheVariants.{Unmet, Reached, Endless, SeveralEnds}
+use Rattle.ga_check_report.specs.declared.outcome.Breach.TheVariants.{Unmet, Reached, OverLink, Endless, SeveralEnds}
 use Rattle.ga_check_report.specs.declared.outcome.ExpectationOutcome.{ExpectationOutcome}
 use Rattle.ga_check_report.specs.declared.outcome.ExpectationOutcome.TheVariants.{Holds, Broken, Unknown}
 
@@ -18,6 +18,7 @@ use Rattle.ga_check_report.specs.declared.outcome.ExpectationOutcome.TheVariants
 abbrev pub breach_state : Breach → Option ℕ
 breach_state (Unmet state observation) = Some state
 breach_state (Reached made) = None
+breach_state (OverLink place fault) = None
 breach_state Endless = None
 breach_state (SeveralEnds ends) = None
 
@@ -39,6 +40,7 @@ IsNodeBreachDecided found expectation (Some state) decision = IsUnmetDecided fou
 abbrev pub IsBreachDecided : EndSearchResult → Expectation → ExpectationOutcome → Option EndDecision → Type 0
 IsBreachDecided found (AtEnds expectation) outcome decision = IsNodeBreachDecided found expectation (unmet_state outcome) decision
 IsBreachDecided found (Never conditions) outcome decision = decision ≡ None
+IsBreachDecided found (Passes expectation) outcome decision = decision ≡ None
 IsBreachDecided found EveryOrderEnds outcome decision = decision ≡ None
 IsBreachDecided found OneEnd outcome decision = decision ≡ None
 
