@@ -49,7 +49,7 @@ words-preserved c =
 
 pub returns-then-is_open_end-2 : goal.returns-then-is_open_end-2
 returns-then-is_open_end-2 c =
-    c.open_words-2.ensures
+    c.open_words-then-is_open_end-2.ensures
     ∙ open_first c.args.names.now (64 - c.words._place) c.words.expected c.words.left.now c.split_word-2.result.0.now c.split_word-2.result.1.now
     (link_words_within c.args.names.now 64 (no_link_words c.args.from c.args.to) c.args.text.now) (sym c.split_word-2.ensures) (sym c.is_open_end-2.ensures ∙ c.if-is_open_end-2.true)
     c.words.invariant.rest
