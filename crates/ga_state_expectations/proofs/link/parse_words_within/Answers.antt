@@ -46,3 +46,17 @@ words-preserved c =
           (sym c.parse_link_word.ensures ∙ c.in-Ok.is) (sym c.has_no_words.ensures ∙ c.if-has_no_words.false)
           (ap (λ (n : ℕ). link_words_within c.args.names.now n c.words.expected c.words.left.now) (sym size) ∙ c.words.invariant.rest);
     }
+
+pub returns-then-is_open_end-2 : goal.returns-then-is_open_end-2
+returns-then-is_open_end-2 c =
+    c.open_words-then-is_open_end-2.ensures
+    ∙ open_first c.args.names.now (64 - c.words._place) c.words.expected c.words.left.now c.split_word-2.result.0.now c.split_word-2.result.1.now
+    (link_words_within c.args.names.now 64 (no_link_words c.args.from c.args.to) c.args.text.now) (sym c.split_word-2.ensures) (sym c.is_open_end-2.ensures ∙ c.if-is_open_end-2.true)
+    c.words.invariant.rest
+
+pub returns-else-is_open_end-2 : goal.returns-else-is_open_end-2
+returns-else-is_open_end-2 c =
+    let none : 64 - c.words._place ≡ 0 = omega (arith, c.words-test.false) in
+    many_words c.args.names.now c.words.expected c.words.left.now c.split_word-2.result.0.now c.split_word-2.result.1.now
+    (link_words_within c.args.names.now 64 (no_link_words c.args.from c.args.to) c.args.text.now) (sym c.split_word-2.ensures) (sym c.is_open_end-2.ensures ∙ c.if-is_open_end-2.false)
+    (ap (λ (n : ℕ). link_words_within c.args.names.now n c.words.expected c.words.left.now) (sym none) ∙ c.words.invariant.rest)

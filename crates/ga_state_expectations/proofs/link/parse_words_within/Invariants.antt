@@ -5,5 +5,5 @@ use Rattle.ga_state_expectations.proofs.link.parse_words_within.Given as goal
 abbrev pub invariant-words : goal.invariant-words
 invariant-words l = record {
   size : length l.expected.words.items ≡ l._place;
-  rest : link_words_within l.names (64 - l._place) l.expected l.left ≡ link_words_within l.names 64 (no_link_words l.from l.to) l.text;
+  rest : link_words_within l.names (64 - l._place) l.expected l.left ≡ link_words_within l.names 64 (no_link_words l.fn.from l.fn.to) l.text;
 }
