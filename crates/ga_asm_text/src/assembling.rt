@@ -57,9 +57,13 @@ fn image_of<E: Write>(alloc: Global, errors: &mut E, source: Vec<u8>) -> Option<
     ensures { IfSome result (λ image. IsAssembledImage source.items image.items) }
 {
     match assemble_image(alloc, source.as_slice()) {
-        SourceAssembly::Image(AssembledImage {
-            image, warnings, ..
-        }) => {
+        SourceAssembly::Image(
+            AssembledImage {
+                image,
+                warnings,
+                ..
+            },
+        ) => {
             let _written = write_all(errors, warnings.as_slice());
             Some(image)
         }

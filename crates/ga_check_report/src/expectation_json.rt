@@ -14,9 +14,7 @@ use crate::link_fault::{link_fault_fields, link_fault_word};
 use crate::outcome::{Breach, ExpectationOutcome, NodeObservation};
 use crate::outcome_text::{push_sides, sides_of};
 use arrayvec::ArrayVec;
-use ga_json::{
-    Field, RowFields, optional_number_field, row_fields, text_field, write_object,
-};
+use ga_json::{Field, RowFields, optional_number_field, row_fields, text_field, write_object};
 use ga_ports::PortSet;
 use ga_text::{TextBuffer, WriteResult, Writer, push_text};
 use std::io::Write;

@@ -31,8 +31,8 @@ returns-in-ReadFailed g c = λ left before known held.
     let got = c.in-ReadFailed.ensures left known in
     (got.0, got.1, [], got.2, got.3, held ∙ ap Some (sym (append-nil before)), inl (refl, got.4))
 
-pub returns-in-NoMemory : goal.returns-in-NoMemory
-returns-in-NoMemory g c = λ left before known held.
+pub returns : goal.returns
+returns g c = λ left before known held.
     let got = c.in-NoMemory.ensures left known in
     let sent = c.tell_refused-in-NoMemory.ensures before held in
     (got.0, got.1, sent.0, got.2, got.3, sent.1, unread_as_json c.args.file.now out_of_memory_text got.0 got.1 sent.0 c.tell_refused-in-NoMemory.result (inl refl) sent.2)
