@@ -22,7 +22,7 @@ pub from_load : (load : List NodeRecord) (found : EndSearchResult) (expected : L
 from_load load found expected None breaks are = tt
 from_load load found expected (Some it) breaks are = breaks load are
 
-pub led_to_breach : {E : Type 0} (s t : State) (expected : LinkExpectation) (breach : LinkBreach) (events : List Event) (r : Result (Unit {0}) E) → events ≡ breach.events.items
+pub led_to_breach : {T E : Type 0} (s t : State) (expected : LinkExpectation) (breach : LinkBreach) (events : List Event) (r : Result T E) → events ≡ breach.events.items
     → BreaksFrom (chip_of s) expected breach → OnOk r (HasAppendedEvents s events t) → OnOk r (LeadsToBreach s (Passes expected) t)
 led_to_breach s t expected breach events (Ok done) is breaks made = (breach.events.items, breach.place, breach.fault, subst (λ (list : List Event). HasAppendedEvents s list t) is made, breaks)
 led_to_breach s t expected breach events (Err why) is breaks made = tt

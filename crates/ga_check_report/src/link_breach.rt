@@ -53,7 +53,7 @@ fn link_outcome(
     expected: &LinkExpectation,
     breach: &Option<LinkBreach>,
 ) -> ExpectationOutcome
-    requires none { IfNone breach.now (HasNoLinkBreach found.now expected.now) }
+    requires { IfNone breach.now (HasNoLinkBreach found.now expected.now) }
     ensures { (load : List NodeRecord) → IfSome breach.now (λ it. IsLinkBreach load expected.now it.events.items it.place it.fault) →
         IsOutcomeBy found.now (HasNoLinkBreach found.now expected.now) (IsOverLinkBreach load expected.now) result }
 {
