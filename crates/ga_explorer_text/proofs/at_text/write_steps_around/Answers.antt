@@ -31,7 +31,7 @@ returns-else-has_step g c = (
   search rules,
   λ before said h. (
     c.as_slice.result.now,
-    c.as_slice.ensures.value ∙ c.missing_step_refusal.ensures ∙ ap (missing_step_text c.args.node) c.steps.ensures.steps ∙ around_nowhere c.args.notes.now c.args.lab.now c.args.node c.args.step c.args.around (sym c.has_step.ensures.value ∙ c.if-has_step.false),
+    c.as_slice.ensures.value ∙ c.missing_step_refusal.ensures ∙ ap (missing_step_text c.args.node) c.steps-else-has_step.ensures.steps ∙ around_nowhere c.args.notes.now c.args.lab.now c.args.node c.args.step c.args.around (sym c.has_step.ensures.value ∙ c.if-has_step.false),
     c.write_blocks.ensures.1 before said h,
   ),
 )
