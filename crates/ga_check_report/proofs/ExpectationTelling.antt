@@ -181,10 +181,10 @@ one_broken s found expectations outcomes are known broken =
 
 pub clean_told : (request : CheckRequest) (expectations : List LineExpectation) (asked : ℕ) (s : State) (text : List ℕ) → WritesExpectationsReport request expectations asked s text Clean
     → EachHolds expectations s
-clean_told request expectations asked s text (all found outcomes decisions are known decided start (inl out)) =
+clean_told request expectations asked s text (all found outcomes decisions are known decides start (inl out)) =
     let parts = clean_by (list_any is_broken outcomes) (list_any is_unknown outcomes) out.1 in
     all_held s found expectations outcomes are known parts.0 parts.1
-clean_told request expectations asked s text (all found outcomes decisions are known decided start (inr out)) = absurd (let q = out.1 in cc)
+clean_told request expectations asked s text (all found outcomes decisions are known decides start (inr out)) = absurd (let q = out.1 in cc)
 clean_told request expectations asked s text (led one last at leads (inl out)) = absurd (let q = out.1 in cc)
 clean_told request expectations asked s text (led one last at leads (inr out)) = absurd (let q = out.1 in cc)
 clean_told request expectations asked s text (unbroken found one it are at known (inl out)) = absurd (clean_not_unbroken (is_unknown it) out.1)
@@ -198,9 +198,9 @@ clean_told request expectations asked s text (too_long (inr out)) = absurd (let 
 
 pub unclean_told : (request : CheckRequest) (expectations : List LineExpectation) (asked : ℕ) (s : State) (text : List ℕ) → WritesExpectationsReport request expectations asked s text Unclean
     → OneIsBroken expectations s
-unclean_told request expectations asked s text (all found outcomes decisions are known decided start (inl out)) =
+unclean_told request expectations asked s text (all found outcomes decisions are known decides start (inl out)) =
     one_broken s found expectations outcomes are known (unclean_by (list_any is_broken outcomes) (list_any is_unknown outcomes) out.1)
-unclean_told request expectations asked s text (all found outcomes decisions are known decided start (inr out)) = absurd (let q = out.1 in cc)
+unclean_told request expectations asked s text (all found outcomes decisions are known decides start (inr out)) = absurd (let q = out.1 in cc)
 unclean_told request expectations asked s text (led one last at leads (inl out)) = absurd (let q = out.1 in cc)
 unclean_told request expectations asked s text (led one last at leads (inr out)) = absurd (let q = out.1 in cc)
 unclean_told request expectations asked s text (unbroken found one it are at known (inl out)) = absurd (unclean_not_unbroken (is_unknown it) out.1)
@@ -214,8 +214,8 @@ unclean_told request expectations asked s text (too_long (inr out)) = absurd (le
 
 pub session_told : (request : CheckRequest) (expectations : List LineExpectation) (asked : ℕ) (s : State) (text : List ℕ) → WritesExpectationsReport request expectations asked s text Saved
     → (one : LineExpectation) × (last : State) × (slice_get expectations (asked - 1) ≡ Some one) × LeadsToBreach s one.expectation last × (text ≡ saved_text last)
-session_told request expectations asked s text (all found outcomes decisions are known decided start (inl out)) = absurd (not_saved (list_any is_broken outcomes) (list_any is_unknown outcomes) out.1)
-session_told request expectations asked s text (all found outcomes decisions are known decided start (inr out)) = absurd (let q = out.1 in cc)
+session_told request expectations asked s text (all found outcomes decisions are known decides start (inl out)) = absurd (not_saved (list_any is_broken outcomes) (list_any is_unknown outcomes) out.1)
+session_told request expectations asked s text (all found outcomes decisions are known decides start (inr out)) = absurd (let q = out.1 in cc)
 session_told request expectations asked s text (led one last at leads (inl out)) = (one, last, at, leads, out.0)
 session_told request expectations asked s text (led one last at leads (inr out)) = absurd (let q = out.1 in cc)
 session_told request expectations asked s text (unbroken found one it are at known (inl out)) = absurd (saved_not_unbroken (is_unknown it) out.1)
