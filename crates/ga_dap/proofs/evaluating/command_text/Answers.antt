@@ -27,23 +27,23 @@ no_change class why e memory = λ is. let untold : why ≡ Untold = e ∙ ap no_
 
 unmoved : (p : Debuggee) (line answer : List ℕ) (lab : State) → AnswersExplorerLine (program_explorer_state p.lab p.source) line answer (program_explorer_state lab p.source)
     → class_of_line line ≢ Some Change → (let new : Debuggee = record p { lab = lab } in new) ≡ p
-unmoved p line answer lab does no =
-    ap (λ (z : ExplorerState). let d : Debuggee = record p { lab = z.lab } in d) (no_change_same (program_explorer_state p.lab p.source) line answer (program_explorer_state lab p.source) no does)
+unmoved p line answer lab does other_class =
+    ap (λ (z : ExplorerState). let d : Debuggee = record p { lab = z.lab } in d) (no_change_same (program_explorer_state p.lab p.source) line answer (program_explorer_state lab p.source) other_class does)
 
-pub returns-in-Ok-clause-told : goal.returns-in-Ok-clause-told
-returns-in-Ok-clause-told c =
+pub returns-in-Ok-flush-clause-told : goal.returns-in-Ok-flush-clause-told
+returns-in-Ok-flush-clause-told c =
     let stream = c.new-said.ensures.stream in
     let empty = c.reserve.ensures.items ∙ c.new-answer.ensures.items in
     let begun : c.new-said.result.stream.now.items ≡ [] = cc in
     let said = nothing_said c.new-said.result.stream.now.items c.new-said.result.pending.items begun c.new-said.ensures.nothing in
     let h = rw c.in-Ok-Answered.field-0-is at (c.in-Ok-Answered.ensures.1 [] [] said) in
     let part = h.1 c.args.line.now c.front_of_line.ensures in
-    let told = c.in-Ok.ensures.said.1 [] h.0 h.2 in
-    let e : h.0 ≡ told.sent = told.splits ∙ ap (λ (z : List ℕ). told.sent ++ z) c.in-Ok.ensures.sent ∙ append-nil told.sent in
+    let told = c.in-Ok-flush.ensures.said.1 [] h.0 h.2 in
+    let e : h.0 ≡ told.sent = told.splits ∙ ap (λ (z : List ℕ). told.sent ++ z) c.in-Ok-flush.ensures.sent ∙ append-nil told.sent in
     let whole : c.flush.new.self.stream.now.items ≡ h.0 = cc in
     let begins = c.new-said.ensures.same in
     let goes_on = c.in-Ok-Answered.ensures.0 in
-    let ends = c.in-Ok.ensures.said.0 in
+    let ends = c.in-Ok-flush.ensures.said.0 in
     let name : c.flush.new.self.stream.ghost_name ≡ c.new-said.result.stream.ghost_name = ends ∙ goes_on in
     let left = c.answer-in-Ok-Answered-1.given.1 (sym (name ∙ begins)) in (
       refl,
@@ -90,4 +90,4 @@ returns-in-Err-clause-unmoved c = λ memory.
     let said = nothing_said c.new-said.result.stream.now.items c.new-said.result.pending.items begun c.new-said.ensures.nothing in
     let h = c.in-Err.ensures.1 [] [] said in
     let part = h.1 c.args.line.now c.front_of_line.ensures in
-    unmoved c.args.program.now c.args.line.now h.0 c.answer_line.new.lab part.0 (no_change (class_of_line c.args.line.now) c.no_response_to.result c.no_response_to.ensures (cc))
+    unmoved c.args.program.now c.args.line.now h.0 c.answer_line.new.lab part.0 (no_change (class_of_line c.args.line.now) c.no_response_to-in-Err.result c.no_response_to-in-Err.ensures (cc))
