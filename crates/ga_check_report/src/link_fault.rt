@@ -8,7 +8,7 @@ ghost use Rattle.ga_check_report.specs.LinkFaults.{link_fault_text, link_fault_w
 use crate::json_fields::MAX_DETAILS;
 use ga_json::{Field, RowFields, row_fields};
 use ga_state_links::LinkFault;
-use ga_text::{MAX_NUMBER_DIGITS, TextBuffer, push_number, push_spaced_word, push_text};
+use ga_text::{MAX_NUMBER_DIGITS, TextBuffer, push_number, push_spaced_word, push_text, push_word};
 use ga_word::Word18;
 
 /// The maximum number of bytes of the number of a word.
@@ -40,8 +40,8 @@ pub(crate) fn push_link_fault(out: &mut TextBuffer, place: u32, fault: LinkFault
             push_spaced_word(out, Word18::from_low_bits(word));
         }
         LinkFault::ExtraWord(word) => {
-            push_text(out, b"a further word is");
-            push_spaced_word(out, Word18::from_low_bits(word));
+            push_text(out, b"a further word is ");
+            push_word(out, Word18::from_low_bits(word));
         }
         LinkFault::MissingWord => {
             push_word_number(out, place);

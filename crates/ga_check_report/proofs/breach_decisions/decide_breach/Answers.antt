@@ -10,11 +10,11 @@ pub decide_at_ends-requires-clause-state : goal.decide_at_ends-requires-clause-s
 decide_at_ends-requires-clause-state c =
     let found = c.args.found.now in
     subst (λ (o : Option ℕ). IfSome o (λ number. number < length found.searched.chips)) (sym c.unmet_state.ensures)
-    (unmet_inside c.requires.known.0 found c.in-AtEnds.expectation.now c.args.outcome
+    (unmet_inside c.requires.known.0 found c.in-AtEnds.expectation c.args.outcome
     (subst (λ (e : Expectation). IsOutcome c.requires.known.0 found e c.args.outcome) c.in-AtEnds.is c.requires.known.1))
 
 pub returns-in-AtEnds-clause-decided : goal.returns-in-AtEnds-clause-decided
 returns-in-AtEnds-clause-decided c =
     subst (λ (e : Expectation). IfOk c.decide_at_ends.result (IsBreachDecided c.args.found.now e c.args.outcome)) (sym c.in-AtEnds.is)
-    (subst (λ (o : Option ℕ). IfOk c.decide_at_ends.result (IsNodeBreachDecided c.args.found.now c.in-AtEnds.expectation.now o)) c.unmet_state.ensures
+    (subst (λ (o : Option ℕ). IfOk c.decide_at_ends.result (IsNodeBreachDecided c.args.found.now c.in-AtEnds.expectation o)) c.unmet_state.ensures
     c.decide_at_ends.ensures.decided)

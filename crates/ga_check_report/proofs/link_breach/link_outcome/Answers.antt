@@ -10,7 +10,7 @@ use Rattle.ga_check_report.proofs.link_breach.link_outcome.Goals as goal
 pub returns-in-Some : goal.returns-in-Some
 returns-in-Some c = λ load breaks.
     let it = subst (λ (o : Option LinkBreach). IfSome o (BreaksFrom load c.args.expected.now)) c.in-Some.is breaks in
-    (c.in-Some.it.now.events.items, c.in-Some.it.now.place, c.in-Some.it.now.fault, it, refl)
+    (c.in-Some.it.events.items, c.in-Some.it.place, c.in-Some.it.fault, it, refl)
 
 pub returns-in-None : goal.returns-in-None
 returns-in-None c = λ load breaks.
