@@ -1,6 +1,7 @@
 //! How the words over a link break an expectation, as text and as fields of an object.
 
-ghost use Rattle.std.specs.Prelude.{◌≡◌, ◌≤◌, ◌+◌, ◌++◌, map, codes, decimal};
+ghost use Rattle.std.specs.Prelude.{◌≡◌, ◌≤◌, ◌+◌, ◌%◌, ◌++◌, map, codes, decimal};
+ghost use Rattle.ga_word.specs.Word.{hex6_of, words};
 ghost use Rattle.arrayvec.specs.ArrayVec.{array_vec_len};
 ghost use Rattle.ga_json.specs.Fields.{named_field_value};
 ghost use Rattle.ga_check_report.specs.LinkFaults.{link_fault_text, link_fault_word, link_fault_details};
@@ -27,6 +28,17 @@ fn push_word_number(out: &mut TextBuffer, place: u32)
     push_number(out, u64::from(place) + 1);
 }
 
+/// Adds which word came after all that are expected.
+fn push_further_word(out: &mut TextBuffer, word: u32)
+    requires { array_vec_len out.old + FAULT_ROOM ≤ 256 }
+    ensures text { out.new.items ≡ out.old.items ++ (codes "a further word is " ++ hex6_of (word % words)) }
+    ensures len { array_vec_len out.new ≤ array_vec_len out.old + FAULT_ROOM }
+{
+    let word = Word18::from_low_bits(word);
+    push_text(out, b"a further word is ");
+    push_word(out, word);
+}
+
 /// Adds how the words over a link break an expectation, of which this number came before the fault.
 pub(crate) fn push_link_fault(out: &mut TextBuffer, place: u32, fault: LinkFault)
     requires { array_vec_len out.old + FAULT_ROOM ≤ 256 }
@@ -39,10 +51,7 @@ pub(crate) fn push_link_fault(out: &mut TextBuffer, place: u32, fault: LinkFault
             push_text(out, b" is");
             push_spaced_word(out, Word18::from_low_bits(word));
         }
-        LinkFault::ExtraWord(word) => {
-            push_text(out, b"a further word is ");
-            push_word(out, Word18::from_low_bits(word));
-        }
+        LinkFault::ExtraWord(word) => push_further_word(out, word),
         LinkFault::MissingWord => {
             push_word_number(out, place);
             push_text(out, b" never comes");
