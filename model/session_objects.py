@@ -7,12 +7,6 @@ what `because` tests. `comparable` leaves these out of a text. How many conditio
 
 import re
 
-REFUSALS = {
-    "waiting": ": who shows for whom it waits", "stopped": ": whence NNN last shows why",
-    "full": ": give a greater --limit; or save, dump, and go on from the dump", "memory": ": save, dump, and go on from the dump",
-    "empty": ": the history has no event", "nostep": "", "spent": ": dump, and go on from the dump", "long": ": a command has at most 200 bytes",
-    "input": "", "nolink": ": only neighbours pass words",
-}
 SIDES = ("right", "down", "left", "up")
 LETTERS = {"right": "r", "down": "d", "left": "l", "up": "u"}
 OPCODES = "; ex jump call unext next if -if @p @+ @b @ !p !+ !b ! +* 2* 2/ ~ + and or drop dup pop over a . push b! a!".split(" ")
@@ -58,9 +52,13 @@ class SessionText:
         if it.get("answer") == "refused":
             return (f"ga144: line {it['line']}: " if it["line"] is not None else "") + f"{it['text']}\n"
         if "refused" in it:
-            hint = f": {it['hint']}" if "hint" in it else REFUSALS[it["why"]]
-            return f"no {it['refused']} {it['why']}{hint}\n"
+            return f"no {it['refused']} {it['why']}{self.hint_text(it)}\n"
         return it["text"] if "text" in it else getattr(self, f"{it['command']}_text")(it)
+
+    @staticmethod
+    def hint_text(it):
+        """What a refusal has after its word."""
+        return f": {it['hint']}" if "hint" in it else ""
 
     def step_text(self, it):
         return f"{event_text(it)}\n"
@@ -74,7 +72,7 @@ class SessionText:
         if it["end"] == "reached":
             by = f" by {it['condition']}" if " or " in self.line else ""
             return f"reached {it['events']}{by} {event_text(it)}\n"
-        return f"{it['end']} {it['events']}{REFUSALS.get(it['end'], '')}\n"
+        return f"{it['end']} {it['events']}{self.hint_text(it)}\n"
 
     def node_text(self, it):
         waits = {"fetches": "fetch", "reads": "read", "writes": "write"}

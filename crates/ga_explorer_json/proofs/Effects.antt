@@ -2,21 +2,22 @@
 use Rattle.std.proofs.Common.{◌≡◌, ℕ, List, Result, Ok, Err, codes, ap, sym, ◌∙◌, ◌⊎◌, inl, inr}
 use Rattle.std.specs.Prelude.{IsOk}
 use Rattle.ga_grid.specs.declared.node_id.NodeId.{NodeId}
+use Rattle.ga_event.specs.Told.{count_steps}
 use Rattle.ga_lab.specs.Machine.{State, rewind_answer}
 use Rattle.ga_lab.specs.declared.fault.LabFault.{LabFault}
 use Rattle.ga_lab.specs.declared.fault.LabFault.TheVariants.{Memory}
 use Rattle.ga_scheduler.specs.Effects.{rollback_effects}
 use Rattle.ga_scheduler.specs.declared.effects.RollbackEffect.{RollbackEffect}
-use Rattle.ga_explorer_json.specs.Refusals.{lab_refusal_json}
+use Rattle.ga_explorer_json.specs.Refusals.{step_refusal_json}
 use Rattle.ga_explorer_json.specs.Effects.{listed_effects_json, effects_json, IsEffectsJson}
 
 pub effects_found : (s : State) (node : NodeId) (step events : ℕ) (nodes : List RollbackEffect) → rewind_answer s node.number step ≡ Ok events
     → nodes ≡ rollback_effects s node.number step → IsEffectsJson s node step (listed_effects_json node step events nodes)
 effects_found s node step events nodes answer is =
-    inl (ap (listed_effects_json node step events) is ∙ ap (λ (r : Result ℕ LabFault). effects_json node step (rollback_effects s node.number step) r) (sym answer))
+    inl (ap (listed_effects_json node step events) is ∙ ap (λ (r : Result ℕ LabFault). effects_json s node step (rollback_effects s node.number step) r) (sym answer))
 
 pub effects_refused : (s : State) (node : NodeId) (step : ℕ) (why : LabFault)
-    → (rewind_answer s node.number step ≡ Err why) ⊎ ((why ≡ Memory) × IsOk (rewind_answer s node.number step)) → IsEffectsJson s node step (lab_refusal_json (codes "effects") why)
+    → (rewind_answer s node.number step ≡ Err why) ⊎ ((why ≡ Memory) × IsOk (rewind_answer s node.number step)) → IsEffectsJson s node step (step_refusal_json (codes "effects") node (count_steps node.number s.kept) why)
 effects_refused s node step why (inl answer) =
-    inl (ap (λ (r : Result ℕ LabFault). effects_json node step (rollback_effects s node.number step) r) (sym answer))
-effects_refused s node step why (inr memory) = inr (memory.1, ap (lab_refusal_json (codes "effects")) memory.0)
+    inl (ap (λ (r : Result ℕ LabFault). effects_json s node step (rollback_effects s node.number step) r) (sym answer))
+effects_refused s node step why (inr memory) = inr (memory.1, ap (step_refusal_json (codes "effects") node (count_steps node.number s.kept)) memory.0)

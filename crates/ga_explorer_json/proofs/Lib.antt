@@ -4,11 +4,12 @@ pub mod Changes
 pub mod Effects
 pub mod NodeState
 pub mod Races
+pub mod Refusals
 pub mod Whence
 pub mod Who
 pub mod Writes
 pub mod Writing
-pub mod Commas
+pub mod Splits
 pub mod Answering
 pub mod Turns
 pub mod Steps

@@ -2,6 +2,7 @@
 use Rattle.std.proofs.Common.{◌≡◌, ◌≤◌, ℕ, Bool, true, false, List, length, Option, Some, codes, ap, subst, refl, inl, inr}
 use Rattle.ga_grid.specs.declared.node_id.NodeId.{NodeId}
 use Rattle.ga_event.specs.declared.flow.part.NodePart.{NodePart}
+use Rattle.ga_event.specs.Told.{count_steps}
 use Rattle.ga_lab.specs.Machine.{State, has_step}
 use Rattle.ga_lab.specs.declared.fault.LabFault.TheVariants.{NoStep}
 use Rattle.ga_provenance.specs.declared.value.Value.{Value}
@@ -9,11 +10,11 @@ use Rattle.ga_provenance.specs.declared.lines.ProvenanceLine.{ProvenanceLine}
 use Rattle.ga_provenance.specs.Lines.{AreLinesOf}
 use Rattle.ga_explorer_text.specs.Whence.{selected_value, most_lines}
 use Rattle.ga_json.specs.Values.{JsonValue}
-use Rattle.ga_explorer_json.specs.Refusals.{lab_refusal_json}
+use Rattle.ga_explorer_json.specs.Refusals.{step_refusal_json}
 use Rattle.ga_explorer_json.specs.Whence.{lines_json, IsValueJson, IsWhenceJson}
 
 pub whence_nowhere : (s : State) (node : NodeId) (step : ℕ) (at : Option NodePart) (first : ℕ) → has_step s node.number step ≡ false
-    → IsWhenceJson s node step at first (lab_refusal_json (codes "whence") NoStep)
+    → IsWhenceJson s node step at first (step_refusal_json (codes "whence") node (count_steps node.number s.kept) NoStep)
 whence_nowhere s node step at first e = inl (e, refl)
 
 pub whence_here : (s : State) (node : NodeId) (step : ℕ) (at : Option NodePart) (first : ℕ) (value : Option Value) (answer : JsonValue) → has_step s node.number step ≡ true

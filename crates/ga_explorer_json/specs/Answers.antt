@@ -1,6 +1,7 @@
 -- What a session of exploring answers to a line as JSON (docs/JSON.md; this project's own).
 use Rattle.std.specs.Prelude.{◌≡◌, ℕ, ◌<◌, ◌≤◌, List, [], length, codes, Option, Some, None, option_and_then}
 use Rattle.ga_text.specs.Lines.{Text, Line, max_input_line}
+use Rattle.ga_event.specs.Told.{count_steps}
 use Rattle.ga_lab.specs.Machine.{State, undo_answer, rewind_answer, state_after_undo, state_after_rewind}
 use Rattle.ga_debug_info.specs.declared.notes.DebugInfo.{DebugInfo}
 use Rattle.ga_scheduler.specs.Conditions.{active_conditions}
@@ -34,7 +35,7 @@ use Rattle.ga_explorer_json.specs.Whence.{IsWhenceJson}
 use Rattle.ga_explorer_json.specs.Because.{because_json}
 use Rattle.ga_explorer_json.specs.Races.{IsRacesJson}
 use Rattle.ga_explorer_json.specs.Who.{IsWhoJson}
-use Rattle.ga_explorer_json.specs.Texts.{IsQueryText, line_refusal_json, syntax_json}
+use Rattle.ga_explorer_json.specs.Texts.{IsQueryText, long_line_json, syntax_json}
 use Rattle.ga_explorer_json.specs.declared.answers.LineRequest.{LineRequest}
 use Rattle.ga_explorer_json.specs.declared.answers.LineRequest.TheVariants as request
 
@@ -44,11 +45,11 @@ abbrev pub AnswersCommandJson : State → Command → Text → State → Type 0
 AnswersCommandJson s (Step node) answer new = IsJsonLine (IsStepJson s node new) answer
 AnswersCommandJson s Back answer new = (answer ≡ json_line (undo_json (undo_answer s) (length new.kept))) × (new ≡ state_after_undo s)
 AnswersCommandJson s (Rewind node k) answer new =
-    (answer ≡ json_line (rewind_json (rewind_answer s node.number k) (length new.kept))) × (new ≡ state_after_rewind s node.number k)
+    (answer ≡ json_line (rewind_json node (count_steps node.number s.kept) (rewind_answer s node.number k) (length new.kept))) × (new ≡ state_after_rewind s node.number k)
 AnswersCommandJson s (Node node) answer new = (answer ≡ json_line (node_json s node)) × (new ≡ s)
 AnswersCommandJson s (Memory node address) answer new = (answer ≡ json_line (memory_word_json s node address)) × (new ≡ s)
 AnswersCommandJson s (Trace node) answer new = IsJsonLine (IsTraceJson s node) answer × (new ≡ s)
-AnswersCommandJson s (Why from k to j) answer new = IsJsonLine (IsWhyJson s from.number k to.number j) answer × (new ≡ s)
+AnswersCommandJson s (Why from k to j) answer new = IsJsonLine (IsWhyJson s from k to j) answer × (new ≡ s)
 AnswersCommandJson s Count answer new = (answer ≡ json_line (counts_json s)) × (new ≡ s)
 AnswersCommandJson s Dump answer new = IsJsonLine (IsDumpJson s) answer × (new ≡ s)
 AnswersCommandJson s Quit answer new = (answer ≡ []) × (new ≡ s)
@@ -101,7 +102,7 @@ IsLineRequest notes line request.Unknown =
 abbrev pub AnswersLineRequest : ExplorerState → Line → LineRequest → Text → ExplorerState → Type 0
 AnswersLineRequest e line (request.Explore asked) answer new = AnswersExplorerJson e asked answer new
 AnswersLineRequest e line (request.Debug command) answer new = AnswersCommandJson e.lab command answer new.lab × (new.notes ≡ e.notes)
-AnswersLineRequest e line request.Long answer new = (answer ≡ json_line (line_refusal_json 32 (codes "long"))) × (new ≡ e)
+AnswersLineRequest e line request.Long answer new = (answer ≡ json_line long_line_json) × (new ≡ e)
 AnswersLineRequest e line request.Unknown answer new = (answer ≡ json_line (syntax_json line)) × (new ≡ e)
 
 -- the line is answered by what it asks for

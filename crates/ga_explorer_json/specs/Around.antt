@@ -13,7 +13,7 @@ use Rattle.ga_text.specs.Digits.{name_of_node}
 use Rattle.ga_json.specs.Values.{JsonValue, number, string, JsonItems, no_items}
 use Rattle.ga_json.specs.Fields.{NamedValue, json_object, json_report}
 use Rattle.ga_explorer_json.specs.Events.{action_fields}
-use Rattle.ga_explorer_json.specs.Refusals.{lab_refusal_json}
+use Rattle.ga_explorer_json.specs.Refusals.{step_refusal_json}
 use Rattle.ga_explorer_json.specs.Rows.{row_before}
 
 -- the registers after a step: T, S, R, A, B and P
@@ -56,4 +56,4 @@ steps_around_json s node step around = json_report (at_fields node step) (rows_a
 
 -- these, if the step exists
 abbrev pub at_json : State → NodeId → ℕ → ℕ → JsonValue
-at_json s node step around = if has_step s node.number step then steps_around_json s node step around else lab_refusal_json (codes "at") NoStep
+at_json s node step around = if has_step s node.number step then steps_around_json s node step around else step_refusal_json (codes "at") node (count_steps node.number s.kept) NoStep

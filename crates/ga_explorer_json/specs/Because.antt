@@ -1,6 +1,7 @@
 -- What `because` answers, as a JSON value (docs/REFERENCE.md, "Exploring"; this project's own).
 use Rattle.std.specs.Prelude.{ℕ, zero, suc, ◌-◌, if◌then◌else◌, pos, List, [], ◌∷◌, ◌++◌, codes, Option, Some, None}
 use Rattle.ga_grid.specs.declared.node_id.NodeId.{NodeId}
+use Rattle.ga_event.specs.Told.{count_steps}
 use Rattle.ga_lab.specs.Machine.{State, has_step}
 use Rattle.ga_lab.specs.declared.fault.LabFault.TheVariants.{NoStep}
 use Rattle.ga_provenance.specs.declared.deciding.Decision.{Decision}
@@ -10,7 +11,7 @@ use Rattle.ga_json.specs.Values.{JsonValue, number, string, JsonItems, no_items,
 use Rattle.ga_json.specs.Fields.{NamedValue, json_object, json_report}
 use Rattle.ga_explorer_json.specs.Events.{action_fields}
 use Rattle.ga_explorer_json.specs.Parts.{number_or_null, number_unless_zero, part_word, part_place}
-use Rattle.ga_explorer_json.specs.Refusals.{lab_refusal_json}
+use Rattle.ga_explorer_json.specs.Refusals.{step_refusal_json}
 
 -- the part that was tested, the word there, and the step that made it, with its part
 abbrev pub tested_fields : Decision → List NamedValue
@@ -50,4 +51,4 @@ decisions_json s node step most = json_report (because_fields node step) (decisi
 
 -- these, if the step exists
 abbrev pub because_json : State → NodeId → ℕ → ℕ → JsonValue
-because_json s node step most = if has_step s node.number step then decisions_json s node step most else lab_refusal_json (codes "because") NoStep
+because_json s node step most = if has_step s node.number step then decisions_json s node step most else step_refusal_json (codes "because") node (count_steps node.number s.kept) NoStep

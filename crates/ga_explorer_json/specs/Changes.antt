@@ -12,7 +12,7 @@ use Rattle.ga_json.specs.Values.{JsonValue, number, string}
 use Rattle.ga_json.specs.Fields.{NamedValue, json_object}
 use Rattle.ga_explorer_json.specs.Events.{made_event_fields}
 use Rattle.ga_explorer_json.specs.Parts.{number_or_null}
-use Rattle.ga_explorer_json.specs.Refusals.{fault_word, lab_refusal_json}
+use Rattle.ga_explorer_json.specs.Refusals.{fault_word, fault_hint, lab_refusal_json, step_refusal_json}
 
 -- ---- `step`
 
@@ -37,9 +37,10 @@ abbrev pub undo_json : Result (Unit {0}) LabFault → ℕ → JsonValue
 undo_json (Ok done) kept = removed_json (codes "back") (Some 1) kept
 undo_json (Err why) kept = lab_refusal_json (codes "back") why
 
-abbrev pub rewind_json : Result ℕ LabFault → ℕ → JsonValue
-rewind_json (Ok removed) kept = removed_json (codes "rewind") (Some removed) kept
-rewind_json (Err why) kept = lab_refusal_json (codes "rewind") why
+-- about a step of a node that has `count` steps
+abbrev pub rewind_json : NodeId → ℕ → Result ℕ LabFault → ℕ → JsonValue
+rewind_json node count (Ok removed) kept = removed_json (codes "rewind") (Some removed) kept
+rewind_json node count (Err why) kept = step_refusal_json (codes "rewind") node count why
 
 -- ---- `run`
 
@@ -47,12 +48,12 @@ rewind_json (Err why) kept = lab_refusal_json (codes "rewind") why
 abbrev pub held_condition_fields : ℕ → List NamedValue
 held_condition_fields which = (codes "end", string (codes "reached")) ∷ (codes "condition", number (pos (which + 1))) ∷ []
 
--- why the run ended: the event after which a condition held; or the word of the refusal
+-- why the run ended: the event after which a condition held; or the word and the hint of the refusal
 abbrev pub run_end_fields : RunEnd → List NamedValue
 run_end_fields (Reached made which) = held_condition_fields which ++ made_event_fields made
 run_end_fields AllMade = (codes "end", string (codes "made")) ∷ []
 run_end_fields Quiet = (codes "end", string (codes "quiet")) ∷ []
-run_end_fields (Refused why) = (codes "end", string (fault_word why)) ∷ []
+run_end_fields (Refused why) = (codes "end", string (fault_word why)) ∷ (codes "hint", string (fault_hint why)) ∷ []
 
 -- how many events were made, and why no more
 abbrev pub run_json : ℕ → RunEnd → JsonValue

@@ -1,6 +1,7 @@
 -- What `effects` answers, as a JSON value (docs/REFERENCE.md, "Exploring"; this project's own).
 use Rattle.std.specs.Prelude.{◌≡◌, ℕ, pos, ◌⊎◌, List, [], ◌∷◌, length, codes, Result, Ok, Err, IsOk}
 use Rattle.ga_grid.specs.declared.node_id.NodeId.{NodeId}
+use Rattle.ga_event.specs.Told.{count_steps}
 use Rattle.ga_lab.specs.Machine.{State, rewind_answer}
 use Rattle.ga_lab.specs.declared.fault.LabFault.{LabFault}
 use Rattle.ga_lab.specs.declared.fault.LabFault.TheVariants.{Memory}
@@ -9,7 +10,7 @@ use Rattle.ga_scheduler.specs.declared.effects.RollbackEffect.{RollbackEffect}
 use Rattle.ga_text.specs.Digits.{name_of_node}
 use Rattle.ga_json.specs.Values.{JsonValue, number, string}
 use Rattle.ga_json.specs.Fields.{NamedValue, json_object, json_report}
-use Rattle.ga_explorer_json.specs.Refusals.{lab_refusal_json}
+use Rattle.ga_explorer_json.specs.Refusals.{lab_refusal_json, step_refusal_json}
 use Rattle.ga_explorer_json.specs.Rows.{json_rows}
 
 -- what would go of a node: its first step that would, and how many would
@@ -35,12 +36,12 @@ abbrev pub listed_effects_json : NodeId → ℕ → ℕ → List RollbackEffect 
 listed_effects_json node step events effects = json_report (effects_fields node step events (length effects)) (json_rows effect_json effects)
 
 -- the value about a rollback, by what `rewind` would answer
-abbrev pub effects_json : NodeId → ℕ → List RollbackEffect → Result ℕ LabFault → JsonValue
-effects_json node step effects (Ok events) = listed_effects_json node step events effects
-effects_json node step effects (Err why) = lab_refusal_json (codes "effects") why
+abbrev pub effects_json : State → NodeId → ℕ → List RollbackEffect → Result ℕ LabFault → JsonValue
+effects_json s node step effects (Ok events) = listed_effects_json node step events effects
+effects_json s node step effects (Err why) = step_refusal_json (codes "effects") node (count_steps node.number s.kept) why
 
 -- The answer is what a rollback would remove, or out of memory if one is possible.
 abbrev pub IsEffectsJson : State → NodeId → ℕ → JsonValue → Type 0
 IsEffectsJson s node step answer =
-    (answer ≡ effects_json node step (rollback_effects s node.number step) (rewind_answer s node.number step))
+    (answer ≡ effects_json s node step (rollback_effects s node.number step) (rewind_answer s node.number step))
     ⊎ (IsOk (rewind_answer s node.number step) × (answer ≡ lab_refusal_json (codes "effects") Memory))

@@ -1,14 +1,35 @@
--- A refused query as a JSON value (docs/REFERENCE.md, "Exploring"; this project's own).
-use Rattle.std.specs.Prelude.{ℕ, pos, [], ◌∷◌, codes}
+-- Refused commands as JSON values (docs/REFERENCE.md, "Exploring"; this project's own).
+use Rattle.std.specs.Prelude.{ℕ, pos, ◌==◌, if◌then◌else◌, [], ◌∷◌, codes}
 use Rattle.ga_text.specs.Lines.{Text}
 use Rattle.ga_lab.specs.declared.fault.LabFault.{LabFault}
 use Rattle.ga_lab.specs.declared.fault.LabFault.TheVariants.{Waiting, Stopped, Full, Memory, Empty, NoStep, Spent}
+use Rattle.ga_grid.specs.declared.node_id.NodeId.{NodeId}
+use Rattle.ga_display.specs.Texts.{advised_refusal_text, advised_step_refusal_text}
 use Rattle.ga_json.specs.Values.{JsonValue, number, string}
 use Rattle.ga_json.specs.Fields.{json_object}
 
--- the command, and the number and the word of the refusal
-abbrev pub refusal_json : Text → ℕ → Text → JsonValue
-refusal_json command code why = json_object ((codes "command", string command) ∷ (codes "refused", number (pos code)) ∷ (codes "why", string why) ∷ [])
+-- ---- the hint of a refusal
+
+-- the text after the first of these bytes
+abbrev pub after_byte : ℕ → Text → Text
+after_byte byte [] = []
+after_byte byte (b ∷ text) = if b == byte then text else after_byte byte text
+
+-- the text before the first of these bytes
+abbrev pub before_byte : ℕ → Text → Text
+before_byte byte [] = []
+before_byte byte (b ∷ text) = if b == byte then [] else b ∷ before_byte byte text
+
+-- what the line of text of a refusal has after its colon and a blank
+abbrev pub hint_in : Text → Text
+hint_in line = before_byte 10 (after_byte 32 (after_byte 58 line))
+
+-- ---- the objects
+
+-- the command, and the number, the word and the hint of the refusal
+abbrev pub refusal_json : Text → ℕ → Text → Text → JsonValue
+refusal_json command code why hint =
+    json_object ((codes "command", string command) ∷ (codes "refused", number (pos code)) ∷ (codes "why", string why) ∷ (codes "hint", string hint) ∷ [])
 
 -- why a lab refused a call: the number and the word
 abbrev pub fault_code : LabFault → ℕ
@@ -29,5 +50,12 @@ fault_word Empty = codes "empty"
 fault_word NoStep = codes "nostep"
 fault_word Spent = codes "spent"
 
+abbrev pub fault_hint : LabFault → Text
+fault_hint why = hint_in (advised_refusal_text why)
+
 abbrev pub lab_refusal_json : Text → LabFault → JsonValue
-lab_refusal_json command why = refusal_json command (fault_code why) (fault_word why)
+lab_refusal_json command why = refusal_json command (fault_code why) (fault_word why) (fault_hint why)
+
+-- why a call about a step of a node that has `count` steps was refused
+abbrev pub step_refusal_json : Text → NodeId → ℕ → LabFault → JsonValue
+step_refusal_json command node count why = refusal_json command (fault_code why) (fault_word why) (hint_in (advised_step_refusal_text node count why))

@@ -1,5 +1,5 @@
 -- What a whole session of exploring may write as JSON, and how it may end (docs/JSON.md; this project's own).
-use Rattle.std.specs.Prelude.{◌≡◌, ◌&&◌, ◌==◌, ℕ, ◌-◌, if◌then◌else◌, [], ◌∷◌, ◌++◌, length, codes, nat_eq, Bool, true, false, Option, Result, Ok, Err}
+use Rattle.std.specs.Prelude.{◌≡◌, ◌&&◌, ℕ, ◌-◌, [], ◌∷◌, ◌++◌, length, codes, nat_eq, Bool, true, false, Option, Result, Ok, Err}
 use Rattle.std.specs.List.{starts_with}
 use Rattle.ga_text.specs.Lines.{Bytes, Text}
 use Rattle.ga_text.specs.Input.{input_limit}
@@ -14,7 +14,8 @@ use Rattle.ga_check_report.specs.Opened.{HasRefusalObjects}
 use Rattle.ga_explorer.specs.Opening.{ExplorerState, OpensLeadingText, IsLeadingText}
 use Rattle.ga_explorer.specs.Session.{session_status}
 use Rattle.ga_explorer_json.specs.Answers.{AnswersJsonLine}
-use Rattle.ga_explorer_json.specs.Texts.{line_refusal_json}
+use Rattle.ga_explorer_json.specs.Refusals.{after_byte}
+use Rattle.ga_explorer_json.specs.Texts.{limit_refusal_json}
 
 -- what begins a session
 abbrev pub ready_json : JsonValue
@@ -22,14 +23,13 @@ ready_json = json_object ((codes "answer", string (codes "ready")) ∷ [])
 
 -- what is written of an input past its bound
 abbrev pub limit_refusal_line : Text
-limit_refusal_line = json_line (line_refusal_json 33 (codes "input"))
+limit_refusal_line = json_line (limit_refusal_json)
 
 -- ---- a session that ends at its first refused command, if it is strict
 
 -- the text after the first comma
 abbrev pub after_comma : Text → Text
-after_comma [] = []
-after_comma (b ∷ text) = if b == 44 then text else after_comma text
+after_comma text = after_byte 44 text
 
 -- the answer is a refusal: its second field is `refused`
 abbrev pub is_json_refusal : Text → Bool

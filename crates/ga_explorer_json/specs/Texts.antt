@@ -4,6 +4,9 @@ use Rattle.ga_text.specs.Lines.{Text, Line}
 use Rattle.ga_json.specs.Values.{JsonValue, null, number, string}
 use Rattle.ga_json.specs.Fields.{json_object}
 use Rattle.ga_json.specs.FieldValues.{text_json}
+use Rattle.ga_display.specs.Texts.{worded_long_line_refusal}
+use Rattle.ga_display.specs.declared.wording.Wording.TheVariants.{Advised}
+use Rattle.ga_explorer_json.specs.Refusals.{hint_in}
 use Rattle.ga_explorer.specs.NoCommand.{suggestion}
 use Rattle.ga_explorer.specs.Commands.{AnswersQuery}
 use Rattle.ga_explorer.specs.Opening.{ExplorerState}
@@ -17,11 +20,22 @@ text_answer_json command text = json_object ((codes "command", string command) �
 abbrev pub IsQueryText : Text → ExplorerState → Query → JsonValue → Type 0
 IsQueryText command e asked answer = (text : Text) × AnswersQuery e asked text × (answer ≡ text_answer_json command text)
 
--- no command, and the number and the word of the refusal
-abbrev pub line_refusal_json : ℕ → Text → JsonValue
-line_refusal_json code why = json_object ((codes "command", null) ∷ (codes "refused", number (pos code)) ∷ (codes "why", string why) ∷ [])
+-- no command, and the number, the word and the hint of the refusal
+abbrev pub line_refusal_json : ℕ → Text → Text → JsonValue
+line_refusal_json code why hint =
+    json_object ((codes "command", null) ∷ (codes "refused", number (pos code)) ∷ (codes "why", string why) ∷ (codes "hint", string hint) ∷ [])
 
--- no command, and what to write in place of the line
+-- the line has more than 200 bytes
+abbrev pub long_line_json : JsonValue
+long_line_json = line_refusal_json 32 (codes "long") (hint_in (worded_long_line_refusal Advised))
+
+-- the input exceeds its limit
+abbrev pub limit_refusal_json : JsonValue
+limit_refusal_json = json_object ((codes "command", null) ∷ (codes "refused", number (pos 33)) ∷ (codes "why", string (codes "input")) ∷ [])
+
+-- no command, and what is the case or what to write in place of the line
+abbrev pub syntax_refusal_json : Text → JsonValue
+syntax_refusal_json hint = line_refusal_json 31 (codes "syntax") hint
+
 abbrev pub syntax_json : Line → JsonValue
-syntax_json line =
-    json_object ((codes "command", null) ∷ (codes "refused", number (pos 31)) ∷ (codes "why", string (codes "syntax")) ∷ (codes "hint", string (suggestion line)) ∷ [])
+syntax_json line = syntax_refusal_json (suggestion line)

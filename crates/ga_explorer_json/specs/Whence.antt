@@ -2,6 +2,7 @@
 use Rattle.std.specs.Prelude.{◌≡◌, ◌≤◌, ℕ, ◌+◌, ◌-◌, ◌==◌, ◌⊎◌, Bool, true, false, if◌then◌else◌, pos, List, [], ◌∷◌, ◌++◌, length, drop, codes, Option, Some, None}
 use Rattle.std.specs.List.{slice_get}
 use Rattle.ga_grid.specs.declared.node_id.NodeId.{NodeId}
+use Rattle.ga_event.specs.Told.{count_steps}
 use Rattle.ga_event.specs.declared.made.Made.{Made}
 use Rattle.ga_event.specs.declared.flow.part.NodePart.{NodePart}
 use Rattle.ga_lab.specs.Machine.{State, has_step, history_of}
@@ -15,7 +16,7 @@ use Rattle.ga_json.specs.Values.{JsonValue, null, number, string, JsonItems, no_
 use Rattle.ga_json.specs.Fields.{NamedValue, json_object, json_report}
 use Rattle.ga_explorer_json.specs.Events.{action_fields}
 use Rattle.ga_explorer_json.specs.Parts.{number_or_null, number_unless_zero, value_fields}
-use Rattle.ga_explorer_json.specs.Refusals.{lab_refusal_json}
+use Rattle.ga_explorer_json.specs.Refusals.{lab_refusal_json, step_refusal_json}
 
 -- no part
 abbrev pub no_value_fields : List NamedValue
@@ -93,5 +94,5 @@ IsValueJson s node step first (Some value) answer = (answer ≡ lab_refusal_json
 
 abbrev pub IsWhenceJson : State → NodeId → ℕ → Option NodePart → ℕ → JsonValue → Type 0
 IsWhenceJson s node step at first answer =
-    ((has_step s node.number step ≡ false) × (answer ≡ lab_refusal_json (codes "whence") NoStep))
+    ((has_step s node.number step ≡ false) × (answer ≡ step_refusal_json (codes "whence") node (count_steps node.number s.kept) NoStep))
     ⊎ ((has_step s node.number step ≡ true) × IsValueJson s node step first (selected_value s node step at) answer)

@@ -8,7 +8,8 @@ use Rattle.ga_scheduler.specs.declared.words.Transfer.{Transfer}
 use Rattle.ga_text.specs.Digits.{name_of_node}
 use Rattle.ga_json.specs.Values.{JsonValue, number, string}
 use Rattle.ga_json.specs.Fields.{NamedValue, json_object, json_report}
-use Rattle.ga_explorer_json.specs.Refusals.{refusal_json}
+use Rattle.ga_explorer_json.specs.Refusals.{hint_in, refusal_json}
+use Rattle.ga_explorer_text.specs.Texts.{no_link}
 use Rattle.ga_explorer_json.specs.Rows.{json_rows}
 
 -- a word: its number, the steps of both ends and itself
@@ -36,4 +37,4 @@ transfers_json s from to =
     json_report (link_fields from to (link_transfer_count s from.number to.number)) (json_rows transfer_json (words_of s from.number to.number))
 
 abbrev pub words_json : State → NodeId → NodeId → JsonValue
-words_json s from to = if are_neighbours from.number to.number then transfers_json s from to else refusal_json (codes "words") 34 (codes "nolink")
+words_json s from to = if are_neighbours from.number to.number then transfers_json s from to else refusal_json (codes "words") 34 (codes "nolink") (hint_in no_link)

@@ -1,5 +1,5 @@
 -- What only private contracts and proofs name.
-use Rattle.std.specs.Prelude.{◌≡◌, ◌&&◌, if◌then◌else◌, Bool, true, false, Option, Result, Ok, Err}
+use Rattle.std.specs.Prelude.{◌≡◌, ◌&&◌, if◌then◌else◌, ◌++◌, codes, Bool, true, false, Option, Result, Ok, Err}
 use Rattle.ga_text.specs.Lines.{Bytes, Text, Line}
 use Rattle.ga_text.specs.Output.{WritesSome}
 use Rattle.ga_text.specs.declared.output.Writer.{Writer}
@@ -8,6 +8,7 @@ use Rattle.ga_console.specs.declared.responder.LineAction.{LineAction}
 use Rattle.ga_console.specs.declared.responder.LineAction.TheVariants as turn
 use Rattle.ga_explorer.specs.Opening.{ExplorerState}
 use Rattle.ga_explorer.specs.declared.commands.Query.{Query}
+use Rattle.ga_explorer_json.specs.Refusals.{after_byte, before_byte}
 use Rattle.ga_explorer_json.specs.Rows.{IsJsonLine}
 use Rattle.ga_explorer_json.specs.Answers.{AnswersQueryJson, AnswersLineRequest}
 use Rattle.ga_explorer_json.specs.Session.{is_json_refusal, JsonOn, JsonLast}
@@ -37,3 +38,13 @@ GoesOnFor strict e line answer strict_on new = JsonOn strict e line answer new �
 
 abbrev pub EndsFor : Bool → ExplorerState → Line → Text → Bool → ExplorerState → Type 0
 EndsFor strict e line answer strict_on new = JsonLast strict e line answer new × (strict_on ≡ strict)
+
+-- ---- the text of a refusal, made from its object
+
+-- number, word and hint of a refusal, of which the object has this text after its first comma
+abbrev pub refusal_line_in : Text → Text
+refusal_line_in rest =
+    let number_on = after_byte 58 rest in
+    let word_on = after_byte 34 (after_byte 58 number_on) in
+    let hint_on = after_byte 34 (after_byte 58 word_on) in
+    codes "no " ++ before_byte 44 number_on ++ codes " " ++ before_byte 34 word_on ++ codes ": " ++ before_byte 34 hint_on ++ codes "\n"

@@ -9,7 +9,7 @@ ghost use Rattle.ga_explorer_json.specs.Answers.{AnswersCommandJson, AnswersExpl
 ghost use Rattle.ga_explorer_json.specs.inner.{IsToldJson};
 
 use crate::steps_json::{write_dump_json, write_trace_json, write_why_json};
-use crate::text_json::{write_line_refusal, write_query_text, write_syntax_json};
+use crate::text_json::{write_long_line_json, write_query_text, write_syntax_json};
 use crate::{
     write_at_json, write_back_until_json, write_because_json, write_counts_json,
     write_effects_json, write_memory_json, write_node_json, write_races_json, write_rewind_json,
@@ -74,7 +74,7 @@ pub(crate) fn answer_request<W: Write>(
     match request {
         LineRequest::Explore(asked) => explore_for_json(alloc, lab, notes, asked, writer),
         LineRequest::Debug(command) => obey_for_json(alloc, lab, command, writer),
-        LineRequest::Long => write_line_refusal(32, b"long", writer),
+        LineRequest::Long => write_long_line_json(writer),
         LineRequest::Unknown => write_syntax_json(line, writer),
     }
 }

@@ -11,7 +11,7 @@ ghost use Rattle.ga_json.specs.Fields.{named_field_value, row_json};
 ghost use Rattle.ga_explorer_json.specs.Around.{register_fields, numbered_step_json, step_json_at, step_rows, at_fields, steps_around_json, at_json};
 
 use crate::event::push_action;
-use crate::refusal::write_lab_refusal;
+use crate::refusal::write_step_refusal;
 use crate::row::push_fields;
 use ga_grid::NodeId;
 use ga_json::{Field, RowCursor, RowFields, row_fields, write_report};
@@ -36,7 +36,7 @@ pub fn write_at_json<W: Write>(
     if lab.has_step((node, step)) {
         write_steps_around(lab, node, step, around, writer)
     } else {
-        write_lab_refusal(b"at", LabFault::NoStep, writer)
+        write_step_refusal(b"at", LabFault::NoStep, node, lab.steps(node), writer)
     }
 }
 

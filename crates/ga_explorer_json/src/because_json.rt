@@ -9,7 +9,7 @@ ghost use Rattle.ga_explorer_json.specs.Because.{tested_fields, decision_json, d
 
 use crate::event::push_action;
 use crate::part::{number_unless_zero, optional_number, part_place, part_word};
-use crate::refusal::write_lab_refusal;
+use crate::refusal::write_step_refusal;
 use crate::row::push_fields;
 use ga_grid::NodeId;
 use ga_json::{Field, RowCursor, RowFields, row_fields, write_report};
@@ -35,7 +35,7 @@ pub fn write_because_json<W: Write>(
     if lab.has_step((node, step)) {
         write_decisions(lab, node, step, most, writer)
     } else {
-        write_lab_refusal(b"because", LabFault::NoStep, writer)
+        write_step_refusal(b"because", LabFault::NoStep, node, lab.steps(node), writer)
     }
 }
 

@@ -1,6 +1,7 @@
 //! The commands that change the machine.
 
 ghost use Rattle.std.specs.Prelude.{◌≡◌, codes, length};
+ghost use Rattle.ga_event.specs.Told.{count_steps};
 ghost use Rattle.ga_lab.specs.Machine.{undo_answer, rewind_answer, state_after_undo, state_after_rewind};
 ghost use Rattle.ga_text.specs.Output.{WritesSome, WritesExactly};
 ghost use Rattle.ga_scheduler.specs.Backward.{find_newest_holding, machine_back_at_place, removed_event_count};
@@ -11,7 +12,7 @@ ghost use Rattle.ga_explorer_json.specs.Changes.{step_json, IsStepJson, removed_
 
 use crate::event::push_made_event;
 use crate::part::optional_number;
-use crate::refusal::write_lab_refusal;
+use crate::refusal::{write_lab_refusal, write_step_refusal};
 use ga_event::Made;
 use ga_grid::NodeId;
 use ga_json::{Field, RowFields, row_fields, write_object};
@@ -61,7 +62,7 @@ pub fn write_rewind_json<W: Write>(
     step: u32,
     writer: &mut Writer<'_, W>,
 ) -> WriteResult
-    ensures said { WritesExactly result (json_line (rewind_json (rewind_answer lab.old node.number step) (length lab.new.kept))) W.contents writer.old writer.new }
+    ensures said { WritesExactly result (json_line (rewind_json node (count_steps node.number lab.old.kept) (rewind_answer lab.old node.number step) (length lab.new.kept))) W.contents writer.old writer.new }
     ensures state { lab.new ≡ state_after_rewind lab.old node.number step }
 {
     match lab.rewind(node, step) {
@@ -73,7 +74,7 @@ pub fn write_rewind_json<W: Write>(
                 writer,
             )
         }
-        Err(fault) => write_lab_refusal(b"rewind", fault, writer),
+        Err(fault) => write_step_refusal(b"rewind", fault, node, lab.steps(node), writer),
     }
 }
 

@@ -7,7 +7,7 @@ ghost use Rattle.ga_json.specs.Fields.{named_field_value, row_json};
 ghost use Rattle.ga_explorer_json.specs.Rows.{json_rows, IsJsonLine};
 ghost use Rattle.ga_explorer_json.specs.Effects.{effect_json, effects_fields, listed_effects_json, IsEffectsJson};
 
-use crate::refusal::write_lab_refusal;
+use crate::refusal::write_step_refusal;
 use ga_grid::NodeId;
 use ga_json::{Field, RowCursor, RowFields, row_fields, write_report};
 use ga_lab::Lab;
@@ -34,7 +34,7 @@ pub fn write_effects_json<W: Write>(
         Ok(effects) => {
             write_listed_effects(node, step, effects.events, effects.nodes.as_slice(), writer)
         }
-        Err(fault) => write_lab_refusal(b"effects", fault, writer),
+        Err(fault) => write_step_refusal(b"effects", fault, node, lab.steps(node), writer),
     }
 }
 

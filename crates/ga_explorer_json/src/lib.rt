@@ -5,6 +5,7 @@ mod activity;
 mod answers;
 mod at_json;
 mod because_json;
+mod bytes;
 mod changes_json;
 mod effects_json;
 mod event;

@@ -1,17 +1,20 @@
-//! Refused queries.
+//! Refused commands.
 
 ghost use Rattle.std.specs.Prelude.{◌≡◌};
 ghost use Rattle.ga_text.specs.Output.{WritesExactly};
 ghost use Rattle.ga_json.specs.Compact.{json_line};
 ghost use Rattle.ga_json.specs.Fields.{row_json};
-ghost use Rattle.ga_explorer_json.specs.Refusals.{refusal_json, fault_code, fault_word, lab_refusal_json};
+ghost use Rattle.ga_explorer_json.specs.Refusals.{refusal_json, fault_code, fault_word, fault_hint, lab_refusal_json, step_refusal_json};
 
+use crate::bytes::hint_in;
+use ga_display::{Wording, advised_step_refusal};
+use ga_grid::NodeId;
 use ga_json::{Field, write_object};
 use ga_lab::LabFault;
 use ga_text::{WriteResult, Writer};
 use std::io::Write;
 
-/// Writes that a command was refused, with the number and the word of the refusal.
+/// Writes that a command was refused, with the number, the word and the hint of the refusal.
 ///
 /// # Errors
 /// A write failed.
@@ -19,21 +22,23 @@ pub(crate) fn write_refusal<W: Write>(
     command: &[u8],
     code: u64,
     why: &[u8],
+    hint: &[u8],
     writer: &mut Writer<'_, W>,
 ) -> WriteResult
-    ensures { WritesExactly result (json_line (refusal_json command.now code why.now)) W.contents writer.old writer.new }
+    ensures { WritesExactly result (json_line (refusal_json command.now code why.now hint.now)) W.contents writer.old writer.new }
 {
-    write_object(&refusal_fields(command, code, why), writer)
+    write_object(&refusal_fields(command, code, why, hint), writer)
 }
 
-/// A command, and the number and the word of its refusal.
-fn refusal_fields<'a>(command: &'a [u8], code: u64, why: &'a [u8]) -> [Field<'a>; 3]
-    ensures { row_json result ≡ refusal_json command.now code why.now }
+/// A command, and the number, the word and the hint of its refusal.
+fn refusal_fields<'a>(command: &'a [u8], code: u64, why: &'a [u8], hint: &'a [u8]) -> [Field<'a>; 4]
+    ensures { row_json result ≡ refusal_json command.now code why.now hint.now }
 {
     [
         Field::text(b"command", command),
         Field::number(b"refused", code),
         Field::text(b"why", why),
+        Field::text(b"hint", hint),
     ]
 }
 
@@ -48,7 +53,38 @@ pub(crate) fn write_lab_refusal<W: Write>(
 ) -> WriteResult
     ensures { WritesExactly result (json_line (lab_refusal_json command.now fault)) W.contents writer.old writer.new }
 {
-    write_refusal(command, fault_code(fault), fault_word(fault), writer)
+    write_refusal(
+        command,
+        fault_code(fault),
+        fault_word(fault),
+        fault_hint(fault),
+        writer,
+    )
+}
+
+/// Writes that a lab refused a command about a step of a node that has `count` steps.
+///
+/// # Errors
+/// A write failed.
+pub(crate) fn write_step_refusal<W: Write>(
+    command: &[u8],
+    fault: LabFault,
+    node: NodeId,
+    count: u32,
+    writer: &mut Writer<'_, W>,
+) -> WriteResult
+    ensures { WritesExactly result (json_line (step_refusal_json command.now node count fault)) W.contents writer.old writer.new }
+{
+    let line = advised_step_refusal(fault, node, count);
+    let hint = hint_in(line.as_slice());
+    write_refusal(command, fault_code(fault), fault_word(fault), hint, writer)
+}
+
+/// The hint of a refusal.
+pub(crate) fn fault_hint(fault: LabFault) -> &'static [u8]
+    ensures { result.now ≡ fault_hint fault }
+{
+    hint_in(Wording::Advised.refusal(fault))
 }
 
 /// The number of a refusal.

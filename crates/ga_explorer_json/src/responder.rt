@@ -8,6 +8,7 @@ ghost use Rattle.ga_explorer_json.specs.Session.{after_comma, is_json_refusal};
 ghost use Rattle.ga_explorer_json.specs.inner.{turn_after, Responds};
 
 use crate::answers::{LineRequest, answer_request, line_request};
+use crate::bytes::after_byte;
 use crate::noted_refusal::note_refusal;
 use ga_console::{Command, LineAction, Responder};
 use ga_debug_info::DebugInfo;
@@ -125,7 +126,7 @@ fn respond<W: Write>(
     let mut long = Vec::new(alloc);
     let mut held = Writer::new(&mut long);
     answer_request(alloc, lab, notes, line, request, &mut held)?;
-    pass_on(&mut held, is_strict, line, refusal, writer)
+    pass_on(&mut held, is_strict, refusal, writer)
 }
 
 /// Writes an answer that was held back, and returns whether it ends the session. A long answer is in the vector first.
@@ -135,7 +136,6 @@ fn respond<W: Write>(
 fn pass_on<W: Write>(
     held: &mut Writer<'_, Vec<u8>>,
     is_strict: bool,
-    line: &[u8],
     refusal: &mut LineBuffer,
     writer: &mut Writer<'_, W>,
 ) -> Result<LineAction, WriteError>
@@ -144,10 +144,10 @@ fn pass_on<W: Write>(
         × IfOk result (λ turn. turn ≡ turn_after is_strict answer) }
 {
     if held.stream.is_empty() {
-        return write_answer(held.pending.as_slice(), is_strict, line, refusal, writer);
+        return write_answer(held.pending.as_slice(), is_strict, refusal, writer);
     }
     held.flush()?;
-    write_answer(held.stream.as_slice(), is_strict, line, refusal, writer)
+    write_answer(held.stream.as_slice(), is_strict, refusal, writer)
 }
 
 /// Writes an answer, and returns whether it ends the session. The text of a refusal is noted then.
@@ -157,7 +157,6 @@ fn pass_on<W: Write>(
 fn write_answer<W: Write>(
     answer: &[u8],
     is_strict: bool,
-    line: &[u8],
     refusal: &mut LineBuffer,
     writer: &mut Writer<'_, W>,
 ) -> Result<LineAction, WriteError>
@@ -168,7 +167,7 @@ fn write_answer<W: Write>(
     if !(is_strict && is_json_refusal(answer)) {
         return Ok(LineAction::Answered);
     }
-    note_refusal(after_comma(answer), line, refusal);
+    note_refusal(after_comma(answer), refusal);
     Ok(LineAction::Refused)
 }
 
@@ -180,14 +179,8 @@ fn is_json_refusal(answer: &[u8]) -> bool
 }
 
 /// The text after the first comma.
-#[tactic(auto, using(crate::proofs::Commas::at_comma, crate::proofs::Commas::no_comma))]
 fn after_comma(text: &[u8]) -> &[u8]
     ensures { result.now ≡ after_comma text.now }
 {
-    for (i, byte) in text.iter().enumerate() {
-        if *byte == b',' {
-            return text.split_at(i + 1).1;
-        }
-    }
-    b""
+    after_byte(b',', text)
 }

@@ -5,12 +5,14 @@ ghost use Rattle.arrayvec.specs.ArrayVec.{array_vec_len};
 ghost use Rattle.ga_text.specs.Output.{WritesExactly};
 ghost use Rattle.ga_json.specs.Compact.{json_line};
 ghost use Rattle.ga_json.specs.Fields.{named_field_value, row_json};
+ghost use Rattle.ga_scheduler.specs.declared.running.RunEnd.TheVariants.{Refused};
 ghost use Rattle.ga_explorer_json.specs.Changes.{held_condition_fields, run_end_fields, run_json};
 
 use crate::event::push_made_event;
-use crate::refusal::fault_word;
+use crate::refusal::{fault_hint, fault_word};
 use crate::row::push_fields;
 use ga_json::{Field, MAX_FIELDS, RowFields, row_fields, write_object};
+use ga_lab::LabFault;
 use ga_scheduler::{RunEnd, RunResult};
 use ga_text::{WriteResult, Writer};
 use std::io::Write;
@@ -49,8 +51,18 @@ fn push_run_end(row: &mut RowFields<'static>, end: RunEnd)
         }
         RunEnd::Made => push_fields(row, &[Field::text(b"end", b"made")]),
         RunEnd::Quiet => push_fields(row, &[Field::text(b"end", b"quiet")]),
-        RunEnd::Refused(why) => push_fields(row, &[Field::text(b"end", fault_word(why))]),
+        RunEnd::Refused(why) => push_fields(row, &refused_fields(why)),
     }
+}
+
+/// The word and the hint of the refusal that ended a run.
+fn refused_fields(why: LabFault) -> [Field<'static>; 2]
+    ensures { map named_field_value result ≡ run_end_fields (Refused why) }
+{
+    [
+        Field::text(b"end", fault_word(why)),
+        Field::text(b"hint", fault_hint(why)),
+    ]
 }
 
 /// Which condition held, from 1 on.

@@ -1,6 +1,7 @@
 //! Steps, chains and images: what reads the history or the chip.
 
 ghost use Rattle.std.specs.Prelude.{◌≡◌, map};
+ghost use Rattle.ga_console.specs.Replies.{node_without_step};
 ghost use Rattle.ga_text.specs.Output.{WritesSome, WritesExactly};
 ghost use Rattle.ga_json.specs.Compact.{json_line};
 ghost use Rattle.ga_json.specs.Fields.{named_field_value, row_json};
@@ -8,7 +9,7 @@ ghost use Rattle.ga_explorer_json.specs.Rows.{json_rows, IsJsonLine};
 ghost use Rattle.ga_explorer_json.specs.Steps.{event_json, trace_fields, trace_json, IsTraceJson, chain_fields, chain_json, IsWhyJson, IsDumpJson};
 
 use crate::event::push_made_event;
-use crate::refusal::write_lab_refusal;
+use crate::refusal::{write_lab_refusal, write_step_refusal};
 use crate::text_json::write_text_answer;
 use ga_grid::NodeId;
 use ga_image::print;
@@ -45,13 +46,23 @@ pub fn write_why_json<W: Write>(
     to: (NodeId, u32),
     writer: &mut Writer<'_, W>,
 ) -> WriteResult
-    ensures { WritesSome result (IsJsonLine (IsWhyJson lab.now from.0.number from.1 to.0.number to.1)) W.contents writer.old writer.new }
+    ensures { WritesSome result (IsJsonLine (IsWhyJson lab.now from.0 from.1 to.0 to.1)) W.contents writer.old writer.new }
 {
     match lab.explain(from, to) {
         Ok(Some(chain)) => write_chain(true, chain.as_slice(), writer),
         Ok(None) => write_chain(false, &[], writer),
-        Err(fault) => write_lab_refusal(b"why", fault, writer),
+        Err(fault) => {
+            let node = node_without_step(lab, from, to.0);
+            write_step_refusal(b"why", fault, node, lab.steps(node), writer)
+        }
     }
+}
+
+/// The node of the first step, unless the step exists; else the other node.
+fn node_without_step(lab: &Lab, from: (NodeId, u32), to: NodeId) -> NodeId
+    ensures { result ≡ node_without_step lab.now from.0 from.1 to }
+{
+    if lab.has_step(from) { to } else { from.0 }
 }
 
 /// `dump`: writes the chip as an image.

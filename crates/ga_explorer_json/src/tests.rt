@@ -79,7 +79,7 @@ fn words_of_a_link(rt: HostRuntime) -> Result<(), Fail> {
     assert_text(
         &rt,
         &writer,
-        "{\"command\":\"words\",\"from\":\"000\",\"to\":\"001\",\"count\":1,\"rows\":[{\"number\":1,\"from_step\":8,\"to_step\":5,\"word\":42}]}\n{\"command\":\"words\",\"refused\":34,\"why\":\"nolink\"}\n",
+        "{\"command\":\"words\",\"from\":\"000\",\"to\":\"001\",\"count\":1,\"rows\":[{\"number\":1,\"from_step\":8,\"to_step\":5,\"word\":42}]}\n{\"command\":\"words\",\"refused\":34,\"why\":\"nolink\",\"hint\":\"only neighbours pass words\"}\n",
     );
     Ok(())
 }
@@ -96,7 +96,7 @@ fn effects_of_a_rollback(rt: HostRuntime) -> Result<(), Fail> {
     assert_text(
         &rt,
         &writer,
-        "{\"command\":\"effects\",\"node\":\"004\",\"step\":75,\"events\":82,\"nodes\":8,\"rows\":[{\"node\":\"000\",\"first_step\":76,\"steps\":2},{\"node\":\"001\",\"first_step\":72,\"steps\":11},{\"node\":\"002\",\"first_step\":77,\"steps\":13},{\"node\":\"003\",\"first_step\":70,\"steps\":13},{\"node\":\"004\",\"first_step\":75,\"steps\":19},{\"node\":\"005\",\"first_step\":59,\"steps\":15},{\"node\":\"006\",\"first_step\":74,\"steps\":12},{\"node\":\"007\",\"first_step\":143,\"steps\":10}]}\n{\"command\":\"effects\",\"refused\":6,\"why\":\"nostep\"}\n",
+        "{\"command\":\"effects\",\"node\":\"004\",\"step\":75,\"events\":82,\"nodes\":8,\"rows\":[{\"node\":\"000\",\"first_step\":76,\"steps\":2},{\"node\":\"001\",\"first_step\":72,\"steps\":11},{\"node\":\"002\",\"first_step\":77,\"steps\":13},{\"node\":\"003\",\"first_step\":70,\"steps\":13},{\"node\":\"004\",\"first_step\":75,\"steps\":19},{\"node\":\"005\",\"first_step\":59,\"steps\":15},{\"node\":\"006\",\"first_step\":74,\"steps\":12},{\"node\":\"007\",\"first_step\":143,\"steps\":10}]}\n{\"command\":\"effects\",\"refused\":6,\"why\":\"nostep\",\"hint\":\"004 has 93 steps\"}\n",
     );
     Ok(())
 }
@@ -130,7 +130,7 @@ fn steps_around_one(rt: HostRuntime) -> Result<(), Fail> {
     assert_text(
         &rt,
         &writer,
-        "{\"command\":\"at\",\"node\":\"000\",\"step\":8,\"rows\":[{\"step\":7,\"what\":\"run\",\"opcode\":\"2*\",\"t\":336,\"s\":87381,\"r\":87381,\"a\":0,\"b\":469,\"p\":4},{\"step\":8,\"what\":\"wait\",\"t\":336,\"s\":87381,\"r\":87381,\"a\":0,\"b\":469,\"p\":4},{\"step\":9,\"what\":\"pass\",\"from\":\"000\",\"from_step\":9,\"to\":\"001\",\"to_step\":5,\"word\":336,\"t\":87381,\"s\":87381,\"r\":87381,\"a\":0,\"b\":469,\"p\":4}]}\n{\"command\":\"at\",\"node\":\"001\",\"step\":10,\"rows\":[{\"step\":10,\"what\":\"stop\",\"stop\":2,\"t\":7,\"s\":87381,\"r\":87381,\"a\":336,\"b\":469,\"p\":4}]}\n{\"command\":\"at\",\"refused\":6,\"why\":\"nostep\"}\n",
+        "{\"command\":\"at\",\"node\":\"000\",\"step\":8,\"rows\":[{\"step\":7,\"what\":\"run\",\"opcode\":\"2*\",\"t\":336,\"s\":87381,\"r\":87381,\"a\":0,\"b\":469,\"p\":4},{\"step\":8,\"what\":\"wait\",\"t\":336,\"s\":87381,\"r\":87381,\"a\":0,\"b\":469,\"p\":4},{\"step\":9,\"what\":\"pass\",\"from\":\"000\",\"from_step\":9,\"to\":\"001\",\"to_step\":5,\"word\":336,\"t\":87381,\"s\":87381,\"r\":87381,\"a\":0,\"b\":469,\"p\":4}]}\n{\"command\":\"at\",\"node\":\"001\",\"step\":10,\"rows\":[{\"step\":10,\"what\":\"stop\",\"stop\":2,\"t\":7,\"s\":87381,\"r\":87381,\"a\":336,\"b\":469,\"p\":4}]}\n{\"command\":\"at\",\"refused\":6,\"why\":\"nostep\",\"hint\":\"001 has 10 steps\"}\n",
     );
     Ok(())
 }
@@ -179,7 +179,7 @@ fn decisions_before_a_step(rt: HostRuntime) -> Result<(), Fail> {
     assert_text(
         &rt,
         &writer,
-        "{\"command\":\"because\",\"node\":\"007\",\"step\":152,\"rows\":[{\"step\":148,\"what\":\"run\",\"opcode\":\"if\",\"part\":\"t\",\"index\":null,\"value\":16,\"source_node\":\"007\",\"source_step\":144,\"source_part\":\"t\",\"source_index\":null}]}\n{\"command\":\"because\",\"refused\":6,\"why\":\"nostep\"}\n",
+        "{\"command\":\"because\",\"node\":\"007\",\"step\":152,\"rows\":[{\"step\":148,\"what\":\"run\",\"opcode\":\"if\",\"part\":\"t\",\"index\":null,\"value\":16,\"source_node\":\"007\",\"source_step\":144,\"source_part\":\"t\",\"source_index\":null}]}\n{\"command\":\"because\",\"refused\":6,\"why\":\"nostep\",\"hint\":\"007 has 152 steps\"}\n",
     );
     Ok(())
 }
@@ -216,7 +216,7 @@ fn sources_of_a_value(rt: HostRuntime) -> Result<(), Fail> {
     assert_text(
         &rt,
         &writer,
-        "{\"command\":\"whence\",\"node\":\"001\",\"step\":10,\"first\":1,\"more_from\":null,\"part\":\"a\",\"index\":null,\"value\":336,\"rows\":[{\"number\":1,\"user\":0,\"node\":\"001\",\"step\":5,\"what\":\"pass\",\"from\":\"000\",\"from_step\":9,\"to\":\"001\",\"to_step\":5,\"word\":336,\"part\":\"t\",\"index\":null,\"value\":336,\"count\":1},{\"number\":2,\"user\":1,\"node\":\"000\",\"step\":7,\"what\":\"run\",\"opcode\":\"2*\",\"part\":\"t\",\"index\":null,\"value\":336,\"count\":1},{\"number\":3,\"user\":2,\"node\":\"000\",\"step\":4,\"what\":\"run\",\"opcode\":\"@p\",\"part\":\"t\",\"index\":null,\"value\":168,\"count\":1},{\"number\":4,\"user\":3,\"node\":\"000\",\"step\":null,\"what\":\"load\",\"part\":\"ram\",\"index\":2,\"value\":168,\"count\":1}]}\n{\"command\":\"whence\",\"node\":\"001\",\"step\":10,\"first\":3,\"more_from\":null,\"part\":\"a\",\"index\":null,\"value\":336,\"rows\":[{\"number\":3,\"user\":2,\"node\":\"000\",\"step\":4,\"what\":\"run\",\"opcode\":\"@p\",\"part\":\"t\",\"index\":null,\"value\":168,\"count\":1},{\"number\":4,\"user\":3,\"node\":\"000\",\"step\":null,\"what\":\"load\",\"part\":\"ram\",\"index\":2,\"value\":168,\"count\":1}]}\n{\"command\":\"whence\",\"node\":\"000\",\"step\":10,\"first\":1,\"more_from\":null,\"part\":null,\"index\":null,\"value\":null,\"rows\":[]}\n{\"command\":\"whence\",\"refused\":6,\"why\":\"nostep\"}\n",
+        "{\"command\":\"whence\",\"node\":\"001\",\"step\":10,\"first\":1,\"more_from\":null,\"part\":\"a\",\"index\":null,\"value\":336,\"rows\":[{\"number\":1,\"user\":0,\"node\":\"001\",\"step\":5,\"what\":\"pass\",\"from\":\"000\",\"from_step\":9,\"to\":\"001\",\"to_step\":5,\"word\":336,\"part\":\"t\",\"index\":null,\"value\":336,\"count\":1},{\"number\":2,\"user\":1,\"node\":\"000\",\"step\":7,\"what\":\"run\",\"opcode\":\"2*\",\"part\":\"t\",\"index\":null,\"value\":336,\"count\":1},{\"number\":3,\"user\":2,\"node\":\"000\",\"step\":4,\"what\":\"run\",\"opcode\":\"@p\",\"part\":\"t\",\"index\":null,\"value\":168,\"count\":1},{\"number\":4,\"user\":3,\"node\":\"000\",\"step\":null,\"what\":\"load\",\"part\":\"ram\",\"index\":2,\"value\":168,\"count\":1}]}\n{\"command\":\"whence\",\"node\":\"001\",\"step\":10,\"first\":3,\"more_from\":null,\"part\":\"a\",\"index\":null,\"value\":336,\"rows\":[{\"number\":3,\"user\":2,\"node\":\"000\",\"step\":4,\"what\":\"run\",\"opcode\":\"@p\",\"part\":\"t\",\"index\":null,\"value\":168,\"count\":1},{\"number\":4,\"user\":3,\"node\":\"000\",\"step\":null,\"what\":\"load\",\"part\":\"ram\",\"index\":2,\"value\":168,\"count\":1}]}\n{\"command\":\"whence\",\"node\":\"000\",\"step\":10,\"first\":1,\"more_from\":null,\"part\":null,\"index\":null,\"value\":null,\"rows\":[]}\n{\"command\":\"whence\",\"refused\":6,\"why\":\"nostep\",\"hint\":\"001 has 10 steps\"}\n",
     );
     Ok(())
 }
@@ -259,7 +259,7 @@ fn a_rollback(rt: HostRuntime) -> Result<(), Fail> {
     assert_text(
         &rt,
         &writer,
-        "{\"command\":\"run\",\"events\":175,\"end\":\"reached\",\"condition\":1,\"node\":\"001\",\"step\":10,\"what\":\"stop\",\"stop\":2}\n{\"command\":\"rewind\",\"removed\":12,\"kept\":163}\n{\"command\":\"rewind\",\"refused\":6,\"why\":\"nostep\"}\n",
+        "{\"command\":\"run\",\"events\":175,\"end\":\"reached\",\"condition\":1,\"node\":\"001\",\"step\":10,\"what\":\"stop\",\"stop\":2}\n{\"command\":\"rewind\",\"removed\":12,\"kept\":163}\n{\"command\":\"rewind\",\"refused\":6,\"why\":\"nostep\",\"hint\":\"000 has 6 steps\"}\n",
     );
     Ok(())
 }

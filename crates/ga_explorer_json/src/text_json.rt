@@ -6,9 +6,11 @@ ghost use Rattle.ga_json.specs.Compact.{json_line};
 ghost use Rattle.ga_json.specs.Fields.{row_json};
 ghost use Rattle.ga_explorer.specs.inner.{explorer_state};
 ghost use Rattle.ga_explorer_json.specs.Rows.{IsJsonLine};
-ghost use Rattle.ga_explorer_json.specs.Texts.{text_answer_json, IsQueryText, line_refusal_json, syntax_json};
+ghost use Rattle.ga_explorer_json.specs.Texts.{text_answer_json, IsQueryText, line_refusal_json, long_line_json, syntax_json, syntax_refusal_json};
 
+use crate::bytes::hint_in;
 use ga_debug_info::DebugInfo;
+use ga_display::Wording;
 use ga_explorer::{Query, suggestion, write_query_answer};
 use ga_json::{Field, text_field, write_object};
 use ga_lab::Lab;
@@ -59,29 +61,46 @@ fn text_answer_fields<'a>(command: &'a [u8], text: &'a [u8]) -> [Field<'a>; 2]
     [Field::text(b"command", command), text_field(b"text", text)]
 }
 
-/// Writes the number and the word of the refusal of a line that spells no command.
+/// Writes the number, the word and the hint of the refusal of a line that spells no command.
 ///
 /// # Errors
 /// A write failed.
-pub(crate) fn write_line_refusal<W: Write>(
+fn write_line_refusal<W: Write>(
     code: u64,
     why: &[u8],
+    hint: &[u8],
     writer: &mut Writer<'_, W>,
 ) -> WriteResult
-    ensures { WritesExactly result (json_line (line_refusal_json code why.now)) W.contents writer.old writer.new }
+    ensures { WritesExactly result (json_line (line_refusal_json code why.now hint.now)) W.contents writer.old writer.new }
 {
-    write_object(&line_refusal_fields(code, why), writer)
+    write_object(&line_refusal_fields(code, why, hint), writer)
 }
 
-/// No command, and the number and the word of a refusal.
-fn line_refusal_fields<'a>(code: u64, why: &'a [u8]) -> [Field<'a>; 3]
-    ensures { row_json result ≡ line_refusal_json code why.now }
+/// No command, and the number, the word and the hint of a refusal.
+fn line_refusal_fields<'a>(code: u64, why: &'a [u8], hint: &'a [u8]) -> [Field<'a>; 4]
+    ensures { row_json result ≡ line_refusal_json code why.now hint.now }
 {
     [
         Field::absent(b"command"),
         Field::number(b"refused", code),
         Field::text(b"why", why),
+        Field::text(b"hint", hint),
     ]
+}
+
+/// Writes that a line has more than 200 bytes.
+///
+/// # Errors
+/// A write failed.
+pub(crate) fn write_long_line_json<W: Write>(writer: &mut Writer<'_, W>) -> WriteResult
+    ensures { WritesExactly result (json_line long_line_json) W.contents writer.old writer.new }
+{
+    write_line_refusal(
+        32,
+        b"long",
+        hint_in(Wording::Advised.long_line_refusal()),
+        writer,
+    )
 }
 
 /// Writes that a line spells no command, and what to write in its place.
@@ -91,17 +110,18 @@ fn line_refusal_fields<'a>(code: u64, why: &'a [u8]) -> [Field<'a>; 3]
 pub(crate) fn write_syntax_json<W: Write>(line: &[u8], writer: &mut Writer<'_, W>) -> WriteResult
     ensures { WritesExactly result (json_line (syntax_json line.now)) W.contents writer.old writer.new }
 {
-    write_object(&syntax_fields(line), writer)
+    write_syntax_refusal(suggestion(line), writer)
 }
 
-/// The refusal of a line that spells no command, and what to write in its place.
-fn syntax_fields(line: &[u8]) -> [Field<'static>; 4]
-    ensures { row_json result ≡ syntax_json line.now }
+/// Writes that a line spells no command, and what is the case or what to write in its place.
+///
+/// # Errors
+/// A write failed.
+pub(crate) fn write_syntax_refusal<W: Write>(
+    hint: &'static [u8],
+    writer: &mut Writer<'_, W>,
+) -> WriteResult
+    ensures { WritesExactly result (json_line (syntax_refusal_json hint.now)) W.contents writer.old writer.new }
 {
-    [
-        Field::absent(b"command"),
-        Field::number(b"refused", 31),
-        Field::text(b"why", b"syntax"),
-        Field::text(b"hint", suggestion(line)),
-    ]
+    write_line_refusal(31, b"syntax", hint, writer)
 }

@@ -15,7 +15,7 @@ ghost use Rattle.ga_explorer_json.specs.Whence.{no_value_fields, made_fields, li
 
 use crate::event::{MAX_ACTION_FIELDS, push_action};
 use crate::part::{number_unless_zero, optional_number, value_fields};
-use crate::refusal::write_lab_refusal;
+use crate::refusal::{write_lab_refusal, write_step_refusal};
 use crate::row::{NoRows, push_fields};
 use ga_event::NodePart;
 use ga_explorer_text::{lines_after, most_lines, selected_value, walked_word};
@@ -54,7 +54,8 @@ pub fn write_whence_json<W: Write>(
     ensures { WritesSome result (IsJsonLine (IsWhenceJson lab.now node step part first)) W.contents writer.old writer.new }
 {
     if !lab.has_step((node, step)) {
-        return write_lab_refusal(b"whence", LabFault::NoStep, writer);
+        let count = lab.steps(node);
+        return write_step_refusal(b"whence", LabFault::NoStep, node, count, writer);
     }
     let near = lab.walk(node, step);
     let query = LinesQuery { node, step, first };

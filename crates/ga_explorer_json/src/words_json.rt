@@ -32,7 +32,13 @@ pub fn write_words_json<W: Write>(
     if are_neighbours(from, to) {
         write_transfers(lab, from, to, writer)
     } else {
-        write_refusal(b"words", 34, b"nolink", writer)
+        write_refusal(
+            b"words",
+            34,
+            b"nolink",
+            b"only neighbours pass words",
+            writer,
+        )
     }
 }
 

@@ -1,7 +1,7 @@
 use Rattle.std.proofs.Common.{refl}
 use Rattle.ga_explorer.specs.inner.{explorer_state}
 use Rattle.ga_explorer_json.specs.Answers.{AnswersCommandJson, AnswersLineRequest}
-use Rattle.ga_explorer_json.specs.Texts.{line_refusal_json, syntax_json}
+use Rattle.ga_explorer_json.specs.Texts.{long_line_json, syntax_json}
 use Rattle.ga_explorer_json.specs.declared.answers.LineRequest.TheVariants as request
 use Rattle.ga_json.specs.Compact.{json_line}
 use Rattle.std.specs.Prelude.{codes}
@@ -27,9 +27,9 @@ returns-in-Debug g c =
 pub returns-in-Long : goal.returns-in-Long
 returns-in-Long g c =
     let e = explorer_state c.args.lab.now c.args.notes.now in
-    requested g.W.Write.contents c.write_line_refusal.result c.args.writer.now c.write_line_refusal.new.writer e c.args.line.now c.args.request request.Long e c.in-Long.is
-    (exact_as g.W.Write.contents c.write_line_refusal.result c.args.writer.now c.write_line_refusal.new.writer
-    (λ text. AnswersLineRequest e c.args.line.now request.Long text e) (json_line (line_refusal_json 32 (codes "long"))) (refl, refl) c.write_line_refusal.ensures)
+    requested g.W.Write.contents c.write_long_line_json.result c.args.writer.now c.write_long_line_json.new.writer e c.args.line.now c.args.request request.Long e c.in-Long.is
+    (exact_as g.W.Write.contents c.write_long_line_json.result c.args.writer.now c.write_long_line_json.new.writer
+    (λ text. AnswersLineRequest e c.args.line.now request.Long text e) (json_line long_line_json) (refl, refl) c.write_long_line_json.ensures)
 
 pub returns-in-Unknown : goal.returns-in-Unknown
 returns-in-Unknown g c =

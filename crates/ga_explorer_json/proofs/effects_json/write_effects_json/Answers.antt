@@ -1,8 +1,11 @@
-use Rattle.std.proofs.Common.{codes, ◌∙◌}
-use Rattle.ga_explorer_json.specs.Refusals.{lab_refusal_json}
+use Rattle.std.proofs.Common.{codes, ap, ◌∙◌}
+use Rattle.ga_event.specs.Told.{count_steps}
+use Rattle.ga_lab.specs.Machine.{State}
+use Rattle.ga_explorer_json.specs.Refusals.{step_refusal_json}
 use Rattle.ga_explorer_json.specs.Effects.{listed_effects_json, IsEffectsJson}
 use Rattle.ga_explorer_json.proofs.Effects.{effects_found, effects_refused}
-use Rattle.ga_explorer_json.proofs.Writing.{line_of}
+use Rattle.ga_explorer_json.proofs.Refusals.{counted}
+use Rattle.ga_explorer_json.proofs.Writing.{answer_as, line_of}
 use Rattle.ga_explorer_json.proofs.effects_json.write_effects_json.Goals as goal
 
 pub returns-in-Ok-clause-said : goal.returns-in-Ok-clause-said
@@ -18,5 +21,8 @@ returns-in-Ok-clause-said g c =
 pub returns-in-Err-clause-said : goal.returns-in-Err-clause-said
 returns-in-Err-clause-said g c =
     let s = c.args.lab.now in
-    line_of g.W.Write.contents c.write_lab_refusal.result c.args.writer.now c.write_lab_refusal.new.writer (IsEffectsJson s c.args.node c.args.step)
-    (lab_refusal_json (codes "effects") c.in-Err.fault) (effects_refused s c.args.node c.args.step c.in-Err.fault c.in-Err.ensures.err) c.write_lab_refusal.ensures
+    let refusal = step_refusal_json (codes "effects") c.args.node (count_steps c.args.node.number s.kept) c.in-Err.fault in
+    line_of g.W.Write.contents c.write_step_refusal.result c.args.writer.now c.write_step_refusal.new.writer (IsEffectsJson s c.args.node c.args.step)
+    refusal (effects_refused s c.args.node c.args.step c.in-Err.fault c.in-Err.ensures.err)
+    (answer_as g.W.Write.contents c.write_step_refusal.result c.args.writer.now c.write_step_refusal.new.writer (step_refusal_json (codes "effects") c.args.node c.steps.result c.in-Err.fault) refusal
+    (counted (codes "effects") c.args.node _ _ c.in-Err.fault (c.steps.ensures.steps ∙ ap (λ (m : State). count_steps c.args.node.number m.kept) c.find_rollback_effects.ensures.same)) c.write_step_refusal.ensures)

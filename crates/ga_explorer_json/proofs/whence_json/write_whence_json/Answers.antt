@@ -1,19 +1,24 @@
 use Rattle.std.proofs.Common.{◌≡◌, ℕ, None, Some, codes, sym, ap, ◌∙◌, refl}
+use Rattle.ga_event.specs.Told.{count_steps}
 use Rattle.ga_lab.specs.Machine.{NodeAtStep}
 use Rattle.ga_lab.specs.declared.fault.LabFault.TheVariants.{NoStep}
 use Rattle.ga_provenance.proofs.Made.{has_step_so}
 use Rattle.ga_explorer_text.specs.Whence.{selected_value}
-use Rattle.ga_explorer_json.specs.Refusals.{lab_refusal_json}
+use Rattle.ga_explorer_json.specs.Refusals.{step_refusal_json}
 use Rattle.ga_explorer_json.specs.Whence.{no_lines_json, IsValueJson, IsWhenceJson}
+use Rattle.ga_explorer_json.proofs.Refusals.{counted}
 use Rattle.ga_explorer_json.proofs.Whence.{whence_nowhere, whence_here}
-use Rattle.ga_explorer_json.proofs.Writing.{line_of, line_as}
+use Rattle.ga_explorer_json.proofs.Writing.{answer_as, line_of, line_as}
 use Rattle.ga_explorer_json.proofs.whence_json.write_whence_json.Goals as goal
 
 pub returns-then-not-has_step : goal.returns-then-not-has_step
 returns-then-not-has_step g c =
     let s = c.args.lab.now in
-    line_of g.W.Write.contents c.write_lab_refusal.result c.args.writer.now c.write_lab_refusal.new.writer (IsWhenceJson s c.args.node c.args.step c.args.part c.args.first)
-    (lab_refusal_json (codes "whence") NoStep) (whence_nowhere s c.args.node c.args.step c.args.part c.args.first (sym c.has_step.ensures.value ∙ c.if-not-has_step.true)) c.write_lab_refusal.ensures
+    let refusal = step_refusal_json (codes "whence") c.args.node (count_steps c.args.node.number s.kept) NoStep in
+    line_of g.W.Write.contents c.write_step_refusal.result c.args.writer.now c.write_step_refusal.new.writer (IsWhenceJson s c.args.node c.args.step c.args.part c.args.first)
+    refusal (whence_nowhere s c.args.node c.args.step c.args.part c.args.first (sym c.has_step.ensures.value ∙ c.if-not-has_step.true))
+    (answer_as g.W.Write.contents c.write_step_refusal.result c.args.writer.now c.write_step_refusal.new.writer (step_refusal_json (codes "whence") c.args.node c.steps-count.result NoStep) refusal
+    (counted (codes "whence") c.args.node _ _ NoStep c.steps-count.ensures.steps) c.write_step_refusal.ensures)
 
 pub selected_value-requires-clause-near : goal.selected_value-requires-clause-near
 selected_value-requires-clause-near g c = has_step_so c.args.lab.now c.args.node c.args.step c.walk-near.result c.walk-near.ensures

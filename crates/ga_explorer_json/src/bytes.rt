@@ -1,0 +1,37 @@
+//! Parts of a text that bytes delimit.
+
+ghost use Rattle.std.specs.Prelude.{◌≡◌};
+ghost use Rattle.ga_explorer_json.specs.Refusals.{after_byte, before_byte, hint_in};
+
+/// The text after the first of these bytes.
+#[tactic(auto, using(crate::proofs::Splits::after_found, crate::proofs::Splits::after_none))]
+pub(crate) fn after_byte(byte: u8, text: &[u8]) -> &[u8]
+    ensures { result.now ≡ after_byte byte text.now }
+{
+    for (i, found) in text.iter().enumerate() {
+        if *found == byte {
+            return text.split_at(i + 1).1;
+        }
+    }
+    b""
+}
+
+/// The text before the first of these bytes.
+#[tactic(auto, using(crate::proofs::Splits::before_found, crate::proofs::Splits::before_none))]
+pub(crate) fn before_byte(byte: u8, text: &[u8]) -> &[u8]
+    ensures { result.now ≡ before_byte byte text.now }
+{
+    for (i, found) in text.iter().enumerate() {
+        if *found == byte {
+            return text.split_at(i).0;
+        }
+    }
+    text
+}
+
+/// What the line of text of a refusal has after its colon and a blank.
+pub(crate) fn hint_in(line: &[u8]) -> &[u8]
+    ensures { result.now ≡ hint_in line.now }
+{
+    before_byte(b'\n', after_byte(b' ', after_byte(b':', line)))
+}
