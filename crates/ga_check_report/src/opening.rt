@@ -67,6 +67,7 @@ pub fn open_for_objects<R: Read, W: Write, E: Write>(
         R.remaining reader.old ≡ Some left → W.contents writer.old ≡ Some before →
         (rest text : Bytes) × (R.remaining reader.new ≡ Some rest) × (W.contents writer.new ≡ Some (before ++ text))
         × IsOpenedForObjects (image_text_of chip) file.now limit left input.new rest text result }
+    ensures within { IsWithinInputLimit input.new }
 {
     let mut reason = Vec::new(alloc);
     let mut told = Vec::new(alloc);

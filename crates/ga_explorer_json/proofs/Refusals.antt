@@ -1,5 +1,5 @@
 -- The objects of refused commands.
-use Rattle.std.proofs.Common.{◌≡◌, ℕ, zero, suc, List, [], ◌∷◌, ◌++◌, take, codes, refl, ap, ◌∙◌}
+use Rattle.std.proofs.Common.{◌≡◌, ℕ, zero, suc, List, [], ◌∷◌, ◌++◌, take, codes, refl, ap, ◌∙◌, append_assoc}
 use Rattle.ga_text.specs.Lines.{Text}
 use Rattle.ga_grid.specs.declared.node_id.NodeId.{NodeId}
 use Rattle.ga_lab.specs.declared.fault.LabFault.{LabFault}
@@ -24,15 +24,29 @@ take_front (suc n) (x ∷ a) b = ap (λ (rest : List ℕ). x ∷ rest) (take_fro
 pub noted : (line a b new : List ℕ) → line ≡ take 201 a → new ≡ take 201 (line ++ b) → new ≡ take 201 (a ++ b)
 noted line a b new e f = f ∙ ap (λ (z : List ℕ). take 201 (z ++ b)) e ∙ take_front 201 a b
 
+-- a text of seven parts
+flat : (n a b c d e f : List ℕ) → (((((n ++ a) ++ b) ++ c) ++ d) ++ e) ++ f ≡ n ++ (a ++ (b ++ (c ++ (d ++ (e ++ f)))))
+flat n a b c d e f =
+    append_assoc ((((n ++ a) ++ b) ++ c) ++ d) e f
+    ∙ append_assoc (((n ++ a) ++ b) ++ c) d (e ++ f)
+    ∙ append_assoc ((n ++ a) ++ b) c (d ++ (e ++ f))
+    ∙ append_assoc (n ++ a) b (c ++ (d ++ (e ++ f)))
+    ∙ append_assoc n a (b ++ (c ++ (d ++ (e ++ f))))
+
 -- a text before others, added part by part
 pub seven_parts : (first second third fourth fifth sixth seventh number word hint : List ℕ)
     → first ≡ take 201 (codes "no ") → second ≡ take 201 (first ++ number) → third ≡ take 201 (second ++ codes " ") → fourth ≡ take 201 (third ++ word)
     → fifth ≡ take 201 (fourth ++ codes ": ") → sixth ≡ take 201 (fifth ++ hint) → seventh ≡ take 201 (sixth ++ codes "\n")
     → seventh ≡ take 201 (codes "no " ++ number ++ codes " " ++ word ++ codes ": " ++ hint ++ codes "\n")
 seven_parts first second third fourth fifth sixth seventh number word hint a b c d e f g =
-    let two = noted first (codes "no ") number second a b in
-    let three = noted second _ (codes " ") third two c in
-    let four = noted third _ word fourth three d in
-    let five = noted fourth _ (codes ": ") fifth four e in
-    let six = noted fifth _ hint sixth five f in
-    noted sixth _ (codes "\n") seventh six g
+    let front : List ℕ = codes "no " in
+    let blank : List ℕ = codes " " in
+    let colon : List ℕ = codes ": " in
+    let feed : List ℕ = codes "\n" in
+    let two = noted first front number second a b in
+    let three = noted second (front ++ number) blank third two c in
+    let four = noted third ((front ++ number) ++ blank) word fourth three d in
+    let five = noted fourth (((front ++ number) ++ blank) ++ word) colon fifth four e in
+    let six = noted fifth ((((front ++ number) ++ blank) ++ word) ++ colon) hint sixth five f in
+    noted sixth (((((front ++ number) ++ blank) ++ word) ++ colon) ++ hint) feed seventh six g
+    ∙ ap (λ (z : List ℕ). take 201 z) (flat front number blank word colon hint feed)

@@ -14,7 +14,7 @@ use Rattle.ga_explorer_json.specs.Refusals.{step_refusal_json}
 use Rattle.ga_explorer_json.specs.Steps.{chain_json, AreEventsOfLinks, IsChainJson, IsWhyJson}
 
 module _ (s : State) (from : NodeId) (k : ℕ) (to : NodeId) (j : ℕ) where
-  lacks : NodeId
+  abbrev pub lacks : NodeId
   lacks = node_without_step s from k to
 
   chain_answered : (right : Result (Option (List Link)) LabFault) (answer : JsonValue) → right ≡ why_answer s from.number k to.number j → IsChainJson s lacks right answer → IsWhyJson s from k to j answer

@@ -1,9 +1,14 @@
-use Rattle.std.proofs.Common.{refl}
+use Rattle.std.proofs.Common.{refl, subst, codes}
+use Rattle.ga_text.specs.Output.{WritesSome}
+use Rattle.ga_explorer.specs.inner.{explorer_state}
+use Rattle.ga_explorer.specs.declared.commands.Query.{Query}
 use Rattle.ga_explorer.specs.declared.commands.Query.TheVariants as query
 use Rattle.ga_explorer_json.specs.Words.{words_json}
 use Rattle.ga_explorer_json.specs.Writes.{writes_json}
 use Rattle.ga_explorer_json.specs.Around.{at_json}
 use Rattle.ga_explorer_json.specs.Because.{because_json}
+use Rattle.ga_explorer_json.specs.Rows.{IsJsonLine}
+use Rattle.ga_explorer_json.specs.Texts.{IsQueryText}
 use Rattle.ga_explorer_json.proofs.Answering.{line_is}
 use Rattle.ga_explorer_json.proofs.answers.answer_query_for_json.Goals as goal
 
@@ -48,3 +53,39 @@ returns-in-Because-clause-said g c = record {
   is = c.in-Because.is;
   said = rw (← c.resolve-step-in-Because.ensures) (line_is g.W.Write.contents c.write_because_json.result c.args.writer.now c.write_because_json.new.writer (because_json c.args.lab.now c.in-Because.node c.resolve-step-in-Because.result c.in-Because.most) c.write_because_json.ensures);
 }
+
+pub returns-in-Chip-clause-said : goal.returns-in-Chip-clause-said
+returns-in-Chip-clause-said g c =
+    let e = explorer_state c.args.lab.now c.args.notes.now in record {
+      meant = query.Chip;
+      is = c.in-Chip.is;
+      said = subst (λ (q : Query). WritesSome c.write_query_text.result (IsJsonLine (IsQueryText (codes "chip") e q)) g.W.Write.contents c.args.writer.now c.write_query_text.new.writer)
+          c.in-Chip.is c.write_query_text.ensures.said;
+    }
+
+pub returns-in-Save-clause-said : goal.returns-in-Save-clause-said
+returns-in-Save-clause-said g c =
+    let e = explorer_state c.args.lab.now c.args.notes.now in record {
+      meant = query.Save;
+      is = c.in-Save.is;
+      said = subst (λ (q : Query). WritesSome c.write_query_text-in-Save.result (IsJsonLine (IsQueryText (codes "save") e q)) g.W.Write.contents c.args.writer.now c.write_query_text-in-Save.new.writer)
+          c.in-Save.is c.write_query_text-in-Save.ensures.said;
+    }
+
+pub returns-in-Help-clause-said : goal.returns-in-Help-clause-said
+returns-in-Help-clause-said g c =
+    let e = explorer_state c.args.lab.now c.args.notes.now in record {
+      meant = query.Help;
+      is = c.in-Help.is;
+      said = subst (λ (q : Query). WritesSome c.write_query_text-in-Help.result (IsJsonLine (IsQueryText (codes "help") e q)) g.W.Write.contents c.args.writer.now c.write_query_text-in-Help.new.writer)
+          c.in-Help.is c.write_query_text-in-Help.ensures.said;
+    }
+
+pub returns-in-HelpOf-clause-said : goal.returns-in-HelpOf-clause-said
+returns-in-HelpOf-clause-said g c =
+    let e = explorer_state c.args.lab.now c.args.notes.now in record {
+      meant = (query.HelpOf c.in-HelpOf.field-0);
+      is = c.in-HelpOf.is;
+      said = subst (λ (q : Query). WritesSome c.write_query_text-in-HelpOf.result (IsJsonLine (IsQueryText (codes "help") e q)) g.W.Write.contents c.args.writer.now c.write_query_text-in-HelpOf.new.writer)
+          c.in-HelpOf.is c.write_query_text-in-HelpOf.ensures.said;
+    }

@@ -1,4 +1,5 @@
 use Rattle.std.proofs.Common.{rules, [], length, refl, subst, sym}
+use Rattle.ga_event.specs.Told.{count_steps}
 use Rattle.ga_lab.specs.Machine.{undo_answer, rewind_answer}
 use Rattle.ga_text.proofs.WriteLemmas.{written_pending}
 use Rattle.ga_json.specs.Compact.{json_line}
@@ -28,7 +29,7 @@ pub returns-in-Rewind : goal.returns-in-Rewind
 returns-in-Rewind g c =
     let s = c.args.lab.now in
     commanded g.W.Write.contents c.write_rewind_json.result c.args.writer.now c.write_rewind_json.new.writer s c.args.command (Rewind c.in-Rewind.node c.in-Rewind.step) c.write_rewind_json.new.lab c.in-Rewind.is
-    (exact_as g.W.Write.contents c.write_rewind_json.result c.args.writer.now c.write_rewind_json.new.writer (λ text. AnswersCommandJson s (Rewind c.in-Rewind.node c.in-Rewind.step) text c.write_rewind_json.new.lab) (json_line (rewind_json (rewind_answer s c.in-Rewind.node.number c.in-Rewind.step) (length c.write_rewind_json.new.lab.kept))) (refl, c.write_rewind_json.ensures.state) c.write_rewind_json.ensures.said)
+    (exact_as g.W.Write.contents c.write_rewind_json.result c.args.writer.now c.write_rewind_json.new.writer (λ text. AnswersCommandJson s (Rewind c.in-Rewind.node c.in-Rewind.step) text c.write_rewind_json.new.lab) (json_line (rewind_json c.in-Rewind.node (count_steps c.in-Rewind.node.number s.kept) (rewind_answer s c.in-Rewind.node.number c.in-Rewind.step) (length c.write_rewind_json.new.lab.kept))) (refl, c.write_rewind_json.ensures.state) c.write_rewind_json.ensures.said)
 
 pub returns-in-Node : goal.returns-in-Node
 returns-in-Node g c =
@@ -52,7 +53,7 @@ pub returns-in-Why : goal.returns-in-Why
 returns-in-Why g c =
     let s = c.args.lab.now in
     commanded g.W.Write.contents c.write_why_json.result c.args.writer.now c.write_why_json.new.writer s c.args.command (Why c.in-Why.from c.in-Why.from_step c.in-Why.to c.in-Why.to_step) s c.in-Why.is
-    (some_as g.W.Write.contents c.write_why_json.result c.args.writer.now c.write_why_json.new.writer (IsJsonLine (IsWhyJson s c.in-Why.from.number c.in-Why.from_step c.in-Why.to.number c.in-Why.to_step)) (λ text. AnswersCommandJson s (Why c.in-Why.from c.in-Why.from_step c.in-Why.to c.in-Why.to_step) text s) (λ text h. (h, refl)) c.write_why_json.ensures)
+    (some_as g.W.Write.contents c.write_why_json.result c.args.writer.now c.write_why_json.new.writer (IsJsonLine (IsWhyJson s c.in-Why.from c.in-Why.from_step c.in-Why.to c.in-Why.to_step)) (λ text. AnswersCommandJson s (Why c.in-Why.from c.in-Why.from_step c.in-Why.to c.in-Why.to_step) text s) (λ text h. (h, refl)) c.write_why_json.ensures)
 
 pub returns-in-Count : goal.returns-in-Count
 returns-in-Count g c =
