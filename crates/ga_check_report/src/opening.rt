@@ -2,6 +2,7 @@
 
 ghost use Rattle.std.specs.Prelude.{◌≡◌, ◌++◌, [], Some};
 ghost use Rattle.ga_text.specs.Lines.{Bytes};
+ghost use Rattle.ga_text.specs.Input.{IsWithinInputLimit};
 ghost use Rattle.ga_text.specs.Output.{IsWrittenOrTruncated, IsSameStream, WritesExactly, WritesText};
 ghost use Rattle.ga_explorer.specs.Opening.{image_text_of};
 ghost use Rattle.ga_check_report.specs.Opened.{IsRefusalOutput, IsOpenedForObjects};
