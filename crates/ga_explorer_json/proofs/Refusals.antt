@@ -1,5 +1,5 @@
 -- The objects of refused commands.
-use Rattle.std.proofs.Common.{◌≡◌, ℕ, zero, suc, List, [], ◌∷◌, ◌++◌, take, codes, refl, ap, ◌∙◌, append_assoc}
+use Rattle.std.proofs.Common.{◌≡◌, ℕ, zero, suc, List, [], ◌∷◌, ◌++◌, take, codes, refl, ap, ◌∙◌}
 use Rattle.ga_text.specs.Lines.{Text}
 use Rattle.ga_grid.specs.declared.node_id.NodeId.{NodeId}
 use Rattle.ga_lab.specs.declared.fault.LabFault.{LabFault}
@@ -24,15 +24,6 @@ take_front (suc n) (x ∷ a) b = ap (λ (rest : List ℕ). x ∷ rest) (take_fro
 pub noted : (line a b new : List ℕ) → line ≡ take 201 a → new ≡ take 201 (line ++ b) → new ≡ take 201 (a ++ b)
 noted line a b new e f = f ∙ ap (λ (z : List ℕ). take 201 (z ++ b)) e ∙ take_front 201 a b
 
--- a text of seven parts
-flat : (n a b c d e f : List ℕ) → (((((n ++ a) ++ b) ++ c) ++ d) ++ e) ++ f ≡ n ++ (a ++ (b ++ (c ++ (d ++ (e ++ f)))))
-flat n a b c d e f =
-    append_assoc ((((n ++ a) ++ b) ++ c) ++ d) e f
-    ∙ append_assoc (((n ++ a) ++ b) ++ c) d (e ++ f)
-    ∙ append_assoc ((n ++ a) ++ b) c (d ++ (e ++ f))
-    ∙ append_assoc (n ++ a) b (c ++ (d ++ (e ++ f)))
-    ∙ append_assoc n a (b ++ (c ++ (d ++ (e ++ f))))
-
 -- a text before others, added part by part
 pub seven_parts : (first second third fourth fifth sixth seventh number word hint : List ℕ)
     → first ≡ take 201 (codes "no ") → second ≡ take 201 (first ++ number) → third ≡ take 201 (second ++ codes " ") → fourth ≡ take 201 (third ++ word)
@@ -49,4 +40,3 @@ seven_parts first second third fourth fifth sixth seventh number word hint a b c
     let five = noted fourth (((front ++ number) ++ blank) ++ word) colon fifth four e in
     let six = noted fifth ((((front ++ number) ++ blank) ++ word) ++ colon) hint sixth five f in
     noted sixth (((((front ++ number) ++ blank) ++ word) ++ colon) ++ hint) feed seventh six g
-    ∙ ap (λ (z : List ℕ). take 201 z) (flat front number blank word colon hint feed)

@@ -15,15 +15,14 @@ use Rattle.ga_explorer.specs.Opening.{ExplorerState, OpensLeadingText, IsLeading
 use Rattle.ga_explorer.specs.Session.{session_status}
 use Rattle.ga_explorer_json.specs.Answers.{AnswersJsonLine}
 use Rattle.ga_explorer_json.specs.Refusals.{after_byte}
-use Rattle.ga_explorer_json.specs.Texts.{limit_refusal_json}
 
 -- what begins a session
 abbrev pub ready_json : JsonValue
 ready_json = json_object ((codes "answer", string (codes "ready")) ∷ [])
 
--- what is written of an input past its bound
+-- what is written of an input past its bound: an object without a hint
 abbrev pub limit_refusal_line : Text
-limit_refusal_line = json_line (limit_refusal_json)
+limit_refusal_line = codes "{\"command\":null,\"refused\":33,\"why\":\"input\"}\n"
 
 -- ---- a session that ends at its first refused command, if it is strict
 

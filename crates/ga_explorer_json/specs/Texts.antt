@@ -29,10 +29,6 @@ line_refusal_json code why hint =
 abbrev pub long_line_json : JsonValue
 long_line_json = line_refusal_json 32 (codes "long") (hint_in (worded_long_line_refusal Advised))
 
--- the input exceeds its limit
-abbrev pub limit_refusal_json : JsonValue
-limit_refusal_json = json_object ((codes "command", null) ∷ (codes "refused", number (pos 33)) ∷ (codes "why", string (codes "input")) ∷ [])
-
 -- no command, and what is the case or what to write in place of the line
 abbrev pub syntax_refusal_json : Text → JsonValue
 syntax_refusal_json hint = line_refusal_json 31 (codes "syntax") hint

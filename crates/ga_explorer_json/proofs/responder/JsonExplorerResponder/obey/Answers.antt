@@ -1,4 +1,4 @@
-use Rattle.std.proofs.Common.{rules, refl}
+use Rattle.std.proofs.Common.{rules, refl, []}
 use Rattle.ga_explorer_json.specs.declared.responder.JsonExplorer.{JsonExplorer}
 use Rattle.ga_explorer_json.proofs.Turns.{command_turn}
 use Rattle.ga_explorer_json.proofs.responder.JsonExplorerResponder.obey.Goals as goal
@@ -9,5 +9,5 @@ returns g c = (
   λ before said h.
       let done = c.respond.ensures.1 before said h in
       let new : JsonExplorer = record c.args.self.now { lab = c.respond.new.lab; refusal = c.respond.new.refusal } in
-      (done.0, command_turn c.args.self.now new refl _ done.0 c.args.command c.respond.result done.1, done.2),
+      (done.0, command_turn c.args.self.now new refl [] done.0 c.args.command c.respond.result done.1, done.2),
 )
