@@ -260,7 +260,7 @@ def widths(browser):
 
 def small_heap(browser):
     result = browser.run(f"""
-const small = new Page(new Core(Uint8Array.from(atob(find('module').textContent), it => it.charCodeAt(0)), 6 << 20));
+const small = new Page(new Core(page.core.module, 6 << 20));
 small.open({json.dumps(LOOP)});
 const ran = small.command("run greedy 400000"), first = small.session.events.length;
 // Then steps until there is no more memory.
@@ -281,10 +281,10 @@ return {{ ran, first, made, step, count, back, again, node, kept, log: document.
 # Heaps of all sizes from too small to large enough: each call gives the same answer as with a large heap, or runs out of memory.
 def every_heap(browser):
     result = browser.run("""
-const source = "node 000\\n: main 3 dup +\\nnode 001\\n: main 4 dup + ;\\n", bytes = Uint8Array.from(atob(find("module").textContent), it => it.charCodeAt(0));
+const source = "node 000\\n: main 3 dup +\\nnode 001\\n: main 4 dup + ;\\n";
 const ask = (core, image) => [core.assemble(source), core.list(source), core.shades(image, [0, 1, 0, 0, 1], 2), core.answer(image + "step 000\\nnode 000\\n", 9), core.kept(image + "run 40\\n", 90),
   core.answer(image + "run greedy 900\\n" + "trace 000\\n".repeat(9), 999)];
-const image = page.core.assemble(source).image, enough = ask(page.core, image).map(it => JSON.stringify(it)), core = new Core(bytes), counts = enough.map(() => [0, 0]), other = [];
+const image = page.core.assemble(source).image, enough = ask(page.core, image).map(it => JSON.stringify(it)), core = new Core(page.core.module), counts = enough.map(() => [0, 0]), other = [];
 for (let size = 1 << 20; size < 1 << 22; size += 1 << 14) {
   core.heap = size;
   ask(core, image).forEach((it, i) => {

@@ -11,7 +11,7 @@ const LARGEST_KEPT = 1 << 28;
 const CUT = 2;
 
 class Core {
-  constructor(bytes, heap = 0) { this.module = new WebAssembly.Module(bytes); this.heap = heap; this.idle = null; }
+  constructor(module, heap = 0) { this.module = module; this.heap = heap; this.idle = null; }
 
   // A module at its start: a new one, or that of the question before. Its memory stays as large as it was, since a new one for each
   // question would be garbage of many megabytes; what was in it at its start is written again, and the rest the heap hands out unread.

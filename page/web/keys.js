@@ -32,6 +32,9 @@ async function text_in(link) {
   return text_of(await piped(packed, new DecompressionStream("deflate-raw")));
 }
 
+// The module of the proved calls, which the page has deflated.
+const module_bytes = () => piped(Uint8Array.from(atob(find("module").textContent), it => it.charCodeAt(0)), new DecompressionStream("deflate-raw"));
+
 // The button says what a click makes of it.
 function set_theme(name) { document.documentElement.dataset.theme = name; find("theme").innerHTML = name === "light" ? "dark (<u>l</u>)" : "<u>l</u>ight"; }
 
@@ -171,7 +174,7 @@ async function begin() {
   set_theme(matchMedia("(prefers-color-scheme: light)").matches ? "light" : "dark");
   const examples = JSON.parse(find("sessions").textContent);
   let core;
-  try { core = new Core(Uint8Array.from(atob(find("module").textContent), it => it.charCodeAt(0))); } catch (fault) {
+  try { core = new Core(new WebAssembly.Module(await module_bytes())); } catch (fault) {
     find("status").textContent = find("status").title = "this browser has no WebAssembly with memories of 64 bits: take a newer Chromium or Firefox";
     return;
   }
