@@ -79,9 +79,9 @@ def conformance(browser):
     count = 0
     with tempfile.TemporaryDirectory() as room:
         for name, typed, wanted, limit in cases(room):
-            # For a line that is no command, the page's answer also has the syntax; that of `debug` does not.
+            # The page answers as `explore`, whose refusals also have a reason or the syntax; those of `debug` do not.
             output = browser.run(f"return page.core.answer({bytes_of(typed)}, {limit})")
-            check(wanted in (output, re.sub("^(no 31 syntax): .*$", r"\1", output, flags=re.M)), f"{name}: other answers")
+            check(wanted in (output, re.sub(r"^(no \d+ [a-z]+): .*$", r"\1", output, flags=re.M)), f"{name}: other answers")
             if wanted.startswith("ready\n") and "no 4 memory" not in wanted:
                 opened = browser.run(OPENED % json.dumps(typed))
                 check(opened == [True, True], f"{name}: opened with another chip or history: {opened}")
