@@ -42,8 +42,8 @@ complete -c ga144 -n '__fish_seen_subcommand_from list' -s h -l help -d 'Print h
 complete -c ga144 -n '__fish_seen_subcommand_from dis' -F
 complete -c ga144 -n '__fish_seen_subcommand_from dis' -s h -l help -d 'Print help'
 complete -c ga144 -n '__fish_seen_subcommand_from draw' -F
-complete -c ga144 -n '__fish_seen_subcommand_from draw' -l cause -x -d 'Grey out all but the events on which step K of the node NNN depends'
-complete -c ga144 -n '__fish_seen_subcommand_from draw' -l rewind -x -d 'Colour orange what a rollback of step K of the node NNN would remove'
+complete -c ga144 -n '__fish_seen_subcommand_from draw' -l cause -x -d 'Grey out all but the events on which step K (or last) of the node NNN depends'
+complete -c ga144 -n '__fish_seen_subcommand_from draw' -l rewind -x -d 'Colour orange what a rollback of step K (or last) of the node NNN would remove'
 complete -c ga144 -n '__fish_seen_subcommand_from draw' -l from -x -d 'Draw from the Pth event on, counted from 1'
 complete -c ga144 -n '__fish_seen_subcommand_from draw' -l to -x -d 'Draw up to the Pth event, counted from 1'
 complete -c ga144 -n '__fish_seen_subcommand_from draw' -l all -d 'Draw idle and independent nodes too'

@@ -399,13 +399,18 @@ class Drawn:
 
     def option(self, word):
         node = self.made.node()
-        step = self.made.numbered_step(node)
-        self.words += [word, name(node), str(step)]
-        return node, step
+        step = "last" if self.draw.random() < 0.2 else str(self.made.numbered_step(node))
+        self.words += [word, name(node), step]
+        return node, step_of(self.machine, node, step)
 
 
 def number_of(node):
     return 18 * int(node[0]) + int(node[1:])
+
+
+def step_of(machine, node, word):
+    """The number of a step that an option names; 0 for the last of a node that made none."""
+    return sum(node in event for event in machine.events) if word == "last" else int(word)
 
 
 def picture(number):
@@ -450,7 +455,8 @@ def compared(row):
     view, options = View(), {it: words[at + 1 : at + 3] for at, it in enumerate(words) if it.startswith("--")}
     for word, given in options.items():
         if word in ("--cause", "--rewind"):
-            setattr(view, word[2:], (number_of(given[0]), int(given[1])))
+            node = number_of(given[0])
+            setattr(view, word[2:], (node, step_of(machine, node, given[1])))
         elif word in ("--all", "--only", "--races"):
             setattr(view, word[2:], True)
         else:

@@ -1,11 +1,13 @@
 //! The commands that change the machine.
-ghost use Rattle.ga_text.specs.Output.{WritesSome};
+ghost use Rattle.ga_event.specs.Told.{count_steps};
+ghost use Rattle.ga_text.specs.Output.{WritesSome, WritesExactly};
+ghost use Rattle.ga_display.specs.Texts.{worded_step_refusal_text};
 ghost use Rattle.ga_console.specs.Replies.{IsCommandReply};
 ghost use Rattle.ga_console.specs.declared.command.Command.TheVariants.{Step, Back, Rewind};
 
 use ga_display::{Wording, write_event, write_removed};
 use ga_grid::NodeId;
-use ga_lab::Lab;
+use ga_lab::{Lab, LabFault};
 use ga_text::{WriteResult, Writer};
 use std::io::Write;
 
@@ -50,9 +52,22 @@ pub fn rewind<W: Write>(
 {
     match lab.rewind(node, step) {
         Ok(removed) => { write_removed(writer, removed, lab.counts().kept) }
-        Err(fault) => {
-            let refusal = wording.step_refusal(fault, node, lab.steps(node));
-            writer.write_blocks(refusal.as_slice())
-        }
+        Err(fault) => write_step_refusal(fault, node, lab, wording, writer),
     }
+}
+
+/// Writes why a step of a node isn't taken back. In a function of its own, `rewind` is small enough to be inlined.
+#[inline(never)]
+fn write_step_refusal<W: Write>(
+    fault: LabFault,
+    node: NodeId,
+    lab: &Lab,
+    wording: Wording,
+    writer: &mut Writer<'_, W>,
+) -> WriteResult
+    ensures { WritesExactly result (worded_step_refusal_text wording node (count_steps node.number lab.now.kept) fault)
+        W.contents writer.old writer.new }
+{
+    let refusal = wording.step_refusal(fault, node, lab.steps(node));
+    writer.write_blocks(refusal.as_slice())
 }

@@ -12,6 +12,7 @@ mod readings;
 mod responder;
 mod run;
 mod settings;
+mod step_selector;
 
 pub use command::{Command, parse_debugger_command};
 pub use commands::{CommandsEnd, serve_commands, serve_commands_by};
@@ -19,3 +20,4 @@ pub use race::race_report;
 pub use responder::{LineAction, Responder, answer_in_wording, execute_in_wording};
 pub use run::{Status, open_image, refuse, session, session_with_responder, status_of};
 pub use settings::{CommandLineFault, Settings, arguments};
+pub use step_selector::StepSelector;

@@ -1,15 +1,19 @@
 //! The command line.
-ghost use Rattle.std.specs.Prelude.{◌≤◌, IfOk, IfSome};
-ghost use Rattle.ga_console.specs.Settings.{AreInRange, IsBetween};
+ghost use Rattle.std.specs.Prelude.{IfOk};
+ghost use Rattle.ga_console.specs.Settings.{AreInRange};
 
 mod lines;
+mod refusals;
+mod values;
 
+use crate::step_selector::StepSelector;
 use clap::ArgMatches;
 use ga_grid::NodeId;
-use ga_text::{parse_node, parse_number};
 use lines::{GREATEST_EXPLORED, GREATEST_LIMIT, MOST_CALLS, MOST_WORKERS, program};
+use refusals::{no_further_file, no_json_session, no_later_session};
 use std::alloc::Global;
 use thiserror::Error;
+use values::{file, files, fold, kind, limit, name, number, place, seconds, step};
 
 /// How many events are kept where no limit is given.
 const DEFAULT_LIMIT: u32 = 1_000_000;
@@ -19,9 +23,6 @@ const DEFAULT_EXPLORED: u32 = 20_000_000;
 
 /// The maximum number of states where no number is given.
 const DEFAULT_MOST: u32 = 1_000_000;
-
-/// From how many own steps on a run is drawn as one mark, where no number is given.
-const DEFAULT_FOLD: u32 = 3;
 
 /// What the program is to do.
 ///
@@ -81,13 +82,13 @@ pub enum Settings {
         file: Option<String>,
     },
     /// Draw the history of a session, at most `limit` events, 1 to 100000000, from one place on and up to another, both counted from 1.
-    /// Marked are the causes of a step, and what a rollback of a step would remove; each step is a node and a number, counted from 1.
+    /// Marked are the causes of a step, and what a rollback of a step would remove; each step is a node and a number, counted from 1, or the last.
     /// Idle and independent nodes are drawn too where `all` is set, and with `only` nothing but such causes and what would be removed;
     /// a run of at least `fold` own steps is one mark, where `fold` is not 0. Races are marked where `races` is set.
     Draw {
         limit: u32,
-        cause: Option<(NodeId, u32)>,
-        rewind: Option<(NodeId, u32)>,
+        cause: Option<(NodeId, StepSelector)>,
+        rewind: Option<(NodeId, StepSelector)>,
         from: u32,
         to: u32,
         all: bool,
@@ -213,104 +214,11 @@ fn checked(alloc: Global, check: &ArgMatches<'_>) -> Result<Settings, CommandLin
     })
 }
 
-/// The names of the files.
-fn files(alloc: Global, matches: &ArgMatches<'_>) -> Result<Vec<String>, CommandLineFault> {
-    let mut files = Vec::new(alloc);
-    let Some(names) = matches.get_strs("FILE") else {
-        return Ok(files);
-    };
-    for name in names {
-        push_name(alloc, &mut files, name)?;
-    }
-    Ok(files)
-}
-
-/// Adds the name of a file.
-fn push_name(alloc: Global, files: &mut Vec<String>, name: &str) -> Result<(), CommandLineFault> {
-    let Ok(name) = String::from_str(alloc, name) else {
-        return Err(CommandLineFault::Memory);
-    };
-    match files.push(name) {
-        Ok(()) => Ok(()),
-        Err(_) => Err(CommandLineFault::Memory),
-    }
-}
-
-/// The maximum number of seconds, if one is given.
-fn seconds(text: Option<&str>) -> Result<Option<u32>, CommandLineFault>
-    ensures in_range { IfOk result (λ seconds. IfSome seconds (λ n. IsBetween 1 4294967295 n)) }
-{
-    match text {
-        None => Ok(None),
-        given => Ok(Some(number(given, u32::MAX)?)),
-    }
-}
-
-/// The number of a kind of end, counted from 1, where one is given, spelled as in a command.
-fn kind(alloc: Global, text: Option<&str>) -> Result<Option<u32>, CommandLineFault>
-    ensures in_range { IfOk result (λ kind. IfSome kind (λ n. IsBetween 1 4294967295 n)) }
-{
-    match text {
-        None => Ok(None),
-        Some(given) => match parse_number(given.as_bytes()) {
-            Some(_) => Ok(Some(number(text, u32::MAX)?)),
-            None => Err(no_kind(alloc, given)),
-        },
-    }
-}
-
 /// Whether a session is requested, other than the first.
 fn is_later_kind(session: Option<u32>) -> bool {
     match session {
         None => false,
         Some(number) => number != 1,
-    }
-}
-
-/// Reports that there is one session alone of a condition, in the form of clap's errors.
-fn no_later_session(alloc: Global) -> CommandLineFault {
-    match String::from_str(
-        alloc,
-        "error: invalid value for '--session <K>': with '--never <COND>' K is 1\n\n\
-        For more information, try '--help'.\n",
-    ) {
-        Ok(text) => CommandLineFault::Refused(text),
-        Err(_) => CommandLineFault::Memory,
-    }
-}
-
-/// Reports that a session isn't JSON, in the form of clap's errors.
-fn no_json_session(alloc: Global) -> CommandLineFault {
-    match String::from_str(
-        alloc,
-        "error: invalid value for '--session <K>': a session is lines of text; leave out '--json'\n\n\
-        For more information, try '--help'.\n",
-    ) {
-        Ok(text) => CommandLineFault::Refused(text),
-        Err(_) => CommandLineFault::Memory,
-    }
-}
-
-/// Reports that a session and conditions need a single file, in the form of clap's errors.
-fn no_further_file(alloc: Global) -> CommandLineFault {
-    match String::from_str(
-        alloc,
-        "error: invalid value for '[FILE]...': with '--session <K>' or '--never <COND>' there is one FILE\n\n\
-        For more information, try '--help'.\n",
-    ) {
-        Ok(text) => CommandLineFault::Refused(text),
-        Err(_) => CommandLineFault::Memory,
-    }
-}
-
-/// Reports that these digits are no number of a kind of end, in the form of clap's errors.
-fn no_kind(alloc: Global, digits: &str) -> CommandLineFault {
-    match format!(in alloc;
-        "error: invalid value '{digits}' for '--session <K>': K is a decimal number without leading zeros\n\n\
-        For more information, try '--help'.\n"
-    ) {
-        Ok(text) => CommandLineFault::Refused(text),
-        Err(_) => CommandLineFault::Memory,
     }
 }
 
@@ -334,102 +242,4 @@ fn drawn(alloc: Global, draw: &ArgMatches<'_>) -> Result<Settings, CommandLineFa
         chip: name(alloc, draw.get_str("chip"))?,
         file: file(alloc, draw)?,
     })
-}
-
-/// The name of the file, where one is given that is not `-`.
-fn file(alloc: Global, matches: &ArgMatches<'_>) -> Result<Option<String>, CommandLineFault> {
-    match matches.get_str("FILE") {
-        Some("-") => Ok(None),
-        given => name(alloc, given),
-    }
-}
-
-/// The name of a file, where one is given.
-fn name(alloc: Global, text: Option<&str>) -> Result<Option<String>, CommandLineFault> {
-    match text {
-        None => Ok(None),
-        Some(name) => match String::from_str(alloc, name) {
-            Ok(name) => Ok(Some(name)),
-            Err(_) => Err(CommandLineFault::Memory),
-        },
-    }
-}
-
-/// How many events are kept at most: the number that is given, or the usual one.
-fn limit(matches: &ArgMatches<'_>, usual: u32, greatest: u32) -> Result<u32, CommandLineFault>
-    requires positive { 1 ≤ usual }
-    requires below { usual ≤ greatest }
-    ensures in_range { IfOk result (λ n. IsBetween 1 greatest n) }
-{
-    match matches.get_str("limit") {
-        None => Ok(usual),
-        given => number(given, greatest),
-    }
-}
-
-/// A number from 1 on, or this one where none is given.
-fn place(text: Option<&str>, usual: u32) -> Result<u32, CommandLineFault>
-    requires { IsBetween 1 4294967295 usual }
-    ensures in_range { IfOk result (λ n. IsBetween 1 4294967295 n) }
-{
-    match text {
-        None => Ok(usual),
-        given => number(given, u32::MAX),
-    }
-}
-
-/// From how many own steps on a run is drawn as one mark. That it is a number was seen by its parser.
-fn fold(text: Option<&str>) -> Result<u32, CommandLineFault> {
-    let Some(text) = text else {
-        return Ok(DEFAULT_FOLD);
-    };
-    match text.parse::<u32>() {
-        Ok(n) => Ok(n),
-        Err(_) => Err(CommandLineFault::Memory),
-    }
-}
-
-/// A step, where one is given: a node and a number, spelled as in a command.
-fn step(
-    alloc: Global,
-    matches: &ArgMatches<'_>,
-    name: &str,
-) -> Result<Option<(NodeId, u32)>, CommandLineFault> {
-    let Some(words) = matches.get_strs(name) else {
-        return Ok(None);
-    };
-    let [node, number] = words else {
-        return Err(CommandLineFault::Memory);
-    };
-    match (parse_node(node.as_bytes()), parse_number(number.as_bytes())) {
-        (Some(node), Some(number)) => Ok(Some((node, number))),
-        _ => Err(no_step(alloc, name, node, number)),
-    }
-}
-
-/// Reports that these words are no step, in the form of clap's errors.
-fn no_step(alloc: Global, name: &str, node: &str, number: &str) -> CommandLineFault {
-    match format!(in alloc;
-        "error: invalid value '{node} {number}' for '--{name} <NNN> <K>': NNN is a node, 000 to 717 \
-        with columns 00 to 17, and K a step, a decimal number\n\nFor more information, try '--help'.\n"
-    ) {
-        Ok(text) => CommandLineFault::Refused(text),
-        Err(_) => CommandLineFault::Memory,
-    }
-}
-
-/// A number from 1 to the greatest. That it is one was seen by its parser.
-fn number(text: Option<&str>, greatest: u32) -> Result<u32, CommandLineFault>
-    ensures in_range { IfOk result (λ n. IsBetween 1 greatest n) }
-{
-    let Some(text) = text else {
-        return Err(CommandLineFault::Memory);
-    };
-    let Ok(number) = text.parse::<u32>() else {
-        return Err(CommandLineFault::Memory);
-    };
-    if number < 1 || number > greatest {
-        return Err(CommandLineFault::Memory);
-    }
-    Ok(number)
 }

@@ -23,7 +23,8 @@ use Rattle.ga_explorer_text.specs.Around.{steps_around_text}
 use Rattle.ga_explorer_text.specs.Whence.{IsWhenceAnswer}
 use Rattle.ga_explorer_text.specs.Because.{because_text}
 use Rattle.ga_explorer_text.specs.Races.{IsRacesAnswer}
-use Rattle.ga_explorer.specs.Reading.{selected_step, part_of_node_value, parse_run_arguments, parse_back_arguments, max_run_events, node_and_step, two_nodes, node_and_cell, node_and_value, node_and_steps}
+use Rattle.ga_console.specs.Selectors.{selected_step}
+use Rattle.ga_explorer.specs.Reading.{part_of_node_value, parse_run_arguments, parse_back_arguments, max_run_events, node_and_step, two_nodes, node_and_cell, node_and_value, node_and_steps}
 use Rattle.ga_conditions.specs.Conditions.{no_conditions}
 use Rattle.ga_explorer.specs.Forms.{CommandForm, entry, change_entry, command_place_from, form_rows_text, found_command_details}
 use Rattle.ga_explorer.specs.Opening.{ExplorerState}

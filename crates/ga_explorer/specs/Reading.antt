@@ -4,11 +4,9 @@ use Rattle.std.specs.Prelude.{◌==◌, ℕ, nat_eq, if◌then◌else◌, codes,
 use Rattle.std.specs.Cmp.Lexicographic.{pointwise}
 use Rattle.ga_text.specs.Lines.{Line}
 use Rattle.ga_grid.specs.declared.node_id.NodeId.{NodeId}
-use Rattle.ga_event.specs.Told.{count_steps}
-use Rattle.ga_lab.specs.Machine.{State}
 use Rattle.ga_text.specs.Parsing.{parse_number, split_at_space, parse_node}
-use Rattle.ga_explorer.specs.declared.which.StepSelector.{StepSelector}
-use Rattle.ga_explorer.specs.declared.which.StepSelector.TheVariants.{Number, Last}
+use Rattle.ga_console.specs.declared.step_selector.StepSelector.{StepSelector}
+use Rattle.ga_console.specs.Selectors.{parse_step_selector}
 use Rattle.ga_scheduler.specs.declared.value_test.NodeValue.{NodeValue}
 use Rattle.ga_scheduler.specs.declared.value_test.NodeValue.TheVariants as value
 use Rattle.ga_conditions.specs.Tests.{named_value_in}
@@ -22,17 +20,6 @@ use Rattle.ga_debug_info.specs.declared.notes.DebugInfo.{DebugInfo}
 use Rattle.ga_conditions.specs.Conditions.{conditions_in, until_in, no_conditions}
 use Rattle.ga_explorer.specs.declared.commands.ExplorerCommand.{ExplorerCommand}
 use Rattle.ga_explorer.specs.declared.commands.ExplorerCommand.TheVariants.{Run, BackUntil}
-
--- ---- which step of a node a command means: one by its number, or the last (docs/REFERENCE.md, "Exploring"; this project's own)
-
--- a number, or `last`
-abbrev pub parse_step_selector : Line → Option StepSelector
-parse_step_selector word = if pointwise nat_eq word (codes "last") then Some Last else option_map Number (parse_number word)
-
--- The number of the step that is meant. Of a node that made none the last is 0, which no step has.
-abbrev pub selected_step : State → NodeId → StepSelector → ℕ
-selected_step s node (Number step) = step
-selected_step s node Last = count_steps node.number s.kept
 
 -- ---- which part of a node a command means: RAM is below address 80 hexadecimal, ROM from there on
 

@@ -4,7 +4,7 @@ ghost use Rattle.std.specs.Prelude.{◌≡◌};
 ghost use Rattle.ga_explorer.specs.Reading.{node_and_step, two_nodes, node_and_cell, node_and_steps, node_and_value, step_and_value, value_and_line, from_line, line_number, parse_step_and_count};
 
 use crate::named_value::parse_part_value;
-use crate::which::StepSelector;
+use ga_console::StepSelector;
 use ga_grid::NodeId;
 use ga_scheduler::NodeValue;
 use ga_text::{parse_hex_byte, parse_node, parse_number, split_at_space};

@@ -11,8 +11,8 @@ use crate::back_request::parse_back;
 use crate::forms::{CommandClass, Row, place_of, say_command, say_help};
 use crate::named_value::part_of_node_value;
 use crate::run_request::{MOST_EVENTS, parse_run};
-use crate::which::StepSelector;
 use ga_conditions::{Conditions, no_conditions};
+use ga_console::StepSelector;
 use ga_debug_info::DebugInfo;
 use ga_event::NodePart;
 use ga_explorer_text::{

@@ -16,7 +16,6 @@ mod query_answer;
 mod run_request;
 mod session;
 mod strict;
-mod which;
 
 pub use beginning::open_lab;
 pub use commands::{ExplorerCommand, Query, parse_command};
@@ -27,4 +26,3 @@ pub use preload::{append_end_line, lacks_end_line};
 pub use query_answer::write_query_answer;
 pub use session::explore;
 pub use strict::{end_session, is_refusal};
-pub use which::StepSelector;

@@ -13,7 +13,8 @@ use Rattle.ga_scheduler.specs.declared.running.RunEnd.{RunEnd}
 use Rattle.ga_console.specs.Commands.{SpellsCommand}
 use Rattle.ga_console.specs.declared.command.Command.{Command}
 use Rattle.ga_console.specs.declared.command.Command.TheVariants.{Step, Back, Rewind, Node, Memory, Trace, Why, Count, Dump, Quit}
-use Rattle.ga_explorer.specs.Reading.{selected_step, part_of_node_value}
+use Rattle.ga_console.specs.Selectors.{selected_step}
+use Rattle.ga_explorer.specs.Reading.{part_of_node_value}
 use Rattle.ga_explorer.specs.Commands.{command_of_line}
 use Rattle.ga_explorer.specs.Opening.{ExplorerState}
 use Rattle.ga_explorer.specs.declared.commands.ExplorerCommand.{ExplorerCommand}

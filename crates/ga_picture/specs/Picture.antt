@@ -8,6 +8,10 @@ use Rattle.ga_picture.specs.Drawing.{shade_of, AreShades, IsDrawing, IsIndepende
 use Rattle.ga_grid.specs.declared.node_id.NodeId.{NodeId}
 use Rattle.ga_event.specs.declared.event.Cause.{Cause}
 use Rattle.ga_causal.specs.Dependence.{position_of_step}
+use Rattle.ga_causal.specs.Steps.{count_touching_events}
+use Rattle.ga_console.specs.Selectors.{selected_step}
+use Rattle.ga_console.specs.declared.step_selector.StepSelector.{StepSelector}
+use Rattle.ga_console.specs.declared.step_selector.StepSelector.TheVariants.{Number, Last}
 use Rattle.ga_race_detector.specs.declared.races.Race.{Race}
 use Rattle.ga_race_detector.specs.declared.readings.LookRace.{LookRace}
 use Rattle.ga_picture.specs.declared.race_marks.RacingStep.{RacingStep}
@@ -103,18 +107,23 @@ all_race_marks events start rows races readings = marks_of_passes events start r
 -- ---- what a picture shows of a machine's kept events
 
 -- the step exists, if one is given
-abbrev pub has_optional_step : State → Option (NodeId × ℕ) → Bool
+abbrev pub has_optional_step : State → Option (NodeId × StepSelector) → Bool
 has_optional_step s None = true
-has_optional_step s (Some step) = has_step s step.0.number step.1
+has_optional_step s (Some step) = has_step s step.0.number (selected_step s step.0 step.1)
 
 -- each requested step exists
 abbrev pub has_requested_steps : State → PictureView → Bool
 has_requested_steps s view = has_optional_step s view.cause && has_optional_step s view.rewind
 
+-- the place of the step: the last of a node is the newest event that touches it
+abbrev pub step_place : List Cause → NodeId → StepSelector → Option ℕ
+step_place events node (Number step) = position_of_step events node.number step
+step_place events node Last = position_of_step events node.number (count_touching_events node.number events)
+
 -- the place of the step, where one is given
-abbrev pub optional_step_place : List Cause → Option (NodeId × ℕ) → Option ℕ
+abbrev pub optional_step_place : List Cause → Option (NodeId × StepSelector) → Option ℕ
 optional_step_place events None = None
-optional_step_place events (Some step) = position_of_step events step.0.number step.1
+optional_step_place events (Some step) = step_place events step.0 step.1
 
 -- the events after the last one that is in view are left out
 abbrev pub view_end : List Cause → PictureView → ℕ

@@ -4,6 +4,7 @@ ghost use Rattle.std.specs.Prelude.{ℕ, Bool, ◌≡◌, ◌↔◌, ◌⊎◌, 
 ghost use Rattle.std.specs.List.{All};
 ghost use Rattle.ga_grid.specs.Chip.{records_of};
 ghost use Rattle.ga_causal.specs.Dependence.{is_marked};
+ghost use Rattle.ga_causal.specs.Steps.{count_touching_events};
 ghost use Rattle.ga_lab.specs.Machine.{causes_of};
 ghost use Rattle.ga_race_detector.specs.Races.{requested_races};
 ghost use Rattle.ga_race_detector.specs.Readings.{IsReportedLookRace, HasAllNearLookRaces};
@@ -18,15 +19,16 @@ use crate::race_marks::{RaceMark, VisibleRows, all_race_marks};
 use crate::shade::shades;
 use crate::text::svg;
 use ga_causal::{Cause, Memory, position_of_step};
-use ga_event::Event;
+use ga_console::StepSelector;
+use ga_event::{Event, touches};
 use ga_grid::{CHIP_NODES, Chip, NodeId};
 use ga_lab::{Lab, LabFault, Made};
 use ga_race_detector::{Races, find_races};
 use ga_scheduler::find_idle;
 use std::alloc::Global;
 
-/// A step: its node and its number, counted from 1.
-pub type Step = (NodeId, u32);
+/// A step: its node, and its number, counted from 1, or the last.
+pub type Step = (NodeId, StepSelector);
 
 /// What a picture is to show of the kept events.
 #[derive(Clone, Copy, PartialEq, Eq)]
@@ -98,7 +100,7 @@ fn stands(lab: &Lab, step: Option<Step>) -> bool
     ensures { result ≡ has_optional_step lab.now step }
 {
     match step {
-        Some(step) => lab.has_step(step),
+        Some((node, which)) => lab.has_step((node, which.resolve(lab, node))),
         None => true,
     }
 }
@@ -276,9 +278,23 @@ fn place(events: &[Cause], step: Option<Step>) -> Option<u32>
     ensures within { IfSome result (λ place. place < length events.now) }
 {
     match step {
-        Some((node, number)) => position_of_step(events, node, number),
+        Some((node, StepSelector::Number(step))) => position_of_step(events, node, step),
+        Some((node, StepSelector::Last)) => {
+            position_of_step(events, node, count_touching(events, node) as u32)
+        }
         None => None,
     }
+}
+
+/// The number of events that touch a node.
+fn count_touching(events: &[Cause], node: NodeId) -> usize
+    ensures value { result ≡ count_touching_events node.number events.now }
+    ensures within { result ≤ length events.now }
+{
+    events
+        .iter()
+        .filter(|event| touches(event.event, node))
+        .count()
 }
 
 /// The events of the history from one place on, in order, as reports: each is the next one of the node that made the event, of

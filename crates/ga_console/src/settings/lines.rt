@@ -144,9 +144,10 @@ const OBJECTS: &str = "Print JSON objects, one a line (docs/JSON.md)";
 
 const PROGRESS: &str = "Print on standard error, each second, how many states there are";
 
-const CAUSE: &str = "Grey out all but the events on which step K of the node NNN depends";
+const CAUSE: &str = "Grey out all but the events on which step K (or last) of the node NNN depends";
 
-const REWIND: &str = "Colour orange what a rollback of step K of the node NNN would remove";
+const REWIND: &str =
+    "Colour orange what a rollback of step K (or last) of the node NNN would remove";
 
 const FROM: &str = "Draw from the Pth event on, counted from 1";
 

@@ -1,4 +1,4 @@
-use Rattle.std.proofs.Common.{rules, refl, ℕ, ap, ◌∙◌}
+use Rattle.std.proofs.Common.{rules, refl, ap}
 use Rattle.ga_event.specs.Told.{count_steps}
 use Rattle.ga_lab.specs.Machine.{State}
 use Rattle.ga_display.specs.Texts.{removed_text, worded_step_refusal_text}
@@ -20,9 +20,9 @@ pub returns-in-Err : goal.returns-in-Err
 returns-in-Err g c = (
   search rules,
   λ before said h. (
-    c.as_slice.result.now,
+    _,
     rewind_refused c.args.wording c.args.lab.now c.args.node c.args.step c.in-Err.fault _ c.rewind.new.self c.in-Err.ensures.answer c.in-Err.ensures.same
-        (c.as_slice.ensures.value ∙ c.step_refusal-refusal.ensures ∙ ap (λ (n : ℕ). worded_step_refusal_text c.args.wording c.args.node n c.in-Err.fault) (c.steps.ensures.steps ∙ ap (λ (s : State). count_steps c.args.node.number s.kept) c.in-Err.ensures.same)),
-    c.write_blocks.ensures.1 before said h,
+        (ap (λ (s : State). worded_step_refusal_text c.args.wording c.args.node (count_steps c.args.node.number s.kept) c.in-Err.fault) c.in-Err.ensures.same),
+    c.write_step_refusal.ensures.1 before said h,
   ),
 )

@@ -1,7 +1,7 @@
-//! Which step of a node a command means.
+//! Which step of a node a command or an option means.
 
 ghost use Rattle.std.specs.Prelude.{◌≡◌};
-ghost use Rattle.ga_explorer.specs.Reading.{parse_step_selector, selected_step};
+ghost use Rattle.ga_console.specs.Selectors.{parse_step_selector, selected_step};
 
 use ga_grid::NodeId;
 use ga_lab::Lab;
@@ -18,7 +18,7 @@ pub enum StepSelector {
 
 impl StepSelector {
     /// What a word spells: a number, or `last`.
-    pub(crate) fn parse(word: &[u8]) -> Option<Self>
+    pub fn parse(word: &[u8]) -> Option<Self>
         ensures { result ≡ parse_step_selector word.now }
     {
         if word == b"last".as_slice() {
