@@ -1,7 +1,7 @@
 use Rattle.std.proofs.Common.{ℕ, List, subst, sym}
 use Rattle.ga_asm_text.specs.inner.{lines_left, Tells}
 use Rattle.ga_asm_text.proofs.FaultListing.{grows_both, tells_none, tells_both}
-use Rattle.ga_asm_text.proofs.listing.push_group.Goals as goal
+use Rattle.ga_asm_text.proofs.program_listing.push_group.Goals as goal
 
 pub returns : goal.returns
 returns c =

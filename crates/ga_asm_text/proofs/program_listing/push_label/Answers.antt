@@ -1,5 +1,5 @@
 use Rattle.ga_asm_text.proofs.FaultListing.{grows, grows_both, tells_none, tells_both}
-use Rattle.ga_asm_text.proofs.listing.push_label.Goals as goal
+use Rattle.ga_asm_text.proofs.program_listing.push_label.Goals as goal
 
 pub returns : goal.returns
 returns c =

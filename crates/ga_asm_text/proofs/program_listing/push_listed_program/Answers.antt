@@ -1,5 +1,5 @@
 use Rattle.ga_asm_text.proofs.FaultListing.{grows, tells_none, tells_both}
-use Rattle.ga_asm_text.proofs.listing.push_listed_program.Goals as goal
+use Rattle.ga_asm_text.proofs.program_listing.push_listed_program.Goals as goal
 
 pub returns : goal.returns
 returns c =

@@ -2,7 +2,7 @@ use Rattle.std.proofs.Common.{◌∙◌, ◌++◌, ℕ, List, ap, codes, ◌∷�
 use Rattle.ga_text.specs.Digits.{decimal3_of}
 use Rattle.ga_grid.specs.Grid.{yxx_of}
 use Rattle.ga_asm_text.proofs.Telling.{grown, says_node}
-use Rattle.ga_asm_text.proofs.listing.push_node.Goals as goal
+use Rattle.ga_asm_text.proofs.number_text.push_node.Goals as goal
 
 pub returns : goal.returns
 returns c =
