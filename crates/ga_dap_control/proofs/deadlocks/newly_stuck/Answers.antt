@@ -2,7 +2,7 @@ use Rattle.std.proofs.Common.{◌∙◌, ap}
 use Rattle.ga_causal.specs.Dependence.{is_marked}
 use Rattle.ga_dap_control.specs.Slices.{is_newly_deadlocked}
 use Rattle.ga_dap_control.proofs.Answered.{none_more}
-use Rattle.ga_dap_control.proofs.execution.newly_stuck.Goals as goal
+use Rattle.ga_dap_control.proofs.deadlocks.newly_stuck.Goals as goal
 
 pub nodes-preserved : goal.nodes-preserved
 nodes-preserved c =

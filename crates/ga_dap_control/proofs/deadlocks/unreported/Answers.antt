@@ -1,6 +1,6 @@
-use Rattle.std.proofs.Common.{◌≡◌, true, false, Bool, sym, ap}
+use Rattle.std.proofs.Common.{Bool, sym, ap}
 use Rattle.ga_dap_control.specs.Slices.{filtered_deadlock}
-use Rattle.ga_dap_control.proofs.execution.unreported.Goals as goal
+use Rattle.ga_dap_control.proofs.deadlocks.unreported.Goals as goal
 
 pub returns-then-settings : goal.returns-then-settings
 returns-then-settings c =
