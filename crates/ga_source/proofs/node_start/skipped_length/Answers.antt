@@ -2,7 +2,7 @@ use Rattle.std.proofs.Common.{◌∙◌, ℕ, drop, ap, sym, refl}
 use Rattle.ga_parser.specs.Saying.{token_contents}
 use Rattle.ga_source.specs.Recovery.{words_from_next_node}
 use Rattle.ga_source.proofs.Recovering.{left_from, left_whole, left_faulty}
-use Rattle.ga_source.proofs.recovery.skipped_length.Goals as goal
+use Rattle.ga_source.proofs.node_start.skipped_length.Goals as goal
 
 pub returns-clause-left : goal.returns-clause-left
 returns-clause-left c =

@@ -1,7 +1,7 @@
 use Rattle.std.proofs.Common.{rules, arith, refl, ◌≡◌, ◌++◌, ◌∷◌, []}
 use Rattle.std.proofs.lemmas.List.{drop_all}
 use Rattle.ga_source.proofs.Bodies.{one_numbered, all_numbered}
-use Rattle.ga_source.proofs.recovery.number.Goals as goal
+use Rattle.ga_source.proofs.numbered_words.number_words.Goals as goal
 
 pub loop-word-init : goal.loop-word-init
 loop-word-init c = rw c.new-all.ensures.items refl

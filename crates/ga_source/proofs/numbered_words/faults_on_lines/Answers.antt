@@ -5,7 +5,7 @@ use Rattle.std.specs.List.{dedup}
 use Rattle.ga_parser.specs.declared.fault.SourceFault.{SourceFault}
 use Rattle.ga_parser.specs.contracts.fault.SourceFaultPartialEq.TheImpl.{ghosts}
 use Rattle.ga_source.specs.Recovery.{fault_at_line}
-use Rattle.ga_source.proofs.recovery.faults_on_lines.Goals as goal
+use Rattle.ga_source.proofs.numbered_words.faults_on_lines.Goals as goal
 
 pub returns : goal.returns
 returns c =
