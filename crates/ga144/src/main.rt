@@ -174,7 +174,8 @@ enum Work {
 
 /// Reads a file, if one is named, followed by standard input, and does the work; on the chip of another file, if one is named.
 fn served(rt: &HostRuntime, work: Work, chip: &Option<String>, file: &Option<String>) -> ExitCode {
-    let front = match read_input_prefix(rt, file.as_ref().map(|name| name.as_str())) {
+    let named = file.as_ref().map(|name| name.as_str());
+    let front = match read_input_prefix(rt, named) {
         Ok(front) => front,
         Err(status) => return ExitCode::from(status),
     };
@@ -202,14 +203,19 @@ fn served(rt: &HostRuntime, work: Work, chip: &Option<String>, file: &Option<Str
             input,
             output,
             told,
-            file_name(file),
+            name_or_dash(named).as_bytes(),
             chip,
             limit,
             strict,
         ),
         Work::Assemble { json } => {
-            let name = file.as_ref().map_or("-", |name| name.as_str());
-            assemble_as(alloc, input, output, told, format_of(json, name))
+            assemble_as(
+                alloc,
+                input,
+                output,
+                told,
+                format_of(json, name_or_dash(named)),
+            )
         }
         Work::List => list_source(alloc, input, output, told),
         Work::Disassemble => disassemble(alloc, input, output, told),
@@ -220,12 +226,9 @@ fn served(rt: &HostRuntime, work: Work, chip: &Option<String>, file: &Option<Str
     exit(rt, status)
 }
 
-/// The name of a file as JSON objects have it.
-fn file_name(file: &Option<String>) -> &[u8] {
-    match file {
-        Some(name) => name.as_bytes(),
-        None => b"-",
-    }
+/// The name of a file as JSON objects have it: `-` for standard input.
+fn name_or_dash<'a>(file: Option<&'a str>) -> &'a str {
+    file.unwrap_or("-")
 }
 
 /// Whether both standard input and standard output are a terminal, so that a person types the commands.
@@ -300,7 +303,7 @@ fn check_file<T: Threads + Sync>(
         Ok(front) => front,
         Err(status) => return status,
     };
-    match find_verdict(threads, rt, work, file.unwrap_or("-"), &front) {
+    match find_verdict(threads, rt, work, name_or_dash(file), &front) {
         Ok(verdict) => status_of_verdict(rt, verdict),
         Err(fault) => refuse_conditions(rt, work.never.unwrap_or(""), fault),
     }

@@ -1,10 +1,10 @@
 -- Words that define no constant and name each node alone are read as they are written.
-use Rattle.std.proofs.Common.{◌≡◌, ◌∙◌, ℕ, Bool, true, false, List, [], ◌∷◌, ◌++◌, length, map, refl, ap, ap₂, sym, inl, inr, append_assoc, append-nil}
-use Rattle.std.specs.Prelude.{◌==◌, ◌&&◌, ◌||◌, not, is_some, bytes_eq, codes, Some, None}
-use Rattle.std.proofs.lemmas.Bool.{and_parts, and_from, cond-true, cond-false, cases_Bool}
+use Rattle.std.proofs.Common.{◌≡◌, ◌∙◌, ℕ, Bool, true, false, List, [], ◌∷◌, ◌++◌, map, refl, ap, ap₂, sym, inl, inr, append_assoc, append-nil}
+use Rattle.std.specs.Prelude.{◌==◌, ◌&&◌, ◌||◌, not, is_some, bytes_eq, codes}
+use Rattle.std.proofs.lemmas.Bool.{and_parts, cond-true, cond-false, cases_Bool}
 use Rattle.ga_grid.specs.Grid.{parse_node_name}
 use Rattle.ga_parser.specs.Asking.{known_label_number}
-use Rattle.ga_parser.specs.Constants.{Names, ConstantResolution, initial_resolution, resolve_next_word, resolve_from, without_definitions, end_resolution, first_text, begins_definition, begins_label}
+use Rattle.ga_parser.specs.Constants.{ConstantResolution, resolve_next_word, resolve_from, without_definitions, end_resolution, first_text, begins_definition, begins_label}
 use Rattle.ga_parser.specs.Constants.AwaitedWord.{Any}
 use Rattle.ga_parser.specs.Groups.{NodeNaming, begins_node, is_further_node_name, naming_past_word, naming_after_word, words_before_name, expand_node_groups}
 use Rattle.ga_parser.specs.Groups.NodeNaming.{Nothing, Node, Name}

@@ -11,7 +11,7 @@ ghost use Rattle.ga_asm_text.specs.inner.{Disassembly, IsOrdinary, IsUnmarked, S
 
 use super::assembling::write_text;
 use super::comment::CellRoles;
-use super::listing::{push_hex, push_node};
+use super::number_text::{push_hex, push_node};
 use ga_console::{Status, refuse};
 use ga_debug_info::{find_image_artifact, report_editor_artifact, report_unrepresented};
 use ga_grid::{CHIP_NODES, Chip, NodeId, load_p};

@@ -9,6 +9,8 @@ mod disassembly;
 mod fault_lines;
 pub mod laws;
 mod listing;
+mod number_text;
+mod program_listing;
 mod reading;
 
 pub use assembling::assemble_source;

@@ -12,7 +12,7 @@ use Rattle.ga_dap_control.specs.Configuring.{AreThreadMarks}
 use Rattle.ga_dap_control.specs.Back.{requested_granularity, program_after_step_back, program_after_reverse, rollback_summary_text, IsRollbackSummary}
 use Rattle.ga_dap_control.specs.Slices.{MakesSlice}
 use Rattle.ga_dap_control.specs.declared.configuration.Configuration.{Configuration}
-use Rattle.ga_dap_control.specs.declared.execution.StopReason.{StopReason}
+use Rattle.ga_dap_control.specs.declared.stop_reason.StopReason.{StopReason}
 use Rattle.ga_dap_control.specs.declared.launched.LaunchedProgram.{LaunchedProgram}
 use Rattle.ga_dap.specs.Telling.{AreSliceMessages, AreReverseMessages}
 

@@ -10,7 +10,7 @@ use Rattle.ga_dap_queries.specs.declared.debuggee.Debuggee.{Debuggee}
 use Rattle.ga_dap_queries.specs.Events.{thread_changes_below}
 use Rattle.ga_dap_queries.specs.Sending.{Message, Messages, bare_success_response}
 use Rattle.ga_dap_control.specs.declared.configuration.Configuration.{Configuration}
-use Rattle.ga_dap_control.specs.declared.execution.StopReason.{StopReason}
+use Rattle.ga_dap_control.specs.declared.stop_reason.StopReason.{StopReason}
 use Rattle.ga_dap_control.specs.Configuring.{AreThreadMarks}
 use Rattle.ga_dap_control.specs.Stopping.{stopped_message, IsStopMessage}
 use Rattle.ga_dap.specs.Launches.{output_message}

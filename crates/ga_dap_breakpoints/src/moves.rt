@@ -14,7 +14,6 @@ ghost use Rattle.ga_dap_breakpoints.specs.Going.{IsMoveResult, tally_after_event
 
 use crate::going::{MoveResult, move_result};
 use crate::halts::{HaltConditions, HaltMonitor, check_halt};
-use crate::hits::is_step_of;
 use crate::lines::begins_by;
 use crate::stepping::{Granularity, StepMove};
 use crate::words::{instruction_cell_after, word_after};
@@ -22,7 +21,7 @@ use ga_dap_views::{is_call_step, return_entry_sources};
 use ga_debug_info::DebugInfo;
 use ga_grid::{CHIP_NODES, NodeId};
 use ga_lab::{Lab, Made};
-use ga_scheduler::{Schedule, StopCondition, run_watched};
+use ga_scheduler::{Schedule, StopCondition, is_step_of, run_watched};
 
 /// What watches a move.
 #[derive(Clone, Copy)]

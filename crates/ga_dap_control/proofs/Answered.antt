@@ -1,6 +1,6 @@
 -- What is sent for a request, and the state after it.
 use Rattle.std.proofs.Common.{◌≡◌, ◌∙◌, ◌++◌, ◌<◌, ◌+◌, ◌&&◌, ◌||◌, arith, inl, inr, map, ℕ, zero, suc, Bool, true, false, List, [], ◌∷◌, Option, None, Result, Ok, Err, refl, sym, ap, subst}
-use Rattle.std.specs.Prelude.{OnOk}
+use Rattle.std.specs.Prelude.{OnOk, codes}
 use Rattle.std.specs.List.{list_all, list_any}
 use Rattle.std.proofs.lemmas.Bool.{cases_eq}
 use Rattle.ga_debug_info.specs.declared.notes.DebugInfo.{DebugInfo}
@@ -14,7 +14,7 @@ use Rattle.ga_dap_protocol.specs.Sent.{SentMessages}
 use Rattle.ga_dap_protocol.specs.declared.request.ClientRequest.{ClientRequest}
 use Rattle.ga_dap_breakpoints.specs.declared.stepping.StepMove.{StepMove}
 use Rattle.ga_dap_queries.specs.Events.{thread_change_messages, thread_changes_below}
-use Rattle.ga_dap_queries.specs.Sending.{Message, Messages, Sends, SendsAll}
+use Rattle.ga_dap_queries.specs.Sending.{Message, Messages, Sends, SendsAll, refused_response}
 use Rattle.ga_dap_queries.specs.declared.request_name.RequestName.{RequestName}
 use Rattle.ga_dap_queries.specs.declared.debuggee.Debuggee.{Debuggee}
 use Rattle.ga_dap_queries.proofs.Sent.{sent_one}
@@ -22,7 +22,7 @@ use Rattle.ga_dap_control.specs.declared.configuration.Configuration.{Configurat
 use Rattle.ga_dap_control.specs.declared.execution.Execution.{Execution}
 use Rattle.ga_dap_control.specs.declared.launched.LaunchedProgram.{LaunchedProgram}
 use Rattle.ga_dap_control.specs.declared.moving.DapStepKind.{DapStepKind}
-use Rattle.ga_dap_control.specs.Breakpoints.{SetsLineBreakpointsIfOwnFile, SetsFiltersIfKnown}
+use Rattle.ga_dap_control.specs.Breakpoints.{SetsLineBreakpointsIfOwnFile}
 use Rattle.ga_dap_control.specs.Moving.{BeginsStep, BeginsStepMove, BeginsStepUnlessStopped}
 use Rattle.ga_dap_control.specs.Requests.{SendsOneResponse, ChangesExecution, AnswersStep, ChangesConfiguration, AnswersAtOnce}
 
@@ -42,6 +42,13 @@ pub steps_so : {T E : Type 0} → (kind : DapStepKind) (r : Result T E) (l new :
     → OnOk r ((messages : Messages) × AnswersStep kind l request messages new × SendsAll old messages out)
 steps_so kind (Ok x) l new request execution old out p same = (p.0 ∷ [], (p.0, execution, p.1, refl, same), sent_one old p.0 out p.2)
 steps_so kind (Err e) l new request execution old out p same = tt
+
+-- a request that is answered nowhere is refused, and what was launched stays
+pub unknown_refused : {T E : Type 0} → (r : Result T E) (l : LaunchedProgram) (request : ClientRequest) (old out : SentMessages)
+    → OnOk r (Sends old (refused_response request (codes "no such request")) out)
+    → OnOk r ((messages : Messages) × ((messages ≡ refused_response request (codes "no such request") ∷ []) × (l ≡ l)) × SendsAll old messages out)
+unknown_refused (Ok x) l request old out sent = (refused_response request (codes "no such request") ∷ [], (refl, refl), sent_one old (refused_response request (codes "no such request")) out sent)
+unknown_refused (Err e) l request old out sent = tt
 
 -- what the client set is set, and hits are counted anew
 abbrev set_anew : LaunchedProgram → Configuration → LaunchedProgram

@@ -27,8 +27,8 @@ use Rattle.ga_dap_control.specs.declared.configuration.BreakpointKind.{Breakpoin
 use Rattle.ga_dap_control.specs.declared.configuration.BreakpointKind.TheVariants as family
 use Rattle.ga_dap_control.specs.declared.configuration.PlacedBreakpoint.{PlacedBreakpoint}
 use Rattle.ga_dap_control.specs.declared.finding.BreakpointLocation.{BreakpointLocation}
-use Rattle.ga_dap_control.specs.declared.finding.PlacementError.{PlacementError}
-use Rattle.ga_dap_control.specs.declared.finding.PlacementError.TheVariants.{Nowhere, Condition, Range, Hits, Uncounted}
+use Rattle.ga_dap_control.specs.declared.requested_breakpoint.PlacementError.{PlacementError}
+use Rattle.ga_dap_control.specs.declared.requested_breakpoint.PlacementError.TheVariants.{Nowhere, Condition, Range, Hits, Uncounted}
 
 -- ---- on a line of the source
 

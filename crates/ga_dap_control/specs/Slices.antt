@@ -28,8 +28,8 @@ use Rattle.ga_dap_breakpoints.specs.Reversing.{kept_tally}
 use Rattle.ga_dap_control.specs.declared.execution.Execution.{Execution}
 use Rattle.ga_dap_control.specs.declared.execution.Goal.{Goal}
 use Rattle.ga_dap_control.specs.declared.execution.Goal.TheVariants.{Continue, Step}
-use Rattle.ga_dap_control.specs.declared.execution.StopReason.{StopReason}
-use Rattle.ga_dap_control.specs.declared.execution.StopReason.TheVariants as stop
+use Rattle.ga_dap_control.specs.declared.stop_reason.StopReason.{StopReason}
+use Rattle.ga_dap_control.specs.declared.stop_reason.StopReason.TheVariants as stop
 use Rattle.ga_dap_queries.specs.declared.debuggee.Debuggee.{Debuggee}
 use Rattle.ga_dap_control.specs.declared.configuration.Configuration.{Configuration}
 use Rattle.ga_dap_queries.specs.Disassembling.{program_debug_info}

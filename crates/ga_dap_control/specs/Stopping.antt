@@ -10,8 +10,8 @@ use Rattle.ga_dap_breakpoints.specs.Reversing.{is_hit_by_newest_event}
 use Rattle.ga_dap_queries.specs.declared.debuggee.Debuggee.{Debuggee}
 use Rattle.ga_dap_control.specs.declared.configuration.Configuration.{Configuration}
 use Rattle.ga_dap_control.specs.declared.configuration.PlacedBreakpoint.{PlacedBreakpoint}
-use Rattle.ga_dap_control.specs.declared.execution.StopReason.{StopReason}
-use Rattle.ga_dap_control.specs.declared.execution.StopReason.TheVariants as stop
+use Rattle.ga_dap_control.specs.declared.stop_reason.StopReason.{StopReason}
+use Rattle.ga_dap_control.specs.declared.stop_reason.StopReason.TheVariants as stop
 use Rattle.ga_dap_queries.specs.Events.{stopped_body, breakpoint_stopped_body, IsFirstThreadNode}
 use Rattle.ga_dap_queries.specs.Sending.{Message, event_message}
 

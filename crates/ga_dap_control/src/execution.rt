@@ -1,26 +1,20 @@
 //! The run under way.
 
-ghost use Rattle.std.specs.Prelude.{◌≡◌, ◌≤◌, Option, Some, None};
+ghost use Rattle.std.specs.Prelude.{◌≡◌, ◌≤◌, Some, None};
 ghost use Rattle.ga_scheduler.specs.Running.{running};
 ghost use Rattle.ga_scheduler.specs.Watched.{precedence_run_after};
 ghost use Rattle.ga_dap_breakpoints.specs.Going.{IsMoveResult, tally_after_events, step_plan};
 ghost use Rattle.ga_dap_breakpoints.specs.Stepping.{move_after_events};
-ghost use Rattle.ga_lab.specs.Machine.{chip_of};
-ghost use Rattle.ga_grid.specs.declared.node_id.NodeId.{NodeId as ANode};
-ghost use Rattle.ga_causal.specs.Dependence.{is_marked};
-ghost use Rattle.ga_dap_control.specs.Slices.{slice_limit, tally_before_slice, ContinuesForSlice, StepsForSlice, AdvancesByGoal, IsGreatestDeadlock, MakesSliceOfGoal, MakesSlice, MakesSliceEvents, IsFirstNewlyDeadlocked, is_newly_deadlocked_by, is_newly_deadlocked, filtered_deadlock, is_stuck_stop, reported_deadlocks, stop_reason_at_place, breakpoint_stop_reason, end_of_move, event_node, slice_stop_reason, deadlock_stop_reason, execution_after_stop};
+ghost use Rattle.ga_dap_control.specs.Slices.{slice_limit, tally_before_slice, ContinuesForSlice, StepsForSlice, AdvancesByGoal, MakesSliceOfGoal, MakesSlice, MakesSliceEvents, execution_after_stop};
 
 use crate::configuration::Configuration;
-use ga_dap_breakpoints::{
-    Breakpoint, HaltReason, HitTally, MoveResult, StepMove, Watched, continue_run, continue_step,
-    kept_hits,
-};
+use crate::deadlocks::{keep_reported, newly_stuck, stuck_of, unreported};
+use crate::stop_reason::{StopReason, slice_stop_reason};
+use ga_dap_breakpoints::{HitTally, MoveResult, StepMove, continue_run, continue_step, kept_hits};
 use ga_dap_queries::Debuggee;
-use ga_dap_views::has_thread;
 use ga_debug_info::DebugInfo;
 use ga_grid::NodeId;
-use ga_lab::{Lab, LabFault, Made};
-use ga_races::find_deadlocked;
+use ga_lab::Lab;
 use ga_scheduler::Schedule;
 
 /// How many events are made before the client is listened to again.
@@ -50,89 +44,6 @@ pub struct Execution {
     pub stops_on_entry: bool,
     /// The nodes that were deadlocked when a deadlock was last reported to the client, as far as they still are.
     pub reported: [bool; 144],
-}
-
-/// Why a run ended.
-#[derive(Clone, Copy, PartialEq, Eq, Debug)]
-pub enum StopReason {
-    /// The step of this node was made.
-    Step(NodeId),
-    /// A node came to a breakpoint by what was made.
-    Breakpoint { node: NodeId, made: Made },
-    /// A node wrote a watched cell by what was made.
-    Write { node: NodeId, made: Made },
-    /// The node stopped.
-    Stopped(NodeId),
-    /// The node can never go on.
-    Stuck(NodeId),
-    /// No node has an event.
-    Quiet,
-    /// The lab refused the next event.
-    Refused(LabFault),
-}
-
-/// The node of what was made, of a pass its reader.
-fn node_of(made: Made) -> NodeId
-    ensures { result ≡ event_node made }
-{
-    match made {
-        Made::Own { node, .. } => node,
-        Made::Pass { reader, .. } => reader,
-    }
-}
-
-/// Why a run stops by what was made, which hit a breakpoint.
-fn breakpoint_stop_reason(point: Option<Breakpoint>, made: Made) -> StopReason
-    ensures { result ≡ breakpoint_stop_reason point made }
-{
-    match point {
-        None => StopReason::Step(node_of(made)),
-        Some(point) => match point.watched {
-            Watched::ArrivesAtSlot(_) => StopReason::Breakpoint {
-                node: point.node,
-                made,
-            },
-            Watched::Writes(_) => StopReason::Write {
-                node: point.node,
-                made,
-            },
-        },
-    }
-}
-
-/// Why a run stops by what was made, which hit the breakpoint at a place, and none before it.
-fn stop_reason_at_place(settings: &Configuration, made: Made, place: usize) -> StopReason
-    ensures { result ≡ stop_reason_at_place settings.now made place }
-{
-    breakpoint_stop_reason(settings.points.breakpoint_at(place), made)
-}
-
-/// Whether a node that has something to show, and isn't stopped, can never go on and is not among those known.
-fn is_newly_deadlocked(program: &Debuggee, known: bool, now: bool, node: NodeId) -> bool
-    ensures { result ≡ is_newly_deadlocked_by known now program.now node.number }
-{
-    let lab = &program.lab;
-    now && !known && has_thread(lab, program.nodes.as_slice(), node) && lab.node(node).stop() == 0
-}
-
-/// Whether a node that has something to show, and isn't stopped, can never go on and is not among those known, by marks of the nodes.
-fn is_newly_marked(program: &Debuggee, known: &[bool; 144], now: &[bool; 144], node: NodeId) -> bool
-    ensures { result ≡ is_newly_deadlocked (is_marked known.now) (is_marked now.now) program.now node.number }
-{
-    is_newly_deadlocked(program, known[node.index()], now[node.index()], node)
-}
-
-/// The first node that has something to show, isn't stopped, and can never go on but is not among those known.
-fn newly_stuck(program: &Debuggee, known: &[bool; 144], now: &[bool; 144]) -> Option<NodeId>
-    ensures { IsFirstNewlyDeadlocked (is_marked known.now) (is_marked now.now) program.now result }
-{
-    'nodes: for number in 0..144u8 {
-        let node = NodeId::new(number);
-        if is_newly_marked(program, known, now, node) {
-            return Some(node);
-        }
-    }
-    None
 }
 
 /// How often each breakpoint was hit before a slice: as the slice before left it, or as the kept events say.
@@ -233,62 +144,6 @@ fn advance(
     }
 }
 
-fn end_of_move(goal: Goal, made: Made) -> StopReason
-    ensures { result ≡ end_of_move goal made }
-{
-    match goal {
-        Goal::Step(stepping) => StopReason::Step(stepping.node),
-        Goal::Continue => StopReason::Step(node_of(made)),
-    }
-}
-
-/// Why a run ends: a node came to be stuck, where that ends it; else another reason.
-fn deadlock_stop_reason(
-    asked: bool,
-    stuck: Option<NodeId>,
-    other: Option<StopReason>,
-) -> Option<StopReason>
-    ensures { result ≡ deadlock_stop_reason asked stuck other }
-{
-    if !asked {
-        return other;
-    }
-    match stuck {
-        Some(node) => Some(StopReason::Stuck(node)),
-        None => other,
-    }
-}
-
-/// Why a run ended after a slice with this result; none if it continues.
-fn slice_stop_reason(
-    settings: &Configuration,
-    goal: Goal,
-    stuck: Option<NodeId>,
-    halt: HaltReason,
-) -> Option<StopReason>
-    ensures { result ≡ slice_stop_reason settings.now goal stuck halt }
-{
-    match halt {
-        HaltReason::Hit { made, which } => Some(stop_reason_at_place(settings, made, which)),
-        HaltReason::Stopped(made) => Some(StopReason::Stopped(node_of(made))),
-        HaltReason::Moved(made) => deadlock_stop_reason(
-            settings.stuck,
-            stuck,
-            Some(end_of_move(goal, made)),
-        ),
-        HaltReason::Refused(why) => Some(StopReason::Refused(why)),
-        HaltReason::Cut => deadlock_stop_reason(settings.stuck, stuck, None),
-        HaltReason::Quiet => deadlock_stop_reason(settings.stuck, stuck, Some(StopReason::Quiet)),
-    }
-}
-
-/// The nodes that can never go on.
-fn stuck_of(program: &Debuggee) -> [bool; 144]
-    ensures { IsGreatestDeadlock (chip_of program.now.lab) (is_marked result) }
-{
-    find_deadlocked(program.lab.chip())
-}
-
 /// Makes a slice of the events of the run under way, and says why it ended, where it did.
 pub fn make_slice(
     program: &mut Debuggee,
@@ -313,55 +168,6 @@ fn make_slice_for(
     match goal {
         Some(goal) => make_slice_of(program, settings, execution, goal),
         None => None,
-    }
-}
-
-/// The deadlocked node to report to the client, if the filter is on.
-fn unreported(
-    program: &Debuggee,
-    settings: &Configuration,
-    execution: &Execution,
-    now: &[bool; 144],
-) -> Option<NodeId>
-    ensures { (stuck : Option ANode) × IsFirstNewlyDeadlocked (is_marked execution.now.reported) (is_marked now.now) program.now stuck × (result ≡ filtered_deadlock settings.now.stuck stuck) }
-{
-    let stuck = newly_stuck(program, &execution.reported, now);
-    if settings.stuck { stuck } else { None }
-}
-
-/// Whether a run ended since a node is stuck.
-fn is_stuck_stop(stop: &Option<StopReason>) -> bool
-    ensures { result ≡ is_stuck_stop stop.now }
-{
-    match stop {
-        None => false,
-        Some(StopReason::Stuck(_)) => true,
-        Some(StopReason::Step(_)) => false,
-        Some(StopReason::Breakpoint { .. }) => false,
-        Some(StopReason::Write { .. }) => false,
-        Some(StopReason::Stopped(_)) => false,
-        Some(StopReason::Quiet) => false,
-        Some(StopReason::Refused(_)) => false,
-    }
-}
-
-/// Stores which deadlocked nodes were reported to the client, after a slice: if one was, all that are deadlocked then; none if
-/// the filter is off.
-fn keep_reported(
-    execution: &mut Execution,
-    asked: bool,
-    stop: &Option<StopReason>,
-    before: &[bool; 144],
-    now: &[bool; 144],
-)
-    ensures { execution.new ≡ record execution.old { reported = reported_deadlocks asked stop.now before.now now.now } }
-{
-    if !asked {
-        execution.reported = [false; 144];
-    } else if is_stuck_stop(stop) {
-        execution.reported = *now;
-    } else {
-        execution.reported = *before;
     }
 }
 

@@ -4,21 +4,14 @@ ghost use Rattle.std.specs.Prelude.{◌≡◌, ◌<◌, length, position, codes,
 ghost use Rattle.serde_json.specs.View.{view};
 ghost use Rattle.ga_dap_protocol.specs.Messages.{member_text};
 ghost use Rattle.ga_dap_queries.specs.Disassembling.{offset_given, wrapped_address_offset};
-ghost use Rattle.ga_dap_breakpoints.specs.Saying.{parse_hit_condition};
-ghost use Rattle.ga_conditions.specs.Tests.{test_in};
-ghost use Rattle.ga_dap_control.specs.Placing.{requested_line, source_breakpoint_location, has_label_text, breakpoint_of_any_label, breakpoint_of_node_label, has_node_prefix, node_prefix, function_breakpoint, instruction_breakpoint_at, data_breakpoint_at, location_without_line, is_member_not_text, with_parsed_condition, with_condition, with_parsed_hit_condition, with_hit_condition, location_with_conditions, requested_breakpoint, no_location_text, placement_error_text, IsBreakpointOfReference, IsBreakpointLocation};
+ghost use Rattle.ga_dap_control.specs.Placing.{requested_line, source_breakpoint_location, has_label_text, breakpoint_of_any_label, breakpoint_of_node_label, has_node_prefix, node_prefix, function_breakpoint, instruction_breakpoint_at, data_breakpoint_at, location_without_line, IsBreakpointOfReference, IsBreakpointLocation};
 
 use crate::configuration::BreakpointKind;
-use ga_conditions::parse_test;
-use ga_dap_breakpoints::{
-    Breakpoint, MAX_COUNTED_BREAKPOINTS, Watched, breakpoint_of_address, breakpoint_of_line,
-    parse_hit_condition,
-};
+use ga_dap_breakpoints::{Breakpoint, Watched, breakpoint_of_address, breakpoint_of_line};
 use ga_dap_protocol::{member_number, member_text};
 use ga_dap_queries::{Debuggee, offset_at, resolve_memory_reference, wrapped_address_offset};
 use ga_debug_info::{DebugInfo, LabelAddress};
 use ga_grid::NodeId;
-use ga_scheduler::ValueTest;
 use ga_text::parse_node;
 use serde_json::Value;
 
@@ -27,21 +20,6 @@ use serde_json::Value;
 pub struct BreakpointLocation {
     pub breakpoint: Breakpoint,
     pub line: Option<u32>,
-}
-
-/// Why a requested breakpoint is not set.
-#[derive(Clone, Copy, PartialEq, Eq, Debug)]
-pub enum PlacementError {
-    /// There is no such place.
-    Nowhere,
-    /// The breakpoint's condition can't be read.
-    Condition,
-    /// The breakpoint's condition has a number that no word is.
-    Range,
-    /// The breakpoint's hit condition can't be read.
-    Hits,
-    /// Hits are counted of as many breakpoints already as may be.
-    Uncounted,
 }
 
 /// The place of a requested breakpoint; none if there is no such place.
@@ -57,165 +35,6 @@ pub fn resolve_breakpoint(
         BreakpointKind::Function => found_at_label(program.notes(), asked),
         BreakpointKind::Instruction => found_at_address(program, asked),
         BreakpointKind::Data => found_cell(program, asked),
-    }
-}
-
-/// Why there is no such place as the request names.
-fn unfound(family: BreakpointKind) -> &'static str
-    ensures { result.now ≡ no_location_text family }
-{
-    match family {
-        BreakpointKind::Source => "no code stands on this line or behind it",
-        BreakpointKind::Function => "no node has this label",
-        BreakpointKind::Instruction => "no such memory",
-        BreakpointKind::Data => "no such cell of RAM",
-    }
-}
-
-/// Why a breakpoint is not set.
-pub fn placement_error_text(family: BreakpointKind, why: PlacementError) -> &'static str
-    ensures { result.now ≡ placement_error_text family why }
-{
-    match why {
-        PlacementError::Nowhere => unfound(family),
-        PlacementError::Condition =>
-            "condition: a register or [HH], then = != < <= > or >=, then a number, port or label",
-        PlacementError::Range => "condition: the number is past 0x3ffff, the last word",
-        PlacementError::Hits => "hitCondition: N, >= N or % N, from 1 on",
-        PlacementError::Uncounted => "hitCondition: hits are counted of 64 breakpoints at most",
-    }
-}
-
-/// Whether a member is there, and is neither text nor null.
-fn is_member_not_text(asked: &Value, name: &str) -> bool
-    ensures { result ≡ is_member_not_text name.now (view asked.now) }
-{
-    match asked.get(name) {
-        Some(given) => !given.is_string() && !given.is_null(),
-        None => false,
-    }
-}
-
-/// A breakpoint at a place, with this condition.
-fn with_test(place: BreakpointLocation, test: ValueTest) -> BreakpointLocation
-    ensures { result ≡ record place { breakpoint = record place.breakpoint { condition = Some test } } }
-{
-    BreakpointLocation {
-        breakpoint: Breakpoint {
-            condition: Some(test),
-            ..place.breakpoint
-        },
-        ..place
-    }
-}
-
-/// A breakpoint at a place, with the condition that a text says.
-fn with_parsed_condition(
-    names: &[LabelAddress],
-    place: BreakpointLocation,
-    text: &[u8],
-) -> Result<BreakpointLocation, PlacementError>
-    ensures { result ≡ with_parsed_condition place (test_in names.now place.breakpoint.node text.now) }
-{
-    match parse_test(names, place.breakpoint.node, text) {
-        Some(test) => {
-            if test.is_possible() {
-                Ok(with_test(place, test))
-            } else {
-                Err(PlacementError::Range)
-            }
-        }
-        None => Err(PlacementError::Condition),
-    }
-}
-
-/// A breakpoint at a place, with the requested condition, if there is one.
-fn with_condition(
-    names: &[LabelAddress],
-    place: BreakpointLocation,
-    asked: &Value,
-) -> Result<BreakpointLocation, PlacementError>
-    ensures { result ≡ with_condition names.now place (is_member_not_text (codes "condition") (view asked.now)) (member_text (codes "condition") (view asked.now)) }
-{
-    if is_member_not_text(asked, "condition") {
-        return Err(PlacementError::Condition);
-    }
-    match member_text(asked, "condition") {
-        Some(text) => with_parsed_condition(names, place, text.as_bytes()),
-        None => Ok(place),
-    }
-}
-
-/// A breakpoint at a place, with the hit condition of a text, given the number of breakpoints before it.
-fn with_parsed_hit_condition(
-    place: BreakpointLocation,
-    before: usize,
-    text: &[u8],
-) -> Result<BreakpointLocation, PlacementError>
-    ensures { result ≡ with_parsed_hit_condition place before (parse_hit_condition text.now) }
-{
-    match parse_hit_condition(text) {
-        Some(hits) => {
-            if before < MAX_COUNTED_BREAKPOINTS {
-                Ok(BreakpointLocation {
-                    breakpoint: Breakpoint {
-                        hits: Some(hits),
-                        ..place.breakpoint
-                    },
-                    ..place
-                })
-            } else {
-                Err(PlacementError::Uncounted)
-            }
-        }
-        None => Err(PlacementError::Hits),
-    }
-}
-
-/// A breakpoint at a place, with its hit condition, if any.
-fn with_hit_condition(
-    place: BreakpointLocation,
-    before: usize,
-    asked: &Value,
-) -> Result<BreakpointLocation, PlacementError>
-    ensures { result ≡ with_hit_condition place before (is_member_not_text (codes "hitCondition") (view asked.now)) (member_text (codes "hitCondition") (view asked.now)) }
-{
-    if is_member_not_text(asked, "hitCondition") {
-        return Err(PlacementError::Hits);
-    }
-    match member_text(asked, "hitCondition") {
-        Some(text) => with_parsed_hit_condition(place, before, text.as_bytes()),
-        None => Ok(place),
-    }
-}
-
-/// The requested breakpoint at a place, if its condition and its hit condition can be parsed.
-fn location_with_conditions(
-    names: &[LabelAddress],
-    place: BreakpointLocation,
-    before: usize,
-    asked: &Value,
-) -> Result<BreakpointLocation, PlacementError>
-    ensures { result ≡ location_with_conditions names.now place before (view asked.now) }
-{
-    match with_condition(names, place, asked) {
-        Ok(place) => with_hit_condition(place, before, asked),
-        Err(why) => Err(why),
-    }
-}
-
-/// The requested breakpoint, given the labels of the program and the number of breakpoints before it; else why it is not set.
-pub fn requested_breakpoint(
-    names: &[LabelAddress],
-    found: Option<BreakpointLocation>,
-    before: usize,
-    asked: &Value,
-) -> Result<BreakpointLocation, PlacementError>
-    ensures { result ≡ requested_breakpoint names.now found before (view asked.now) }
-{
-    match found {
-        Some(place) => location_with_conditions(names, place, before, asked),
-        None => Err(PlacementError::Nowhere),
     }
 }
 

@@ -7,10 +7,8 @@ ghost use Rattle.ga_dap_control.specs.Placing.{Placement, IsBreakpointLocation, 
 ghost use Rattle.ga_dap_control.specs.inner.{placement_of};
 
 use crate::configuration::{BreakpointKind, PlacedBreakpoint};
-use crate::finding::{
-    BreakpointLocation, PlacementError, placement_error_text, requested_breakpoint,
-    resolve_breakpoint,
-};
+use crate::finding::{BreakpointLocation, resolve_breakpoint};
+use crate::requested_breakpoint::{PlacementError, placement_error_text, requested_breakpoint};
 use ga_dap_breakpoints::Breakpoint;
 use ga_dap_queries::Debuggee;
 use serde_json::{Value, json, push};

@@ -9,7 +9,7 @@ ghost use Rattle.ga_dap_control.specs.Stopping.{hit, hit_breakpoint_ids, lab_fau
 
 use crate::configuration::Configuration;
 use crate::configuring::first_of;
-use crate::execution::StopReason;
+use crate::stop_reason::StopReason;
 use ga_dap_protocol::{Outbox, member_text};
 use ga_dap_queries::{Debuggee, emit_breakpoint_hit, emit_stopped, exception_info};
 use ga_grid::NodeId;

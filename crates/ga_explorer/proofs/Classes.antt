@@ -28,7 +28,6 @@ use Rattle.ga_explorer.specs.Reading.{parse_run_arguments, run_command_of_parts,
 use Rattle.ga_explorer.specs.declared.commands.ExplorerCommand.{ExplorerCommand}
 use Rattle.ga_explorer.specs.declared.commands.ExplorerCommand.TheVariants.{Run, BackUntil, AnswerQuery}
 use Rattle.ga_explorer.specs.declared.commands.Query.{Query as Question}
-use Rattle.ga_explorer.specs.declared.forms.CommandClass.{CommandClass}
 use Rattle.ga_explorer.specs.declared.forms.CommandClass.TheVariants.{Query, Change}
 use Rattle.ga_explorer.proofs.LineAnswers.{same_explored}
 

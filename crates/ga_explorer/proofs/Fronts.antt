@@ -4,7 +4,7 @@ use Rattle.ga_image.proofs.Room.{short_image}
 use Rattle.ga_image.specs.declared.fault.ImageFault.{ImageFault}
 use Rattle.ga_text.specs.Input.{input_limit, UnreadInput}
 use Rattle.ga_text.specs.Image.{HasNoEndLine}
-use Rattle.ga_console.specs.Run.{ReadsOnlyImage, IsFaultOfImage}
+use Rattle.ga_console.specs.Run.{ReadsOnlyImage}
 use Rattle.ga_console.specs.declared.run.Status.{Status}
 use Rattle.ga_explorer.specs.Opening.{ExplorerState, begins_as_image, is_read_as_image, OpensExplorer, OpensLeadingText, IsLeadingText, IsRefusedImage, IsSessionOpened}
 use Rattle.ga_explorer.specs.Opening.IsUnopenedSession.{image_refused, source_refused}

@@ -9,7 +9,7 @@ ghost use Rattle.ga_explorer.specs.Classes.{class_of_line};
 ghost use Rattle.ga_explorer.specs.inner.{entry_of};
 ghost use Rattle.ga_text.specs.Parsing.{split_at_space};
 
-use crate::commands::command_table;
+use crate::command_table::command_table;
 use ga_parser::is_within_one_edit;
 use ga_text::{WriteResult, Writer, split_at_space};
 use std::fmt;

@@ -4,6 +4,7 @@
 mod arguments;
 mod back_request;
 mod beginning;
+mod command_table;
 mod commands;
 mod explorer;
 mod forms;

@@ -153,9 +153,16 @@ none_found cs only s (suc n) h p l = by_test (is_held_at cs only s n) refl h (λ
 -- ---- the walk over the events
 
 -- the report of the event just before a place
-pub told_prev : (s : State) (n : ℕ) (m : Made) → 0 < n → Some m ≡ made_event_before s n → made_event_in (outcomes_of_kept s) (n - 1) ≡ Some m
+told_prev : (s : State) (n : ℕ) (m : Made) → 0 < n → Some m ≡ made_event_before s n → made_event_in (outcomes_of_kept s) (n - 1) ≡ Some m
 told_prev s zero m l h = absurd (omega arith)
 told_prev s (suc n) m l h = ap (made_event_in (outcomes_of_kept s)) (let e : suc n - 1 ≡ n = omega arith in e) ∙ sym h
+
+pub told_before : (s : State) (n : ℕ) (m : Made) (events : BackwardState) → 0 < n → events ≡ backward_state s n → Some m ≡ made_event_before events.machine events.place → made_event_in (outcomes_of_kept s) (n - 1) ≡ Some m
+told_before s n m events l is told = told_prev s n m l (subst (λ (z : BackwardState). Some m ≡ made_event_before z.machine z.place) is told)
+
+-- one event back
+pub back_before : (s : State) (n : ℕ) (events back : BackwardState) → events ≡ backward_state s n → back ≡ record events { place = events.place - 1 } → back ≡ backward_state s (n - 1)
+back_before s n events back is left = left ∙ ap (λ (z : BackwardState). record z { place = z.place - 1 }) is
 
 -- if no event is found at it, the search continues below, and ends where it may
 pub below : (c : Condition) (only : Option NodeId) (s : State) (least n m total : ℕ) → m + 1 ≡ n → is_held c only s m ≡ false

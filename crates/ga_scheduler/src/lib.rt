@@ -5,6 +5,7 @@ mod condition;
 mod drawing;
 mod edges;
 mod effects;
+mod event_tests;
 mod idle;
 pub mod laws;
 mod numbers;
@@ -20,6 +21,10 @@ mod words;
 
 pub use condition::Condition;
 pub use effects::{Effects, RollbackEffect, find_rollback_effects};
+pub use event_tests::{
+    addresses_cell, fetches_at, is_matching_pass, is_step_of, is_stop_event, is_stop_event_of,
+    is_wait_event_of, stores_in_cell,
+};
 pub use idle::find_idle;
 pub use reverse_search::{back_until, find_newest_holding};
 pub use running::{RunEnd, RunResult, run_schedule};

@@ -7,6 +7,8 @@
 mod group;
 pub mod laws;
 mod loading;
+mod node_start;
+mod numbered_words;
 mod packing;
 mod program;
 mod reading;
@@ -19,9 +21,7 @@ pub use ga_parser::{
     expectation_lines, hint_for, source_words, source_words_without_copies, strip_bom,
 };
 pub use group::CellGroup;
+pub use numbered_words::{assemble_by_word_number, fault_on_line, faults_on_lines, line_of_number};
 pub use program::{AssembledChip, Program, assemble, assemble_words};
-pub use recovery::{
-    RecoveredPrograms, all_faults, assemble_by_word_number, fault_on_line, faults_on_lines,
-    faults_or_first, line_of_number, recover_words,
-};
+pub use recovery::{RecoveredPrograms, all_faults, faults_or_first, recover_words};
 pub use stores::{Store, stores_over_code};

@@ -1,27 +1,22 @@
 //! Words of which some are at fault: all faults, and what the other words give.
 
-ghost use Rattle.std.specs.Prelude.{◌≡◌, ◌≤◌, ◌<◌, ◌++◌, ◌∷◌, [], ℕ, List, true, false, length, map, drop, take, slice_index_or, slice_set, IfOk, IfErr, OnOk, Some, Err};
-ghost use Rattle.ga_grid.specs.Grid.{optional_number};
+ghost use Rattle.std.specs.Prelude.{◌≡◌, ◌≤◌, ◌<◌, ◌++◌, ◌∷◌, [], true, length, drop, IfOk, IfErr, OnOk};
 ghost use Rattle.ga_parser.specs.declared.fault.SourceCause.TheVariants.{Memory};
-ghost use Rattle.ga_parser.specs.Requests.{word_refusal};
-ghost use Rattle.ga_parser.specs.Saying.{token_content, token_contents, is_word};
-ghost use Rattle.ga_parser.specs.Words.{source_tokens};
-ghost use Rattle.ga_source.specs.Made.{IsSoundSource};
-ghost use Rattle.ga_source.specs.Recovery.{with_line, with_numbers, IsAssemblyOfWords, line_of_number, fault_at_line, faults_by_line, register_value_refusals, register_refusals, AreFaultsOfRequests, AreFaultsOfNode, is_node_token, node_of_token, misplaced_word_fault as misplaced_at, AreFaultsOfWords, AreFaultsOfSource, faults_or_first as or_this};
-ghost use Rattle.ga_source.specs.inner.{Adds, AreRefused, head_of, left_of, Skips, IsBegun, Recovers};
+ghost use Rattle.ga_parser.specs.Saying.{token_contents};
+ghost use Rattle.ga_source.specs.Recovery.{with_numbers, register_value_refusals, register_refusals, AreFaultsOfRequests, AreFaultsOfNode, AreFaultsOfWords, AreFaultsOfSource, faults_or_first as or_this};
+ghost use Rattle.ga_source.specs.inner.{Adds, AreRefused, IsBegun, Recovers};
 
 use super::group::CellGroup;
 use super::loading::load_left;
+use super::node_start::{node_begun, skipped_length};
+use super::numbered_words::{faults_on_lines, number_words};
 use super::packing::{PackedNode, pack};
-use super::program::{
-    AssembledChip, Program, assemble_words, body_length, is_node_keyword, node_named, none_begun,
-    value_given,
-};
+use super::program::{AssembledChip, Program, body_length, none_begun, value_given};
 use ga_grid::{Chip, NodeId};
 use ga_node::Node;
 use ga_parser::{
     InitialRegisters, Label, NodeRequests, RecoveredRequests, Register, RegisterValue, SourceCause,
-    SourceFault, Token, TokenKind, fault_at, recover_requests, source_words_without_copies,
+    SourceFault, Token, fault_at, recover_requests, source_words_without_copies,
 };
 use std::alloc::{AllocError, Global};
 
@@ -32,49 +27,6 @@ pub struct RecoveredPrograms<'s> {
     pub assembled: AssembledChip<'s>,
     /// The faults in the order of their words, each with the number of its word in place of the line.
     pub faults: Vec<SourceFault<'s>>,
-}
-
-/// The words with their numbers, from 1 on, in place of their lines.
-fn number<'s>(alloc: Global, words: &[Token<'s>]) -> Result<Vec<Token<'s>>, AllocError>
-    ensures { IfOk result (λ all. all.items ≡ with_numbers 1 words.now) }
-{
-    let mut all = Vec::new(alloc);
-    let mut number = 1u32;
-    for word in words {
-        all.push(with_number(word, number))?;
-        number = number.saturating_add(1);
-    }
-    Ok(all)
-}
-
-/// A word with its number in place of its line.
-fn with_number<'s>(word: &Token<'s>, number: u32) -> Token<'s>
-    ensures { result ≡ with_line word.now number }
-{
-    Token {
-        line: number,
-        column: word.column,
-        text: word.text,
-        kind: word.kind,
-    }
-}
-
-/// The chip of words, with the numbers of words in place of lines.
-#[tactic(auto, using(crate::proofs::Refusing::numbered_words))]
-///
-/// # Errors
-/// A fault of the first node that has one: the first of its words, or else of its names, or else of its cells.
-pub fn assemble_by_word_number<'s>(
-    alloc: Global,
-    words: &[Token<'s>],
-) -> Result<AssembledChip<'s>, SourceFault<'s>>
-    ensures assembled { IfOk result (IsAssemblyOfWords (with_numbers 1 words.now)) }
-
-    // All words of a source of plain words that give each cell once are refused only if memory runs out.
-    ensures refused { IfErr result (λ fault. (source : List ℕ) → token_contents words.now ≡ source_tokens source → IsSoundSource source → fault.cause ≡ Memory) }
-{
-    let numbered = number(alloc, words)?;
-    assemble_words(alloc, numbered.as_slice())
 }
 
 /// Whether memory ran out.
@@ -100,110 +52,6 @@ fn add_fault<'s>(
     }
     faults.push(fault)?;
     Ok(())
-}
-
-/// Whether a program begins with the word.
-fn begins(word: &Token<'_>) -> bool
-    ensures { result ≡ is_node_token (token_content word.now) }
-{
-    word.kind == TokenKind::Word && is_node_keyword(word.text)
-}
-
-/// The node that a word names.
-fn node_of(name: Token<'_>) -> Option<NodeId>
-    ensures { optional_number result ≡ node_of_token (token_content name.entry) }
-{
-    match name.kind {
-        TokenKind::Word => node_named(name.text),
-        TokenKind::LongLine
-        | TokenKind::OpenComment
-        | TokenKind::NoNumber
-        | TokenKind::Missing
-        | TokenKind::Taken => None,
-    }
-}
-
-/// The fault of a word that can't be in its place, or else of its line.
-fn misplaced_word_fault<'s>(word: Token<'s>, cause: SourceCause<'s>) -> SourceFault<'s>
-    ensures { result ≡ misplaced_at (token_content word.entry) cause.entry }
-{
-    let cause = match word.kind {
-        TokenKind::Word => cause,
-        TokenKind::LongLine => SourceCause::LongLine,
-        TokenKind::OpenComment => SourceCause::OpenComment,
-        TokenKind::NoNumber => SourceCause::NoNumber,
-        TokenKind::Missing => SourceCause::Missing,
-        TokenKind::Taken => SourceCause::Taken,
-    };
-    SourceFault {
-        line: word.line,
-        cause,
-    }
-}
-
-/// The node that begins with the first of these words.
-///
-/// # Errors
-/// The fault, if none begins.
-#[tactic(auto, using(crate::proofs::Recovering::no_begin, crate::proofs::Recovering::no_name, crate::proofs::Recovering::bad_name, crate::proofs::Recovering::begun_again, crate::proofs::Recovering::is_begun))]
-fn node_begun<'s>(begun: &[bool], words: &[Token<'s>]) -> Result<NodeId, SourceFault<'s>>
-    requires some { 0 < length words.now }
-    requires size { length begun.now ≡ 144 }
-    ensures begun { IfOk result (λ id. IsBegun begun.now (token_contents words.now) id.number) }
-    ensures refused { IfErr result (Skips begun.now (token_contents words.now)) }
-{
-    let first = words[0];
-    if !begins(&first) {
-        return Err(misplaced_word_fault(first, SourceCause::NoNode));
-    }
-    if words.len() < 2 {
-        return Err(misplaced_word_fault(first, SourceCause::Missing));
-    }
-    let name = words[1];
-    let Some(node) = node_of(name) else {
-        return Err(misplaced_word_fault(name, SourceCause::NoSuchNode));
-    };
-    if begun[node.index()] {
-        return Err(misplaced_word_fault(name, SourceCause::NodeTwice));
-    }
-    Ok(node)
-}
-
-/// The number of words with which a node begins: `node` and its name, or a word in the place of `node`.
-#[tactic(auto, using(crate::proofs::Recovering::head_two, crate::proofs::Recovering::head_one, crate::proofs::Recovering::head_last))]
-fn head_length(words: &[Token<'_>]) -> usize
-    requires { 0 < length words.now }
-    ensures count { result ≡ head_of (token_contents words.now) }
-    ensures some { 0 < result }
-    ensures in_range { result ≤ length words.now }
-{
-    if words.len() < 2 {
-        return 1;
-    }
-    if begins(&words[0]) { 2 } else { 1 }
-}
-
-/// Whether the word is no fault.
-fn is_whole(word: &Token<'_>) -> bool
-    ensures { result ≡ is_word (token_content word.now) }
-{
-    word.kind == TokenKind::Word
-}
-
-/// The number of words up to the next `node`, if no node begins with the first: the name after a `node` is one of them. A fault of a line
-/// or of a constant is skipped alone.
-fn skipped_length(words: &[Token<'_>]) -> usize
-    requires { 0 < length words.now }
-    ensures some { 0 < result }
-    ensures in_range { result ≤ length words.now }
-    ensures left { token_contents (drop result words.now) ≡ left_of (token_contents words.now) }
-{
-    if !is_whole(&words[0]) {
-        return 1;
-    }
-    let head = head_length(words);
-    let (_, rest) = words.split_at(head);
-    body_length(rest) + head
 }
 
 /// Adds the fault of a register that is given a number out of its range.
@@ -402,7 +250,7 @@ pub fn recover_words<'s>(
     ensures faults { IfOk result (λ all. AreFaultsOfWords (token_contents (with_numbers 1 words.now)) all.faults.items) }
     ensures refused { IfErr result (λ fault. fault.cause ≡ Memory) }
 {
-    let numbered = number(alloc, words)?;
+    let numbered = number_words(alloc, words)?;
     let all = numbered.as_slice();
     let mut chip = match Chip::new(alloc) {
         Ok(chip) => chip,
@@ -427,50 +275,6 @@ pub fn recover_words<'s>(
         assembled: AssembledChip { chip, programs },
         faults,
     })
-}
-
-/// The line of the word with a number, 0 if there is none.
-pub fn line_of_number(words: &[Token<'_>], number: u32) -> u32
-    ensures { result ≡ line_of_number words.now number }
-{
-    match words.get((number as usize).saturating_sub(1)) {
-        Some(word) => word.line,
-        None => 0,
-    }
-}
-
-/// A fault at the number of a word, at that word's line.
-pub fn fault_on_line<'s>(words: &[Token<'_>], fault: SourceFault<'s>) -> SourceFault<'s>
-    ensures { result ≡ fault_at_line words.now fault.entry }
-{
-    let line = line_of_number(words, fault.line);
-    let cause = match fault.cause {
-        SourceCause::CellTwice { cell, line } => SourceCause::CellTwice {
-            cell,
-            line: line_of_number(words, line),
-        },
-        cause => cause,
-    };
-    SourceFault { line, cause }
-}
-
-/// The faults at the lines of their words, without those that are equal to the one before.
-///
-/// # Errors
-/// Out of memory.
-pub fn faults_on_lines<'s>(
-    alloc: Global,
-    words: &[Token<'_>],
-    faults: &[SourceFault<'s>],
-) -> Result<Vec<SourceFault<'s>>, AllocError>
-    ensures { IfOk result (λ all. all.items ≡ faults_by_line words.now faults.now) }
-{
-    let mut all = Vec::new(alloc);
-    for fault in faults {
-        all.push(fault_on_line(words, *fault))?;
-    }
-    all.dedup();
-    Ok(all)
 }
 
 /// These faults, or the first one if there are none. (That a source which isn't assembled has a fault is tested, not proved.)

@@ -1,5 +1,5 @@
 -- Words over a link that are read from a text one after another.
-use Rattle.std.proofs.Common.{◌≡◌, ◌∙◌, ℕ, zero, suc, false, true, cond, List, ◌∷◌, [], ◌++◌, Result, Ok, Err, sym, ap}
+use Rattle.std.proofs.Common.{◌≡◌, ◌∙◌, ℕ, zero, suc, false, true, cond, List, Result, Ok, Err, sym, ap}
 use Rattle.std.specs.Prelude.{codes, bytes_eq}
 use Rattle.std.proofs.lemmas.Bool.{cond-true, cond-false}
 use Rattle.ga_text.specs.Lines.{Text}

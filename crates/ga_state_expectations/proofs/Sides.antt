@@ -1,5 +1,5 @@
 -- Sides that are read from a text one after another.
-use Rattle.std.proofs.Common.{◌≡◌, ◌∙◌, ℕ, zero, suc, false, true, Option, Some, None, Result, Ok, Err, refl, sym, ap}
+use Rattle.std.proofs.Common.{◌≡◌, ◌∙◌, ℕ, zero, suc, false, true, Option, Some, None, Result, Ok, Err, sym, ap}
 use Rattle.std.proofs.lemmas.Bool.{cond-true, cond-false}
 use Rattle.ga_text.specs.Lines.{Text}
 use Rattle.ga_ports.specs.declared.side.Side.{Side}

@@ -1,4 +1,4 @@
-use Rattle.std.proofs.Common.{rules, ◌≢◌, ◌≡◌, ◌∙◌, List, ℕ, ap, subst}
+use Rattle.std.proofs.Common.{rules, ◌≢◌, ◌∙◌, List, ℕ, ap, subst}
 use Rattle.ga_parser.specs.declared.fault.SourceCause.TheVariants.{Memory}
 use Rattle.ga_parser.specs.Saying.{token_contents}
 use Rattle.ga_source.specs.Recovery.{with_numbers, AreFaultsOfWords}

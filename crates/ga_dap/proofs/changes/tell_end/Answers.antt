@@ -1,5 +1,5 @@
 use Rattle.std.proofs.Common.{[], ◌∷◌, Option, refl, subst, sym}
-use Rattle.ga_dap_control.specs.declared.execution.StopReason.{StopReason}
+use Rattle.ga_dap_control.specs.declared.stop_reason.StopReason.{StopReason}
 use Rattle.ga_dap_queries.proofs.Sent.{ok_then, sent_one}
 use Rattle.ga_dap.specs.Telling.{AreStopMessages}
 use Rattle.ga_dap.proofs.changes.tell_end.Goals as goal

@@ -1,9 +1,7 @@
-use Rattle.std.proofs.Common.{[], ◌∷◌, codes, refl}
-use Rattle.ga_dap_queries.specs.Sending.{refused_response}
-use Rattle.ga_dap_queries.proofs.Sent.{ok_then, sent_one}
+use Rattle.std.proofs.Common.{refl}
 use Rattle.ga_dap_control.specs.declared.moving.DapStepKind.TheVariants.{Over, In, Out}
 use Rattle.ga_dap_queries.specs.declared.request_name.RequestName.TheVariants as the
-use Rattle.ga_dap_control.proofs.Answered.{only_answers, moves_so, steps_so, with_command}
+use Rattle.ga_dap_control.proofs.Answered.{only_answers, moves_so, steps_so, unknown_refused, with_command}
 use Rattle.ga_dap_control.proofs.launched.answer_at_once.Goals as goal
 
 pub returns-in-SetBreakpoints-clause-sent : goal.returns-in-SetBreakpoints-clause-sent
@@ -80,35 +78,28 @@ returns-in-StepOut-clause-sent c = with_command _ the.StepOut c.args.command c.a
 
 pub returns-in-Initialize-clause-sent : goal.returns-in-Initialize-clause-sent
 returns-in-Initialize-clause-sent c = with_command _ the.Initialize c.args.command c.args.launched.now c.args.request.now _ c.args.out.now _ c.in-Initialize.is
-    (ok_then c.refuse_unknown.result c.refuse_unknown.ensures.sent
-    (λ sent. (refused_response c.args.request.now (codes "no such request") ∷ [], (refl, refl), sent_one c.args.out.now (refused_response c.args.request.now (codes "no such request")) c.refuse_unknown.new.out sent)))
+    (unknown_refused _ c.args.launched.now c.args.request.now c.args.out.now c.refuse_unknown.new.out c.refuse_unknown.ensures.sent)
 
 pub returns-in-Launch-clause-sent : goal.returns-in-Launch-clause-sent
 returns-in-Launch-clause-sent c = with_command _ the.Launch c.args.command c.args.launched.now c.args.request.now _ c.args.out.now _ c.in-Launch.is
-    (ok_then c.refuse_unknown-in-Launch.result c.refuse_unknown-in-Launch.ensures.sent
-    (λ sent. (refused_response c.args.request.now (codes "no such request") ∷ [], (refl, refl), sent_one c.args.out.now (refused_response c.args.request.now (codes "no such request")) c.refuse_unknown-in-Launch.new.out sent)))
+    (unknown_refused _ c.args.launched.now c.args.request.now c.args.out.now c.refuse_unknown-in-Launch.new.out c.refuse_unknown-in-Launch.ensures.sent)
 
 pub returns-in-StepBack-clause-sent : goal.returns-in-StepBack-clause-sent
 returns-in-StepBack-clause-sent c = with_command _ the.StepBack c.args.command c.args.launched.now c.args.request.now _ c.args.out.now _ c.in-StepBack.is
-    (ok_then c.refuse_unknown-in-StepBack.result c.refuse_unknown-in-StepBack.ensures.sent
-    (λ sent. (refused_response c.args.request.now (codes "no such request") ∷ [], (refl, refl), sent_one c.args.out.now (refused_response c.args.request.now (codes "no such request")) c.refuse_unknown-in-StepBack.new.out sent)))
+    (unknown_refused _ c.args.launched.now c.args.request.now c.args.out.now c.refuse_unknown-in-StepBack.new.out c.refuse_unknown-in-StepBack.ensures.sent)
 
 pub returns-in-ReverseContinue-clause-sent : goal.returns-in-ReverseContinue-clause-sent
 returns-in-ReverseContinue-clause-sent c = with_command _ the.ReverseContinue c.args.command c.args.launched.now c.args.request.now _ c.args.out.now _ c.in-ReverseContinue.is
-    (ok_then c.refuse_unknown-in-ReverseContinue.result c.refuse_unknown-in-ReverseContinue.ensures.sent
-    (λ sent. (refused_response c.args.request.now (codes "no such request") ∷ [], (refl, refl), sent_one c.args.out.now (refused_response c.args.request.now (codes "no such request")) c.refuse_unknown-in-ReverseContinue.new.out sent)))
+    (unknown_refused _ c.args.launched.now c.args.request.now c.args.out.now c.refuse_unknown-in-ReverseContinue.new.out c.refuse_unknown-in-ReverseContinue.ensures.sent)
 
 pub returns-in-Evaluate-clause-sent : goal.returns-in-Evaluate-clause-sent
 returns-in-Evaluate-clause-sent c = with_command _ the.Evaluate c.args.command c.args.launched.now c.args.request.now _ c.args.out.now _ c.in-Evaluate.is
-    (ok_then c.refuse_unknown-in-Evaluate.result c.refuse_unknown-in-Evaluate.ensures.sent
-    (λ sent. (refused_response c.args.request.now (codes "no such request") ∷ [], (refl, refl), sent_one c.args.out.now (refused_response c.args.request.now (codes "no such request")) c.refuse_unknown-in-Evaluate.new.out sent)))
+    (unknown_refused _ c.args.launched.now c.args.request.now c.args.out.now c.refuse_unknown-in-Evaluate.new.out c.refuse_unknown-in-Evaluate.ensures.sent)
 
 pub returns-in-Terminate-clause-sent : goal.returns-in-Terminate-clause-sent
 returns-in-Terminate-clause-sent c = with_command _ the.Terminate c.args.command c.args.launched.now c.args.request.now _ c.args.out.now _ c.in-Terminate.is
-    (ok_then c.refuse_unknown-in-Terminate.result c.refuse_unknown-in-Terminate.ensures.sent
-    (λ sent. (refused_response c.args.request.now (codes "no such request") ∷ [], (refl, refl), sent_one c.args.out.now (refused_response c.args.request.now (codes "no such request")) c.refuse_unknown-in-Terminate.new.out sent)))
+    (unknown_refused _ c.args.launched.now c.args.request.now c.args.out.now c.refuse_unknown-in-Terminate.new.out c.refuse_unknown-in-Terminate.ensures.sent)
 
 pub returns-in-Disconnect-clause-sent : goal.returns-in-Disconnect-clause-sent
 returns-in-Disconnect-clause-sent c = with_command _ the.Disconnect c.args.command c.args.launched.now c.args.request.now _ c.args.out.now _ c.in-Disconnect.is
-    (ok_then c.refuse_unknown-in-Disconnect.result c.refuse_unknown-in-Disconnect.ensures.sent
-    (λ sent. (refused_response c.args.request.now (codes "no such request") ∷ [], (refl, refl), sent_one c.args.out.now (refused_response c.args.request.now (codes "no such request")) c.refuse_unknown-in-Disconnect.new.out sent)))
+    (unknown_refused _ c.args.launched.now c.args.request.now c.args.out.now c.refuse_unknown-in-Disconnect.new.out c.refuse_unknown-in-Disconnect.ensures.sent)

@@ -1,4 +1,4 @@
-use Rattle.std.proofs.Common.{Option, refl, ap, sym, subst}
+use Rattle.std.proofs.Common.{Option, refl, ap, subst}
 use Rattle.ga_dap_breakpoints.specs.declared.stepping.StepMove.{StepMove}
 use Rattle.ga_dap_queries.specs.Sending.{refused_response}
 use Rattle.ga_dap_queries.proofs.Sent.{ok_then}

@@ -3,10 +3,10 @@ use Rattle.std.specs.Prelude.{is_some, IsSome}
 use Rattle.ga_grid.specs.declared.node_id.NodeId.{NodeId}
 use Rattle.ga_event.specs.Apply.{replay}
 use Rattle.ga_event.specs.Told.{count_steps, made_event_in}
-use Rattle.ga_lab.specs.Machine.{State, NodeAtStep, earlier, outcomes_of_kept, BackwardState, backward_state, made_event_before}
+use Rattle.ga_lab.specs.Machine.{State, NodeAtStep, earlier, outcomes_of_kept, BackwardState, backward_state}
 use Rattle.ga_scheduler.specs.inner.{counted, counted_by, asked_node, held_upto, is_held}
 use Rattle.ga_scheduler.proofs.Newest.{whole_earlier, fewer_before, counted_back}
-use Rattle.ga_scheduler.proofs.Backing.{told_prev, below, found, ended, steps_whole, stands_now}
+use Rattle.ga_scheduler.proofs.Backing.{back_before, told_before, below, found, ended, steps_whole, stands_now}
 use Rattle.ga_scheduler.proofs.reverse_search.search_back.Goals as goal
 
 pub loop-place-init : goal.loop-place-init
@@ -34,10 +34,10 @@ loop-place-preserved c =
     let n : NodeId = asked_node u in
     let m : ℕ = c.loop-place.place - 1 in
     let e : m + 1 ≡ c.loop-place.place = omega (arith, c.loop-place-test.true) in
-    let et : c.back.new.self ≡ backward_state s m = c.in-Some.ensures.left ∙ ap (λ (z : BackwardState). record z { place = z.place - 1 }) c.loop-place.invariant.events in
+    let et : c.back.new.self ≡ backward_state s m = back_before s c.loop-place.place _ _ c.loop-place.invariant.events c.in-Some.ensures.left in
     let some : IsSome (replay s.load s.kept) = ap is_some c.chip.ensures.replays in
     let told : made_event_in (outcomes_of_kept s) m ≡ Some c.in-Some.made =
-    told_prev s c.loop-place.place c.in-Some.made (omega (arith, c.loop-place-test.true)) (subst (λ (z : BackwardState). Some c.in-Some.made ≡ made_event_before z.machine z.place) c.loop-place.invariant.events c.in-Some.ensures.told) in
+    told_before s c.loop-place.place c.in-Some.made _ (omega (arith, c.loop-place-test.true)) c.loop-place.invariant.events c.in-Some.ensures.told in
     let behind : c.steps-in-loop-place.result ≡ count_steps n.number (take c.loop-place.place s.kept) =
     c.steps-in-loop-place.ensures ∙ ap (λ (z : BackwardState). count_steps c.node_of-node.result.number (take z.place z.machine.kept)) c.loop-place.invariant.events
     ∙ ap (λ (z : NodeId). count_steps z.number (take c.loop-place.place s.kept)) c.node_of-node.ensures in
@@ -60,40 +60,27 @@ loop-place-preserved c =
 pub is_held-requires-clause-replays : goal.is_held-requires-clause-replays
 is_held-requires-clause-replays c =
     let s : State = c.args.lab.now in
-    let u = c.args.until.now in
-    let n : NodeId = asked_node u in
     let m : ℕ = c.loop-place.place - 1 in
-    let e : m + 1 ≡ c.loop-place.place = omega (arith, c.loop-place-test.true) in
-    let et : c.back.new.self ≡ backward_state s m = c.in-Some.ensures.left ∙ ap (λ (z : BackwardState). record z { place = z.place - 1 }) c.loop-place.invariant.events in
+    let et : c.back.new.self ≡ backward_state s m = back_before s c.loop-place.place _ _ c.loop-place.invariant.events c.in-Some.ensures.left in
     let some : IsSome (replay s.load s.kept) = ap is_some c.chip.ensures.replays in
-    let told : made_event_in (outcomes_of_kept s) m ≡ Some c.in-Some.made =
-    told_prev s c.loop-place.place c.in-Some.made (omega (arith, c.loop-place-test.true)) (subst (λ (z : BackwardState). Some c.in-Some.made ≡ made_event_before z.machine z.place) c.loop-place.invariant.events c.in-Some.ensures.told) in
     subst (λ (z : BackwardState). IsSome (replay z.machine.load z.machine.kept)) (sym et) some
 
 pub is_held-requires-clause-told : goal.is_held-requires-clause-told
 is_held-requires-clause-told c =
     let s : State = c.args.lab.now in
-    let u = c.args.until.now in
-    let n : NodeId = asked_node u in
     let m : ℕ = c.loop-place.place - 1 in
-    let e : m + 1 ≡ c.loop-place.place = omega (arith, c.loop-place-test.true) in
-    let et : c.back.new.self ≡ backward_state s m = c.in-Some.ensures.left ∙ ap (λ (z : BackwardState). record z { place = z.place - 1 }) c.loop-place.invariant.events in
-    let some : IsSome (replay s.load s.kept) = ap is_some c.chip.ensures.replays in
+    let et : c.back.new.self ≡ backward_state s m = back_before s c.loop-place.place _ _ c.loop-place.invariant.events c.in-Some.ensures.left in
     let told : made_event_in (outcomes_of_kept s) m ≡ Some c.in-Some.made =
-    told_prev s c.loop-place.place c.in-Some.made (omega (arith, c.loop-place-test.true)) (subst (λ (z : BackwardState). Some c.in-Some.made ≡ made_event_before z.machine z.place) c.loop-place.invariant.events c.in-Some.ensures.told) in
+    told_before s c.loop-place.place c.in-Some.made _ (omega (arith, c.loop-place-test.true)) c.loop-place.invariant.events c.in-Some.ensures.told in
     subst (λ (z : BackwardState). made_event_in (outcomes_of_kept z.machine) z.place ≡ Some c.in-Some.made) (sym et) told
 
 pub is_held-requires-clause-stands : goal.is_held-requires-clause-stands
 is_held-requires-clause-stands c =
     let s : State = c.args.lab.now in
-    let u = c.args.until.now in
-    let n : NodeId = asked_node u in
+    let n : NodeId = asked_node c.args.until.now in
     let m : ℕ = c.loop-place.place - 1 in
     let e : m + 1 ≡ c.loop-place.place = omega (arith, c.loop-place-test.true) in
-    let et : c.back.new.self ≡ backward_state s m = c.in-Some.ensures.left ∙ ap (λ (z : BackwardState). record z { place = z.place - 1 }) c.loop-place.invariant.events in
-    let some : IsSome (replay s.load s.kept) = ap is_some c.chip.ensures.replays in
-    let told : made_event_in (outcomes_of_kept s) m ≡ Some c.in-Some.made =
-    told_prev s c.loop-place.place c.in-Some.made (omega (arith, c.loop-place-test.true)) (subst (λ (z : BackwardState). Some c.in-Some.made ≡ made_event_before z.machine z.place) c.loop-place.invariant.events c.in-Some.ensures.told) in
+    let et : c.back.new.self ≡ backward_state s m = back_before s c.loop-place.place _ _ c.loop-place.invariant.events c.in-Some.ensures.left in
     let behind : c.steps-in-loop-place.result ≡ count_steps n.number (take c.loop-place.place s.kept) =
     c.steps-in-loop-place.ensures ∙ ap (λ (z : BackwardState). count_steps c.node_of-node.result.number (take z.place z.machine.kept)) c.loop-place.invariant.events
     ∙ ap (λ (z : NodeId). count_steps z.number (take c.loop-place.place s.kept)) c.node_of-node.ensures in
@@ -106,13 +93,9 @@ pub is_held-requires-clause-counted : goal.is_held-requires-clause-counted
 is_held-requires-clause-counted c =
     let s : State = c.args.lab.now in
     let u = c.args.until.now in
-    let n : NodeId = asked_node u in
     let m : ℕ = c.loop-place.place - 1 in
     let e : m + 1 ≡ c.loop-place.place = omega (arith, c.loop-place-test.true) in
-    let et : c.back.new.self ≡ backward_state s m = c.in-Some.ensures.left ∙ ap (λ (z : BackwardState). record z { place = z.place - 1 }) c.loop-place.invariant.events in
-    let some : IsSome (replay s.load s.kept) = ap is_some c.chip.ensures.replays in
-    let told : made_event_in (outcomes_of_kept s) m ≡ Some c.in-Some.made =
-    told_prev s c.loop-place.place c.in-Some.made (omega (arith, c.loop-place-test.true)) (subst (λ (z : BackwardState). Some c.in-Some.made ≡ made_event_before z.machine z.place) c.loop-place.invariant.events c.in-Some.ensures.told) in
+    let et : c.back.new.self ≡ backward_state s m = back_before s c.loop-place.place _ _ c.loop-place.invariant.events c.in-Some.ensures.left in
     subst (λ (z : BackwardState). counted u (earlier z.machine (z.place + 1)) ≡ c.loop-place.words) (sym et) (ap (λ (z : ℕ). counted u (earlier s z)) e ∙ c.loop-place.invariant.words)
 
 pub walk_back_to-requires : goal.walk_back_to-requires
@@ -128,13 +111,11 @@ pub count_back-words-requires : goal.count_back-words-requires
 count_back-words-requires c =
     let s : State = c.args.lab.now in
     let u = c.args.until.now in
-    let n : NodeId = asked_node u in
     let m : ℕ = c.loop-place.place - 1 in
     let e : m + 1 ≡ c.loop-place.place = omega (arith, c.loop-place-test.true) in
-    let et : c.back.new.self ≡ backward_state s m = c.in-Some.ensures.left ∙ ap (λ (z : BackwardState). record z { place = z.place - 1 }) c.loop-place.invariant.events in
     let some : IsSome (replay s.load s.kept) = ap is_some c.chip.ensures.replays in
     let told : made_event_in (outcomes_of_kept s) m ≡ Some c.in-Some.made =
-    told_prev s c.loop-place.place c.in-Some.made (omega (arith, c.loop-place-test.true)) (subst (λ (z : BackwardState). Some c.in-Some.made ≡ made_event_before z.machine z.place) c.loop-place.invariant.events c.in-Some.ensures.told) in
+    told_before s c.loop-place.place c.in-Some.made _ (omega (arith, c.loop-place-test.true)) c.loop-place.invariant.events c.in-Some.ensures.told in
     let more : counted u (earlier s (m + 1)) ≡ counted u (earlier s m) + counted_by u c.in-Some.made = counted_back u s m c.in-Some.made some told in
     let here : counted u (earlier s (m + 1)) ≡ c.loop-place.words = ap (λ (z : ℕ). counted u (earlier s z)) e ∙ c.loop-place.invariant.words in
     omega (arith, more, here)
@@ -143,13 +124,9 @@ pub returns-then-is_held-clause-value : goal.returns-then-is_held-clause-value
 returns-then-is_held-clause-value c =
     let s : State = c.args.lab.now in
     let u = c.args.until.now in
-    let n : NodeId = asked_node u in
     let m : ℕ = c.loop-place.place - 1 in
     let e : m + 1 ≡ c.loop-place.place = omega (arith, c.loop-place-test.true) in
-    let et : c.back.new.self ≡ backward_state s m = c.in-Some.ensures.left ∙ ap (λ (z : BackwardState). record z { place = z.place - 1 }) c.loop-place.invariant.events in
-    let some : IsSome (replay s.load s.kept) = ap is_some c.chip.ensures.replays in
-    let told : made_event_in (outcomes_of_kept s) m ≡ Some c.in-Some.made =
-    told_prev s c.loop-place.place c.in-Some.made (omega (arith, c.loop-place-test.true)) (subst (λ (z : BackwardState). Some c.in-Some.made ≡ made_event_before z.machine z.place) c.loop-place.invariant.events c.in-Some.ensures.told) in
+    let et : c.back.new.self ≡ backward_state s m = back_before s c.loop-place.place _ _ c.loop-place.invariant.events c.in-Some.ensures.left in
     let held : is_held u c.args.only s m ≡ c.is_held.result = sym (c.is_held.ensures ∙ ap (λ (z : BackwardState). is_held u c.args.only z.machine z.place) et) in
     found u c.args.only s c.args.least c.loop-place.place m (held_upto u c.args.only s (length s.kept)) e c.loop-place-test.true (held ∙ c.if-is_held.true) c.loop-place.invariant.same
 

@@ -1,8 +1,6 @@
-use Rattle.std.proofs.Common.{◌≡◌, ◌∙◌, ℕ, suc, ◌+◌, ◌-◌, List, ◌∷◌, [], ◌++◌, length, Result, Ok, Err, true, false, sym, ap, arith}
+use Rattle.std.proofs.Common.{◌≡◌, ◌∙◌, ℕ, suc, ◌+◌, ◌-◌, List, length, Ok, sym, ap, arith}
 use Rattle.std.proofs.lemmas.List.{length_push}
-use Rattle.ga_state_links.specs.declared.expectation.LinkExpectation.{LinkExpectation}
-use Rattle.ga_state_expectations.specs.declared.cause.ExpectationCause.{ExpectationCause}
-use Rattle.ga_state_expectations.specs.Spelling.{with_link_word, no_link_words, link_words_within}
+use Rattle.ga_state_expectations.specs.Spelling.{no_link_words, link_words_within}
 use Rattle.ga_state_expectations.proofs.LinkWords.{open_first, no_word, last_word, next_word, many_words}
 use Rattle.ga_state_expectations.proofs.link.parse_words_within.Goals as goal
 

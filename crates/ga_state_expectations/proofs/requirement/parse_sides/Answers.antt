@@ -1,4 +1,4 @@
-use Rattle.std.proofs.Common.{◌≡◌, ◌∙◌, ℕ, suc, ◌+◌, ◌-◌, Ok, Err, Some, None, true, false, sym, ap, arith}
+use Rattle.std.proofs.Common.{◌≡◌, ◌∙◌, ℕ, suc, ◌+◌, ◌-◌, Ok, Err, false, sym, ap, arith}
 use Rattle.std.proofs.lemmas.Bool.{cond-false}
 use Rattle.ga_state_expectations.specs.declared.cause.ExpectationCause.TheVariants.{NoSide}
 use Rattle.ga_state_expectations.specs.Spelling.{has_no_words, sides_within}

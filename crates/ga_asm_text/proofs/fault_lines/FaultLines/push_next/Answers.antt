@@ -1,7 +1,7 @@
-use Rattle.std.proofs.Common.{◌≡◌, ◌∙◌, ◌+◌, ◌++◌, ◌∷◌, ℕ, List, Some, ap, sym, drop, get_or}
+use Rattle.std.proofs.Common.{◌∙◌, ◌+◌, ◌++◌, ◌∷◌, ℕ, List, Some, ap, sym, drop}
 use Rattle.ga_source.specs.Recovery.{fault_at_line}
 use Rattle.ga_asm_text.specs.Source.{fault_line_text, listed_fault_text}
-use Rattle.ga_asm_text.specs.inner.{lines_of, lines_left}
+use Rattle.ga_asm_text.specs.inner.{lines_of}
 use Rattle.ga_asm_text.proofs.FaultListing.{tells_skipped, tells_one, left_repeated, left_listed}
 use Rattle.ga_asm_text.proofs.fault_lines.FaultLines.push_next.Goals as goal
 

@@ -1,5 +1,0 @@
-use Rattle.ga_asm_text.specs.inner.{Grows}
-use Rattle.ga_asm_text.proofs.listing.push_literals.Given as goal
-
-abbrev pub invariant-loop-item : goal.invariant-loop-item
-invariant-loop-item l = Grows l.fn.text.items l.text.items

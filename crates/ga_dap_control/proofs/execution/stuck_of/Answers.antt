@@ -1,8 +1,0 @@
-use Rattle.std.proofs.Common.{List, subst}
-use Rattle.ga_node.specs.Record.{NodeRecord}
-use Rattle.ga_causal.specs.Dependence.{is_marked}
-use Rattle.ga_dap_control.specs.Slices.{IsGreatestDeadlock}
-use Rattle.ga_dap_control.proofs.execution.stuck_of.Goals as goal
-
-pub returns : goal.returns
-returns c = subst (λ (z : List NodeRecord). IsGreatestDeadlock z (is_marked c.find_deadlocked.result)) c.chip.ensures.value (c.find_deadlocked.ensures.stuck, c.find_deadlocked.ensures.greatest)
