@@ -3,27 +3,8 @@ use Rattle.ga_event.specs.Undo.{own_effect, with_restored_node}
 use Rattle.ga_event.specs.declared.event.Effect.TheVariants as effect
 use Rattle.ga_journal.specs.inner.Histories.{lists_of}
 use Rattle.ga_journal.specs.Popped.{HasUndoableNewest}
-use Rattle.ga_journal.proofs.Popping.{SentLeft, TookLeft, own_newest, sent_left, sent_more, sent_newest, took_left, took_more, took_newest, back_own, can_first, either_order, sent_apart, sent_back, took_back}
-use Rattle.ga_journal.proofs.histories.Histories.undo_event.Goals.{In-Sent, In-Took}
+use Rattle.ga_journal.proofs.Popping.{own_newest, sent_left, sent_more, sent_newest, took_left, took_more, took_newest, back_own, can_first, either_order, sent_apart, sent_back, took_back}
 use Rattle.ga_journal.proofs.histories.Histories.undo_event.Goals as goal
-
--- a transfer without its writer's entry
-sent : (c : In-Sent) → let back : HasUndoableNewest c.args.chip.now (lists_of c.args.self.now) c.requires.back.0 = c.requires.back.1 in
-    SentLeft back.log (lists_of c.args.self.now) (lists_of c.undo_last_entry.new.self) c.args.node c.in-Sent.to c.in-Sent.side c.in-Sent.word c.undo_last_entry.ensures.back.entry
-sent c =
-    let back : HasUndoableNewest c.args.chip.now (lists_of c.args.self.now) c.requires.back.0 = c.requires.back.1 in
-    let gone = c.undo_last_entry.ensures.back in
-    sent_left back.log c.requires.back.0 (lists_of c.args.self.now) (lists_of c.undo_last_entry.new.self) c.args.node c.in-Sent.to c.in-Sent.side c.in-Sent.at c.in-Sent.word _ gone.entry back.records c.requires.topmost gone.last
-    c.undo_last_entry.ensures.others (gone.part ∙ c.in-Sent.is)
-
--- a transfer without its reader's entry
-took : (c : In-Took) → let back : HasUndoableNewest c.args.chip.now (lists_of c.args.self.now) c.requires.back.0 = c.requires.back.1 in
-    TookLeft back.log (lists_of c.args.self.now) (lists_of c.undo_last_entry.new.self) c.args.node c.in-Took.from c.in-Took.side c.in-Took.word c.undo_last_entry.ensures.back.entry
-took c =
-    let back : HasUndoableNewest c.args.chip.now (lists_of c.args.self.now) c.requires.back.0 = c.requires.back.1 in
-    let gone = c.undo_last_entry.ensures.back in
-    took_left back.log c.requires.back.0 (lists_of c.args.self.now) (lists_of c.undo_last_entry.new.self) c.args.node c.in-Took.from c.in-Took.side c.in-Took.at c.in-Took.word _ gone.entry back.records c.requires.topmost gone.last
-    c.undo_last_entry.ensures.others (gone.part ∙ c.in-Took.is)
 
 pub undo_last_entry-requires-clause-can : goal.undo_last_entry-requires-clause-can
 undo_last_entry-requires-clause-can c =
@@ -35,8 +16,9 @@ undo_last_entry-requires-in-Sent-clause-some c =
     let back : HasUndoableNewest c.args.chip.now (lists_of c.args.self.now) c.requires.back.0 = c.requires.back.1 in
     let hs = lists_of c.args.self.now in
     let mid = lists_of c.undo_last_entry.new.self in
-    let s = sent (goal.at.undo_last_entry-requires-in-Sent-clause-some c).In-Sent in
-    sent_more back.log hs mid c.args.node c.in-Sent.to c.in-Sent.side c.in-Sent.word c.undo_last_entry.ensures.back.entry s
+    let gone = c.undo_last_entry.ensures.back in
+    let s = sent_left back.log c.requires.back.0 hs mid c.args.node c.in-Sent.to c.in-Sent.side c.in-Sent.at c.in-Sent.word _ gone.entry back.records c.requires.topmost gone.last c.undo_last_entry.ensures.others (gone.part ∙ c.in-Sent.is) in
+    sent_more back.log hs mid c.args.node c.in-Sent.to c.in-Sent.side c.in-Sent.word gone.entry s
 
 pub undo_last_entry-requires-in-Sent-clause-can : goal.undo_last_entry-requires-in-Sent-clause-can
 undo_last_entry-requires-in-Sent-clause-can c =
@@ -44,7 +26,7 @@ undo_last_entry-requires-in-Sent-clause-can c =
     let hs = lists_of c.args.self.now in
     let mid = lists_of c.undo_last_entry.new.self in
     let gone = c.undo_last_entry.ensures.back in
-    let s = sent (goal.at.undo_last_entry-requires-in-Sent-clause-can c).In-Sent in
+    let s = sent_left back.log c.requires.back.0 hs mid c.args.node c.in-Sent.to c.in-Sent.side c.in-Sent.at c.in-Sent.word _ gone.entry back.records c.requires.topmost gone.last c.undo_last_entry.ensures.others (gone.part ∙ c.in-Sent.is) in
     sent_back back.log hs mid c.args.chip.now c.undo_last_entry.new.chip c.args.node c.in-Sent.to c.in-Sent.side c.in-Sent.word gone.entry s back.can gone.node
 
 pub undo_last_entry-requires-in-Took-clause-some : goal.undo_last_entry-requires-in-Took-clause-some
@@ -52,8 +34,9 @@ undo_last_entry-requires-in-Took-clause-some c =
     let back : HasUndoableNewest c.args.chip.now (lists_of c.args.self.now) c.requires.back.0 = c.requires.back.1 in
     let hs = lists_of c.args.self.now in
     let mid = lists_of c.undo_last_entry.new.self in
-    let s = took (goal.at.undo_last_entry-requires-in-Took-clause-some c).In-Took in
-    took_more back.log hs mid c.args.node c.in-Took.from c.in-Took.side c.in-Took.word c.undo_last_entry.ensures.back.entry s
+    let gone = c.undo_last_entry.ensures.back in
+    let s = took_left back.log c.requires.back.0 hs mid c.args.node c.in-Took.from c.in-Took.side c.in-Took.at c.in-Took.word _ gone.entry back.records c.requires.topmost gone.last c.undo_last_entry.ensures.others (gone.part ∙ c.in-Took.is) in
+    took_more back.log hs mid c.args.node c.in-Took.from c.in-Took.side c.in-Took.word gone.entry s
 
 pub undo_last_entry-requires-in-Took-clause-can : goal.undo_last_entry-requires-in-Took-clause-can
 undo_last_entry-requires-in-Took-clause-can c =
@@ -61,7 +44,7 @@ undo_last_entry-requires-in-Took-clause-can c =
     let hs = lists_of c.args.self.now in
     let mid = lists_of c.undo_last_entry.new.self in
     let gone = c.undo_last_entry.ensures.back in
-    let s = took (goal.at.undo_last_entry-requires-in-Took-clause-can c).In-Took in
+    let s = took_left back.log c.requires.back.0 hs mid c.args.node c.in-Took.from c.in-Took.side c.in-Took.at c.in-Took.word _ gone.entry back.records c.requires.topmost gone.last c.undo_last_entry.ensures.others (gone.part ∙ c.in-Took.is) in
     took_back back.log hs mid c.args.chip.now c.undo_last_entry.new.chip c.args.node c.in-Took.from c.in-Took.side c.in-Took.word gone.entry s back.can gone.node
 
 pub returns-in-Own-clause-state_after_undo : goal.returns-in-Own-clause-state_after_undo
@@ -82,7 +65,7 @@ returns-in-Sent-clause-state_after_undo c =
     let mid = lists_of c.undo_last_entry.new.self in
     let gone = c.undo_last_entry.ensures.back in
     let other = c.undo_last_entry-in-Sent.ensures.back in
-    let s = sent (goal.at.returns-in-Sent-clause-state_after_undo c).In-Sent in
+    let s = sent_left back.log c.requires.back.0 hs mid c.args.node c.in-Sent.to c.in-Sent.side c.in-Sent.at c.in-Sent.word _ gone.entry back.records c.requires.topmost gone.last c.undo_last_entry.ensures.others (gone.part ∙ c.in-Sent.is) in
     record {
       effect = effect.Pass c.in-Sent.word gone.entry.saved other.entry.saved;
       newest = λ log made r. sent_newest log hs mid (lists_of c.undo_last_entry-in-Sent.new.self) c.args.node c.in-Sent.to c.in-Sent.side c.in-Sent.word gone.entry other.entry _ gone.entry.saved other.entry.saved

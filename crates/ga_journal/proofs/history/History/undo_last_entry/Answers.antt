@@ -1,23 +1,16 @@
-use Rattle.std.proofs.Common.{◌≡◌, ◌<◌, ◌-◌, ◌∙◌, ◌++◌, ◌∷◌, [], map, take, sym, ap, subst, vec_len}
+use Rattle.std.proofs.Common.{◌<◌, ◌-◌, ◌∙◌, ◌++◌, ◌∷◌, [], map, take, sym, ap, subst, vec_len}
 use Rattle.ga_journal.specs.inner.Histories.{Held, bound_of}
 use Rattle.ga_journal.specs.inner.Stored.{IsHistory, past_in}
 use Rattle.ga_journal.proofs.Storing.{ended, pasts_own, last_is_below, last_counts, dropped_pasts}
 use Rattle.ga_journal.proofs.Looking.{one_less}
-use Rattle.ga_journal.proofs.history.History.undo_last_entry.Goals.{After-index-entry}
 use Rattle.ga_journal.proofs.history.History.undo_last_entry.Goals as goal
-
--- the last entry, after the others
-last_entry : (c : After-index-entry) → (c.self.inside.entries.items ≡ take (vec_len c.self.inside.entries - 1) c.self.inside.entries.items ++ c.index-entry.result.now ∷ [])
-    × IsHistory (take (vec_len c.self.inside.entries - 1) c.self.inside.entries.items ++ c.index-entry.result.now ∷ []) c.self.inside.passes.items c.self.inside.looked
-last_entry c =
-    ended c.self.inside.passes.items c.self.inside.entries.items c.as_slice.result.now c.index-entry.result.now (vec_len c.self.inside.entries) c.self.inside.looked c.as_slice.ensures.value c.as_slice.ensures.len
-    (subst (λ (h : Held). 0 < bound_of h.items) (sym c.self.view_is) c.requires.some) c.index-entry.ensures c.self.invariant
 
 pub undo_node-requires : goal.undo_node-requires
 undo_node-requires c =
     let es = c.self.inside.entries.items in
     let ps = c.self.inside.passes.items in
-    let whole = last_entry (goal.at.undo_node-requires c).After-index-entry in
+    let some : 0 < bound_of (map (past_in ps) es) = subst (λ (h : Held). 0 < bound_of h.items) (sym c.self.view_is) c.requires.some in
+    let whole = ended ps es c.as_slice.result.now c.index-entry.result.now (vec_len c.self.inside.entries) c.self.inside.looked c.as_slice.ensures.value c.as_slice.ensures.len some c.index-entry.ensures c.self.invariant in
     c.requires.can (map (past_in ps) (take (vec_len c.self.inside.entries - 1) es)) (past_in ps c.index-entry.result.now)
     (sym (ap (λ (h : Held). h.items) c.self.view_is) ∙ ap (λ z. map (past_in ps) z) whole.0 ∙ pasts_own ps (take (vec_len c.self.inside.entries - 1) es) c.index-entry.result.now)
 
@@ -25,28 +18,32 @@ pub act_of-act-requires : goal.act_of-act-requires
 act_of-act-requires c =
     let es = c.self.inside.entries.items in
     let ps = c.self.inside.passes.items in
-    let whole = last_entry (goal.at.act_of-act-requires c).After-index-entry in
+    let some : 0 < bound_of (map (past_in ps) es) = subst (λ (h : Held). 0 < bound_of h.items) (sym c.self.view_is) c.requires.some in
+    let whole = ended ps es c.as_slice.result.now c.index-entry.result.now (vec_len c.self.inside.entries) c.self.inside.looked c.as_slice.ensures.value c.as_slice.ensures.len some c.index-entry.ensures c.self.invariant in
     last_is_below (take (vec_len c.self.inside.entries - 1) es) c.index-entry.result.now ps whole.1.numbered
 
 pub looked_before-self-inside-requires : goal.looked_before-self-inside-requires
 looked_before-self-inside-requires c =
     let es = c.self.inside.entries.items in
     let ps = c.self.inside.passes.items in
-    let whole = last_entry (goal.at.looked_before-self-inside-requires c).After-index-entry in
+    let some : 0 < bound_of (map (past_in ps) es) = subst (λ (h : Held). 0 < bound_of h.items) (sym c.self.view_is) c.requires.some in
+    let whole = ended ps es c.as_slice.result.now c.index-entry.result.now (vec_len c.self.inside.entries) c.self.inside.looked c.as_slice.ensures.value c.as_slice.ensures.len some c.index-entry.ensures c.self.invariant in
     last_is_below (take (vec_len c.self.inside.entries - 1) es) c.index-entry.result.now ps whole.1.numbered
 
 pub drop_pass-requires : goal.drop_pass-requires
 drop_pass-requires c =
     let es = c.self.inside.entries.items in
     let ps = c.self.inside.passes.items in
-    let whole = last_entry (goal.at.drop_pass-requires c).After-index-entry in
+    let some : 0 < bound_of (map (past_in ps) es) = subst (λ (h : Held). 0 < bound_of h.items) (sym c.self.view_is) c.requires.some in
+    let whole = ended ps es c.as_slice.result.now c.index-entry.result.now (vec_len c.self.inside.entries) c.self.inside.looked c.as_slice.ensures.value c.as_slice.ensures.len some c.index-entry.ensures c.self.invariant in
     last_counts (take (vec_len c.self.inside.entries - 1) es) c.index-entry.result.now ps whole.1.numbered
 
 pub invariant_of-self : goal.invariant_of-self
 invariant_of-self c =
     let es = c.self.inside.entries.items in
     let ps = c.self.inside.passes.items in
-    let whole = last_entry (goal.at.invariant_of-self c).After-index-entry in
+    let some : 0 < bound_of (map (past_in ps) es) = subst (λ (h : Held). 0 < bound_of h.items) (sym c.self.view_is) c.requires.some in
+    let whole = ended ps es c.as_slice.result.now c.index-entry.result.now (vec_len c.self.inside.entries) c.self.inside.looked c.as_slice.ensures.value c.as_slice.ensures.len some c.index-entry.ensures c.self.invariant in
     subst (λ z. IsHistory z c.drop_pass.new.passes.items c.looked_before-self-inside.result) (sym c.pop.ensures.rest)
     (subst (λ z. IsHistory (take (vec_len c.self.inside.entries - 1) es) c.drop_pass.new.passes.items z) (sym c.looked_before-self-inside.ensures)
     (one_less (take (vec_len c.self.inside.entries - 1) es) c.index-entry.result.now ps c.drop_pass.new.passes.items c.self.inside.looked whole.1 c.drop_pass.ensures))
@@ -55,7 +52,8 @@ pub returns : goal.returns
 returns c =
     let es = c.self.inside.entries.items in
     let ps = c.self.inside.passes.items in
-    let whole = last_entry (goal.at.returns c).After-index-entry in
+    let some : 0 < bound_of (map (past_in ps) es) = subst (λ (h : Held). 0 < bound_of h.items) (sym c.self.view_is) c.requires.some in
+    let whole = ended ps es c.as_slice.result.now c.index-entry.result.now (vec_len c.self.inside.entries) c.self.inside.looked c.as_slice.ensures.value c.as_slice.ensures.len some c.index-entry.ensures c.self.invariant in
     record {
       entry = past_in ps c.index-entry.result.now;
       last = sym (ap (λ (h : Held). h.items) c.self.view_is)

@@ -11,7 +11,7 @@ use Rattle.ga_journal.specs.inner.Stored.{past_in}
 use Rattle.ga_journal.specs.Walked.{node_before_entries}
 use Rattle.ga_journal.proofs.Storing.{slice_length, longer, left_before, read_last_left}
 use Rattle.ga_journal.proofs.Walks.{walked_one, can_one, can_later, walked_apart}
-use Rattle.ga_journal.proofs.history.History.walk_far.Goals.{After-into_iter-entry-iterator, In-Some}
+use Rattle.ga_journal.proofs.history.History.walk_far.Goals.{After-into_iter-entry-iterator, In-Some, In-None}
 use Rattle.ga_journal.proofs.history.History.walk_far.Goals as goal
 
 -- the entries that are read
