@@ -220,15 +220,37 @@ none_below n [] above = tt
 none_below n (m ∷ ns) above = (ne_eqb n m (λ e. let less : n < m = above.0 in absurd (omega arith)), none_below n ns above.1)
 
 -- the cells of a line follow one another
-rising : (field : ℕ → Field) (base : ℕ) → ((cell : ℕ) → numbers (field_writes (field cell) []) ≡ [])
-    → ((cell word : ℕ) (words : List ℕ) → numbers (field_writes (field cell) (word ∷ words)) ≡ (base + cell) ∷ numbers (field_writes (field (cell + 1)) words))
-    → (low cell : ℕ) (words : List ℕ) → low < base + cell → AreAbove low (numbers (field_writes (field cell) words)) × IsDistinct nat_eq (numbers (field_writes (field cell) words))
+ram_rising : (low cell : ℕ) (words : List ℕ) → low < 28 + cell → AreAbove low (numbers (field_writes (Ram cell) words)) × IsDistinct nat_eq (numbers (field_writes (Ram cell) words))
 unfolding IsDistinct
-rising field base none more low cell [] less = subst (λ (ns : List ℕ). AreAbove low ns × IsDistinct nat_eq ns) (sym (none cell)) (tt, tt)
-rising field base none more low cell (word ∷ words) less =
-    let rest = rising field base none more low (cell + 1) words (omega (arith, less)) in
-    let others = rising field base none more (base + cell) (cell + 1) words (omega arith) in
-    subst (λ (ns : List ℕ). AreAbove low ns × IsDistinct nat_eq ns) (sym (more cell word words)) ((less, rest.0), (none_below _ _ others.0, others.1))
+ram_rising low cell [] less = (tt, tt)
+ram_rising low cell (word ∷ words) less =
+    let rest = ram_rising low (cell + 1) words (omega arith) in
+    let others = ram_rising (28 + cell) (cell + 1) words (omega arith) in
+    ((less, rest.0), (none_below _ _ others.0, others.1))
+
+rom_rising : (low cell : ℕ) (words : List ℕ) → low < 92 + cell → AreAbove low (numbers (field_writes (Rom cell) words)) × IsDistinct nat_eq (numbers (field_writes (Rom cell) words))
+unfolding IsDistinct
+rom_rising low cell [] less = (tt, tt)
+rom_rising low cell (word ∷ words) less =
+    let rest = rom_rising low (cell + 1) words (omega arith) in
+    let others = rom_rising (92 + cell) (cell + 1) words (omega arith) in
+    ((less, rest.0), (none_below _ _ others.0, others.1))
+
+data_rising : (low cell : ℕ) (words : List ℕ) → low < 9 + cell → AreAbove low (numbers (field_writes (Data cell) words)) × IsDistinct nat_eq (numbers (field_writes (Data cell) words))
+unfolding IsDistinct
+data_rising low cell [] less = (tt, tt)
+data_rising low cell (word ∷ words) less =
+    let rest = data_rising low (cell + 1) words (omega arith) in
+    let others = data_rising (9 + cell) (cell + 1) words (omega arith) in
+    ((less, rest.0), (none_below _ _ others.0, others.1))
+
+return_rising : (low cell : ℕ) (words : List ℕ) → low < 19 + cell → AreAbove low (numbers (field_writes (Return cell) words)) × IsDistinct nat_eq (numbers (field_writes (Return cell) words))
+unfolding IsDistinct
+return_rising low cell [] less = (tt, tt)
+return_rising low cell (word ∷ words) less =
+    let rest = return_rising low (cell + 1) words (omega arith) in
+    let others = return_rising (19 + cell) (cell + 1) words (omega arith) in
+    ((less, rest.0), (none_below _ _ others.0, others.1))
 
 single : (field : Field) (words : List ℕ) → length words ≡ 1 → IsDistinct nat_eq (numbers (field_writes field words))
 unfolding IsDistinct
@@ -247,10 +269,10 @@ once_each Carry words count = single Carry words count
 once_each Slot words count = single Slot words count
 once_each Wait words count = single Wait words count
 once_each Stop words count = single Stop words count
-once_each (Data k) words count = (rising Data 9 (λ cell. refl) (λ cell word words. refl) 0 k words (omega arith)).1
-once_each (Return k) words count = (rising Return 19 (λ cell. refl) (λ cell word words. refl) 0 k words (omega arith)).1
-once_each (Ram cell) words count = (rising Ram 28 (λ cell. refl) (λ cell word words. refl) 0 cell words (omega arith)).1
-once_each (Rom cell) words count = (rising Rom 92 (λ cell. refl) (λ cell word words. refl) 0 cell words (omega arith)).1
+once_each (Data k) words count = (data_rising 0 k words (omega arith)).1
+once_each (Return k) words count = (return_rising 0 k words (omega arith)).1
+once_each (Ram cell) words count = (ram_rising 0 cell words (omega arith)).1
+once_each (Rom cell) words count = (rom_rising 0 cell words (omega arith)).1
 
 -- one of the fields is marked
 abbrev pub any_marked : List Bool → List (Field × ℕ) → Bool
