@@ -261,34 +261,9 @@ no_write target.Io more at waits stops ram io rom h = false_true _ io h
 no_write (target.Ports sides) more at waits stops ram io rom h = no_test (is_single_side sides) (SetWait ∷ []) (SetStop ∷ []) at waits stops h
 no_write target.Bad more at waits stops ram io rom h = false_true _ stops h
 
--- ---- a part that no transfer makes of three values, and an own event only with T
-
-abbrev IsMadeWithT : NodePart → Type 0
-IsMadeWithT at = (what : NextAction) (seen : Seen) (n : NodeRecord) → IsThree (action_moves what n) at → is_made_with_t_by (action_result what seen n).0 ≡ true
-
-own_part : (at : NodePart) → IsMadeWithT at → (seen : Seen) (n : NodeRecord) → is_three_part_flow (own_flow n at) ≡ true → is_made_with_t_by (own seen n).0 ≡ true
-unfolding own own_event own_flow
-own_part at due seen n h = due (next_action_of n) seen n h
-
-told_part : (at : NodePart) → IsMadeWithT at → is_three_part_flow (send_flow at) ≡ false → ((w : Wait) → is_three_part_flow (take_flow w at) ≡ false)
-    → (s : State) (n k : ℕ) (x : Made) → slice_get (history_of s n) k ≡ Some x → is_three_part_flow (optional_event_flow (Some x) (node_after s n k) n at) ≡ true → is_made_with_t (Some x) ≡ true
-told_part at due send take s n k (made.Own m step kind) told h =
-    let was = ran_so s n k step m kind told in ap is_made_with_t_by (sym was.is) ∙ own_part at due was.seen (node_after s n k) h
-told_part at due send take s n k (made.Pass w i r j word) told h = absurd (go (n == r.number) h)
-  where
-    go : (b : Bool) → is_three_part_flow (cond b (take_flow (node_after s n k).wait at) (send_flow at)) ≡ true → ⊥
-    go true three = false_true _ (take (node_after s n k).wait) three
-    go false three = false_true _ send three
-
-sums_part : (at : NodePart) → IsMadeWithT at → is_three_part_flow (send_flow at) ≡ false → ((w : Wait) → is_three_part_flow (take_flow w at) ≡ false)
-    → (s : State) (n k : ℕ) (x : Made) → slice_get (history_of s n) k ≡ Some x → is_three_part_flow (flow_at s n k at) ≡ true → is_made_with_t (slice_get (history_of s n) k) ≡ true
-sums_part at due send take s n k x told h =
-    ap is_made_with_t told
-    ∙ told_part at due send take s n k x told (ap (λ (o : Option Made). is_three_part_flow (optional_event_flow o (node_after s n k) n at)) (sym told) ∙ h)
-
 -- ---- A
 
-due_a : IsMadeWithT A
+due_a : (what : NextAction) (seen : Seen) (n : NodeRecord) → IsThree (action_moves what n) A → is_made_with_t_by (action_result what seen n).0 ≡ true
 due_a due.Fetch seen n h = absurd (no_read (address_target n.p) _ A refl refl (λ word. refl) h)
 due_a (due.Run op.Unext) seen n h = absurd (no_test (r n == 0) _ _ A refl refl h)
 due_a (due.Run op.Next) seen n h = absurd (no_test (r n == 0) _ _ A refl refl h)
@@ -306,6 +281,10 @@ due_a (due.Run op.MultiplyStep) seen n h = refl
 due_a (due.Run op.Plus) seen n h = refl
 due_a (due.Run o) seen n h = absurd (false_true _ refl h)
 
+own_a : (seen : Seen) (n : NodeRecord) → is_three_part_flow (own_flow n A) ≡ true → is_made_with_t_by (own seen n).0 ≡ true
+unfolding own own_event own_flow
+own_a seen n h = due_a (next_action_of n) seen n h
+
 send_a : is_three_part_flow (send_flow A) ≡ false
 unfolding send_flow
 send_a = refl
@@ -317,12 +296,23 @@ take_a (wait.Read sides) = refl
 take_a wait.Nothing = refl
 take_a (wait.Write side) = refl
 
+told_a : (s : State) (n k : ℕ) (x : Made) → slice_get (history_of s n) k ≡ Some x → is_three_part_flow (optional_event_flow (Some x) (node_after s n k) n A) ≡ true → is_made_with_t (Some x) ≡ true
+told_a s n k (made.Own m step kind) told h =
+    let was = ran_so s n k step m kind told in ap is_made_with_t_by (sym was.is) ∙ own_a was.seen (node_after s n k) h
+told_a s n k (made.Pass w i r j word) told h = absurd (go (n == r.number) h)
+  where
+    go : (b : Bool) → is_three_part_flow (cond b (take_flow (node_after s n k).wait A) (send_flow A)) ≡ true → ⊥
+    go true three = false_true _ (take_a (node_after s n k).wait) three
+    go false three = false_true _ send_a three
+
 pub sums_a : (s : State) (n k : ℕ) (x : Made) → slice_get (history_of s n) k ≡ Some x → is_three_part_flow (flow_at s n k A) ≡ true → is_made_with_t (slice_get (history_of s n) k) ≡ true
-sums_a = sums_part A due_a send_a take_a
+sums_a s n k x told h =
+    ap is_made_with_t told
+    ∙ told_a s n k x told (ap (λ (o : Option Made). is_three_part_flow (optional_event_flow o (node_after s n k) n A)) (sym told) ∙ h)
 
 -- ---- the carry
 
-due_carry : IsMadeWithT Carry
+due_carry : (what : NextAction) (seen : Seen) (n : NodeRecord) → IsThree (action_moves what n) Carry → is_made_with_t_by (action_result what seen n).0 ≡ true
 due_carry due.Fetch seen n h = absurd (no_read (address_target n.p) _ Carry refl refl (λ word. refl) h)
 due_carry (due.Run op.Unext) seen n h = absurd (no_test (r n == 0) _ _ Carry refl refl h)
 due_carry (due.Run op.Next) seen n h = absurd (no_test (r n == 0) _ _ Carry refl refl h)
@@ -340,6 +330,10 @@ due_carry (due.Run op.MultiplyStep) seen n h = refl
 due_carry (due.Run op.Plus) seen n h = refl
 due_carry (due.Run o) seen n h = absurd (false_true _ refl h)
 
+own_carry : (seen : Seen) (n : NodeRecord) → is_three_part_flow (own_flow n Carry) ≡ true → is_made_with_t_by (own seen n).0 ≡ true
+unfolding own own_event own_flow
+own_carry seen n h = due_carry (next_action_of n) seen n h
+
 send_carry : is_three_part_flow (send_flow Carry) ≡ false
 unfolding send_flow
 send_carry = refl
@@ -351,5 +345,16 @@ take_carry (wait.Read sides) = refl
 take_carry wait.Nothing = refl
 take_carry (wait.Write side) = refl
 
+told_carry : (s : State) (n k : ℕ) (x : Made) → slice_get (history_of s n) k ≡ Some x → is_three_part_flow (optional_event_flow (Some x) (node_after s n k) n Carry) ≡ true → is_made_with_t (Some x) ≡ true
+told_carry s n k (made.Own m step kind) told h =
+    let was = ran_so s n k step m kind told in ap is_made_with_t_by (sym was.is) ∙ own_carry was.seen (node_after s n k) h
+told_carry s n k (made.Pass w i r j word) told h = absurd (go (n == r.number) h)
+  where
+    go : (b : Bool) → is_three_part_flow (cond b (take_flow (node_after s n k).wait Carry) (send_flow Carry)) ≡ true → ⊥
+    go true three = false_true _ (take_carry (node_after s n k).wait) three
+    go false three = false_true _ send_carry three
+
 pub sums_carry : (s : State) (n k : ℕ) (x : Made) → slice_get (history_of s n) k ≡ Some x → is_three_part_flow (flow_at s n k Carry) ≡ true → is_made_with_t (slice_get (history_of s n) k) ≡ true
-sums_carry = sums_part Carry due_carry send_carry take_carry
+sums_carry s n k x told h =
+    ap is_made_with_t told
+    ∙ told_carry s n k x told (ap (λ (o : Option Made). is_three_part_flow (optional_event_flow o (node_after s n k) n Carry)) (sym told) ∙ h)

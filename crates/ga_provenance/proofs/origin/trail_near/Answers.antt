@@ -4,6 +4,7 @@ use Rattle.ga_grid.proofs.NodeIds.{NodeId-same}
 use Rattle.ga_lab.specs.Machine.{node_at_step}
 use Rattle.ga_provenance.proofs.Made.{has_step_so, stays_so}
 use Rattle.ga_provenance.proofs.origin.trail_near.Goals as goal
+use Rattle.ga_provenance.proofs.origin.trail_near.Goals.{After-copy}
 
 copy_stands : (c : goal.After-copy) → c.copy.result ≡ node_at_step c.args.lab.now c.args.node c.copy.result.step
 copy_stands c =
