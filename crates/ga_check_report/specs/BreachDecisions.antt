@@ -29,7 +29,7 @@ unmet_state Unknown = None
 
 -- what decides that the expectation isn't met on the state; nothing is said to where the search was cut
 abbrev pub IsUnmetDecided : EndSearchResult → NodeExpectation → ℕ → Option SearchFault → Option EndDecision → Type 0
-IsUnmetDecided found expectation state None decision = IsDecided found.searched found.searched.edges (CanMeetAtEnd found expectation) state decision
+IsUnmetDecided found expectation state None decision = IsDecided found.searched (CanMeetAtEnd found expectation) state decision
 IsUnmetDecided found expectation state (Some fault) decision = decision ≡ None
 
 abbrev pub IsNodeBreachDecided : EndSearchResult → NodeExpectation → Option ℕ → Option EndDecision → Type 0

@@ -58,7 +58,7 @@ pub enum ExpectationCause {
     /// The nodes have no link.
     #[error("not neighbours")]
     NotNeighbours,
-    /// No word is expected over the link, and none may come.
+    /// No word follows the `=`.
     #[error("no words are given")]
     NoLinkWords,
     /// More words over a link than 64.
