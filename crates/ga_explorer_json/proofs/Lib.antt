@@ -13,3 +13,8 @@ pub mod Splits
 pub mod Answering
 pub mod Turns
 pub mod Steps
+pub mod Utf8Values
+pub mod Utf8Rows
+pub mod Utf8Queries
+pub mod Utf8Answers
+pub mod JsonSessions

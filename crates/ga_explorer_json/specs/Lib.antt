@@ -3,6 +3,7 @@ pub mod Because
 pub mod Changes
 pub mod Effects
 pub mod Events
+pub mod JsonLines
 pub mod NodeState
 pub mod Parts
 pub mod Races

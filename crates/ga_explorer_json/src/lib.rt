@@ -9,6 +9,7 @@ mod bytes;
 mod changes_json;
 mod effects_json;
 mod event;
+pub mod laws;
 mod node_json;
 mod noted_refusal;
 mod part;

@@ -1,0 +1,350 @@
+-- The texts of what the queries answer are UTF-8.
+use Rattle.std.proofs.Common.{◌≡◌, ◌<◌, ◌≤◌, ℕ, zero, suc, ◌+◌, ◌-◌, List, [], ◌∷◌, ◌++◌, length, drop, Bool, codes, inl, inr, refl, sym, subst, arith}
+use Rattle.std.specs.Prelude.{◌==◌, ◌&&◌, ◌%◌, nat_lt, min, pos, Option, Some, None, Result, Ok, Err, option_map, is_none}
+use Rattle.std.specs.List.{slice_get}
+use Rattle.std.specs.Str.{IsUtf8}
+use Rattle.std.proofs.lemmas.Bool.{cond_both}
+use Rattle.ga_text.specs.Lines.{Text}
+use Rattle.ga_text.specs.Digits.{name_of_node}
+use Rattle.ga_ports.specs.declared.side.Side.{Side}
+use Rattle.ga_ports.specs.declared.side.Side.TheVariants.{Right, Down, Left, Up}
+use Rattle.ga_node.specs.Record.{NodeRecord}
+use Rattle.ga_node.specs.declared.wait.Wait.{Wait}
+use Rattle.ga_node.specs.declared.wait.Wait.TheVariants as wait
+use Rattle.ga_grid.specs.Grid.{neighbour_of}
+use Rattle.ga_grid.specs.Chip.{record_at}
+use Rattle.ga_grid.specs.declared.node_id.NodeId.{NodeId}
+use Rattle.ga_event.specs.Told.{count_steps}
+use Rattle.ga_event.specs.declared.made.Made.{Made}
+use Rattle.ga_event.specs.declared.flow.part.NodePart.{NodePart}
+use Rattle.ga_lab.specs.Machine.{State, chip_of, causes_of, has_step, history_of, rewind_answer}
+use Rattle.ga_lab.specs.declared.fault.LabFault.{LabFault}
+use Rattle.ga_lab.specs.declared.fault.LabFault.TheVariants.{Memory, NoStep}
+use Rattle.ga_races.specs.HappensBefore.{are_neighbours}
+use Rattle.ga_scheduler.specs.Words.{words_of, link_transfer_count}
+use Rattle.ga_scheduler.specs.Effects.{rollback_effects}
+use Rattle.ga_scheduler.specs.declared.words.Transfer.{Transfer}
+use Rattle.ga_scheduler.specs.declared.effects.RollbackEffect.{RollbackEffect}
+use Rattle.ga_provenance.specs.Origins.{node_after}
+use Rattle.ga_provenance.specs.Writes.{cell_write_at}
+use Rattle.ga_provenance.specs.Deciding.{newest_decision}
+use Rattle.ga_provenance.specs.declared.writes.CellWrite.{CellWrite}
+use Rattle.ga_provenance.specs.declared.deciding.Decision.{Decision}
+use Rattle.ga_provenance.specs.declared.value.Value.{Value}
+use Rattle.ga_provenance.specs.declared.lines.ProvenanceLine.{ProvenanceLine}
+use Rattle.ga_race_detector.specs.declared.races.Race.{Race}
+use Rattle.ga_race_detector.specs.declared.readings.LookRace.{LookRace}
+use Rattle.ga_race_detector.specs.Readings.{rollback_step_of}
+use Rattle.ga_race_detector.specs.Races.{requested_races, has_looks, first_ready_node}
+use Rattle.ga_explorer_text.specs.Texts.{no_link}
+use Rattle.ga_explorer_text.specs.Waiting.{activity_name, awaited_neighbour, node_count}
+use Rattle.ga_explorer_text.specs.Whence.{word_of_value, selected_value}
+use Rattle.ga_json.specs.Values.{JsonValue, number, string, JsonItems, no_items, item}
+use Rattle.ga_json.specs.Fields.{NamedValue}
+use Rattle.ga_explorer_json.specs.Parts.{number_or_null, part_place, value_fields}
+use Rattle.ga_explorer_json.specs.Events.{action_fields}
+use Rattle.ga_explorer_json.specs.Refusals.{hint_in, step_refusal_json}
+use Rattle.ga_explorer_json.specs.Rows.{json_rows, row_before}
+use Rattle.ga_explorer_json.specs.Around.{register_fields, step_fields, numbered_step_json, step_rows, at_fields, rows_around, steps_around_json, at_json}
+use Rattle.ga_explorer_json.specs.Because.{tested_fields, decided_step_fields, decision_json, decision_before, decision_rows, because_fields, decisions_json, because_json}
+use Rattle.ga_explorer_json.specs.Effects.{effect_json, effects_fields, effects_json, IsEffectsJson}
+use Rattle.ga_explorer_json.specs.Races.{race_json, look_race_json, race_rows, optional_node_json, races_fields, listed_races_json, races_json, IsRacesJson}
+use Rattle.ga_explorer_json.specs.Whence.{no_value_fields, optional_action_fields, made_fields, line_front_fields, line_fields, line_json, line_rows, whence_fields, line_to_go_on, lines_json, no_lines_json, IsValueJson, IsWhenceJson}
+use Rattle.ga_explorer_json.specs.Who.{neighbour_json, neighbour_activity_json, awaited_fields, activity_fields, waiting_fields, waiting_json, has_who_row, who_rows, who_fields, who_json, IsWhoJson}
+use Rattle.ga_explorer_json.specs.Words.{transfer_json, link_fields, transfers_json, words_json}
+use Rattle.ga_explorer_json.specs.Writes.{cell_write_fields, cell_write_json, with_cell_write, cell_write_rows, writes_fields, writes_rows, writes_json}
+use Rattle.ga_explorer_json.proofs.Utf8Values.{is_low, low, plain, node_name, number_name, HasUtf8Texts, HaveUtf8Items, optional_number, number_if_any, AreUtf8Fields, are_named, fields, fields_append, object_of, report_of, rows_of, members_of, have_low_names, object_by}
+use Rattle.ga_explorer_json.proofs.Utf8Rows.{hint_utf8, refusal, lab_refusal, step_refusal, action, part_utf8, value}
+
+-- the same value
+as_value : (value other : JsonValue) → value ≡ other → HasUtf8Texts other → HasUtf8Texts value
+as_value value other e h = subst HasUtf8Texts (sym e) h
+
+-- ---- `effects`
+
+effect_utf8 : (effect : RollbackEffect) → HasUtf8Texts (effect_json effect)
+unfolding is_low have_low_names
+effect_utf8 effect = object_by (members_of (effect_json effect)) refl (node_name effect.node, (tt, (tt, tt)))
+
+effects_by : (s : State) (node : NodeId) (step : ℕ) (effects : List RollbackEffect) (answer : Result ℕ LabFault) → HasUtf8Texts (effects_json s node step effects answer)
+unfolding is_low are_named
+effects_by s node step effects (Ok events) =
+    report_of (effects_fields node step events (length effects)) (json_rows effect_json effects)
+    (fields (effects_fields node step events (length effects)) refl (plain (codes "effects") refl, (node_name node, (tt, (tt, (tt, tt))))))
+    (rows_of effect_json effect_utf8 effects)
+effects_by s node step effects (Err why) = step_refusal (codes "effects") node (count_steps node.number s.kept) why (plain (codes "effects") refl)
+
+pub effects_utf8 : (s : State) (node : NodeId) (step : ℕ) (answer : JsonValue) → IsEffectsJson s node step answer → HasUtf8Texts answer
+unfolding is_low
+effects_utf8 s node step answer (inl e) = as_value answer _ e (effects_by s node step (rollback_effects s node.number step) (rewind_answer s node.number step))
+effects_utf8 s node step answer (inr h) = as_value answer _ h.1 (lab_refusal (codes "effects") Memory (plain (codes "effects") refl))
+
+-- ---- `words`
+
+transfer_utf8 : (sent : Transfer) → HasUtf8Texts (transfer_json sent)
+unfolding is_low have_low_names
+transfer_utf8 sent = object_by (members_of (transfer_json sent)) refl (tt, (tt, (tt, (tt, tt))))
+
+transfers_utf8 : (s : State) (from to : NodeId) → HasUtf8Texts (transfers_json s from to)
+unfolding is_low are_named
+transfers_utf8 s from to =
+    let count = link_transfer_count s from.number to.number in
+    report_of (link_fields from to count) (json_rows transfer_json (words_of s from.number to.number))
+    (fields (link_fields from to count) refl (plain (codes "words") refl, (node_name from, (node_name to, (tt, tt)))))
+    (rows_of transfer_json transfer_utf8 (words_of s from.number to.number))
+
+pub words_utf8 : (s : State) (from to : NodeId) → HasUtf8Texts (words_json s from to)
+unfolding is_low
+words_utf8 s from to =
+    cond_both (are_neighbours from.number to.number) (transfers_json s from to) _ HasUtf8Texts (λ _. transfers_utf8 s from to)
+    (λ _. refusal (codes "words") 34 (codes "nolink") (hint_in no_link) (plain (codes "words") refl) (plain (codes "nolink") refl) (hint_utf8 no_link (low no_link refl)))
+
+-- ---- `writes`
+
+cell_write_utf8 : (written : CellWrite) → HasUtf8Texts (cell_write_json written)
+unfolding is_low are_named
+cell_write_utf8 written =
+    let first : List NamedValue = (codes "step", number (pos written.step)) ∷ [] in
+    let last : List NamedValue = (codes "value", number (pos written.word)) ∷ [] in
+    object_of (cell_write_fields written)
+    (fields_append (first ++ action_fields written.made) last (fields_append first (action_fields written.made) (fields first refl (tt, tt)) (action written.made)) (fields last refl (tt, tt)))
+
+with_write : (written : Option CellWrite) (older : JsonItems) → HaveUtf8Items older → HaveUtf8Items (with_cell_write written older)
+with_write None older h = h
+with_write (Some written) older h = (cell_write_utf8 written, h)
+
+write_rows : (s : State) (n cell k : ℕ) → HaveUtf8Items (cell_write_rows s n cell k)
+unfolding cell_write_rows
+write_rows s n cell zero = tt
+write_rows s n cell (suc k) = with_write (cell_write_at s n cell k) (cell_write_rows s n cell k) (write_rows s n cell k)
+
+pub writes_utf8 : (s : State) (node : NodeId) (address : ℕ) → HasUtf8Texts (writes_json s node address)
+unfolding is_low are_named
+writes_utf8 s node address =
+    report_of (writes_fields node address) (writes_rows s node address) (fields (writes_fields node address) refl (plain (codes "writes") refl, (node_name node, (tt, tt))))
+    (cond_both (nat_lt address 128) (cell_write_rows s node.number (address % 64) (count_steps node.number s.kept)) no_items HaveUtf8Items
+    (λ _. write_rows s node.number (address % 64) (count_steps node.number s.kept)) (λ _. tt))
+
+-- ---- `at`
+
+numbered_step : (step : ℕ) (after : NodeRecord) (made : Made) → HasUtf8Texts (numbered_step_json step after made)
+unfolding is_low are_named
+numbered_step step after made =
+    let first : List NamedValue = (codes "step", number (pos step)) ∷ [] in
+    object_of (step_fields step after made)
+    (fields_append (first ++ action_fields made) (register_fields after) (fields_append first (action_fields made) (fields first refl (tt, tt)) (action made))
+    (fields (register_fields after) refl (tt, (tt, (tt, (tt, (tt, (tt, tt))))))))
+
+step_before : (step : ℕ) (after : NodeRecord) (made : Option Made) (rest : JsonItems) → HaveUtf8Items rest → HaveUtf8Items (row_before (option_map (numbered_step_json step after) made) rest)
+step_before step after None rest h = tt
+step_before step after (Some made) rest h = (numbered_step step after made, h)
+
+steps_from : (s : State) (n k more : ℕ) → HaveUtf8Items (step_rows s n k more)
+unfolding step_rows
+steps_from s n k zero = tt
+steps_from s n k (suc more) =
+    step_before (k + 1) (node_after s n (k + 1)) (slice_get (history_of s n) (k + 1 - 1)) (step_rows s n (k + 1) more) (steps_from s n (k + 1) more)
+
+pub at_utf8 : (s : State) (node : NodeId) (step around : ℕ) → HasUtf8Texts (at_json s node step around)
+unfolding is_low are_named
+at_utf8 s node step around =
+    let count = count_steps node.number s.kept in
+    cond_both (has_step s node.number step) (steps_around_json s node step around) (step_refusal_json (codes "at") node count NoStep) HasUtf8Texts
+    (λ _. report_of (at_fields node step) (rows_around s node step around) (fields (at_fields node step) refl (plain (codes "at") refl, (node_name node, (tt, tt))))
+    (steps_from s node.number (step - 1 - around) (min (step + around) count - (step - 1 - around))))
+    (λ _. step_refusal (codes "at") node count NoStep (plain (codes "at") refl))
+
+-- ---- `whence`
+
+made_by : (made : Option Made) → AreUtf8Fields (optional_action_fields made)
+made_by None = tt
+made_by (Some made) = action made
+
+made_or_loaded : (s : State) (value : Value) → AreUtf8Fields (made_fields s value)
+unfolding is_low are_named
+made_or_loaded s value =
+    let loaded : List NamedValue = (codes "what", string (codes "load")) ∷ [] in
+    let made = slice_get (history_of s value.node.number) (value.step - 1) in
+    cond_both (value.step == 0) loaded (optional_action_fields made) AreUtf8Fields (λ _. fields loaded refl (plain (codes "load") refl, tt)) (λ _. made_by made)
+
+line_utf8 : (s : State) (k : ℕ) (line : ProvenanceLine) (word : ℕ) → HasUtf8Texts (line_json s k line word)
+unfolding is_low are_named
+line_utf8 s k line word =
+    let last : List NamedValue = (codes "count", number (pos line.count)) ∷ [] in
+    let values = value_fields line.value.part word in
+    object_of (line_fields s k line word)
+    (fields_append (line_front_fields k line) ((made_fields s line.value ++ values) ++ last)
+    (fields (line_front_fields k line) refl (tt, (tt, (node_name line.value.node, (number_if_any line.value.step, tt)))))
+    (fields_append (made_fields s line.value ++ values) last (fields_append (made_fields s line.value) values (made_or_loaded s line.value) (value line.value.part word)) (fields last refl (tt, tt))))
+
+lines_from : (s : State) (k : ℕ) (lines : List ProvenanceLine) → HaveUtf8Items (line_rows s k lines)
+lines_from s k [] = tt
+lines_from s k (line ∷ rest) = (line_utf8 s (k + 1) line (word_of_value s line.value), lines_from s (k + 1) rest)
+
+whence_head : (node : NodeId) (step first : ℕ) (queried : List NamedValue) (more : Option ℕ) → AreUtf8Fields queried → AreUtf8Fields (whence_fields node step first queried more)
+unfolding is_low are_named
+whence_head node step first queried more h =
+    let front : List NamedValue =
+    (codes "command", string (codes "whence"))
+    ∷ (codes "node", string (name_of_node node))
+    ∷ (codes "step", number (pos step))
+    ∷ (codes "first", number (pos first))
+    ∷ (codes "more_from", number_or_null more)
+    ∷ [] in
+    fields_append front queried (fields front refl (plain (codes "whence") refl, (node_name node, (tt, (tt, (optional_number more, tt)))))) h
+
+value_utf8 : (s : State) (node : NodeId) (step first : ℕ) (queried : Option Value) (answer : JsonValue) → IsValueJson s node step first queried answer → HasUtf8Texts answer
+unfolding is_low are_named
+value_utf8 s node step first None answer e =
+    as_value answer (no_lines_json node step first) e
+    (report_of (whence_fields node step first no_value_fields None) no_items (whence_head node step first no_value_fields None (fields no_value_fields refl (tt, (tt, (tt, tt))))) tt)
+value_utf8 s node step first (Some queried) answer (inl e) = as_value answer _ e (lab_refusal (codes "whence") Memory (plain (codes "whence") refl))
+value_utf8 s node step first (Some queried) answer (inr h) =
+    let asked = value_fields queried.part (word_of_value s queried) in
+    let more = line_to_go_on (length h.lines) h.is_whole in
+    as_value answer (lines_json s node step first queried h.lines h.is_whole) h.json
+    (report_of (whence_fields node step first asked more) (line_rows s (first - 1) (drop (first - 1) h.lines))
+    (whence_head node step first asked more (value queried.part (word_of_value s queried))) (lines_from s (first - 1) (drop (first - 1) h.lines)))
+
+pub whence_utf8 : (s : State) (node : NodeId) (step : ℕ) (at : Option NodePart) (first : ℕ) (answer : JsonValue) → IsWhenceJson s node step at first answer → HasUtf8Texts answer
+unfolding is_low
+whence_utf8 s node step at first answer (inl h) = as_value answer _ h.1 (step_refusal (codes "whence") node (count_steps node.number s.kept) NoStep (plain (codes "whence") refl))
+whence_utf8 s node step at first answer (inr h) = value_utf8 s node step first (selected_value s node step at) answer h.1
+
+-- ---- `because`
+
+decision_utf8 : (decision : Decision) → HasUtf8Texts (decision_json decision)
+unfolding is_low are_named
+decision_utf8 decision =
+    let first : List NamedValue = (codes "step", number (pos decision.step)) ∷ [] in
+    object_of (decided_step_fields decision)
+    (fields_append (first ++ action_fields decision.made) (tested_fields decision) (fields_append first (action_fields decision.made) (fields first refl (tt, tt)) (action decision.made))
+    (fields (tested_fields decision) refl (
+      part_utf8 decision.tested.part,
+      (
+        optional_number (part_place decision.tested.part),
+        (
+          tt,
+          (
+            node_name decision.source.node,
+            (number_if_any decision.source.step, (part_utf8 decision.source.part, (optional_number (part_place decision.source.part), tt))),
+          ),
+        ),
+      ),
+    )))
+
+decision_before_utf8 : (older : ℕ → JsonItems) → ((k : ℕ) → HaveUtf8Items (older k)) → (decision : Option Decision) → HaveUtf8Items (decision_before older decision)
+decision_before_utf8 older h None = tt
+decision_before_utf8 older h (Some decision) = (decision_utf8 decision, h (decision.step - 1))
+
+decisions_from : (s : State) (node : NodeId) (more k : ℕ) → HaveUtf8Items (decision_rows s node more k)
+unfolding decision_rows
+decisions_from s node zero k = tt
+decisions_from s node (suc more) k = decision_before_utf8 (decision_rows s node more) (decisions_from s node more) (newest_decision s node k)
+
+pub because_utf8 : (s : State) (node : NodeId) (step most : ℕ) → HasUtf8Texts (because_json s node step most)
+unfolding is_low are_named
+because_utf8 s node step most =
+    let count = count_steps node.number s.kept in
+    cond_both (has_step s node.number step) (decisions_json s node step most) (step_refusal_json (codes "because") node count NoStep) HasUtf8Texts
+    (λ _. report_of (because_fields node step) (decision_rows s node most (step - 1)) (fields (because_fields node step) refl (plain (codes "because") refl, (node_name node, (tt, tt))))
+    (decisions_from s node most (step - 1)))
+    (λ _. step_refusal (codes "because") node count NoStep (plain (codes "because") refl))
+
+-- ---- `races`
+
+race_utf8 : (race : Race) → HasUtf8Texts (race_json race)
+unfolding is_low have_low_names
+race_utf8 race =
+    object_by (members_of (race_json race)) refl
+    (plain (codes "pass") refl, (node_name race.reader, (tt, (tt, (node_name race.writer, (tt, (node_name race.other, (node_name race.reader, (tt, (node_name race.other, tt))))))))))
+
+look_race_utf8 : (reading : LookRace) → HasUtf8Texts (look_race_json reading)
+unfolding is_low have_low_names
+look_race_utf8 reading =
+    object_by (members_of (look_race_json reading)) refl
+    (plain (codes "look") refl, (node_name reading.node, (tt, (tt, (tt, (node_name reading.neighbour, (tt, (tt, (node_name (rollback_step_of reading).0, (tt, (node_name reading.node, tt)))))))))))
+
+races_from : (races : List Race) (readings : List LookRace) → HaveUtf8Items (race_rows races readings)
+races_from [] readings = rows_of look_race_json look_race_utf8 readings
+races_from (race ∷ races) readings = (race_utf8 race, races_from races readings)
+
+optional_node : (only : Option NodeId) → HasUtf8Texts (optional_node_json only)
+optional_node None = tt
+optional_node (Some node) = node_name node
+
+listed_races : (only : Option NodeId) (races : List Race) (readings : List LookRace) (looks quiet : Bool) → HasUtf8Texts (listed_races_json only races readings looks quiet)
+unfolding is_low are_named
+listed_races only races readings looks quiet =
+    let head = races_fields only (length races + length readings) looks quiet in
+    report_of head (race_rows races readings) (fields head refl (plain (codes "races") refl, (optional_node only, (tt, (tt, (tt, tt)))))) (races_from races readings)
+
+pub races_utf8 : (s : State) (only : Option NodeId) (answer : JsonValue) → IsRacesJson s only answer → HasUtf8Texts answer
+unfolding is_low
+races_utf8 s only answer (inl h) =
+    as_value answer (races_json s only h.0) h.3 (listed_races only (requested_races s only) h.0 (has_looks (causes_of s) (chip_of s)) (is_none (first_ready_node (chip_of s))))
+races_utf8 s only answer (inr e) = as_value answer _ e (lab_refusal (codes "races") Memory (plain (codes "races") refl))
+
+-- ---- `who`
+
+pub activity_utf8 : (waits : Wait) (stop : ℕ) → IsUtf8 (activity_name waits stop)
+unfolding is_low
+activity_utf8 (wait.Fetch sides) stop = plain (codes "fetches") refl
+activity_utf8 (wait.Read sides) stop = plain (codes "reads") refl
+activity_utf8 (wait.Write side) stop = plain (codes "writes") refl
+activity_utf8 wait.Nothing stop = cond_both (stop == 0) (codes "runs") (codes "stopped") IsUtf8 (λ _. plain (codes "runs") refl) (λ _. plain (codes "stopped") refl)
+
+neighbour_below : (n m : ℕ) (side : Side) → n < 144 → neighbour_of n side ≡ Some m → m < 144
+neighbour_below n m Right l h = grind arith
+neighbour_below n m Down l h = grind arith
+neighbour_below n m Left l h = grind arith
+neighbour_below n m Up l h = grind arith
+
+awaited_below : (chip : List NodeRecord) (n m : ℕ) (side : Side) → n < 144 → awaited_neighbour chip n side ≡ Some m → m < 144
+awaited_below chip n m side l h = grind (arith, neighbour_below n m side)
+
+neighbour_utf8 : (chip : List NodeRecord) (n : ℕ) (side : Side) → n < 144 → HasUtf8Texts (neighbour_json (awaited_neighbour chip n side))
+neighbour_utf8 chip n side l = by (awaited_neighbour chip n side) refl where
+  by : (m : Option ℕ) → awaited_neighbour chip n side ≡ m → HasUtf8Texts (neighbour_json m)
+  by None e = tt
+  by (Some m) e = number_name m (awaited_below chip n m side l e)
+
+neighbour_does : (chip : List NodeRecord) (m : Option ℕ) → HasUtf8Texts (neighbour_activity_json chip m)
+neighbour_does chip None = tt
+neighbour_does chip (Some m) = activity_utf8 (record_at chip m).wait (record_at chip m).stop
+
+awaited : (chip : List NodeRecord) (n : ℕ) (side : Side) (name does : Text) → n < 144 → IsUtf8 name → IsUtf8 does → AreUtf8Fields (awaited_fields chip n side name does)
+awaited chip n side name does l a b = ((a, neighbour_utf8 chip n side l), ((b, neighbour_does chip (awaited_neighbour chip n side)), tt))
+
+waiting_utf8 : (chip : List NodeRecord) (deadlocked ended : Bool) (n : ℕ) → n < 144 → HasUtf8Texts (waiting_json chip deadlocked ended n)
+unfolding is_low are_named
+waiting_utf8 chip deadlocked ended n l =
+    let first = activity_fields chip deadlocked ended n in
+    let right = awaited_fields chip n Right (codes "right") (codes "right_does") in
+    let down = awaited_fields chip n Down (codes "down") (codes "down_does") in
+    let left = awaited_fields chip n Left (codes "left") (codes "left_does") in
+    let up = awaited_fields chip n Up (codes "up") (codes "up_does") in
+    object_of (waiting_fields chip deadlocked ended n)
+    (fields_append first (right ++ down ++ left ++ up)
+    (fields first refl (number_name n l, (activity_utf8 (record_at chip n).wait (record_at chip n).stop, (tt, (tt, tt)))))
+    (fields_append right (down ++ left ++ up) (awaited chip n Right (codes "right") (codes "right_does") l (plain (codes "right") refl) (plain (codes "right_does") refl))
+    (fields_append down (left ++ up) (awaited chip n Down (codes "down") (codes "down_does") l (plain (codes "down") refl) (plain (codes "down_does") refl))
+    (fields_append left up (awaited chip n Left (codes "left") (codes "left_does") l (plain (codes "left") refl) (plain (codes "left_does") refl))
+    (awaited chip n Up (codes "up") (codes "up_does") l (plain (codes "up") refl) (plain (codes "up_does") refl))))))
+
+waiting_from : (chip : List NodeRecord) (marks over idle : ℕ → Bool) (n more : ℕ) → n + more ≤ 144 → HaveUtf8Items (who_rows chip marks over idle n more)
+unfolding who_rows
+waiting_from chip marks over idle n zero l = tt
+waiting_from chip marks over idle n (suc more) l =
+    let rest = who_rows chip marks over idle (n + 1) more in
+    let later = waiting_from chip marks over idle (n + 1) more (omega (arith, l)) in
+    cond_both (has_who_row chip marks idle n) (item (waiting_json chip (marks n) (over n) n) rest) rest HaveUtf8Items
+    (λ _. (waiting_utf8 chip (marks n) (over n) n (omega (arith, l)), later)) (λ _. later)
+
+pub who_utf8 : (s : State) (answer : JsonValue) → IsWhoJson s answer → HasUtf8Texts answer
+unfolding is_low are_named
+who_utf8 s answer h =
+    let head = who_fields (node_count h.idle 144) (node_count (λ n. h.marks n && h.idle n) 144) in
+    as_value answer (who_json (chip_of s) h.marks h.over h.idle) h.json
+    (report_of head (who_rows (chip_of s) h.marks h.over h.idle 0 144) (fields head refl (plain (codes "who") refl, (tt, (tt, tt))))
+    (waiting_from (chip_of s) h.marks h.over h.idle 0 144 (omega arith)))

@@ -1,0 +1,146 @@
+-- The texts of refusals, and of the rows and fields of answers, are UTF-8.
+use Rattle.std.proofs.Common.{ℕ, ◌%◌, [], ◌∷◌, ◌++◌, true, codes, decimal, refl, arith}
+use Rattle.std.specs.Prelude.{◌==◌, if◌then◌else◌, pos}
+use Rattle.std.specs.Str.{IsUtf8}
+use Rattle.std.proofs.lemmas.Bool.{cond_both, agree_below_at}
+use Rattle.ga_text.specs.Lines.{Text}
+use Rattle.ga_text.specs.Digits.{name_of_node}
+use Rattle.ga_slots.specs.Codes.{name_of, op_of}
+use Rattle.ga_node.specs.declared.kind.OwnEventKind.{OwnEventKind}
+use Rattle.ga_node.specs.declared.kind.OwnEventKind.TheVariants as kind
+use Rattle.ga_grid.specs.declared.node_id.NodeId.{NodeId}
+use Rattle.ga_event.specs.declared.made.Made.{Made}
+use Rattle.ga_event.specs.declared.made.Made.TheVariants.{Own, Pass}
+use Rattle.ga_event.specs.declared.flow.part.NodePart.{NodePart}
+use Rattle.ga_event.specs.declared.flow.part.NodePart.TheVariants as part
+use Rattle.ga_lab.specs.declared.fault.LabFault.{LabFault}
+use Rattle.ga_lab.specs.declared.fault.LabFault.TheVariants.{Waiting, Stopped, Full, Memory, Empty, NoStep, Spent}
+use Rattle.ga_display.specs.Texts.{advised_refusal_text, advised_step_refusal_text, missing_step_text, steps_word}
+use Rattle.ga_json.specs.Values.{number, string}
+use Rattle.ga_explorer_json.specs.Events.{own_event_fields, pass_fields, action_fields, made_event_fields}
+use Rattle.ga_explorer_json.specs.Parts.{part_word, part_place, value_fields}
+use Rattle.ga_explorer_json.specs.Refusals.{after_byte, before_byte, hint_in, refusal_json, fault_code, fault_word, fault_hint, lab_refusal_json, step_refusal_json}
+use Rattle.ga_explorer_json.proofs.Utf8Values.{IsLow, is_low, low, low_append, low_utf8, plain, decimal_low, name_low, node_name, HasUtf8Texts, optional_number, AreUtf8Fields, are_named, fields, fields_append, object_of}
+
+-- ---- refusals
+
+after_low : (byte : ℕ) (text : Text) → IsLow text → IsLow (after_byte byte text)
+after_low byte [] h = tt
+after_low byte (b ∷ text) h = cond_both (b == byte) text (after_byte byte text) IsLow (λ _. h.1) (λ _. after_low byte text h.1)
+
+before_low : (byte : ℕ) (text : Text) → IsLow text → IsLow (before_byte byte text)
+before_low byte [] h = tt
+before_low byte (b ∷ text) h = cond_both (b == byte) [] (b ∷ before_byte byte text) IsLow (λ _. tt) (λ _. (h.0, before_low byte text h.1))
+
+pub hint_utf8 : (line : Text) → IsLow line → IsUtf8 (hint_in line)
+hint_utf8 line h = low_utf8 (hint_in line) (before_low 10 (after_byte 32 (after_byte 58 line)) (after_low 32 (after_byte 58 line) (after_low 58 line h)))
+
+advice_low : (why : LabFault) → IsLow (advised_refusal_text why)
+unfolding is_low
+advice_low Waiting = low (advised_refusal_text Waiting) refl
+advice_low Stopped = low (advised_refusal_text Stopped) refl
+advice_low Full = low (advised_refusal_text Full) refl
+advice_low Memory = low (advised_refusal_text Memory) refl
+advice_low Empty = low (advised_refusal_text Empty) refl
+advice_low NoStep = low (advised_refusal_text NoStep) refl
+advice_low Spent = low (advised_refusal_text Spent) refl
+
+steps_low : (count : ℕ) → IsLow (steps_word count)
+unfolding is_low
+steps_low count = cond_both (count == 1) (codes " step\n") (codes " steps\n") IsLow (λ _. low (codes " step\n") refl) (λ _. low (codes " steps\n") refl)
+
+missing_low : (node : NodeId) (count : ℕ) → IsLow (missing_step_text node count)
+unfolding is_low
+missing_low node count =
+    low_append (codes "no 6 nostep: ") (name_of_node node ++ codes " has " ++ decimal count ++ steps_word count) (low (codes "no 6 nostep: ") refl)
+    (low_append (name_of_node node) (codes " has " ++ decimal count ++ steps_word count) (name_low node.number node.in_range)
+    (low_append (codes " has ") (decimal count ++ steps_word count) (low (codes " has ") refl) (low_append (decimal count) (steps_word count) (decimal_low count) (steps_low count))))
+
+step_advice_low : (node : NodeId) (count : ℕ) (why : LabFault) → IsLow (advised_step_refusal_text node count why)
+step_advice_low node count Waiting = advice_low Waiting
+step_advice_low node count Stopped = advice_low Stopped
+step_advice_low node count Full = advice_low Full
+step_advice_low node count Memory = advice_low Memory
+step_advice_low node count Empty = advice_low Empty
+step_advice_low node count NoStep = missing_low node count
+step_advice_low node count Spent = advice_low Spent
+
+pub fault_word_utf8 : (why : LabFault) → IsUtf8 (fault_word why)
+unfolding is_low
+fault_word_utf8 Waiting = plain (codes "waiting") refl
+fault_word_utf8 Stopped = plain (codes "stopped") refl
+fault_word_utf8 Full = plain (codes "full") refl
+fault_word_utf8 Memory = plain (codes "memory") refl
+fault_word_utf8 Empty = plain (codes "empty") refl
+fault_word_utf8 NoStep = plain (codes "nostep") refl
+fault_word_utf8 Spent = plain (codes "spent") refl
+
+pub fault_hint_utf8 : (why : LabFault) → IsUtf8 (fault_hint why)
+fault_hint_utf8 why = hint_utf8 (advised_refusal_text why) (advice_low why)
+
+pub refusal : (command : Text) (code : ℕ) (why hint : Text) → IsUtf8 command → IsUtf8 why → IsUtf8 hint → HasUtf8Texts (refusal_json command code why hint)
+unfolding is_low are_named
+refusal command code why hint a b c = object_of
+    ((codes "command", string command) ∷ (codes "refused", number (pos code)) ∷ (codes "why", string why) ∷ (codes "hint", string hint) ∷ [])
+    (fields ((codes "command", string command) ∷ (codes "refused", number (pos code)) ∷ (codes "why", string why) ∷ (codes "hint", string hint) ∷ []) refl (a, (tt, (b, (c, tt)))))
+
+pub lab_refusal : (command : Text) (why : LabFault) → IsUtf8 command → HasUtf8Texts (lab_refusal_json command why)
+lab_refusal command why h = refusal command (fault_code why) (fault_word why) (fault_hint why) h (fault_word_utf8 why) (fault_hint_utf8 why)
+
+pub step_refusal : (command : Text) (node : NodeId) (count : ℕ) (why : LabFault) → IsUtf8 command → HasUtf8Texts (step_refusal_json command node count why)
+step_refusal command node count why h =
+    refusal command (fault_code why) (fault_word why) (hint_in (advised_step_refusal_text node count why)) h (fault_word_utf8 why)
+    (hint_utf8 (advised_step_refusal_text node count why) (step_advice_low node count why))
+
+-- ---- events
+
+opcode_utf8 : (code : ℕ) → IsUtf8 (name_of (op_of (code % 32)))
+unfolding is_low
+opcode_utf8 code = plain (name_of (op_of (code % 32))) (agree_below_at (λ k. is_low (name_of (op_of k))) (λ k. true) 32 (code % 32) refl (omega arith))
+
+own_event : (kind : OwnEventKind) → AreUtf8Fields (own_event_fields kind)
+unfolding is_low are_named
+own_event kind.Fetch = fields (own_event_fields kind.Fetch) refl (plain (codes "fetch") refl, tt)
+own_event (kind.Run code) = fields (own_event_fields (kind.Run code)) refl (plain (codes "run") refl, (opcode_utf8 code, tt))
+own_event kind.Wait = fields (own_event_fields kind.Wait) refl (plain (codes "wait") refl, tt)
+own_event (kind.Stop n) = fields (own_event_fields (kind.Stop n)) refl (plain (codes "stop") refl, (tt, tt))
+
+pass : (writer : NodeId) (i : ℕ) (reader : NodeId) (j word : ℕ) → AreUtf8Fields (pass_fields writer i reader j word)
+unfolding is_low are_named
+pass writer i reader j word = fields (pass_fields writer i reader j word) refl (plain (codes "pass") refl, (node_name writer, (tt, (node_name reader, (tt, (tt, tt))))))
+
+pub action : (made : Made) → AreUtf8Fields (action_fields made)
+action (Own node step kind) = own_event kind
+action (Pass writer i reader j word) = pass writer i reader j word
+
+pub made_event : (made : Made) → AreUtf8Fields (made_event_fields made)
+unfolding is_low are_named
+made_event (Own node step kind) =
+    fields_append ((codes "node", string (name_of_node node)) ∷ (codes "step", number (pos step)) ∷ []) (own_event_fields kind)
+    (fields ((codes "node", string (name_of_node node)) ∷ (codes "step", number (pos step)) ∷ []) refl (node_name node, (tt, tt))) (own_event kind)
+made_event (Pass writer i reader j word) = pass writer i reader j word
+
+-- ---- parts of a node
+
+pub part_utf8 : (at : NodePart) → IsUtf8 (part_word at)
+unfolding is_low
+part_utf8 (part.Data k) =
+    cond_both (k == 0) (codes "t") (if k == 1 then codes "s" else codes "d") IsUtf8 (λ _. plain (codes "t") refl)
+    (λ _. cond_both (k == 1) (codes "s") (codes "d") IsUtf8 (λ _. plain (codes "s") refl) (λ _. plain (codes "d") refl))
+part_utf8 (part.Return k) = plain (codes "r") refl
+part_utf8 (part.Ram k) = plain (codes "ram") refl
+part_utf8 (part.Rom k) = plain (codes "rom") refl
+part_utf8 part.A = plain (codes "a") refl
+part_utf8 part.B = plain (codes "b") refl
+part_utf8 part.P = plain (codes "p") refl
+part_utf8 part.I = plain (codes "i") refl
+part_utf8 part.Io = plain (codes "io") refl
+part_utf8 part.Carry = plain (codes "carry") refl
+part_utf8 part.Slot = plain (codes "slot") refl
+part_utf8 part.Wait = plain (codes "wait") refl
+part_utf8 part.Stop = plain (codes "stop") refl
+part_utf8 part.Outside = plain (codes "outside") refl
+
+pub value : (at : NodePart) (word : ℕ) → AreUtf8Fields (value_fields at word)
+unfolding is_low are_named
+value at word = fields (value_fields at word) refl (part_utf8 at, (optional_number (part_place at), (tt, tt)))
