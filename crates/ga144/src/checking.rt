@@ -79,7 +79,7 @@ fn search(
     let request = CheckRequest {
         most: work.most,
         seconds: work.seconds,
-        format: format_of(work.json, name),
+        format: choose_report_format(work.json, name),
     };
     let (limit, settles, asked) = (SESSION_LIMIT, work.settled, work.asked);
     match work.never {
@@ -110,7 +110,7 @@ fn search(
 }
 
 /// Text, or JSON objects that name a file.
-pub fn format_of<'a>(json: bool, name: &'a str) -> ReportFormat<'a> {
+pub fn choose_report_format<'a>(json: bool, name: &'a str) -> ReportFormat<'a> {
     if json {
         ReportFormat::Json(name.as_bytes())
     } else {

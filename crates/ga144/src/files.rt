@@ -1,6 +1,6 @@
 //! The files that the command line names.
 
-use ga_explorer::{append_end_line, lacks_end_line};
+use ga_explorer::{complete_end_line, lacks_end_line};
 use std::fs::File;
 use std::io;
 use std::io::{Chain, ErrorKind, Read, Stdin, Take};
@@ -47,7 +47,7 @@ pub fn read_input_prefix(rt: &HostRuntime, file: Option<&str>) -> Result<InputPr
     if lacks_end_line(text.as_slice()) {
         return Ok(InputPrefix { text, behind: 0 });
     }
-    match append_end_line(&mut text) {
+    match complete_end_line(&mut text) {
         Ok(()) => Ok(InputPrefix {
             text,
             behind: u64::MAX,

@@ -11,15 +11,15 @@ mod checking;
 mod files;
 
 ghost use Rattle.std.specs.Prelude.{IfOk};
-ghost use Rattle.ga_console.specs.Settings.{AreInRange};
+ghost use Rattle.ga_console.specs.Settings.{AreSettingsInRange};
 
 use adapter::{report_adapter_out_of_memory, serve_editor};
 use arriving::spawn_reader;
-use checking::{CheckOptions, find_verdict, format_of};
+use checking::{CheckOptions, choose_report_format, find_verdict};
 use files::{read_chip_file, read_input_prefix};
-use ga_asm_text::{assemble_as, disassemble, list_source};
+use ga_asm_text::{assemble_in_format, disassemble, list_source};
 use ga_check_report::{ConditionFault, Verdict};
-use ga_console::{CommandLineFault, Settings, Status, arguments, race_report, session};
+use ga_console::{CommandLineFault, Settings, Status, parse_command_line, race_report, session};
 use ga_explorer::{QueryUsage, explore};
 use ga_explorer_json::explore_json;
 use ga_picture::{PictureView, draw_session};
@@ -136,7 +136,7 @@ fn main(rt: HostRuntime) -> ExitCode {
 
 /// What the words of the command line ask for.
 fn settings(rt: &HostRuntime) -> Result<Settings, CommandLineFault>
-    ensures { IfOk result AreInRange }
+    ensures { IfOk result AreSettingsInRange }
 {
     let Ok(words) = env::args(rt) else {
         return Err(CommandLineFault::Memory);
@@ -151,7 +151,7 @@ fn settings(rt: &HostRuntime) -> Result<Settings, CommandLineFault>
     else {
         return Err(CommandLineFault::Memory);
     };
-    arguments(rt.alloc(), texts.as_slice())
+    parse_command_line(rt.alloc(), texts.as_slice())
 }
 
 /// Serves a session over the standard streams.
@@ -209,12 +209,12 @@ fn served(rt: &HostRuntime, work: Work, chip: &Option<String>, file: &Option<Str
             strict,
         ),
         Work::Assemble { json } => {
-            assemble_as(
+            assemble_in_format(
                 alloc,
                 input,
                 output,
                 told,
-                format_of(json, name_or_dash(named)),
+                choose_report_format(json, name_or_dash(named)),
             )
         }
         Work::List => list_source(alloc, input, output, told),

@@ -6,7 +6,7 @@ use Rattle.ga_parser.specs.declared.fault.SourceFault.{SourceFault}
 use Rattle.ga_parser.specs.contracts.fault.SourceFaultPartialEq.TheImpl.{ghosts as faults_compare}
 use Rattle.ga_parser.specs.declared.scan.Token.{Token}
 use Rattle.ga_source.specs.Recovery.{fault_at_line, faults_by_line, faults_or_first}
-use Rattle.ga_asm_text.specs.Source.{listed_fault_text, HasPartsInOrder}
+use Rattle.ga_asm_text.specs.Source.{listed_fault_text, HasTextPartsInOrder}
 use Rattle.ga_asm_text.specs.inner.{is_repeated, news, lines_of, Grows, Tells}
 
 -- ---- texts that grow
@@ -22,24 +22,24 @@ grows_both a b c first second = record { added = first.added ++ second.added; te
 
 -- ---- parts among a text
 
-among_front : (parts : List (List ℕ)) (front text : List ℕ) → HasPartsInOrder parts text → HasPartsInOrder parts (front ++ text)
-unfolding HasPartsInOrder
+among_front : (parts : List (List ℕ)) (front text : List ℕ) → HasTextPartsInOrder parts text → HasTextPartsInOrder parts (front ++ text)
+unfolding HasTextPartsInOrder
 among_front [] front text are = tt
 among_front (part ∷ parts) front text are =
     (front ++ are.0, are.1, ap (λ (l : List ℕ). front ++ l) are.2 ∙ (sym (append_assoc front (are.0 ++ part) are.1) ∙ ap (λ (l : List ℕ). l ++ are.1) (sym (append_assoc front are.0 part))), are.3)
 
-among_both : (parts others : List (List ℕ)) (text after : List ℕ) → HasPartsInOrder parts text → HasPartsInOrder others after → HasPartsInOrder (parts ++ others) (text ++ after)
-unfolding HasPartsInOrder
+among_both : (parts others : List (List ℕ)) (text after : List ℕ) → HasTextPartsInOrder parts text → HasTextPartsInOrder others after → HasTextPartsInOrder (parts ++ others) (text ++ after)
+unfolding HasTextPartsInOrder
 among_both [] others text after are rest = among_front others text after rest
 among_both (part ∷ parts) others text after are rest =
     (are.0, are.1 ++ after, ap (λ (l : List ℕ). l ++ after) are.2 ∙ append_assoc (are.0 ++ part) are.1 after, among_both parts others are.1 after are.3 rest)
 
-none_among : (text : List ℕ) → HasPartsInOrder [] text
-unfolding HasPartsInOrder
+none_among : (text : List ℕ) → HasTextPartsInOrder [] text
+unfolding HasTextPartsInOrder
 none_among text = tt
 
-one_among : (part : List ℕ) → HasPartsInOrder (part ∷ []) part
-unfolding HasPartsInOrder
+one_among : (part : List ℕ) → HasTextPartsInOrder (part ∷ []) part
+unfolding HasTextPartsInOrder
 one_among part = ([], [], sym (append-nil part), tt)
 
 -- ---- a listing
@@ -66,9 +66,9 @@ pub tells_one : (old new part : List ℕ) (before left : List (List ℕ)) → ne
 tells_one old new part before left pushed is = record { added = part; lines = part ∷ []; text = pushed; told = is; among = one_among part }
 
 -- all lines are written
-pub all_told : (text : List ℕ) (before : List (List ℕ)) → Tells [] text before [] → HasPartsInOrder before text
+pub all_told : (text : List ℕ) (before : List (List ℕ)) → Tells [] text before [] → HasTextPartsInOrder before text
 all_told text before tells =
-    subst (λ (l : List (List ℕ)). HasPartsInOrder l text) (sym (tells.told ∙ append-nil tells.lines)) (subst (HasPartsInOrder tells.lines) (sym tells.text) tells.among)
+    subst (λ (l : List (List ℕ)). HasTextPartsInOrder l text) (sym (tells.told ∙ append-nil tells.lines)) (subst (HasTextPartsInOrder tells.lines) (sym tells.text) tells.among)
 
 -- ---- faults that are new
 

@@ -6,10 +6,10 @@ use Rattle.std.proofs.lemmas.Bool.{cases_Bool, eqb-true}
 use Rattle.ga_ports.specs.Address.{advanced_address}
 use Rattle.ga_node.specs.Record.{NodeState}
 use Rattle.ga_parser.specs.declared.item.Operand.TheVariants.{Number}
-use Rattle.ga_parser.specs.declared.item.Item.TheVariants.{Cell}
+use Rattle.ga_parser.specs.declared.item.AssemblyItem.TheVariants.{Cell}
 use Rattle.ga_parser.specs.declared.item.AssemblyRequest.{AssemblyRequest}
 use Rattle.ga_parser.specs.declared.item.AssemblyRequest.TheVariants.{Put}
-use Rattle.ga_source.specs.Made.{requested_cells, IsMemoryAddress, cell_of, AreDistinctCells}
+use Rattle.ga_source.specs.Made.{requested_cells, IsMemoryAddress, cell_at_index, AreDistinctCells}
 use Rattle.ga_asm_text.specs.inner.{next_of, next_behind, IsFit}
 use Rattle.ga_asm_text.proofs.PlainWords.{address_requests, cell_requests, cells_requests, node_requests, IsCellAddress, IsWithin, first_within, rest_within}
 use Rattle.ga_asm_text.proofs.PlainCells.{counts_up}
@@ -25,13 +25,13 @@ unfolding Ascend
 lower less least [] below up = tt
 lower less least (cell ∷ cells) below up = (omega (arith, up.0), up.1, up.2)
 
-cell_up : (least : ℕ) (cells : List (ℕ × ℕ)) (k : ℕ) → Ascend least cells → k < length cells → (least ≤ (cell_of cells k).0) × IsCellAddress (cell_of cells k).0
+cell_up : (least : ℕ) (cells : List (ℕ × ℕ)) (k : ℕ) → Ascend least cells → k < length cells → (least ≤ (cell_at_index cells k).0) × IsCellAddress (cell_at_index cells k).0
 unfolding Ascend
 cell_up least [] k up within = absurd (omega arith)
 cell_up least (cell ∷ cells) zero up within = (up.0, up.1)
 cell_up least (cell ∷ cells) (suc k) up within = let more = cell_up (cell.0 + 1) cells k up.2 (omega arith) in (omega (arith, up.0, more.0), more.1)
 
-later_up : (least : ℕ) (cells : List (ℕ × ℕ)) (j k : ℕ) → Ascend least cells → j < k → k < length cells → (cell_of cells j).0 < (cell_of cells k).0
+later_up : (least : ℕ) (cells : List (ℕ × ℕ)) (j k : ℕ) → Ascend least cells → j < k → k < length cells → (cell_at_index cells j).0 < (cell_at_index cells k).0
 unfolding Ascend
 later_up least [] j k up less within = absurd (omega arith)
 later_up least (cell ∷ cells) j zero up less within = absurd (omega arith)
@@ -48,10 +48,10 @@ in_memory address (inr rom) = inr (omega (arith, rom.0, rom.1), omega (arith, ro
 
 free : (cells : List (ℕ × ℕ)) → Ascend 0 cells → AreDistinctCells cells
 free cells up = record {
-  memory = λ k within. in_memory (cell_of cells k).0 (cell_up 0 cells k up within).1;
+  memory = λ k within. in_memory (cell_at_index cells k).0 (cell_up 0 cells k up within).1;
   apart = λ j k less within same.
-      let a = low (cell_of cells j).0 (cell_up 0 cells j up (omega arith)).1 in
-      let b = low (cell_of cells k).0 (cell_up 0 cells k up within).1 in
+      let a = low (cell_at_index cells j).0 (cell_up 0 cells j up (omega arith)).1 in
+      let b = low (cell_at_index cells k).0 (cell_up 0 cells k up within).1 in
       omega (arith, later_up 0 cells j k up less within, a, b, same);
 }
 

@@ -9,8 +9,8 @@ use Rattle.std.proofs.lemmas.Bool.{and_parts, and_from, lt-ltb, cond-true, eqb-t
 use Rattle.hex.specs.Hex.{lower_digits}
 use Rattle.ga_word.specs.Word.{hex_digit}
 use Rattle.ga_ports.specs.Address.{parse_side_set}
-use Rattle.ga_parser.specs.Vocabulary.{is_numeral, value_of_digits, named_port_set, number_of_word}
-use Rattle.ga_parser.specs.Plain.{if_number}
+use Rattle.ga_parser.specs.Vocabulary.{is_numeral, value_of_digits, named_port_set, number_spelled_by_word}
+use Rattle.ga_parser.specs.Plain.{and_then_number}
 use Rattle.ga_asm_text.specs.inner.{hex_of, number_word}
 
 -- ---- written
@@ -96,5 +96,5 @@ digits_read k n below =
     ∙ ap Some (ap (λ (m : ℕ). digits_value_after 16 m (hex_of (suc k) n)) (sym below) ∙ digits_back (suc k) n)
 
 -- a number is read as it is written
-pub number_read : {X : Type 0} (k n : ℕ) (asks : ℕ → Option X) → n / 16 ^ suc k ≡ 0 → n < 262144 → if_number (number_of_word (number_word (suc k) n)) asks ≡ asks n
+pub number_read : {X : Type 0} (k n : ℕ) (asks : ℕ → Option X) → n / 16 ^ suc k ≡ 0 → n < 262144 → and_then_number (number_spelled_by_word (number_word (suc k) n)) asks ≡ asks n
 number_read k n asks below small = rw (none_in (120 ∷ hex_of (suc k) n), digits_read k n below, lt-ltb n 262144 small) refl

@@ -1,11 +1,11 @@
 -- From what comes of a source to the objects that are written.
 use Rattle.std.proofs.Common.{◌≡◌, List, ℕ, ◌++◌, inl, inr, refl, sym, subst}
-use Rattle.ga_text.specs.Output.{IsReadWhole}
+use Rattle.ga_text.specs.Output.{IsImageReadWhole}
 use Rattle.ga_json.specs.Diagnostics.{diagnostics_json}
 use Rattle.ga_console.specs.inner.Run.{Writes}
 use Rattle.ga_console.specs.declared.run.Status.{Status}
 use Rattle.ga_console.specs.declared.run.Status.TheVariants.{Done, ImageRefused, StreamFault, NotFinished, CommandRefused}
-use Rattle.ga_asm_text.specs.SourceJson.{image_json, IsImageWithWarnings, AreLinesOfFaults, IsUnreadJson, WritesAssemblyJson}
+use Rattle.ga_asm_text.specs.SourceJson.{image_json, IsImageWithWarnings, AreLinesOfFaults, IsUnreadSourceJson, WritesAssemblyJson}
 use Rattle.ga_asm_text.specs.inner.{with_fault, WritesRefusal, AssemblyJson}
 
 -- a text was written, and the status is that of a refusal
@@ -39,7 +39,7 @@ faults_written file source lines text NotFinished are written = absurd written
 faults_written file source lines text CommandRefused are written = absurd written
 
 -- what was written for the source that was read
-pub assembles_as_json : (file source ahead read rest text : List ℕ) (status : Status) → read ≡ source ++ ahead → IsReadWhole source ahead rest → AssemblyJson file source text status
+pub assembles_as_json : (file source ahead read rest text : List ℕ) (status : Status) → read ≡ source ++ ahead → IsImageReadWhole source ahead rest → AssemblyJson file source text status
     → WritesAssemblyJson file read rest text status
 assembles_as_json file source ahead read rest text Done e part written = (source, ahead, e, part, written)
 assembles_as_json file source ahead read rest text ImageRefused e part written = inr (source, ahead, e, part, written)
@@ -48,9 +48,9 @@ assembles_as_json file source ahead read rest text NotFinished e part written = 
 assembles_as_json file source ahead read rest text CommandRefused e part written = written
 
 -- and where it wasn't read whole
-pub unread_as_json : (file lines read rest text : List ℕ) (status : Status) → IsUnreadJson file (diagnostics_json file lines) → WritesRefusal (diagnostics_json file lines) text status
+pub unread_as_json : (file lines read rest text : List ℕ) (status : Status) → IsUnreadSourceJson file (diagnostics_json file lines) → WritesRefusal (diagnostics_json file lines) text status
     → WritesAssemblyJson file read rest text status
-unread_as_json file lines read rest text ImageRefused is written = inl (subst (IsUnreadJson file) (sym written) is)
+unread_as_json file lines read rest text ImageRefused is written = inl (subst (IsUnreadSourceJson file) (sym written) is)
 unread_as_json file lines read rest text StreamFault is written = inr (inl (record { whole = diagnostics_json file lines; is_text = is; front = written }))
 unread_as_json file lines read rest text Done is written = absurd written
 unread_as_json file lines read rest text NotFinished is written = absurd written

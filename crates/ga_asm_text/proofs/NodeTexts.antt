@@ -6,7 +6,7 @@ use Rattle.std.proofs.lemmas.List.{append-nil, take_at, nil_from_length, drop_mo
 use Rattle.std.proofs.lemmas.List.Elements.{All-nil, All-more}
 use Rattle.ga_node.specs.Record.{NodeState}
 use Rattle.ga_grid.specs.Grid.{yxx_of}
-use Rattle.ga_grid.specs.Chip.{node_at, nowhere}
+use Rattle.ga_grid.specs.Chip.{node_at, default_node}
 use Rattle.ga_text.specs.Lines.{Text}
 use Rattle.ga_text.specs.Digits.{decimal3_of}
 use Rattle.ga_parser.specs.Saying.{TokenContent, parts_ended_by, tokens_of_lines, source_lines}
@@ -89,14 +89,14 @@ pub said_more : (chip : List NodeState) (text new : Text) (n : ℕ) (node : Node
 said_more chip text new n node size within is added is_fit so_far =
     let words = named_words n (node_words n node) in
     let rest : source_words n (drop n chip) ≡ words ++ source_words (n + 1) (drop (n + 1) chip) =
-    ap (source_words n) (drop_more chip n nowhere (omega arith) ∙ ap (λ (one : NodeState). one ∷ drop (n + 1) chip) (sym is))
+    ap (source_words n) (drop_more chip n default_node (omega arith) ∙ ap (λ (one : NodeState). one ∷ drop (n + 1) chip) (sym is))
     ∙ source_more n node (drop (n + 1) chip) in
     record {
       said = so_far.said ++ words;
       says = subst (λ (t : Text). Says t (so_far.said ++ words)) (sym added.1) (says_both text added.0 so_far.said words so_far.says added.2);
       words = append_assoc so_far.said words (source_words (n + 1) (drop (n + 1) chip)) ∙ (ap (λ (l : List Word). so_far.said ++ l) (sym rest) ∙ so_far.words);
       size = λ some. size;
-      fit = All-more IsFit chip n nowhere (omega arith) so_far.fit (subst IsFit is is_fit);
+      fit = All-more IsFit chip n default_node (omega arith) so_far.fit (subst IsFit is is_fit);
     }
 
 pub said_all : (chip : List NodeState) (text : Text) (n : ℕ) → 144 ≤ n → IsSaid chip text n → Says text (source_words 0 chip)

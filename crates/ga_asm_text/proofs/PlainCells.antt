@@ -6,15 +6,15 @@ use Rattle.std.proofs.Math.Seq.{set-append_seam}
 use Rattle.std.proofs.lemmas.List.{append-nil}
 use Rattle.std.proofs.lemmas.List.Folds.{list_any-append}
 use Rattle.std.proofs.lemmas.Bool.{cases_Bool, eqb-true}
-use Rattle.ga_ports.specs.declared.address.Target.TheVariants.{Ram, Rom}
+use Rattle.ga_ports.specs.declared.address.AddressTarget.TheVariants.{Ram, Rom}
 use Rattle.ga_ports.specs.Address.{address_target, advanced_address}
 use Rattle.ga_node.specs.Record.{NodeState}
 use Rattle.ga_parser.specs.declared.item.Operand.TheVariants.{Number}
-use Rattle.ga_parser.specs.declared.item.Item.TheVariants.{Cell}
+use Rattle.ga_parser.specs.declared.item.AssemblyItem.TheVariants.{Cell}
 use Rattle.ga_parser.specs.declared.item.AssemblyRequest.{AssemblyRequest}
 use Rattle.ga_parser.specs.declared.item.AssemblyRequest.TheVariants.{Put}
 use Rattle.ga_source.specs.Programs.{is_item_request}
-use Rattle.ga_source.specs.Made.{with_cell, with_requests}
+use Rattle.ga_source.specs.Made.{node_with_cell, node_with_requests}
 use Rattle.ga_asm_text.specs.inner.{next_of, next_behind, holds_word, IsFit}
 use Rattle.ga_asm_text.proofs.PlainWords.{address_requests, cell_requests, cells_requests, node_requests, IsCellAddress, IsWithin, first_within, rest_within}
 
@@ -74,42 +74,42 @@ memory_filled words size = ap (λ (n : ℕ). filled (replicate n 0) 0 words) (sy
 -- a node with the words that aren't 0 in its cells, from an address on
 unfoldable with_cells : NodeState → ℕ → List ℕ → NodeState
 with_cells node address [] = node
-with_cells node address (word ∷ words) = with_cells (if word == 0 then node else with_cell node (address_target address) word) (address + 1) words
+with_cells node address (word ∷ words) = with_cells (if word == 0 then node else node_with_cell node (address_target address) word) (address + 1) words
 
-gone : (node : NodeState) (address next : ℕ) (rest : List AssemblyRequest) → with_requests node next (address_requests address next ++ rest) ≡ with_requests node address rest
-unfolding with_requests
+gone : (node : NodeState) (address next : ℕ) (rest : List AssemblyRequest) → node_with_requests node next (address_requests address next ++ rest) ≡ node_with_requests node address rest
+unfolding node_with_requests
 gone node address next rest = elim (cases_Bool (address == next)) [
-  | inl same ↦ rw same (ap (λ (at : ℕ). with_requests node at rest) (sym (eqb-true address next same)))
+  | inl same ↦ rw same (ap (λ (at : ℕ). node_with_requests node at rest) (sym (eqb-true address next same)))
   | inr differs ↦ rw differs refl
 ]
 
-put : (node : NodeState) (address word : ℕ) (rest : List AssemblyRequest) → with_requests node address (Put (Cell (Number word)) ∷ rest) ≡ with_requests (with_cell node (address_target address) word) (advanced_address address) rest
-unfolding with_requests
+put : (node : NodeState) (address word : ℕ) (rest : List AssemblyRequest) → node_with_requests node address (Put (Cell (Number word)) ∷ rest) ≡ node_with_requests (node_with_cell node (address_target address) word) (advanced_address address) rest
+unfolding node_with_requests
 put node address word rest = refl
 
 one_written : (node : NodeState) (word address next : ℕ) (rest : List AssemblyRequest) → IsCellAddress address
-    → with_requests node next (cell_requests word address next ++ rest) ≡ with_requests (if word == 0 then node else with_cell node (address_target address) word) (next_of word address next) rest
+    → node_with_requests node next (cell_requests word address next ++ rest) ≡ node_with_requests (if word == 0 then node else node_with_cell node (address_target address) word) (next_of word address next) rest
 one_written node word address next rest is = elim (cases_Bool (word == 0)) [
   | inl none ↦ rw none refl
   | inr some ↦ rw some
-      (ap (with_requests node next) (append_assoc (address_requests address next) (Put (Cell (Number word)) ∷ []) rest)
+      (ap (node_with_requests node next) (append_assoc (address_requests address next) (Put (Cell (Number word)) ∷ []) rest)
       ∙ (gone node address next (Put (Cell (Number word)) ∷ rest)
       ∙ (put node address word rest
-      ∙ ap (λ (at : ℕ). with_requests (with_cell node (address_target address) word) at rest) (counts_up address is))))
+      ∙ ap (λ (at : ℕ). node_with_requests (node_with_cell node (address_target address) word) at rest) (counts_up address is))))
 ]
 
 cells_written : (node : NodeState) (address next : ℕ) (words : List ℕ) (rest : List AssemblyRequest) → IsWithin address (length words)
-    → with_requests node next (cells_requests address next words ++ rest) ≡ with_requests (with_cells node address words) (next_behind address next words) rest
+    → node_with_requests node next (cells_requests address next words ++ rest) ≡ node_with_requests (with_cells node address words) (next_behind address next words) rest
 unfolding cells_requests with_cells next_behind
 cells_written node address next [] rest within = refl
 cells_written node address next (word ∷ words) rest within =
     let behind = next_of word address next in
     let after = cells_requests (address + 1) behind words in
-    ap (with_requests node next) (append_assoc (cell_requests word address next) after rest)
+    ap (node_with_requests node next) (append_assoc (cell_requests word address next) after rest)
     ∙ (one_written node word address next (after ++ rest) (first_within address (length words) within)
-    ∙ cells_written (if word == 0 then node else with_cell node (address_target address) word) (address + 1) behind words rest (rest_within address (length words) within))
+    ∙ cells_written (if word == 0 then node else node_with_cell node (address_target address) word) (address + 1) behind words rest (rest_within address (length words) within))
 
-one_ram : (node : NodeState) (cell word : ℕ) → cell < 64 → (if word == 0 then node else with_cell node (address_target cell) word) ≡ record node { ram = if word == 0 then node.ram else set node.ram cell word }
+one_ram : (node : NodeState) (cell word : ℕ) → cell < 64 → (if word == 0 then node else node_with_cell node (address_target cell) word) ≡ record node { ram = if word == 0 then node.ram else set node.ram cell word }
 one_ram node cell word small = elim (cases_Bool (word == 0)) [
   | inl none ↦ rw none refl
   | inr some ↦ rw (some, ram_at cell small) refl
@@ -122,7 +122,7 @@ ram_cells node cell (word ∷ words) within =
     ap (λ (next : NodeState). with_cells next (cell + 1) words) (one_ram node cell word (omega arith))
     ∙ ram_cells (record node { ram = if word == 0 then node.ram else set node.ram cell word }) (cell + 1) words (omega arith)
 
-one_rom : (node : NodeState) (cell word : ℕ) → cell < 64 → (if word == 0 then node else with_cell node (address_target (0x80 + cell)) word) ≡ record node { rom = if word == 0 then node.rom else set node.rom cell word }
+one_rom : (node : NodeState) (cell word : ℕ) → cell < 64 → (if word == 0 then node else node_with_cell node (address_target (0x80 + cell)) word) ≡ record node { rom = if word == 0 then node.rom else set node.rom cell word }
 one_rom node cell word small = elim (cases_Bool (word == 0)) [
   | inl none ↦ rw none refl
   | inr some ↦ rw (some, rom_at cell small) refl
@@ -138,8 +138,8 @@ rom_cells node cell (word ∷ words) within =
     ∙ rom_cells (record node { rom = if word == 0 then node.rom else set node.rom cell word }) (cell + 1) words (omega arith))
 
 -- a node without cells gets just those of this one
-pub memories_written : (empty node : NodeState) → IsFit node → empty.ram ≡ replicate 64 0 → empty.rom ≡ replicate 64 0 → with_requests empty 0 (node_requests node) ≡ record empty { ram = node.ram; rom = node.rom }
-unfolding with_requests
+pub memories_written : (empty node : NodeState) → IsFit node → empty.ram ≡ replicate 64 0 → empty.rom ≡ replicate 64 0 → node_with_requests empty 0 (node_requests node) ≡ record empty { ram = node.ram; rom = node.rom }
+unfolding node_with_requests
 memories_written empty node fit no_ram no_rom =
     let ram = fit.memories.ram in
     let rom = fit.memories.rom in
@@ -150,8 +150,8 @@ memories_written empty node fit no_ram no_rom =
     let rom_made : with_cells half 0x80 node.rom ≡ record half { rom = node.rom } =
     rom_cells half 0 node.rom (omega (arith, rom.size)) ∙ ap (λ (l : List ℕ). record half { rom = l }) (ap (λ (l : List ℕ). filled l 0 node.rom) no_rom ∙ memory_filled node.rom rom.size) in
     cells_written empty 0 0 node.ram (cells_requests 0x80 behind node.rom) (inl (omega (arith, ram.size)))
-    ∙ (ap (λ (next : NodeState). with_requests next behind (cells_requests 0x80 behind node.rom)) ram_made
-    ∙ (ap (with_requests half behind) (sym (append-nil (cells_requests 0x80 behind node.rom)))
+    ∙ (ap (λ (next : NodeState). node_with_requests next behind (cells_requests 0x80 behind node.rom)) ram_made
+    ∙ (ap (node_with_requests half behind) (sym (append-nil (cells_requests 0x80 behind node.rom)))
     ∙ (cells_written half 0x80 behind node.rom [] (inr (omega arith, omega (arith, rom.size))) ∙ rom_made)))
 
 -- ---- whether there are cells

@@ -8,10 +8,10 @@ use Rattle.std.proofs.lemmas.Bool.{lt-ltb, le-leb, cases_Bool}
 use Rattle.ga_node.specs.Record.{NodeState}
 use Rattle.ga_parser.specs.declared.item.Operand.{Operand}
 use Rattle.ga_parser.specs.declared.item.Operand.TheVariants.{Number}
-use Rattle.ga_parser.specs.declared.item.Item.TheVariants.{Cell}
+use Rattle.ga_parser.specs.declared.item.AssemblyItem.TheVariants.{Cell}
 use Rattle.ga_parser.specs.declared.item.AssemblyRequest.{AssemblyRequest}
 use Rattle.ga_parser.specs.declared.item.AssemblyRequest.TheVariants.{Put, Go}
-use Rattle.ga_parser.specs.Plain.{Plain, no_request, with_request, value_if, is_cell_address, may_set_register, plain_requests_from, plain_requests_of}
+use Rattle.ga_parser.specs.Plain.{Plain, no_plain_requests, with_plain_request, some_value_if, is_cell_address, may_set_register, plain_requests_from, plain_requests_of}
 use Rattle.ga_asm_text.specs.inner.{Word, number_word, register_words, address_words, cell_words, next_of, cells_words, next_behind, usual_p, holds_words, node_words, IsCell, IsFit}
 use Rattle.ga_asm_text.proofs.HexLemmas.{number_read}
 
@@ -40,7 +40,7 @@ all_more plain some more = ap (λ (l : List AssemblyRequest). record plain { req
 one_number : (plain : Plain) (word : ℕ) (rest : List Word) → word < 262144 → plain_requests_from plain (number_word 6 word ∷ codes "," ∷ rest) ≡ plain_requests_from (with_all plain (Put (Cell (Number word)) ∷ [])) rest
 unfolding plain_requests_from
 one_number plain word rest small =
-    rw (number_read 5 word (λ n. Some (with_request plain (Put (Cell (Number n))))) (omega arith) small) refl
+    rw (number_read 5 word (λ n. Some (with_plain_request plain (Put (Cell (Number n))))) (omega arith) small) refl
 
 abbrev pub IsCellAddress : ℕ → Type 0
 IsCellAddress address = (address < 64) ⊎ ((128 ≤ address) × (address < 192))
@@ -57,7 +57,7 @@ cell_address address (inr rom) =
 one_address : (plain : Plain) (address : ℕ) (rest : List Word) → IsCellAddress address → plain_requests_from plain (codes "org" ∷ number_word 2 address ∷ rest) ≡ plain_requests_from (with_all plain (Go address ∷ [])) rest
 unfolding plain_requests_from
 one_address plain address rest is =
-    rw (number_read 1 address (λ n. value_if (is_cell_address n) (with_request plain (Go n))) (omega (arith, below address is)) (omega (arith, below address is)), cell_address address is) refl
+    rw (number_read 1 address (λ n. some_value_if (is_cell_address n) (with_plain_request plain (Go n))) (omega (arith, below address is)) (omega (arith, below address is)), cell_address address is) refl
   where
     below : (a : ℕ) → IsCellAddress a → a < 192
     below a (inl ram) = omega arith
@@ -112,25 +112,25 @@ given value usual = if value == usual then None else Some (Number value)
 abbrev registers_of : Option Operand → Option Operand → Option Operand → Plain
 registers_of p a b = record { requests = []; p = p; a = a; b = b }
 
-p_asks : (value usual : ℕ) (rest : List Word) → value < 0x400 → plain_requests_from no_request (register_words (codes "/p") value usual ++ rest) ≡ plain_requests_from (registers_of (given value usual) None None) rest
+p_asks : (value usual : ℕ) (rest : List Word) → value < 0x400 → plain_requests_from no_plain_requests (register_words (codes "/p") value usual ++ rest) ≡ plain_requests_from (registers_of (given value usual) None None) rest
 unfolding plain_requests_from
 p_asks value usual rest small = elim (cases_Bool (value == usual)) [
   | inl same ↦ rw same refl
-  | inr differs ↦ rw (differs, number_read 4 value (λ n. value_if (may_set_register None n 0x400) (registers_of (Some (Number n)) None None)) (omega arith) (omega arith), lt-ltb value 0x400 small) refl
+  | inr differs ↦ rw (differs, number_read 4 value (λ n. some_value_if (may_set_register None n 0x400) (registers_of (Some (Number n)) None None)) (omega arith) (omega arith), lt-ltb value 0x400 small) refl
 ]
 
 a_asks : (p : Option Operand) (value usual : ℕ) (rest : List Word) → value < 0x40000 → plain_requests_from (registers_of p None None) (register_words (codes "/a") value usual ++ rest) ≡ plain_requests_from (registers_of p (given value usual) None) rest
 unfolding plain_requests_from
 a_asks p value usual rest small = elim (cases_Bool (value == usual)) [
   | inl same ↦ rw same refl
-  | inr differs ↦ rw (differs, number_read 4 value (λ n. value_if (may_set_register None n 0x40000) (registers_of p (Some (Number n)) None)) (omega arith) small, lt-ltb value 0x40000 small) refl
+  | inr differs ↦ rw (differs, number_read 4 value (λ n. some_value_if (may_set_register None n 0x40000) (registers_of p (Some (Number n)) None)) (omega arith) small, lt-ltb value 0x40000 small) refl
 ]
 
 b_asks : (p a : Option Operand) (value usual : ℕ) (rest : List Word) → value < 0x200 → plain_requests_from (registers_of p a None) (register_words (codes "/b") value usual ++ rest) ≡ plain_requests_from (registers_of p a (given value usual)) rest
 unfolding plain_requests_from
 b_asks p a value usual rest small = elim (cases_Bool (value == usual)) [
   | inl same ↦ rw same refl
-  | inr differs ↦ rw (differs, number_read 4 value (λ n. value_if (may_set_register None n 0x200) (registers_of p a (Some (Number n)))) (omega arith) (omega arith), lt-ltb value 0x200 small) refl
+  | inr differs ↦ rw (differs, number_read 4 value (λ n. some_value_if (may_set_register None n 0x200) (registers_of p a (Some (Number n)))) (omega arith) (omega arith), lt-ltb value 0x200 small) refl
 ]
 
 -- ---- a node

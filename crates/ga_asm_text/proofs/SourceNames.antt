@@ -6,16 +6,16 @@ use Rattle.std.proofs.lemmas.Bool.{cases_Bool, eqb-true}
 use Rattle.std.proofs.lemmas.Option.{same_Some}
 use Rattle.ga_node.specs.Record.{NodeState, fresh_node}
 use Rattle.ga_grid.specs.Grid.{load_p_of, default_chip, yxx_of}
-use Rattle.ga_parser.specs.Plain.{no_request, plain_requests_of, body_words, body_word_lists, named_node_number}
+use Rattle.ga_parser.specs.Plain.{no_plain_requests, plain_requests_of, body_words, body_word_lists, named_node_number}
 use Rattle.ga_parser.specs.Words.{source_word_texts}
 use Rattle.ga_source.specs.Programs.{is_item_request}
-use Rattle.ga_source.specs.Made.{with_requests, number_or, node_with_plain_requests, IsSameNode, HasPlainNode, IsSoundBody, node_number_of_words}
+use Rattle.ga_source.specs.Made.{node_with_requests, number_or_previous, node_with_plain_requests, IsSameNode, HasPlainNode, IsSoundBody, node_number_of_words}
 use Rattle.ga_asm_text.specs.Source.{HasSameLoad, IsSourceOfChip}
 use Rattle.ga_asm_text.specs.inner.{usual_p, holds_words, node_words, IsFit, Word, Says, source_words}
 use Rattle.ga_asm_text.proofs.PlainWords.{given, node_requests, plain_by, node_asks, nothing_asks}
 use Rattle.ga_asm_text.proofs.PlainCells.{memories_written, node_items}
 use Rattle.std.proofs.lemmas.List.Elements.{All-nil, All-cons, All-head, All-tail, All-get_or}
-use Rattle.ga_grid.specs.Chip.{nowhere, node_at}
+use Rattle.ga_grid.specs.Chip.{default_node, node_at}
 use Rattle.ga_grid.proofs.Chips.{node_at-default_chip}
 use Rattle.ga_text.specs.Lines.{Text}
 use Rattle.ga_text.specs.Digits.{decimal3_of}
@@ -24,16 +24,16 @@ use Rattle.ga_asm_text.proofs.FreeCells.{node_free}
 
 -- ---- the nodes that the words make which are written of them
 
-number_back : (value usual : ℕ) → number_or (given value usual) usual ≡ value
+number_back : (value usual : ℕ) → number_or_previous (given value usual) usual ≡ value
 number_back value usual = elim (cases_Bool (value == usual)) [
   | inl same ↦ rw same (sym (eqb-true value usual same))
   | inr differs ↦ rw differs refl
 ]
 
 -- P is as usual where it isn't given
-p_back : (n : ℕ) (node : NodeState) → number_or (plain_by n node).p (if list_any is_item_request (node_requests node) then 0 else load_p_of n) ≡ node.p
+p_back : (n : ℕ) (node : NodeState) → number_or_previous (plain_by n node).p (if list_any is_item_request (node_requests node) then 0 else load_p_of n) ≡ node.p
 p_back n node =
-    ap (λ (has : Bool). number_or (plain_by n node).p (usual_p n has)) (node_items node) ∙ number_back node.p (usual_p n (holds_words node))
+    ap (λ (has : Bool). number_or_previous (plain_by n node).p (usual_p n has)) (node_items node) ∙ number_back node.p (usual_p n (holds_words node))
 
 -- the memories, A, B and P are the same
 abbrev IsAlike : NodeState → NodeState → Type 0
@@ -62,12 +62,12 @@ named_loaded n node made fit is =
       p = ap (λ (one : NodeState). one.p) is.rest ∙ same.4;
     }
 
-unasked : (node : NodeState) → node_with_plain_requests node no_request ≡ node
-unfolding with_requests
+unasked : (node : NodeState) → node_with_plain_requests node no_plain_requests ≡ node
+unfolding node_with_requests
 unasked node = refl
 
-nothing_by : (n : ℕ) (node : NodeState) → IsFit node → node_words n node ≡ [] → plain_by n node ≡ no_request
-nothing_by n node fit none = same_Some (plain_by n node) no_request (sym (node_asks n node fit) ∙ (ap plain_requests_of none ∙ nothing_asks no_request))
+nothing_by : (n : ℕ) (node : NodeState) → IsFit node → node_words n node ≡ [] → plain_by n node ≡ no_plain_requests
+nothing_by n node fit none = same_Some (plain_by n node) no_plain_requests (sym (node_asks n node fit) ∙ (ap plain_requests_of none ∙ nothing_asks no_plain_requests))
 
 -- a node that isn't named is as at load
 pub unnamed_loaded : (n : ℕ) (node made : NodeState) → IsFit node → node_words n node ≡ [] → made ≡ fresh_node (load_p_of n) → HasSameLoad node made
@@ -201,7 +201,7 @@ source_loaded : (chip made : List NodeState) (n : ℕ) → length chip ≡ 144 �
     → (All (IsOther n) (bodies_of 0 chip) → node_at made n ≡ node_at default_chip n) → HasSameLoad (node_at chip n) (node_at made n)
 source_loaded chip made n size within fit named others =
     let node = node_at chip n in
-    let is_fit = All-get_or IsFit chip n nowhere (omega (arith, size)) fit in
+    let is_fit = All-get_or IsFit chip n default_node (omega (arith, size)) fit in
     let fresh = node_at-default_chip n within in
     let same : 0 + n ≡ n = omega arith in
     let found : NoneOr (HasPlainNode made) n node = subst (λ (m : ℕ). NoneOr (HasPlainNode made) m node) same (there (HasPlainNode made) 0 chip n (omega (arith, size)) named) in

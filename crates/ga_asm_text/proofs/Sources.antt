@@ -7,13 +7,13 @@ use Rattle.ga_parser.specs.declared.scan.Token.{Token}
 use Rattle.ga_parser.specs.Saying.{token_contents}
 use Rattle.ga_parser.specs.Words.{source_tokens, source_tokens_without_copies}
 use Rattle.ga_source.specs.Made.{IsSoundSource}
-use Rattle.ga_source.specs.Recovery.{with_numbers, IsAssemblyOfWords, fault_at_line, faults_by_line, faults_or_first, AreFaultsOfWords}
+use Rattle.ga_source.specs.Recovery.{tokens_with_numbers, IsAssemblyOfWords, fault_at_line, faults_by_line, faults_or_first, AreFaultsOfWords}
 use Rattle.ga_image.specs.FirstFault.{memory_fault}
 use Rattle.ga_image.specs.declared.fault.ImageFault.{ImageFault}
 use Rattle.ga_console.specs.Run.{ReadsOnlyImage, IsFaultOfImage, Refused, WritesImageRefusal}
 use Rattle.ga_console.specs.inner.Run.{Writes}
-use Rattle.ga_asm_text.specs.Source.{IsAssembledImage, WritesAssembly, HasAssembledChip, listed_fault_text, HasPartsInOrder, HasListedFaults, WritesListing, IsDisassembly, WritesDisassembly}
-use Rattle.ga_text.specs.Output.{IsReadWhole}
+use Rattle.ga_asm_text.specs.Source.{IsAssembledImage, WritesAssembly, HasAssembledChip, listed_fault_text, HasTextPartsInOrder, HasListedFaults, WritesListing, IsDisassembly, WritesDisassembly}
+use Rattle.ga_text.specs.Output.{IsImageReadWhole}
 use Rattle.ga_asm_text.specs.inner.{Assembly, IsListed, with_fault, behind_listing, Listing, Disassembly, IsUnread}
 use Rattle.ga_asm_text.proofs.FaultListing.{first_alone}
 use Rattle.ga_console.specs.declared.run.Status.{Status}
@@ -29,7 +29,7 @@ assembly_written source whole text NotFinished image written = absurd written
 assembly_written source whole text CommandRefused image written = absurd written
 
 -- what was written for the source that was read
-pub assembles : (source ahead read rest text : List ℕ) (status : Status) → read ≡ source ++ ahead → IsReadWhole source ahead rest → Assembly source text status → WritesAssembly read rest text status
+pub assembles : (source ahead read rest text : List ℕ) (status : Status) → read ≡ source ++ ahead → IsImageReadWhole source ahead rest → Assembly source text status → WritesAssembly read rest text status
 assembles source ahead read rest text Done e part written = (source, ahead, e, part, written)
 assembles source ahead read rest text ImageRefused e part written = written
 assembles source ahead read rest text StreamFault e part written = inr (source, ahead, e, part, written)
@@ -45,12 +45,12 @@ assembles_nothing read rest NotFinished unread = unread
 assembles_nothing read rest CommandRefused unread = unread
 
 -- all words of a source were assembled
-pub listed_whole : (source text : List ℕ) (words : List Token) (all : AssembledChip) → token_contents words ≡ source_tokens source → IsAssemblyOfWords (with_numbers 1 words) all → IsListed source false text
+pub listed_whole : (source text : List ℕ) (words : List Token) (all : AssembledChip) → token_contents words ≡ source_tokens source → IsAssemblyOfWords (tokens_with_numbers 1 words) all → IsListed source false text
 listed_whole source text words all said is = record { words = words; all = all; said = said; assembled = is }
 
 -- or it has a fault
 pub listed_faulty : (source text : List ℕ) (words : List Token) (fault : SourceFault) (found all : List SourceFault) → token_contents words ≡ source_tokens_without_copies source → (IsSoundSource source → fault.cause ≡ Memory) → fault.cause ≢ Memory
-    → AreFaultsOfWords (token_contents (with_numbers 1 words)) found → all ≡ faults_or_first found fault → HasPartsInOrder (map (listed_fault_text source) (faults_by_line words all)) text → IsListed source true text
+    → AreFaultsOfWords (token_contents (tokens_with_numbers 1 words)) found → all ≡ faults_or_first found fault → HasTextPartsInOrder (map (listed_fault_text source) (faults_by_line words all)) text → IsListed source true text
 listed_faulty source text words fault found all said sound other are is among = (
   (λ is_sound. other (sound is_sound)),
   (
@@ -84,7 +84,7 @@ pub listing_written : (source whole text : List ℕ) (is_faulty : Bool) (status 
 listing_written source whole text is_faulty status result e is written = subst (Listing source text) (sym e) (status_written source whole text is_faulty status is written)
 
 -- what was listed of the source that was read
-pub lists : (source ahead read rest text : List ℕ) (status : Status) → read ≡ source ++ ahead → IsReadWhole source ahead rest → Listing source text status → WritesListing read rest text status
+pub lists : (source ahead read rest text : List ℕ) (status : Status) → read ≡ source ++ ahead → IsImageReadWhole source ahead rest → Listing source text status → WritesListing read rest text status
 lists source ahead read rest text Done e part written = (source, ahead, e, part, written)
 lists source ahead read rest text ImageRefused e part (inl none) = inl none
 lists source ahead read rest text ImageRefused e part (inr faulty) = inr (source, ahead, e, part, faulty)

@@ -6,7 +6,7 @@ use Rattle.std.proofs.lemmas.List.{map-append, append-nil}
 use Rattle.std.proofs.lemmas.List.Folds.{list_all-append}
 use Rattle.std.proofs.lemmas.Slice.Eq.{bytes_eq-Decides}
 use Rattle.std.proofs.lemmas.Bool.{cases_Bool, and_parts, and_from, cond-false, ltb-true, lt-ltb, ne_eqb, false≢true}
-use Rattle.ga_text.specs.Lines.{Text, Bytes, Line, HasNoLineFeed, ended, text_of, ends_line, with_byte}
+use Rattle.ga_text.specs.Lines.{Text, Bytes, Line, HasNoLineFeed, line_with_line_feed, text_of_lines, is_line_end_byte, lines_with_first_byte}
 use Rattle.ga_text.specs.Digits.{decimal3_of}
 use Rattle.ga_parser.specs.Saying.{parts_ended_by, is_line_feed, is_blank, source_lines, has_bytes, source_words, byte_order_mark, without_carriage_return, stripped_source_line, TokenContent, word_token, is_word, tokens_of_words, all_tokens_of_line, begins_expectation, expectation_tokens, tokens_of_line, next_line_number, tokens_of_lines, tokens_until_fault, PlacedToken, with_columns, columns_of_line, columns_of_lines, scanned_tokens}
 use Rattle.ga_parser.specs.Words.{source_tokens_until_fault, placed_source_tokens}
@@ -23,7 +23,7 @@ use Rattle.ga_grid.specs.Grid.{default_chip}
 use Rattle.ga_parser.specs.Plain.{body_word_lists, named_node_number}
 use Rattle.ga_source.specs.Made.{HasPlainNode, IsChipOfSource}
 use Rattle.ga_text.specs.Image.{IsBodyLine, EndsWithEndLine, end_line}
-use Rattle.ga_text.specs.Output.{IsReadWhole}
+use Rattle.ga_text.specs.Output.{IsImageReadWhole}
 
 -- ---- parts of texts
 
@@ -33,7 +33,7 @@ unfolding parts_ended_by
 part_behind ends [] byte rest inner end = rw end refl
 part_behind ends (b ∷ part) byte rest inner end =
     let parts = and_parts (not (ends b)) (list_all (λ b. not (ends b)) part) inner in
-    rw (not_true (ends b) parts.0) (ap (with_byte b) (part_behind ends part byte rest parts.1 end))
+    rw (not_true (ends b) parts.0) (ap (lines_with_first_byte b) (part_behind ends part byte rest parts.1 end))
 
 -- the last part
 pub part_last : (ends : ℕ → Bool) (byte : ℕ) (part : List ℕ) → list_all (λ b. not (ends b)) (byte ∷ part) ≡ true → parts_ended_by ends (byte ∷ part) ≡ (byte ∷ part) ∷ []
@@ -41,7 +41,7 @@ unfolding parts_ended_by
 part_last ends byte [] inner = rw (not_true (ends byte) (and_parts (not (ends byte)) true inner).0) refl
 part_last ends byte (b ∷ part) inner =
     let parts = and_parts (not (ends byte)) (list_all (λ b. not (ends b)) (b ∷ part)) inner in
-    rw (not_true (ends byte) parts.0) (ap (with_byte byte) (part_last ends b part parts.1))
+    rw (not_true (ends byte) parts.0) (ap (lines_with_first_byte byte) (part_last ends b part parts.1))
 
 -- ---- words of a line
 
@@ -273,60 +273,60 @@ inner_of (b ∷ line) none =
     and_from
     (not (is_line_feed b))
     (list_all (λ b. not (is_line_feed b)) line)
-    (ap not (All-head (λ b. ends_line b ≡ false) b line none))
-    (inner_of line (All-tail (λ b. ends_line b ≡ false) b line none))
+    (ap not (All-head (λ b. is_line_end_byte b ≡ false) b line none))
+    (inner_of line (All-tail (λ b. is_line_end_byte b ≡ false) b line none))
 
 -- nothing counts from a line `end` on
-end_last : (line : ℕ) (rest : Bytes) → tokens_of_lines line (source_lines (ended end_line ++ rest)) ≡ []
+end_last : (line : ℕ) (rest : Bytes) → tokens_of_lines line (source_lines (line_with_line_feed end_line ++ rest)) ≡ []
 unfolding tokens_of_lines
 end_last line rest =
     ap (tokens_of_lines line) (part_behind is_line_feed end_line 10 rest refl refl)
     ∙ ap (λ (own : List ℕ). if bytes_eq own (codes "end") then [] else tokens_of_line line own ++ tokens_of_lines (next_line_number line) (source_lines rest)) (own_line line end_line refl refl)
 
 -- a line, and the words of those after it
-line_then : (line : ℕ) (first rest : Text) → HasNoLineFeed first → tokens_of_lines line (source_lines (ended first ++ rest)) ≡ (if bytes_eq (stripped_source_line line first) (codes "end") then [] else tokens_of_line line (stripped_source_line line first) ++ tokens_of_lines (next_line_number line) (source_lines rest))
+line_then : (line : ℕ) (first rest : Text) → HasNoLineFeed first → tokens_of_lines line (source_lines (line_with_line_feed first ++ rest)) ≡ (if bytes_eq (stripped_source_line line first) (codes "end") then [] else tokens_of_line line (stripped_source_line line first) ++ tokens_of_lines (next_line_number line) (source_lines rest))
 unfolding tokens_of_lines
 line_then line first rest none =
     ap (λ (t : Text). tokens_of_lines line (source_lines t)) (append_assoc first (10 ∷ []) rest)
     ∙ ap (tokens_of_lines line) (part_behind is_line_feed first 10 rest (inner_of first none) refl)
 
 -- lines after a line `end` have no words
-to_end : (lines : List Line) → AllByRecursion IsBodyLine lines → (line : ℕ) (rest : Bytes) → tokens_of_lines line (source_lines ((text_of lines ++ ended end_line) ++ rest)) ≡ tokens_of_lines line (source_lines (text_of lines ++ ended end_line))
+to_end : (lines : List Line) → AllByRecursion IsBodyLine lines → (line : ℕ) (rest : Bytes) → tokens_of_lines line (source_lines ((text_of_lines lines ++ line_with_line_feed end_line) ++ rest)) ≡ tokens_of_lines line (source_lines (text_of_lines lines ++ line_with_line_feed end_line))
 to_end [] body line rest = end_last line rest ∙ sym (end_last line [])
 to_end (first ∷ lines) body line rest =
-    let behind : Text = text_of lines ++ ended end_line in
-    let whole : (text_of (first ∷ lines) ++ ended end_line) ++ rest ≡ ended first ++ (behind ++ rest) =
-    ap (λ (t : Text). t ++ rest) (append_assoc (ended first) (text_of lines) (ended end_line)) ∙ append_assoc (ended first) behind rest in
+    let behind : Text = text_of_lines lines ++ line_with_line_feed end_line in
+    let whole : (text_of_lines (first ∷ lines) ++ line_with_line_feed end_line) ++ rest ≡ line_with_line_feed first ++ (behind ++ rest) =
+    ap (λ (t : Text). t ++ rest) (append_assoc (line_with_line_feed first) (text_of_lines lines) (line_with_line_feed end_line)) ∙ append_assoc (line_with_line_feed first) behind rest in
     ap (λ (t : Text). tokens_of_lines line (source_lines t)) whole
     ∙ (line_then line first (behind ++ rest) body.0.no_feed
     ∙ (ap (λ (l : List TokenContent). if bytes_eq (stripped_source_line line first) (codes "end") then [] else tokens_of_line line (stripped_source_line line first) ++ l) (to_end lines body.1 (next_line_number line) rest)
     ∙ (sym (line_then line first behind body.0.no_feed)
-    ∙ ap (λ (t : Text). tokens_of_lines line (source_lines t)) (sym (append_assoc (ended first) (text_of lines) (ended end_line))))))
+    ∙ ap (λ (t : Text). tokens_of_lines line (source_lines t)) (sym (append_assoc (line_with_line_feed first) (text_of_lines lines) (line_with_line_feed end_line))))))
 
 -- nor columns
-end_last_column : (line : ℕ) (rest : Bytes) → columns_of_lines line (source_lines (ended end_line ++ rest)) ≡ []
+end_last_column : (line : ℕ) (rest : Bytes) → columns_of_lines line (source_lines (line_with_line_feed end_line ++ rest)) ≡ []
 unfolding columns_of_lines
 end_last_column line rest =
     ap (columns_of_lines line) (part_behind is_line_feed end_line 10 rest refl refl)
     ∙ ap (λ (own : List ℕ). if bytes_eq own (codes "end") then [] else columns_of_line line own ++ columns_of_lines (next_line_number line) (source_lines rest)) (own_line line end_line refl refl)
 
-column_then : (line : ℕ) (first rest : Text) → HasNoLineFeed first → columns_of_lines line (source_lines (ended first ++ rest)) ≡ (if bytes_eq (stripped_source_line line first) (codes "end") then [] else columns_of_line line (stripped_source_line line first) ++ columns_of_lines (next_line_number line) (source_lines rest))
+column_then : (line : ℕ) (first rest : Text) → HasNoLineFeed first → columns_of_lines line (source_lines (line_with_line_feed first ++ rest)) ≡ (if bytes_eq (stripped_source_line line first) (codes "end") then [] else columns_of_line line (stripped_source_line line first) ++ columns_of_lines (next_line_number line) (source_lines rest))
 unfolding columns_of_lines
 column_then line first rest none =
     ap (λ (t : Text). columns_of_lines line (source_lines t)) (append_assoc first (10 ∷ []) rest)
     ∙ ap (columns_of_lines line) (part_behind is_line_feed first 10 rest (inner_of first none) refl)
 
-columns_to_end : (lines : List Line) → AllByRecursion IsBodyLine lines → (line : ℕ) (rest : Bytes) → columns_of_lines line (source_lines ((text_of lines ++ ended end_line) ++ rest)) ≡ columns_of_lines line (source_lines (text_of lines ++ ended end_line))
+columns_to_end : (lines : List Line) → AllByRecursion IsBodyLine lines → (line : ℕ) (rest : Bytes) → columns_of_lines line (source_lines ((text_of_lines lines ++ line_with_line_feed end_line) ++ rest)) ≡ columns_of_lines line (source_lines (text_of_lines lines ++ line_with_line_feed end_line))
 columns_to_end [] body line rest = end_last_column line rest ∙ sym (end_last_column line [])
 columns_to_end (first ∷ lines) body line rest =
-    let behind : Text = text_of lines ++ ended end_line in
-    let whole : (text_of (first ∷ lines) ++ ended end_line) ++ rest ≡ ended first ++ (behind ++ rest) =
-    ap (λ (t : Text). t ++ rest) (append_assoc (ended first) (text_of lines) (ended end_line)) ∙ append_assoc (ended first) behind rest in
+    let behind : Text = text_of_lines lines ++ line_with_line_feed end_line in
+    let whole : (text_of_lines (first ∷ lines) ++ line_with_line_feed end_line) ++ rest ≡ line_with_line_feed first ++ (behind ++ rest) =
+    ap (λ (t : Text). t ++ rest) (append_assoc (line_with_line_feed first) (text_of_lines lines) (line_with_line_feed end_line)) ∙ append_assoc (line_with_line_feed first) behind rest in
     ap (λ (t : Text). columns_of_lines line (source_lines t)) whole
     ∙ (column_then line first (behind ++ rest) body.0.no_feed
     ∙ (ap (λ (l : List ℕ). if bytes_eq (stripped_source_line line first) (codes "end") then [] else columns_of_line line (stripped_source_line line first) ++ l) (columns_to_end lines body.1 (next_line_number line) rest)
     ∙ (sym (column_then line first behind body.0.no_feed)
-    ∙ ap (λ (t : Text). columns_of_lines line (source_lines t)) (sym (append_assoc (ended first) (text_of lines) (ended end_line))))))
+    ∙ ap (λ (t : Text). columns_of_lines line (source_lines t)) (sym (append_assoc (line_with_line_feed first) (text_of_lines lines) (line_with_line_feed end_line))))))
 
 -- so a source up to its line `end` says what the whole text says
 scanned_all : (source rest : Text) → EndsWithEndLine source → scanned_tokens (source ++ rest) ≡ scanned_tokens source
@@ -341,7 +341,7 @@ says_all source rest ends =
     ap (λ (words : List PlacedToken). tokens_until_fault (map (λ (one : PlacedToken). one.said) (expand_node_groups true Nothing (without_definitions words)))) (scanned_all source rest ends)
 
 -- what was read of a text, as a source, says what the text says
-pub read_says : (text read rest source ahead : Text) → text ≡ read ++ rest → read ≡ source ++ ahead → IsReadWhole source ahead rest → source_tokens_until_fault source ≡ source_tokens_until_fault text
+pub read_says : (text read rest source ahead : Text) → text ≡ read ++ rest → read ≡ source ++ ahead → IsImageReadWhole source ahead rest → source_tokens_until_fault source ≡ source_tokens_until_fault text
 read_says text read rest source ahead input parts (inl ends) =
     sym (ap source_tokens_until_fault (input ∙ (ap (λ (t : Text). t ++ rest) parts ∙ append_assoc source ahead rest)) ∙ says_all source (ahead ++ rest) ends.0)
 read_says text read rest source ahead input parts (inr all) =

@@ -4,7 +4,7 @@ use Rattle.std.specs.Prelude.{◌==◌, ◌&&◌, ◌||◌, not, is_some, bytes_
 use Rattle.std.proofs.lemmas.Bool.{and_parts, cond-true, cond-false, cases_Bool}
 use Rattle.ga_grid.specs.Grid.{parse_node_name}
 use Rattle.ga_parser.specs.Asking.{known_label_number}
-use Rattle.ga_parser.specs.Constants.{ConstantResolution, resolve_next_word, resolve_from, without_definitions, end_resolution, first_text, begins_definition, begins_label}
+use Rattle.ga_parser.specs.Constants.{ConstantResolution, resolve_next_word, resolve_words_from, without_definitions, end_resolution, first_token_text, begins_definition, begins_label}
 use Rattle.ga_parser.specs.Constants.AwaitedWord.{Any}
 use Rattle.ga_parser.specs.Groups.{NodeNaming, begins_node, is_further_node_name, naming_past_word, naming_after_word, words_before_name, expand_node_groups}
 use Rattle.ga_parser.specs.Groups.NodeNaming.{Nothing, Node, Name}
@@ -51,7 +51,7 @@ single named word words are =
     let quiet = and_parts (not (bytes_eq word (codes "constant"))) (not (bytes_eq word (codes ":"))) inner.0 in
     record { quiet = not_true (bytes_eq word (codes "constant")) quiet.0; label = not_true (bytes_eq word (codes ":")) quiet.1; digits = inner.1; rest = outer.1 }
 
-next_quiet : (named : Bool) (words : List PlacedToken) → are_single named (texts words) ≡ true → bytes_eq (first_text words) (codes "constant") ≡ false
+next_quiet : (named : Bool) (words : List PlacedToken) → are_single named (texts words) ≡ true → bytes_eq (first_token_text words) (codes "constant") ≡ false
 next_quiet named [] are = refl
 next_quiet named (one ∷ words) are = (single named one.said.text (texts words) are).quiet
 
@@ -63,12 +63,12 @@ unfolding known_label_number
 one_same front one next no_constant no_label =
     cond-false (begins_definition one next) _ _ (and_right (is_word one.said) (bytes_eq next (codes "constant")) no_constant) ∙ cond-false (begins_label one) _ _ no_label
 
-same_words : (named : Bool) (front words : List PlacedToken) → are_single named (texts words) ≡ true → resolve_from (so_far front) words ≡ so_far (front ++ words)
-unfolding resolve_from
+same_words : (named : Bool) (front words : List PlacedToken) → are_single named (texts words) ≡ true → resolve_words_from (so_far front) words ≡ so_far (front ++ words)
+unfolding resolve_words_from
 same_words named front [] are = ap so_far (sym (append-nil front))
 same_words named front (one ∷ words) are =
     let is = single named one.said.text (texts words) are in
-    ap (λ (r : ConstantResolution). resolve_from r words) (one_same front one (first_text words) (next_quiet (is_node_keyword one.said.text) words is.rest) is.label)
+    ap (λ (r : ConstantResolution). resolve_words_from r words) (one_same front one (first_token_text words) (next_quiet (is_node_keyword one.said.text) words is.rest) is.label)
     ∙ (same_words (is_node_keyword one.said.text) (front ++ one ∷ []) words is.rest ∙ ap so_far (append_assoc front (one ∷ []) words))
 
 -- ---- nodes

@@ -12,16 +12,16 @@ use Rattle.ga_source.specs.declared.program.AssembledChip.{AssembledChip}
 use Rattle.ga_parser.specs.declared.scan.Token.{Token}
 use Rattle.ga_parser.specs.Saying.{token_contents}
 use Rattle.ga_parser.specs.Words.{source_tokens}
-use Rattle.ga_source.specs.Recovery.{with_numbers, IsAssemblyOfWords, AreFaultsOfSource}
+use Rattle.ga_source.specs.Recovery.{tokens_with_numbers, IsAssemblyOfWords, AreFaultsOfSource}
 use Rattle.ga_debug_info.specs.Faults.{fault_text}
 use Rattle.ga_debug_info.specs.Source.{trimmed_source_line}
 use Rattle.ga_source.specs.Programs.{IsAssembledChip, ArePlainProgramsOfSource, AreProgramsOfSource}
 use Rattle.ga_source.specs.Made.{IsChipOfSource, IsSoundSource}
 use Rattle.ga_text.specs.Image.{HasNoEndLine}
-use Rattle.ga_text.specs.Output.{IsReadWhole, TextHasPrefix}
+use Rattle.ga_text.specs.Output.{IsImageReadWhole, TextHasPrefix}
 use Rattle.ga_display.specs.Texts.{image_fault_text}
 use Rattle.ga_console.specs.Run.{Refused}
-use Rattle.ga_console.specs.Race.{HoldsOfImage, IsTruncationOf}
+use Rattle.ga_console.specs.Race.{ReadsImageThatSatisfies, IsTruncationOf}
 use Rattle.ga_console.specs.declared.run.Status.{Status}
 use Rattle.ga_console.specs.declared.run.Status.TheVariants.{Done, ImageRefused, StreamFault, NotFinished, CommandRefused}
 
@@ -38,14 +38,14 @@ pub record IsAssembledImage (source text : Text) : Type 0 where
   pub back : IsImageOfRecords (lines_of text) (records_of chip)
 
 -- P holds of the source that was read, and nothing was read after it
-abbrev pub HoldsOfSource : Bytes → Bytes → (Text → Type 0) → Type 0
-HoldsOfSource read rest P = (source : Text) × (ahead : Bytes) × (read ≡ source ++ ahead) × IsReadWhole source ahead rest × P source
+abbrev pub ReadsSourceThatSatisfies : Bytes → Bytes → (Text → Type 0) → Type 0
+ReadsSourceThatSatisfies read rest P = (source : Text) × (ahead : Bytes) × (read ≡ source ++ ahead) × IsImageReadWhole source ahead rest × P source
 
 -- What `asm` may have written, where read was read of its input and rest is left of it.
 abbrev pub WritesAssembly : Bytes → Bytes → Bytes → Status → Type 0
-WritesAssembly read rest text Done = HoldsOfSource read rest (λ source. IsAssembledImage source text)
+WritesAssembly read rest text Done = ReadsSourceThatSatisfies read rest (λ source. IsAssembledImage source text)
 WritesAssembly read rest text ImageRefused = text ≡ []
-WritesAssembly read rest text StreamFault = ((text ≡ []) × HasNoEndLine read) ⊎ HoldsOfSource read rest (λ source. IsTruncationOf (IsAssembledImage source) text)
+WritesAssembly read rest text StreamFault = ((text ≡ []) × HasNoEndLine read) ⊎ ReadsSourceThatSatisfies read rest (λ source. IsTruncationOf (IsAssembledImage source) text)
 WritesAssembly read rest text NotFinished = ⊥
 WritesAssembly read rest text CommandRefused = ⊥
 
@@ -54,7 +54,7 @@ pub record HasAssembledChip (source : Text) : Type 0 where
   pub words : List Token
   pub all : AssembledChip
   pub said : token_contents words ≡ source_tokens source
-  pub assembled : IsAssemblyOfWords (with_numbers 1 words) all
+  pub assembled : IsAssemblyOfWords (tokens_with_numbers 1 words) all
 
 -- the source isn't one of plain words that give each cell once
 abbrev pub IsUnsoundSource : Text → Type 0
@@ -70,19 +70,19 @@ abbrev pub listed_fault_text : Text → SourceFault → Text
 listed_fault_text source fault = fault_line_text fault (trimmed_source_line source fault.line)
 
 -- the text has these parts in this order, among others
-unfoldable pub HasPartsInOrder : List Text → Text → Type 0
-HasPartsInOrder [] text = Unit {0}
-HasPartsInOrder (part ∷ parts) text = (before after : Text) × (text ≡ before ++ part ++ after) × HasPartsInOrder parts after
+unfoldable pub HasTextPartsInOrder : List Text → Text → Type 0
+HasTextPartsInOrder [] text = Unit {0}
+HasTextPartsInOrder (part ∷ parts) text = (before after : Text) × (text ≡ before ++ part ++ after) × HasTextPartsInOrder parts after
 
 -- each fault of the source is in the listing, in the order of lines
 abbrev pub HasListedFaults : Text → Text → Type 0
-HasListedFaults source text = (first : SourceFault) × (faults : List SourceFault) × AreFaultsOfSource source first faults × HasPartsInOrder (map (listed_fault_text source) faults) text
+HasListedFaults source text = (first : SourceFault) × (faults : List SourceFault) × AreFaultsOfSource source first faults × HasTextPartsInOrder (map (listed_fault_text source) faults) text
 
 -- What `list` may have written. Where nothing is wrong, all words of the source have a chip.
 abbrev pub WritesListing : Bytes → Bytes → Bytes → Status → Type 0
-WritesListing read rest text Done = HoldsOfSource read rest (λ source. HasAssembledChip source)
-WritesListing read rest text ImageRefused = (text ≡ []) ⊎ HoldsOfSource read rest (λ source. IsUnsoundSource source × HasListedFaults source text)
-WritesListing read rest text StreamFault = ((text ≡ []) × HasNoEndLine read) ⊎ HoldsOfSource read rest (λ source. Unit {0})
+WritesListing read rest text Done = ReadsSourceThatSatisfies read rest (λ source. HasAssembledChip source)
+WritesListing read rest text ImageRefused = (text ≡ []) ⊎ ReadsSourceThatSatisfies read rest (λ source. IsUnsoundSource source × HasListedFaults source text)
+WritesListing read rest text StreamFault = ((text ≡ []) × HasNoEndLine read) ⊎ ReadsSourceThatSatisfies read rest (λ source. Unit {0})
 WritesListing read rest text NotFinished = ⊥
 WritesListing read rest text CommandRefused = ⊥
 
@@ -105,11 +105,11 @@ IsDisassembly image text = (chip : List NodeState) × IsImage (lines_of image) c
 
 -- What `dis` may have written, where read was read of its input and rest is left of it.
 abbrev pub WritesDisassembly : Bytes → Bytes → Bytes → Status → Type 0
-WritesDisassembly read rest text Done = HoldsOfImage read rest (λ image. IsDisassembly image text)
+WritesDisassembly read rest text Done = ReadsImageThatSatisfies read rest (λ image. IsDisassembly image text)
 WritesDisassembly read rest text ImageRefused = (fault : ImageFault) × Refused read rest fault × (text ≡ image_fault_text fault)
 WritesDisassembly read rest text StreamFault =
     ((text ≡ []) × HasNoEndLine read)
-    ⊎ HoldsOfImage read rest (λ image. IsTruncationOf (IsDisassembly image) text)
+    ⊎ ReadsImageThatSatisfies read rest (λ image. IsTruncationOf (IsDisassembly image) text)
     ⊎ ((fault : ImageFault) × Refused read rest fault × TextHasPrefix (image_fault_text fault) text)
 WritesDisassembly read rest text NotFinished = ⊥
 WritesDisassembly read rest text CommandRefused = ⊥

@@ -23,7 +23,7 @@ use Rattle.ga_state_expectations.specs.Sources.{HasFaultyExpectations}
 use Rattle.ga_console.specs.Race.{IsTruncationOf}
 use Rattle.ga_console.specs.declared.run.Status.{Status}
 use Rattle.ga_console.specs.declared.run.Status.TheVariants.{Done, ImageRefused, StreamFault, NotFinished, CommandRefused}
-use Rattle.ga_asm_text.specs.Source.{IsAssembledImage, HoldsOfSource, WritesAssembly}
+use Rattle.ga_asm_text.specs.Source.{IsAssembledImage, ReadsSourceThatSatisfies, WritesAssembly}
 
 -- ---- an image
 
@@ -67,23 +67,23 @@ abbrev pub IsRefusalJson : Text → Text → Text → Type 0
 IsRefusalJson file source text = (lines : Text) × AreLinesOfFaults source lines × (text ≡ diagnostics_json file lines)
 
 -- the source wasn't read whole: memory ran out, or it is too long
-abbrev pub IsUnreadJson : Text → Text → Type 0
-IsUnreadJson file text = (text ≡ diagnostics_json file out_of_memory_text) ⊎ (text ≡ diagnostics_json file input_too_long_text)
+abbrev pub IsUnreadSourceJson : Text → Text → Type 0
+IsUnreadSourceJson file text = (text ≡ diagnostics_json file out_of_memory_text) ⊎ (text ≡ diagnostics_json file input_too_long_text)
 
 -- ---- what may have been written
 
 -- Where read was read of the input, and rest is left of it.
 abbrev pub WritesAssemblyJson : Text → Bytes → Bytes → Text → Status → Type 0
-WritesAssemblyJson file read rest text Done = HoldsOfSource read rest (λ source. IsImageJson file source text)
-WritesAssemblyJson file read rest text ImageRefused = IsUnreadJson file text ⊎ HoldsOfSource read rest (λ source. IsRefusalJson file source text)
+WritesAssemblyJson file read rest text Done = ReadsSourceThatSatisfies read rest (λ source. IsImageJson file source text)
+WritesAssemblyJson file read rest text ImageRefused = IsUnreadSourceJson file text ⊎ ReadsSourceThatSatisfies read rest (λ source. IsRefusalJson file source text)
 WritesAssemblyJson file read rest text StreamFault =
     ((text ≡ []) × HasNoEndLine read)
-    ⊎ IsTruncationOf (IsUnreadJson file) text
-    ⊎ HoldsOfSource read rest (λ source. IsTruncationOf (IsImageJson file source) text ⊎ IsTruncationOf (IsRefusalJson file source) text)
+    ⊎ IsTruncationOf (IsUnreadSourceJson file) text
+    ⊎ ReadsSourceThatSatisfies read rest (λ source. IsTruncationOf (IsImageJson file source) text ⊎ IsTruncationOf (IsRefusalJson file source) text)
 WritesAssemblyJson file read rest text NotFinished = ⊥
 WritesAssemblyJson file read rest text CommandRefused = ⊥
 
 -- the same, as text or as JSON
-abbrev pub WritesAssemblyAs : ReportFormat → Bytes → Bytes → Text → Status → Type 0
-WritesAssemblyAs format.Text read rest text status = WritesAssembly read rest text status
-WritesAssemblyAs (format.Json file) read rest text status = WritesAssemblyJson file.now read rest text status
+abbrev pub WritesAssemblyInFormat : ReportFormat → Bytes → Bytes → Text → Status → Type 0
+WritesAssemblyInFormat format.Text read rest text status = WritesAssembly read rest text status
+WritesAssemblyInFormat (format.Json file) read rest text status = WritesAssemblyJson file.now read rest text status

@@ -23,7 +23,7 @@ use Rattle.ga_console.specs.declared.run.Status.TheVariants.{Done, ImageRefused,
 use Rattle.ga_asm_text.specs.declared.assembling.SourceAssembly.{SourceAssembly}
 use Rattle.ga_asm_text.specs.declared.assembling.SourceAssembly.TheVariants.{Image, Faulty, NoMemory}
 use Rattle.ga_asm_text.specs.SourceJson.{IsImageWithWarnings, AreLinesOfFaults, IsImageJson, IsRefusalJson}
-use Rattle.ga_asm_text.specs.Source.{IsAssembledImage, IsDisassembly, HasAssembledChip, IsUnsoundSource, listed_fault_text, HasPartsInOrder, HasListedFaults}
+use Rattle.ga_asm_text.specs.Source.{IsAssembledImage, IsDisassembly, HasAssembledChip, IsUnsoundSource, listed_fault_text, HasTextPartsInOrder, HasListedFaults}
 
 -- ---- what the source of an image says, line by line (docs/REFERENCE.md, "Source"; this project's own)
 
@@ -273,4 +273,4 @@ pub record Tells (old new : Text) (before left : List Text) : Type 0 where
   pub lines : List Text
   pub text : new ≡ old ++ added
   pub told : before ≡ lines ++ left
-  pub among : HasPartsInOrder lines added
+  pub among : HasTextPartsInOrder lines added

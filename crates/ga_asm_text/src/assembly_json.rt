@@ -1,11 +1,11 @@
 //! Source in, objects about its image or its faults out.
-ghost use Rattle.ga_text.specs.Output.{IsWrittenOrTruncated, IsSameStream, ReadsAndWrites, WritesExactly, WritesText};
+ghost use Rattle.ga_text.specs.Output.{IsTextWrittenOrTruncated, IsSameStream, ReadsAndWrites, WritesExactly, WritesText};
 ghost use Rattle.std.specs.Prelude.{◌≡◌, ◌++◌, Some};
 ghost use Rattle.ga_text.specs.Lines.{Bytes};
 ghost use Rattle.ga_json.specs.Compact.{json_line};
 ghost use Rattle.ga_json.specs.Diagnostics.{diagnostics_json};
 ghost use Rattle.ga_console.specs.inner.Run.{Writes};
-ghost use Rattle.ga_asm_text.specs.SourceJson.{image_object, image_json, WritesAssemblyJson, WritesAssemblyAs};
+ghost use Rattle.ga_asm_text.specs.SourceJson.{image_object, image_json, WritesAssemblyJson, WritesAssemblyInFormat};
 ghost use Rattle.ga_asm_text.specs.inner.{AssemblyJson, WritesRefusal};
 
 use super::assembling::{AssembledImage, SourceAssembly, assemble_image, assemble_source};
@@ -24,7 +24,7 @@ const TOO_LONG: &[u8] = b"ga144: the source has more than 16777216 bytes\n";
 
 /// Reads source as [`assemble_source`] does, and writes what comes of it in this format: as JSON an object for the image and one for each
 /// warning, or one for each line that `errors` gets about a source without an image.
-pub fn assemble_as<R: Read, W: Write, E: Write>(
+pub fn assemble_in_format<R: Read, W: Write, E: Write>(
     alloc: Global,
     reader: &mut R,
     writer: &mut W,
@@ -32,7 +32,7 @@ pub fn assemble_as<R: Read, W: Write, E: Write>(
     format: ReportFormat<'_>,
 ) -> Status
     // Where the streams tell their bytes: what was read, and what was written for it by the status.
-    ensures { ReadsAndWrites (λ read rest text. WritesAssemblyAs format.entry read rest text result)
+    ensures { ReadsAndWrites (λ read rest text. WritesAssemblyInFormat format.entry read rest text result)
         (R.remaining reader.old) (R.remaining reader.new) (W.contents writer.old) (W.contents writer.new) }
 {
     match format {
@@ -111,7 +111,7 @@ fn tell_image<W: Write, E: Write>(
 /// Writes what is pending, and answers that all is written, or that a write failed.
 fn finish<W: Write>(said: WriteResult, writer: &mut Writer<'_, W>) -> Status
     ensures same { IsSameStream writer.old writer.new }
-    ensures written { (before whole : Bytes) → IsWrittenOrTruncated said (W.contents writer.old.stream.now) before whole writer.old.pending.items →
+    ensures written { (before whole : Bytes) → IsTextWrittenOrTruncated said (W.contents writer.old.stream.now) before whole writer.old.pending.items →
         (text : Bytes) × (W.contents writer.new.stream.now ≡ Some (before ++ text)) × Writes whole text result }
 {
     match said {

@@ -2,7 +2,7 @@
 
 use arrayvec::ArrayVec;
 use ga_node::{Node, Place};
-use ga_ports::{Target, advance_p, classify_address};
+use ga_ports::{AddressTarget, advance_p, classify_address};
 use ga_slots::{Op, opcode, target};
 use ga_word::Word18;
 use std::io::Write;
@@ -201,8 +201,8 @@ fn literal_role(node: &Node, address: u32) -> Role {
 /// The number of the cell that an address names, where it names one.
 fn cell_of(address: u32) -> Option<usize> {
     match classify_address(address) {
-        Target::Ram(cell) => Some(usize::from(cell)),
-        Target::Rom(cell) => Some(128 + usize::from(cell)),
+        AddressTarget::Ram(cell) => Some(usize::from(cell)),
+        AddressTarget::Rom(cell) => Some(128 + usize::from(cell)),
         _ => None,
     }
 }
@@ -210,8 +210,8 @@ fn cell_of(address: u32) -> Option<usize> {
 /// The word of the cell at an address, 0 where it names none.
 fn word_at(node: &Node, address: u32) -> Word18 {
     Word18::from_low_bits(match classify_address(address) {
-        Target::Ram(cell) => node.get(Place::Ram(cell)),
-        Target::Rom(cell) => node.get(Place::Rom(cell)),
+        AddressTarget::Ram(cell) => node.get(Place::Ram(cell)),
+        AddressTarget::Rom(cell) => node.get(Place::Rom(cell)),
         _ => 0,
     })
 }

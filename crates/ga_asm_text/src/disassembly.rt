@@ -12,7 +12,7 @@ ghost use Rattle.ga_asm_text.specs.inner.{Disassembly, IsOrdinary, IsUnmarked, S
 use super::assembling::write_text;
 use super::comment::CellRoles;
 use super::number_text::{push_hex, push_node};
-use ga_console::{Status, refuse};
+use ga_console::{Status, write_image_refusal};
 use ga_debug_info::{find_image_artifact, report_editor_artifact, report_unrepresented};
 use ga_grid::{CHIP_NODES, Chip, NodeId, load_p};
 use ga_image::{ImageCause, ImageFault, parse};
@@ -45,7 +45,7 @@ pub fn disassemble<R: Read, W: Write, E: Write>(
         // No image that is accepted is so long.
         WholeRead::TooLong(image) => disassemble_text(alloc, writer, errors, image),
         WholeRead::ReadFailed => Status::StreamFault,
-        WholeRead::NoMemory => refuse(writer, NO_MEMORY),
+        WholeRead::NoMemory => write_image_refusal(writer, NO_MEMORY),
     }
 }
 
@@ -60,7 +60,7 @@ fn disassemble_text<W: Write, E: Write>(
 {
     match source_for(alloc, errors, image) {
         Ok(text) => write_text(writer, text),
-        Err(fault) => refuse(writer, fault),
+        Err(fault) => write_image_refusal(writer, fault),
     }
 }
 

@@ -6,7 +6,7 @@ ghost use Rattle.ga_asm_text.specs.Source.{fault_line_text, listed_fault_text};
 ghost use Rattle.ga_asm_text.specs.inner.{is_repeated as is_repeated_by, lines_left, Tells};
 
 use ga_debug_info::{Lines, push_fault};
-use ga_source::{SourceFault, Token, fault_on_line, line_of_number};
+use ga_source::{SourceFault, Token, fault_on_line, line_of_numbered_word};
 use std::alloc::AllocError;
 
 /// The words of a source by their numbers, and its faults in the order of their words.
@@ -45,7 +45,7 @@ impl<'a, 's> FaultLines<'a, 's> {
     pub(crate) fn line(&mut self, number: u32) -> &'s [u8]
         ensures { lines_left self.new ≡ lines_left self.old }
     {
-        let line = line_of_number(self.words, number);
+        let line = line_of_numbered_word(self.words, number);
         self.lines.line(line)
     }
 

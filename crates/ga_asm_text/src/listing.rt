@@ -8,7 +8,7 @@ ghost use Rattle.ga_parser.specs.declared.fault.SourceCause.TheVariants.{Memory}
 ghost use Rattle.ga_source.specs.Made.{IsSoundSource};
 ghost use Rattle.ga_source.specs.Recovery.{faults_by_line};
 ghost use Rattle.ga_debug_info.specs.Faults.{faults_text, error_prefix};
-ghost use Rattle.ga_asm_text.specs.Source.{WritesListing, HasPartsInOrder};
+ghost use Rattle.ga_asm_text.specs.Source.{WritesListing, HasTextPartsInOrder};
 
 use super::assembling::write_text;
 use super::fault_lines::FaultLines;
@@ -179,7 +179,7 @@ fn listing(
     assembled: &AssembledChip<'_>,
     mut lines: FaultLines<'_, '_>,
 ) -> Result<Vec<u8>, AllocError>
-    ensures { IfOk result (λ text. HasPartsInOrder (lines_left lines.entry) text.items) }
+    ensures { IfOk result (λ text. HasTextPartsInOrder (lines_left lines.entry) text.items) }
 {
     let mut text = Vec::new(alloc);
     for program in &assembled.programs {

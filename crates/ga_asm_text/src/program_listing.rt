@@ -7,9 +7,9 @@ use super::fault_lines::FaultLines;
 use super::number_text::{push_hex, push_node};
 use ga_grid::{Chip, NodeId};
 use ga_node::Place;
-use ga_ports::{Target, advance_p, classify_address};
+use ga_ports::{AddressTarget, advance_p, classify_address};
 use ga_slots::Op;
-use ga_source::{AssemblyRequest, CellGroup, Item, Operand, Program};
+use ga_source::{AssemblyItem, AssemblyRequest, CellGroup, Operand, Program};
 use std::alloc::AllocError;
 
 /// Adds the name of a node, and its program.
@@ -97,7 +97,11 @@ fn push_label(
 
 /// Adds items, each after a blank.
 #[tactic(auto, using(crate::proofs::FaultListing::grows, crate::proofs::FaultListing::grows_none, crate::proofs::FaultListing::grows_both))]
-fn push_items(text: &mut Vec<u8>, program: &Program<'_>, items: &[Item]) -> Result<(), AllocError>
+fn push_items(
+    text: &mut Vec<u8>,
+    program: &Program<'_>,
+    items: &[AssemblyItem],
+) -> Result<(), AllocError>
     ensures { OnOk result (Grows text.old.items text.new.items) }
 {
     for item in items {
@@ -137,7 +141,7 @@ fn push_literals(
 {
     let mut p = advance_p(group.address);
     for item in &group.items {
-        if let Item::Literal(value) = item {
+        if let AssemblyItem::Literal(value) = item {
             push_literal(text, chip, program, p, *value)?;
             p = advance_p(p);
         }
@@ -181,8 +185,8 @@ fn push_cell(text: &mut Vec<u8>, chip: &Chip, node: NodeId, address: u32) -> Res
     ensures { OnOk result (Grows text.old.items text.new.items) }
 {
     let place = match classify_address(address) {
-        Target::Rom(cell) => Place::Rom(cell),
-        Target::Ram(cell) => Place::Ram(cell),
+        AddressTarget::Rom(cell) => Place::Rom(cell),
+        AddressTarget::Ram(cell) => Place::Ram(cell),
         _ => return Ok(()),
     };
     push_hex(text, address, 3)?;
@@ -193,18 +197,22 @@ fn push_cell(text: &mut Vec<u8>, chip: &Chip, node: NodeId, address: u32) -> Res
 
 /// Adds an opcode, with the label that it leads to.
 #[tactic(auto, using(crate::proofs::FaultListing::grows, crate::proofs::FaultListing::grows_none, crate::proofs::FaultListing::grows_both))]
-fn push_item(text: &mut Vec<u8>, program: &Program<'_>, item: Item) -> Result<(), AllocError>
+fn push_item(
+    text: &mut Vec<u8>,
+    program: &Program<'_>,
+    item: AssemblyItem,
+) -> Result<(), AllocError>
     ensures { OnOk result (Grows text.old.items text.new.items) }
 {
     match item {
-        Item::Opcode(op) => text.extend_from_slice(op.name().as_bytes()),
-        Item::Literal(_) => text.extend_from_slice(Op::FetchP.name().as_bytes()),
-        Item::Back(op, label) | Item::Ahead(op, label) => {
+        AssemblyItem::Opcode(op) => text.extend_from_slice(op.name().as_bytes()),
+        AssemblyItem::Literal(_) => text.extend_from_slice(Op::FetchP.name().as_bytes()),
+        AssemblyItem::Back(op, label) | AssemblyItem::Ahead(op, label) => {
             text.extend_from_slice(op.name().as_bytes())?;
             text.push(b' ')?;
             push_target(text, program, label)
         }
-        Item::Cell(value) => push_value(text, program, value),
+        AssemblyItem::Cell(value) => push_value(text, program, value),
     }
 }
 

@@ -1,7 +1,7 @@
 //! Source that is read whole.
 ghost use Rattle.std.specs.Prelude.{◌≡◌, ◌++◌, Some, IfOk, IfErr};
 ghost use Rattle.ga_text.specs.Lines.{Bytes};
-ghost use Rattle.ga_text.specs.Output.{IsWholeText};
+ghost use Rattle.ga_text.specs.Output.{IsWholeImageText};
 ghost use Rattle.ga_asm_text.specs.inner.{IsUnread};
 
 use ga_console::Status;
@@ -19,7 +19,7 @@ pub(crate) fn read_source<R: Read, E: Write>(
 ) -> Result<Vec<u8>, Status>
     ensures { (left : Bytes) → R.remaining reader.old ≡ Some left →
         (read rest : Bytes) × (left ≡ read ++ rest) × (R.remaining reader.new ≡ Some rest)
-        × IfOk result (λ source. IsWholeText read rest source.items) × IfErr result (IsUnread read) }
+        × IfOk result (λ source. IsWholeImageText read rest source.items) × IfErr result (IsUnread read) }
 {
     match read_whole_input(alloc, reader) {
         WholeRead::Whole(source) => Ok(source),

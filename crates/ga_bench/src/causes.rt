@@ -1,30 +1,30 @@
 //! A chain of causes between two events of a list.
 
-use crate::refused::Outcome;
+use crate::refused::RunOutcome;
 use ga_causal::{Cause, Link, find_chain};
 use ga_event::Event;
 use ga_grid::{Memory, NodeId};
 use std::alloc::Global;
 
 /// The chain between two events of one node, which depends on the first by rule 1.
-pub fn causes(alloc: Global) -> Outcome {
+pub fn causes(alloc: Global) -> RunOutcome {
     match chain(alloc) {
         Ok(outcome) => outcome,
         Err(Memory) => match chain(alloc) {
-            Ok(outcome) => Outcome::Refused("chain").and(outcome),
-            Err(Memory) => Outcome::Wrong("refused again"),
+            Ok(outcome) => RunOutcome::Refused("chain").and(outcome),
+            Err(Memory) => RunOutcome::Wrong("refused again"),
         },
     }
 }
 
-fn chain(alloc: Global) -> Result<Outcome, Memory> {
+fn chain(alloc: Global) -> Result<RunOutcome, Memory> {
     let cause = Cause {
         event: Event::Own(NodeId::new(0)),
         look: false,
     };
     let wanted = [Link { place: 0, rule: 0 }, Link { place: 1, rule: 1 }];
     match find_chain(alloc, &[cause, cause], 0, 1)? {
-        Some(chain) if chain.links() == wanted.as_slice() => Ok(Outcome::Answered),
-        _ => Ok(Outcome::Wrong("another chain")),
+        Some(chain) if chain.links() == wanted.as_slice() => Ok(RunOutcome::Answered),
+        _ => Ok(RunOutcome::Wrong("another chain")),
     }
 }

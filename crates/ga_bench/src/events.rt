@@ -1,7 +1,7 @@
 //! The events of a node.
 
-use crate::programs::load;
-use ga_node::{Node, OwnEventKind, Saved, Seen};
+use crate::programs::load_program;
+use ga_node::{Node, OwnEventKind, Saved, SeenNeighbours};
 use std::io;
 use std::time::Instant;
 
@@ -16,7 +16,7 @@ fn sum_kinds(node: &mut Node, count: u32) -> u32 {
             let due = node.due();
             if let OwnEventKind::Run(code) = node.execute_logged(
                 due,
-                Seen::no_neighbours(),
+                SeenNeighbours::no_neighbours(),
                 &mut saved,
             ) {
                 sum = sum.wrapping_add(u32::from(code));
@@ -35,10 +35,10 @@ fn sum_backs(node: &mut Node, count: u32) -> u32 {
         if node.not_ready().is_none() {
             let mut saved = Saved::new();
             let due = node.due();
-            let _ = node.execute_logged(due, Seen::no_neighbours(), &mut saved);
+            let _ = node.execute_logged(due, SeenNeighbours::no_neighbours(), &mut saved);
             node.restore(&saved);
         }
-        if let Ok((OwnEventKind::Run(code), _)) = node.own(Seen::no_neighbours()) {
+        if let Ok((OwnEventKind::Run(code), _)) = node.own(SeenNeighbours::no_neighbours()) {
             sum = sum.wrapping_add(u32::from(code));
         }
     }
@@ -57,7 +57,7 @@ pub fn time_events(
     let mut sum = 0u32;
     for _ in 0..rounds {
         let mut node = Node::new(0);
-        load(&mut node, words);
+        load_program(&mut node, words);
         let start = Instant::now(rt)?;
         sum = if is_back {
             sum_backs(&mut node, count)

@@ -1,6 +1,6 @@
 //! The steps and undos of a lab.
 
-use crate::programs::{ADDING_LOOP, load};
+use crate::programs::{ADDING_LOOP, load_program};
 use ga_grid::{Chip, NodeId};
 use ga_lab::Lab;
 use std::alloc::Global;
@@ -12,7 +12,7 @@ pub fn lab_of_adders(alloc: Global, nodes: u8) -> Option<Lab> {
     let mut chip = Chip::new(alloc).ok()?;
     for number in 0..144u8 {
         if number < nodes {
-            load(chip.node_mut(NodeId::new(number)), ADDING_LOOP);
+            load_program(chip.node_mut(NodeId::new(number)), ADDING_LOOP);
         }
     }
     Lab::new(alloc, chip, u32::MAX).ok()

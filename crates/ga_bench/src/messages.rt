@@ -4,8 +4,8 @@
 //! the arguments of the request. Then, for each of the five messages: those of its value; its text; its frame; and the room for it
 //! in what is to be written.
 
-use crate::refused::Outcome;
-use ga_dap_protocol::{ClientRequest, Inbox, Next, Outbox, RequestError, read_request};
+use crate::refused::RunOutcome;
+use ga_dap_protocol::{ClientRequest, Inbox, NextMessage, Outbox, RequestError, read_request};
 use serde_json::Value;
 use std::alloc::{AllocError, Global};
 
@@ -16,33 +16,33 @@ const ANSWERS: &[u8] =
     b"Content-Length: 91\r\n\r\n{\"body\":\"a body\",\"command\":\"next\",\"request_seq\":1,\"seq\":1,\"success\":true,\"type\":\"response\"}Content-Length: 75\r\n\r\n{\"command\":\"next\",\"request_seq\":1,\"seq\":2,\"success\":true,\"type\":\"response\"}Content-Length: 141\r\n\r\n{\"body\":{\"error\":{\"format\":\"no node\",\"id\":1}},\"command\":\"next\",\"message\":\"no node\",\"request_seq\":1,\"seq\":3,\"success\":false,\"type\":\"response\"}Content-Length: 58\r\n\r\n{\"body\":\"a body\",\"event\":\"stopped\",\"seq\":4,\"type\":\"event\"}Content-Length: 46\r\n\r\n{\"event\":\"initialized\",\"seq\":5,\"type\":\"event\"}";
 
 /// A request that is read and answered in each way.
-pub fn messages(alloc: Global) -> Outcome {
+pub fn messages(alloc: Global) -> RunOutcome {
     let mut inbox = Inbox::new(alloc);
     let mut reader = REQUEST;
     let (taken, first) = match inbox.next(&mut reader) {
-        Ok(next) => (next, Outcome::Answered),
+        Ok(next) => (next, RunOutcome::Answered),
         Err(_) => match inbox.next(&mut reader) {
-            Ok(next) => (next, Outcome::Refused("message")),
-            Err(_) => return Outcome::Wrong("two refusals"),
+            Ok(next) => (next, RunOutcome::Refused("message")),
+            Err(_) => return RunOutcome::Wrong("two refusals"),
         },
     };
-    let Next::Message(content) = taken else {
-        return Outcome::Wrong("no message");
+    let NextMessage::Message(content) = taken else {
+        return RunOutcome::Wrong("no message");
     };
     let (request, second) = match read_request(alloc, &content) {
-        Ok(request) => (request, Outcome::Answered),
+        Ok(request) => (request, RunOutcome::Answered),
         Err(RequestError::Memory) => match read_request(alloc, &content) {
-            Ok(request) => (request, Outcome::Refused("request")),
-            Err(_) => return Outcome::Wrong("two refusals"),
+            Ok(request) => (request, RunOutcome::Refused("request")),
+            Err(_) => return RunOutcome::Wrong("two refusals"),
         },
-        Err(_) => return Outcome::Wrong("no request"),
+        Err(_) => return RunOutcome::Wrong("no request"),
     };
     let mut outbox = Outbox::new(alloc);
     let third = answered(alloc, &request, &mut outbox);
     if outbox.bytes() == ANSWERS {
         first.and(second).and(third)
     } else {
-        Outcome::Wrong("other answers")
+        RunOutcome::Wrong("other answers")
     }
 }
 
@@ -57,7 +57,7 @@ enum Way {
 }
 
 /// Answers in each way.
-fn answered(alloc: Global, request: &ClientRequest, outbox: &mut Outbox) -> Outcome {
+fn answered(alloc: Global, request: &ClientRequest, outbox: &mut Outbox) -> RunOutcome {
     let ways = [
         Way::Respond,
         Way::Acknowledge,
@@ -65,7 +65,7 @@ fn answered(alloc: Global, request: &ClientRequest, outbox: &mut Outbox) -> Outc
         Way::Tell,
         Way::TellAlone,
     ];
-    let mut outcome = Outcome::Answered;
+    let mut outcome = RunOutcome::Answered;
     for way in ways {
         outcome = outcome.and(sent(alloc, request, outbox, way));
     }
@@ -73,18 +73,18 @@ fn answered(alloc: Global, request: &ClientRequest, outbox: &mut Outbox) -> Outc
 }
 
 /// Answers in one way. A refusal adds nothing, and is requested again.
-fn sent(alloc: Global, request: &ClientRequest, outbox: &mut Outbox, way: Way) -> Outcome {
+fn sent(alloc: Global, request: &ClientRequest, outbox: &mut Outbox, way: Way) -> RunOutcome {
     let before = outbox.bytes().len();
     if sent_once(alloc, request, outbox, way).is_ok() {
-        return Outcome::Answered;
+        return RunOutcome::Answered;
     }
     if outbox.bytes().len() != before {
-        return Outcome::Wrong("half a message");
+        return RunOutcome::Wrong("half a message");
     }
     if sent_once(alloc, request, outbox, way).is_err() {
-        return Outcome::Wrong("two refusals");
+        return RunOutcome::Wrong("two refusals");
     }
-    Outcome::Refused("answer")
+    RunOutcome::Refused("answer")
 }
 
 fn sent_once(

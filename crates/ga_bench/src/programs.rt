@@ -23,7 +23,7 @@ pub const IO_READER: &[u32] = &[0x1f04, 0x10000];
 pub const JUMP: &[u32] = &[0x10000];
 
 /// Puts these words from cell 0 of a node on, and P there.
-pub fn load(node: &mut Node, words: &[u32]) {
+pub fn load_program(node: &mut Node, words: &[u32]) {
     node.set(Place::P, 0);
     for cell in 0..64u8 {
         if let Some(word) = words.get(cell as usize) {

@@ -17,7 +17,7 @@ const REFUSED: u32 = 1000;
 
 /// How a run, or a part of it, came out.
 #[derive(Clone, Copy, PartialEq, Eq)]
-pub enum Outcome {
+pub enum RunOutcome {
     /// All was answered as it should be.
     Answered,
     /// This alone was refused for want of memory. It changed nothing, and was answered when it was asked for again.
@@ -28,28 +28,28 @@ pub enum Outcome {
     Wrong(&'static str),
 }
 
-impl Outcome {
+impl RunOutcome {
     /// How two parts of a run came out. Only one of them may be refused.
-    pub fn and(self, other: Outcome) -> Outcome {
+    pub fn and(self, other: RunOutcome) -> RunOutcome {
         match (self, other) {
-            (Outcome::Wrong(what), _) => Outcome::Wrong(what),
-            (_, Outcome::Wrong(what)) => Outcome::Wrong(what),
-            (Outcome::Answered, _) => other,
-            (_, Outcome::Answered) => self,
-            _ => Outcome::Wrong("two refusals"),
+            (RunOutcome::Wrong(what), _) => RunOutcome::Wrong(what),
+            (_, RunOutcome::Wrong(what)) => RunOutcome::Wrong(what),
+            (RunOutcome::Answered, _) => other,
+            (_, RunOutcome::Answered) => self,
+            _ => RunOutcome::Wrong("two refusals"),
         }
     }
 }
 
 /// Makes the run of this name.
-fn run_of<R: Threads + Wait + Sync>(rt: &R, alloc: Global, run: &str) -> Outcome {
+fn run_of<R: Threads + Wait + Sync>(rt: &R, alloc: Global, run: &str) -> RunOutcome {
     match run {
         "causes" => causes(alloc),
         "messages" => messages(alloc),
         "shared" => run_shared_calls(rt, alloc, true),
         "shared-broken-off" => run_shared_calls(rt, alloc, false),
         "race" => run_one_worker_race(rt, alloc),
-        _ => Outcome::Wrong("there is no such run"),
+        _ => RunOutcome::Wrong("there is no such run"),
     }
 }
 
@@ -69,14 +69,14 @@ pub fn run_with_failed_allocation<R: Threads + Wait + Sync>(
     alloc: Global,
     run: &str,
     growth: u32,
-) -> (Outcome, bool) {
+) -> (RunOutcome, bool) {
     let before = if growth == 0 {
         0
     } else {
         REFUSED.saturating_sub(growth)
     };
     if !grow(alloc, before) {
-        return (Outcome::Wrong("refused before the run"), false);
+        return (RunOutcome::Wrong("refused before the run"), false);
     }
     let outcome = run_of(rt, alloc, run);
     (outcome, !grow(alloc, REFUSED))
@@ -85,18 +85,18 @@ pub fn run_with_failed_allocation<R: Threads + Wait + Sync>(
 /// Prints how a run came out.
 pub fn print_outcome(
     rt: &HostRuntime,
-    (outcome, is_ahead): (Outcome, bool),
+    (outcome, is_ahead): (RunOutcome, bool),
     growth: u32,
 ) -> io::Result<()> {
     match outcome {
-        Outcome::Refused(what) if !is_ahead => println!(rt; "refused: {what}"),
-        Outcome::RefusedAt(what, number) if !is_ahead => {
+        RunOutcome::Refused(what) if !is_ahead => println!(rt; "refused: {what}"),
+        RunOutcome::RefusedAt(what, number) if !is_ahead => {
             println!(rt; "refused: {what}, number {number}")
         }
-        Outcome::Answered if is_ahead => println!(rt; "no growth is left"),
-        Outcome::Answered if growth == 0 => println!(rt; "all is answered"),
-        Outcome::Answered => println!(rt; "answered all the same"),
-        Outcome::Wrong(what) => println!(rt; "wrong: {what}"),
+        RunOutcome::Answered if is_ahead => println!(rt; "no growth is left"),
+        RunOutcome::Answered if growth == 0 => println!(rt; "all is answered"),
+        RunOutcome::Answered => println!(rt; "answered all the same"),
+        RunOutcome::Wrong(what) => println!(rt; "wrong: {what}"),
         _ => println!(rt; "wrong: a refusal with memory at hand"),
     }
 }

@@ -1,6 +1,6 @@
 //! Rollbacks of a lab.
 
-use crate::programs::{IO_READER, JUMP, RECEIVER, SENDER, load};
+use crate::programs::{IO_READER, JUMP, RECEIVER, SENDER, load_program};
 use ga_grid::{Chip, NodeId};
 use ga_lab::Lab;
 use std::alloc::Global;
@@ -26,10 +26,10 @@ fn steps(lab: &mut Lab, node: NodeId, count: u32) -> u32 {
 pub fn lab_after_transfers(alloc: Global, own: u32) -> Option<Lab> {
     let mut chip = Chip::new(alloc).ok()?;
     for pair in 0..PAIRS {
-        load(chip.node_mut(NodeId::new(2 * pair)), SENDER);
-        load(chip.node_mut(NodeId::new(2 * pair + 1)), RECEIVER);
+        load_program(chip.node_mut(NodeId::new(2 * pair)), SENDER);
+        load_program(chip.node_mut(NodeId::new(2 * pair + 1)), RECEIVER);
     }
-    load(chip.node_mut(NodeId::new(143)), JUMP);
+    load_program(chip.node_mut(NodeId::new(143)), JUMP);
     let mut lab = Lab::new(alloc, chip, u32::MAX).ok()?;
     if steps(&mut lab, NodeId::new(143), own) < own {
         return None;
@@ -44,8 +44,8 @@ pub fn lab_after_transfers(alloc: Global, own: u32) -> Option<Lab> {
 /// A lab in which node 001 has fetched, and node 000 has come to where its next step posts a wait.
 pub fn lab_before_look(alloc: Global) -> Option<Lab> {
     let mut chip = Chip::new(alloc).ok()?;
-    load(chip.node_mut(NodeId::new(0)), SENDER);
-    load(chip.node_mut(NodeId::new(1)), IO_READER);
+    load_program(chip.node_mut(NodeId::new(0)), SENDER);
+    load_program(chip.node_mut(NodeId::new(1)), IO_READER);
     let mut lab = Lab::new(alloc, chip, u32::MAX).ok()?;
     let _fetched = steps(&mut lab, NodeId::new(1), 1);
     let _sent = steps(&mut lab, NodeId::new(0), 6);
@@ -60,9 +60,9 @@ pub fn lab_with_late_transfer(alloc: Global, count: u32) -> Option<Lab> {
     let sender = [0x48b2, count, 0x2c9b4, 0x4b12, 0x1d5, 0x2a, 0x89b2];
     let taker = [0x48b2, count, 0x2c9b4, 0x4b02, 0x1d5];
     let mut chip = Chip::new(alloc).ok()?;
-    load(chip.node_mut(NodeId::new(0)), &sender);
-    load(chip.node_mut(NodeId::new(1)), &taker);
-    load(chip.node_mut(NodeId::new(18)), IO_READER);
+    load_program(chip.node_mut(NodeId::new(0)), &sender);
+    load_program(chip.node_mut(NodeId::new(1)), &taker);
+    load_program(chip.node_mut(NodeId::new(18)), IO_READER);
     let mut lab = Lab::new(alloc, chip, u32::MAX).ok()?;
     let own = count.saturating_mul(4);
     let looked = steps(&mut lab, NodeId::new(18), own);

@@ -2,8 +2,8 @@
 
 ghost use Rattle.std.specs.Prelude.{◌≡◌, ◌<◌, ◌^◌, All, IfOk, vec_len};
 
-use crate::programs::{SENDER, load};
-use crate::refused::Outcome;
+use crate::programs::{SENDER, load_program};
+use crate::refused::RunOutcome;
 use ga_grid::{Chip, Memory, NodeId};
 use ga_lab::Made;
 use ga_node::OwnEventKind;
@@ -25,7 +25,7 @@ const CALLS: usize = 9;
 /// A chip whose node 000 sends a word to the right.
 fn linked(alloc: Global) -> Result<Chip, Memory> {
     let mut chip = Chip::new(alloc)?;
-    load(chip.node_mut(NodeId::new(0)), SENDER);
+    load_program(chip.node_mut(NodeId::new(0)), SENDER);
     Ok(chip)
 }
 
@@ -66,28 +66,28 @@ fn made(step: u32, kind: OwnEventKind) -> CallAnswer {
 }
 
 /// The calls and then the closing. After an allocation failure a call is repeated, or no call follows it.
-pub fn run_shared_calls<R: Wait>(rt: &R, alloc: Global, goes_on: bool) -> Outcome {
+pub fn run_shared_calls<R: Wait>(rt: &R, alloc: Global, goes_on: bool) -> RunOutcome {
     opened::<Brand, R>(rt, alloc, Blank::new(1), goes_on)
 }
 
 /// Opens a shared chip with one worker, makes the calls and closes it.
-fn opened<L: Ledger, R: Wait>(rt: &R, alloc: Global, blank: Blank, goes_on: bool) -> Outcome
+fn opened<L: Ledger, R: Wait>(rt: &R, alloc: Global, blank: Blank, goes_on: bool) -> RunOutcome
     requires ledger { (blank.name ≡ L.name) × (blank.parts ≡ L.parts) }
     requires parts { blank.parts ≡ 1 }
 {
     let Ok(chip) = linked(alloc) else {
-        return Outcome::Refused("chip");
+        return RunOutcome::Refused("chip");
     };
     let Ok((shared, mut seats)) = SharedChip::<L>::new(alloc, blank, chip, LIMIT, 1) else {
-        return Outcome::Refused("new");
+        return RunOutcome::Refused("new");
     };
     let Some(seat) = seats.first_mut() else {
-        return Outcome::Wrong("no seat");
+        return RunOutcome::Wrong("no seat");
     };
     let (count, outcome) = called(rt, &shared, seat, goes_on);
     match shared.close(seats) {
         Ok(closed) => outcome.and(is_closed(&closed, count)),
-        Err(_) => Outcome::Wrong("not closed"),
+        Err(_) => RunOutcome::Wrong("not closed"),
     }
 }
 
@@ -97,8 +97,8 @@ fn called<L: Ledger, R: Wait>(
     shared: &SharedChip<L>,
     seat: &mut WorkerSeat<L>,
     goes_on: bool,
-) -> (usize, Outcome) {
-    let mut outcome = Outcome::Answered;
+) -> (usize, RunOutcome) {
+    let mut outcome = RunOutcome::Answered;
     for (place, (call, answer)) in calls().iter().zip(&answers()).enumerate() {
         let wanted = Receipt {
             place: place as u64,
@@ -106,18 +106,18 @@ fn called<L: Ledger, R: Wait>(
             answer: *answer,
         };
         if seat.receipts.len() != place {
-            return (place, Outcome::Wrong("other receipts"));
+            return (place, RunOutcome::Wrong("other receipts"));
         }
         match make(rt, shared, seat, *call) {
             Some(receipt) if receipt == wanted => {}
-            Some(_) => return (place, Outcome::Wrong("another receipt")),
+            Some(_) => return (place, RunOutcome::Wrong("another receipt")),
             None => {
-                outcome = outcome.and(Outcome::RefusedAt("call", place + 1));
+                outcome = outcome.and(RunOutcome::RefusedAt("call", place + 1));
                 if !goes_on {
                     return (place, outcome);
                 }
                 if make(rt, shared, seat, *call) != Some(wanted) {
-                    return (place, Outcome::Wrong("another receipt after a refusal"));
+                    return (place, RunOutcome::Wrong("another receipt after a refusal"));
                 }
             }
         }
@@ -139,7 +139,7 @@ fn make<L: Ledger, R: Wait>(
 }
 
 /// Whether the log is that of `count` calls, and the lab the one after them.
-fn is_closed(closed: &ClosedLab, count: usize) -> Outcome {
+fn is_closed(closed: &ClosedLab, count: usize) -> RunOutcome {
     let calls = calls();
     let answers = answers();
     let wanted = calls.iter().zip(&answers).take(count);
@@ -148,31 +148,31 @@ fn is_closed(closed: &ClosedLab, count: usize) -> Outcome {
             && entry.call == *call.0
             && entry.answer == *call.1)
     {
-        return Outcome::Wrong("another log");
+        return RunOutcome::Wrong("another log");
     }
     let counts = closed.lab.counts();
     if KEPT.get(count).copied() == Some(counts.kept)
         && MADE.get(count).copied() == Some(counts.made)
     {
-        Outcome::Answered
+        RunOutcome::Answered
     } else {
-        Outcome::Wrong("another lab")
+        RunOutcome::Wrong("another lab")
     }
 }
 
 /// A race of one worker, which takes its own step back.
-pub fn run_one_worker_race<R: Threads + Wait + Sync>(rt: &R, alloc: Global) -> Outcome {
+pub fn run_one_worker_race<R: Threads + Wait + Sync>(rt: &R, alloc: Global) -> RunOutcome {
     let Ok(chip) = linked(alloc) else {
-        return Outcome::Refused("chip");
+        return RunOutcome::Refused("chip");
     };
     let Ok(lists) = one_list(alloc) else {
-        return Outcome::Refused("list of calls");
+        return RunOutcome::Refused("list of calls");
     };
     match race(rt, alloc, chip, LIMIT, lists, &OpenGate) {
         Ok(closed) => is_closed(&closed, CALLS),
-        Err(RaceFault::Memory) => Outcome::Refused("race, for want of memory"),
-        Err(RaceFault::NotStarted) => Outcome::Refused("race, not started"),
-        Err(RaceFault::Disagree) => Outcome::Wrong("a race that disagrees"),
+        Err(RaceFault::Memory) => RunOutcome::Refused("race, for want of memory"),
+        Err(RaceFault::NotStarted) => RunOutcome::Refused("race, not started"),
+        Err(RaceFault::Disagree) => RunOutcome::Wrong("a race that disagrees"),
     }
 }
 

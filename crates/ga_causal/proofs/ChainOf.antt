@@ -3,7 +3,7 @@ use Rattle.std.proofs.Common.{◌≡◌, ℕ, ◌<◌, ◌≤◌, ◌≢◌, ◌
 use Rattle.ga_event.specs.declared.event.Cause.{Cause}
 use Rattle.ga_causal.specs.declared.chain.Link.{Link}
 use Rattle.ga_causal.specs.Dependence.{dependence_rule_at, event_at, dependent_flags, DependsOn, itself, through, default_cause, dependence_rule, DependsDirectly, cause_touches, position_of_step}
-use Rattle.ga_causal.specs.Chains.{IsNextLink, AreConsecutiveLinks, IsChain, IsOldestCause, IsChainTo, alone, longer, IsChainAnswer, is_causal_predecessor, least_passing_below, oldest_cause, links_to, chain_of}
+use Rattle.ga_causal.specs.Chains.{IsNextLink, AreConsecutiveLinks, IsChain, IsOldestCause, IsChainTo, alone, longer, IsChainAnswer, is_causal_predecessor, least_passing_below, oldest_cause, chain_links_to, chain_of}
 use Rattle.std.specs.Prelude.{nat_lt, slice_index_or}
 use Rattle.std.proofs.lemmas.Bool.{cases_Bool, cases_lt, cases_eq, both_ways, cond-true, cond-false, le-ltb, lt-ltb, eq-eqb, ne_eqb, and_from, and_parts}
 use Rattle.ga_causal.proofs.Exact.{meets_rule, why_dependent, DependsOn_from_flag, flag_from_DependsOn, flagged_within, Earlier}
@@ -144,8 +144,8 @@ oldest_is es i q k l ne f = ⊎_elim (λ e. absurd (ne e)) (λ w. found w) (why_
           oldest = λ other d s. h.first other s.before (leads_from es i q other (flag_from_DependsOn es i other k d) s.by_rule);
         }
 
-links_chain : (most : ℕ) (es : List Cause) (i q : ℕ) → q < most → i < length es → q < length es → slice_index_or (dependent_flags es i) q false ≡ true → IsChainTo es i q (links_to most es i q)
-unfolding links_to
+links_chain : (most : ℕ) (es : List Cause) (i q : ℕ) → q < most → i < length es → q < length es → slice_index_or (dependent_flags es i) q false ≡ true → IsChainTo es i q (chain_links_to most es i q)
+unfolding chain_links_to
 links_chain zero es i q u k l f = absurd (omega arith)
 links_chain (suc most) es i q u k l f = ⊎_elim
     (λ e. subst (λ z. IsChainTo es i q z) (sym (cond-true (q == i) (record { place = i; rule = 0 } ∷ []) _ (eq-eqb q i e)))
@@ -159,8 +159,8 @@ links_chain (suc most) es i q u k l f = ⊎_elim
 pub chain_found : (es : List Cause) (i q : ℕ) → i < length es → IsChainAnswer es i q (chain_of es i q)
 unfolding chain_of
 chain_found es i q k = ⊎_elim
-    (λ f. subst (λ z. IsChainAnswer es i q z) (sym (cond-true (slice_index_or (dependent_flags es i) q false) (Some (links_to (suc q) es i q)) None f)) (links_chain (suc q) es i q (omega arith) k (flagged_within es i q f) f))
-    (λ f. subst (λ z. IsChainAnswer es i q z) (sym (cond-false (slice_index_or (dependent_flags es i) q false) (Some (links_to (suc q) es i q)) None f))
+    (λ f. subst (λ z. IsChainAnswer es i q z) (sym (cond-true (slice_index_or (dependent_flags es i) q false) (Some (chain_links_to (suc q) es i q)) None f)) (links_chain (suc q) es i q (omega arith) k (flagged_within es i q f) f))
+    (λ f. subst (λ z. IsChainAnswer es i q z) (sym (cond-false (slice_index_or (dependent_flags es i) q false) (Some (chain_links_to (suc q) es i q)) None f))
     (λ d. both_ways (slice_index_or (dependent_flags es i) q false) f (flag_from_DependsOn es i q k d)))
     (cases_Bool (slice_index_or (dependent_flags es i) q false))
 

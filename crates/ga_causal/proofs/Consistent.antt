@@ -12,7 +12,7 @@ use Rattle.ga_event.specs.Apply.{EventOutcome, apply, cause_of, run}
 use Rattle.ga_node.specs.Record.{NodeRecord}
 use Rattle.ga_event.proofs.Locality.{AgreeOutsideMarks-sym, cause_alike}
 use Rattle.ga_causal.specs.Equivalence.{AreIndependent, AreEquivalent, same, swapped, later, joined, numbered_outcomes, local_history, local_history_outcomes}
-use Rattle.ga_causal.specs.Steps.{counted, numbered_with_observed}
+use Rattle.ga_causal.specs.Steps.{counted, numbered_events_with_observed}
 use Rattle.ga_causal.proofs.Runs.{causes, run_more, first_of_run, keeps_of, same_of, same_chip}
 use Rattle.ga_causal.proofs.Equivalences.{IsSwapOf, stays, flipped, after, chained, AreApart-sym, independent_on_all, numbers, entries, entries_flipped, sees_touched, In, shuffled_of, touched_of}
 
@@ -245,17 +245,17 @@ in_filtered test (y ∷ ys) x i = two (test y) i (λ j. in_filtered test ys x j)
     two false i h = inr (h i)
 
 -- the same events, with the same numbers
-pub same_events : (c last now : List NodeRecord) (es fs : List Event) (ts us : List (Cause × EventOutcome)) → run c es ≡ Some (last, ts) → run c fs ≡ Some (now, us) → AreEquivalent c es fs ↔ IsPermutation (numbered_with_observed (causes ts)) (numbered_with_observed (causes us))
+pub same_events : (c last now : List NodeRecord) (es fs : List Event) (ts us : List (Cause × EventOutcome)) → run c es ≡ Some (last, ts) → run c fs ≡ Some (now, us) → AreEquivalent c es fs ↔ IsPermutation (numbered_events_with_observed (causes ts)) (numbered_events_with_observed (causes us))
 same_events c last now es fs ts us is so = (to, from)
   where
-    to : AreEquivalent c es fs → IsPermutation (numbered_with_observed (causes ts)) (numbered_with_observed (causes us))
+    to : AreEquivalent c es fs → IsPermutation (numbered_events_with_observed (causes ts)) (numbered_events_with_observed (causes us))
     to h = permuted (λ n. 0) (causes ts) (causes us) (shuffled_by c last now es fs ts us is so h)
 
-    from : IsPermutation (numbered_with_observed (causes ts)) (numbered_with_observed (causes us)) → AreEquivalent c es fs
+    from : IsPermutation (numbered_events_with_observed (causes ts)) (numbered_events_with_observed (causes us)) → AreEquivalent c es fs
     from h = equivalent_of c last now es fs ts us is so
         (shuffled_of (λ n. 0) (causes ts) (causes us)
-        (λ x i. in_moved (numbered_with_observed (causes ts)) (numbered_with_observed (causes us)) x h i)
-        (λ x i. in_moved (numbered_with_observed (causes us)) (numbered_with_observed (causes ts)) x (IsPermutation-sym (numbered_with_observed (causes ts)) (numbered_with_observed (causes us)) h) i))
+        (λ x i. in_moved (numbered_events_with_observed (causes ts)) (numbered_events_with_observed (causes us)) x h i)
+        (λ x i. in_moved (numbered_events_with_observed (causes us)) (numbered_events_with_observed (causes ts)) x (IsPermutation-sym (numbered_events_with_observed (causes ts)) (numbered_events_with_observed (causes us)) h) i))
 
 -- each node has the same local history
 pub same_accounts : (c last now : List NodeRecord) (es fs : List Event) (ts us : List (Cause × EventOutcome)) → run c es ≡ Some (last, ts) → run c fs ≡ Some (now, us) → AreEquivalent c es fs ↔ ((n : ℕ) → local_history n (causes ts) ≡ local_history n (causes us))
@@ -264,11 +264,11 @@ same_accounts c last now es fs ts us is so = (to, from)
     to : AreEquivalent c es fs → (n : ℕ) → local_history n (causes ts) ≡ local_history n (causes us)
     to h n = filtered (λ k. 0) n (causes ts) (causes us) (shuffled_by c last now es fs ts us is so h)
 
-    each : (xs ys : List Cause) → ((n : ℕ) → local_history n xs ≡ local_history n ys) → (x : Cause × List ℕ) → In x (numbered_with_observed xs) → In x (numbered_with_observed ys)
+    each : (xs ys : List Cause) → ((n : ℕ) → local_history n xs ≡ local_history n ys) → (x : Cause × List ℕ) → In x (numbered_events_with_observed xs) → In x (numbered_events_with_observed ys)
     each xs ys h x i =
         let t = touched_of x.0.event in
-        in_filtered (λ e. cause_touches e.0 t.node) (numbered_with_observed ys) x
-        (subst (In x) (h t.node) (in_filter (λ e. cause_touches e.0 t.node) (numbered_with_observed xs) x i t.is))
+        in_filtered (λ e. cause_touches e.0 t.node) (numbered_events_with_observed ys) x
+        (subst (In x) (h t.node) (in_filter (λ e. cause_touches e.0 t.node) (numbered_events_with_observed xs) x i t.is))
 
     from : ((n : ℕ) → local_history n (causes ts) ≡ local_history n (causes us)) → AreEquivalent c es fs
     from h = equivalent_of c last now es fs ts us is so

@@ -6,7 +6,7 @@ use Rattle.std.specs.List.{list_any}
 use Rattle.ga_event.proofs.Locality.{touched_free, has_common_node-touched}
 use Rattle.ga_causal.specs.Dependence.{touched_nodes, cause_touches, dependent_flags_after, dependent_flags, without_flagged, rest}
 use Rattle.ga_event.specs.Touches.{observed_by, has_common_node, touches as event_touches}
-use Rattle.ga_causal.specs.Steps.{counted, numbered_events_by, numbered_events, numbered_with_observed}
+use Rattle.ga_causal.specs.Steps.{counted, numbered_events_by, numbered_events, numbered_events_with_observed}
 use Rattle.ga_causal.proofs.Runs.{kept, apart_meets}
 use mathlib.Core.Path.{fun_ext}
 use Rattle.ga_event.specs.declared.event.Event.{Event}
@@ -57,7 +57,7 @@ numbered_rest nodes seen (e ∷ es) (suc i) s = ap (λ z. (e, map (λ n. s n + 1
 pub steps_rest : (events : List Cause) (i : ℕ) → numbered_events (rest events i) ≡ without_flagged (dependent_flags events i) (numbered_events events)
 steps_rest events i = numbered_rest touched_nodes touched_free events i (λ n. 0)
 
-pub seen_rest : (events : List Cause) (i : ℕ) → numbered_with_observed (rest events i) ≡ without_flagged (dependent_flags events i) (numbered_with_observed events)
+pub seen_rest : (events : List Cause) (i : ℕ) → numbered_events_with_observed (rest events i) ≡ without_flagged (dependent_flags events i) (numbered_events_with_observed events)
 seen_rest events i = numbered_rest observed_by (λ marks e free. free) events i (λ n. 0)
 
 -- one list is made from the other by swaps of adjacent independent causes

@@ -6,7 +6,7 @@ use Rattle.std.proofs.lemmas.Bool.{cases_lt, or_cases, cases_Bool, both_ways, fa
 use Rattle.ga_event.specs.declared.event.Cause.{Cause}
 use Rattle.ga_causal.specs.Dependence.{touched_nodes, cause_touches, marked_nodes, dependent_flags_after, dependent_flags, without_flagged, DependsOn, HasNoLooks}
 use Rattle.ga_event.specs.Touches.{observed_by, has_common_node}
-use Rattle.ga_causal.specs.Steps.{counted, numbered_events_by, numbered_events, numbered_with_observed}
+use Rattle.ga_causal.specs.Steps.{counted, numbered_events_by, numbered_events, numbered_events_with_observed}
 use Rattle.ga_event.proofs.Locality.{touched-has_common_node}
 use Rattle.ga_causal.proofs.Exact.{flag_from_DependsOn, past_alone}
 
@@ -117,5 +117,5 @@ shows_seen (e ∷ es) = (λ marks t. t, shows_seen es)
 pub largest : (events : List Cause) → HasNoLooks events → (i : ℕ) (dropped : List Bool) → IsTrue (slice_index_or dropped i false) → numbered_events (without_flagged dropped events) ≡ without_flagged dropped (numbered_events events) → (j : ℕ) → DependsOn events i j → IsTrue (slice_index_or dropped j false)
 largest events q = dropped_all touched_nodes events (shows_steps events q)
 
-pub largest_seen : (events : List Cause) (i : ℕ) (dropped : List Bool) → IsTrue (slice_index_or dropped i false) → numbered_with_observed (without_flagged dropped events) ≡ without_flagged dropped (numbered_with_observed events) → (j : ℕ) → DependsOn events i j → IsTrue (slice_index_or dropped j false)
+pub largest_seen : (events : List Cause) (i : ℕ) (dropped : List Bool) → IsTrue (slice_index_or dropped i false) → numbered_events_with_observed (without_flagged dropped events) ≡ without_flagged dropped (numbered_events_with_observed events) → (j : ℕ) → DependsOn events i j → IsTrue (slice_index_or dropped j false)
 largest_seen events = dropped_all observed_by events (shows_seen events)

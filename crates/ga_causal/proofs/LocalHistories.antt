@@ -11,7 +11,7 @@ use Rattle.ga_event.proofs.Locality.{has_common_node-touched}
 use Rattle.ga_causal.specs.Dependence.{touched_nodes, cause_touches, marked_nodes, dependent_flags_after, dependent_flags, without_flagged, rest, position_of_step, rest_or_all, events_after_rewind, event_at, DependsOn}
 use Rattle.ga_event.specs.Told.{events_of_causes}
 use Rattle.ga_causal.specs.Equivalence.{numbered_outcomes, local_history, local_history_outcomes}
-use Rattle.ga_causal.specs.Steps.{counted, numbered_with_observed}
+use Rattle.ga_causal.specs.Steps.{counted, numbered_events_with_observed}
 use Rattle.ga_causal.proofs.Exact.{any-mono, flag_marked, DependsOn_from_flag, flag_from_DependsOn}
 use Rattle.ga_causal.proofs.Runs.{causes, kept, run_rest}
 use Rattle.ga_causal.proofs.Equivalences.{seen_rest, numbers, entries}
@@ -106,8 +106,8 @@ account_from : (es : List Cause) (o : Option ℕ) (m : ℕ) → Begins (local_hi
 account_from es None m = ([], sym (append-nil (local_history m es)))
 account_from es (Some i) m =
     subst (λ z. Begins (local_history m es) (at_node (λ (x : Cause × List ℕ). x.0) m z))
-    (ap (λ z. without_flagged (dependent_flags z i) (numbered_with_observed es)) (causes_entries (λ n. 0) es) ∙ sym (seen_rest es i))
-    (begins_rest (λ (x : Cause × List ℕ). x.0) m i (numbered_with_observed es))
+    (ap (λ z. without_flagged (dependent_flags z i) (numbered_events_with_observed es)) (causes_entries (λ n. 0) es) ∙ sym (seen_rest es i))
+    (begins_rest (λ (x : Cause × List ℕ). x.0) m i (numbered_events_with_observed es))
 
 -- the local history of a node after a rollback is a prefix of the one before
 pub first_part : (events : List Cause) (n k m : ℕ) → (later : List (Cause × List ℕ)) × (local_history m events ≡ local_history m (events_after_rewind events n k) ++ later)
@@ -133,10 +133,10 @@ tolds_without (false ∷ flags) (x ∷ ts) = ap (λ z. x.1 ∷ z) (tolds_without
 
 recorded_rest : (ts : List (Cause × EventOutcome)) (i : ℕ) → numbered_outcomes (without_flagged (dependent_flags (causes ts) i) ts) ≡ without_flagged (dependent_flags (causes ts) i) (numbered_outcomes ts)
 recorded_rest ts i =
-    ap (λ z. zip (numbered_with_observed z) (map (λ x. x.1) (without_flagged (dependent_flags (causes ts) i) ts))) (causes_without (dependent_flags (causes ts) i) ts)
-    ∙ ap (λ z. zip (numbered_with_observed (rest (causes ts) i)) z) (tolds_without (dependent_flags (causes ts) i) ts)
+    ap (λ z. zip (numbered_events_with_observed z) (map (λ x. x.1) (without_flagged (dependent_flags (causes ts) i) ts))) (causes_without (dependent_flags (causes ts) i) ts)
+    ∙ ap (λ z. zip (numbered_events_with_observed (rest (causes ts) i)) z) (tolds_without (dependent_flags (causes ts) i) ts)
     ∙ ap (λ z. zip z (without_flagged (dependent_flags (causes ts) i) (map (λ x. x.1) ts))) (seen_rest (causes ts) i)
-    ∙ zip_without (dependent_flags (causes ts) i) (numbered_with_observed (causes ts)) (map (λ x. x.1) ts)
+    ∙ zip_without (dependent_flags (causes ts) i) (numbered_events_with_observed (causes ts)) (map (λ x. x.1) ts)
 
 told_rest : (ts : List (Cause × EventOutcome)) (i m : ℕ) → Begins (local_history_outcomes m ts) (local_history_outcomes m (without_flagged (dependent_flags (causes ts) i) ts))
 told_rest ts i m =

@@ -8,11 +8,11 @@ use Rattle.ga_event.specs.declared.event.Cause.{Cause}
 use Rattle.ga_causal.specs.Dependence.{cause_touches, dependent_flags_after, dependent_flags, without_flagged, rest}
 use Rattle.ga_event.specs.Told.{events_of_causes}
 use Rattle.ga_event.specs.Touches.{has_common_node, observed_by}
-use Rattle.ga_event.specs.Apply.{EventOutcome, apply, cause_of, run, AgreeOutsideMarks, BehaveAlike, replay}
+use Rattle.ga_event.specs.Apply.{EventOutcome, apply, cause_of, run, AgreeOutsideMarks, AreEventResultsAlike, replay}
 use Rattle.ga_node.specs.Record.{NodeRecord, record_of}
 use Rattle.ga_event.proofs.Locality.{AgreeOutsideMarks-sym, apply_alike, cause_alike, apply_keeps, has_common_node-touched}
 use Rattle.std.specs.List.{list_any}
-use Rattle.ga_grid.specs.Chip.{nowhere}
+use Rattle.ga_grid.specs.Chip.{default_node}
 use Rattle.ga_causal.specs.Equivalence.{observes, AreIndependent, AreEquivalent, same, swapped, later, joined}
 
 -- the events that meet no mark
@@ -75,9 +75,9 @@ pub record Same (marks : ℕ → Bool) (e : Event) (c d b : List NodeRecord) (t 
   pub cause : cause_of c e ≡ cause_of b e
 
 pub same_of : (marks : ℕ → Bool) (e : Event) (c d b : List NodeRecord) (t : EventOutcome) → AgreeOutsideMarks marks c b → has_common_node marks (cause_of c e) ≡ false → apply c e ≡ Some (d, t) → Same marks e c d b t
-same_of marks e c d b t a free h = go (apply b e) refl (subst (λ o. BehaveAlike marks o (apply b e)) h (apply_alike marks c b e a free))
+same_of marks e c d b t a free h = go (apply b e) refl (subst (λ o. AreEventResultsAlike marks o (apply b e)) h (apply_alike marks c b e a free))
   where
-    go : (o : Option (List NodeRecord × EventOutcome)) → apply b e ≡ o → BehaveAlike marks (Some (d, t)) o → Same marks e c d b t
+    go : (o : Option (List NodeRecord × EventOutcome)) → apply b e ≡ o → AreEventResultsAlike marks (Some (d, t)) o → Same marks e c d b t
     go None k g = absurd g
     go (Some done) k g = record { mid = done.0; done = k ∙ ap (λ z. Some (done.0, z)) (sym g.1); agree = g.0; cause = cause_alike marks c b e a free }
 
@@ -130,21 +130,21 @@ any_none marks (n ∷ ns) h = or_from (marks n) (list_any marks ns) (h n (or_lef
 pub apart_meets : (e f : Cause) → ((n : ℕ) → cause_touches e n ≡ true → observes f n ≡ true → ⊥) → has_common_node (cause_touches e) f ≡ false
 apart_meets e f h = any_none (cause_touches e) (observed_by f) (λ n t. false_from_ne_true (cause_touches e n) (λ u. h n u t))
 
-none_of : (marks : ℕ → Bool) (o : Option (List NodeRecord × EventOutcome)) → BehaveAlike marks None o → o ≡ None
+none_of : (marks : ℕ → Bool) (o : Option (List NodeRecord × EventOutcome)) → AreEventResultsAlike marks None o → o ≡ None
 none_of marks None a = refl
 none_of marks (Some done) a = absurd a
 
 refused_of : (e f : Event) (c b : List NodeRecord) (t : EventOutcome) → has_common_node (cause_touches (cause_of c f)) (cause_of c e) ≡ false → apply c e ≡ None → apply c f ≡ Some (b, t) → apply b e ≡ None
 refused_of e f c b t h r k =
     none_of (cause_touches (cause_of c f)) (apply b e)
-    (subst (λ o. BehaveAlike (cause_touches (cause_of c f)) o (apply b e)) r
+    (subst (λ o. AreEventResultsAlike (cause_touches (cause_of c f)) o (apply b e)) r
     (apply_alike (cause_touches (cause_of c f)) c b e (keeps_of c f b t k) h))
 
 pub same_chip : (e f : Event) (c d b p q : List NodeRecord) (te tf : EventOutcome) → AreIndependent (cause_of c e) (cause_of c f) → apply d f ≡ Some (p, tf) → apply b e ≡ Some (q, te) → cause_of c f ≡ cause_of d f → cause_of c e ≡ cause_of b e → AgreeOutsideMarks (cause_touches (cause_of c e)) b p → AgreeOutsideMarks (cause_touches (cause_of c f)) d q → p ≡ q
 same_chip e f c d b p q te tf h df be cf ce x y =
     let u : AgreeOutsideMarks (cause_touches (cause_of c f)) d p = subst (λ z. AgreeOutsideMarks (cause_touches z) d p) (sym cf) (keeps_of d f p tf df) in
     let v : AgreeOutsideMarks (cause_touches (cause_of c e)) b q = subst (λ z. AgreeOutsideMarks (cause_touches z) b q) (sym ce) (keeps_of b e q te be) in
-    ext_get_or (record_of nowhere) p q (sym x.size ∙ v.size)
+    ext_get_or (record_of default_node) p q (sym x.size ∙ v.size)
     (λ n l. elim (cases_Bool (cause_touches (cause_of c e) n)) [
       | inl t ↦ (let g : cause_touches (cause_of c f) n ≡ false = false_from_ne_true (cause_touches (cause_of c f) n) (λ w. h.first n t (has_common_node-touched (λ m. m == n) (cause_of c f) w)) in sym (u.same n g) ∙ y.same n g)
       | inr g ↦ sym (x.same n g) ∙ v.same n g

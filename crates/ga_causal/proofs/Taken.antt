@@ -9,7 +9,7 @@ use Rattle.ga_event.specs.Apply.{EventOutcome, run}
 use Rattle.ga_node.specs.Record.{NodeRecord}
 use Rattle.ga_causal.specs.Dependence.{touched_nodes, HasNoLooks, cause_touches, marked_nodes, dependent_flags_after, dependent_flags, without_flagged, rest}
 use Rattle.ga_causal.specs.Equivalence.{AreEquivalent, observes, AreIndependent}
-use Rattle.ga_causal.specs.Steps.{counted, numbered_events_by, numbered_events, numbered_with_observed}
+use Rattle.ga_causal.specs.Steps.{counted, numbered_events_by, numbered_events, numbered_events_with_observed}
 use Rattle.ga_causal.proofs.Runs.{causes}
 use Rattle.ga_causal.proofs.Equivalences.{In, IsSwapOf, stays, flipped, after, chained, sees_touched}
 use Rattle.ga_causal.proofs.Consistent.{in_moved, same_events, made_of, made_shuffled}
@@ -61,19 +61,19 @@ none_moved nodes xs ys h none =
 pub same_steps : (c last now : List NodeRecord) (es fs : List Event) (ts us : List (Cause × EventOutcome)) → run c es ≡ Some (last, ts) → run c fs ≡ Some (now, us) → HasNoLooks (causes ts) → AreEquivalent c es fs ↔ IsPermutation (numbered_events (causes ts)) (numbered_events (causes us))
 same_steps c last now es fs ts us is so none = (to, from)
   where
-    both : AreEquivalent c es fs ↔ IsPermutation (numbered_with_observed (causes ts)) (numbered_with_observed (causes us))
+    both : AreEquivalent c es fs ↔ IsPermutation (numbered_events_with_observed (causes ts)) (numbered_events_with_observed (causes us))
     both = same_events c last now es fs ts us is so
 
     to : AreEquivalent c es fs → IsPermutation (numbered_events (causes ts)) (numbered_events (causes us))
     to h =
         let p = both.0 h in
         subst (λ z. IsPermutation z (numbered_events (causes us))) (numbered_blind (λ n. 0) (causes ts) none)
-        (subst (λ z. IsPermutation (numbered_with_observed (causes ts)) z) (numbered_blind (λ n. 0) (causes us) (none_moved observed_by (causes ts) (causes us) p none)) p)
+        (subst (λ z. IsPermutation (numbered_events_with_observed (causes ts)) z) (numbered_blind (λ n. 0) (causes us) (none_moved observed_by (causes ts) (causes us) p none)) p)
 
     from : IsPermutation (numbered_events (causes ts)) (numbered_events (causes us)) → AreEquivalent c es fs
     from p =
         both.1
-        (subst (λ z. IsPermutation z (numbered_with_observed (causes us))) (sym (numbered_blind (λ n. 0) (causes ts) none))
+        (subst (λ z. IsPermutation z (numbered_events_with_observed (causes us))) (sym (numbered_blind (λ n. 0) (causes ts) none))
         (subst (λ z. IsPermutation (numbered_events (causes ts)) z) (sym (numbered_blind (λ n. 0) (causes us) (none_moved touched_nodes (causes ts) (causes us) p none))) p))
 
 -- the flagged elements

@@ -5,27 +5,27 @@ use Rattle.std.proofs.lemmas.Bool.{cases_eq, cases_lt, or_cases, both_ways, cond
 use Rattle.std.proofs.lemmas.List.{get_or_past}
 use Rattle.std.proofs.lemmas.Option.{same_Some}
 use Rattle.ga_ports.specs.Address.{address_target}
-use Rattle.ga_ports.specs.declared.address.Target.{Target}
-use Rattle.ga_ports.specs.declared.address.Target.TheVariants.{Ram, Rom, Io, Ports, Bad}
+use Rattle.ga_ports.specs.declared.address.AddressTarget.{AddressTarget}
+use Rattle.ga_ports.specs.declared.address.AddressTarget.TheVariants.{Ram, Rom, Io, Ports, Bad}
 use Rattle.ga_ports.specs.declared.side.Side.{Side}
 use Rattle.ga_node.specs.declared.wait.ReadKind.{ReadKind}
 use Rattle.ga_node.specs.declared.wait.ReadKind.TheVariants.{Instruction, Stack}
-use Rattle.ga_node.specs.declared.seen.Seen.{Seen}
+use Rattle.ga_node.specs.declared.seen.SeenNeighbours.{SeenNeighbours}
 use Rattle.ga_node.specs.declared.due.NextAction.{NextAction}
 use Rattle.ga_node.specs.declared.due.NextAction.TheVariants as due
 use Rattle.ga_node.specs.declared.kind.OwnEventKind.TheVariants as kind
-use Rattle.ga_node.specs.declared.kind.NotReady.{NotReady}
+use Rattle.ga_node.specs.declared.kind.EventRefusal.{EventRefusal}
 use Rattle.ga_node.specs.Io.{io_word}
 use Rattle.ga_node.specs.Record.{NodeRecord, record_of}
-use Rattle.ga_node.specs.Changes.{after_changes as changed_by}
-use Rattle.ga_node.specs.Table.{Access, Plain, Reads, Writes, with_kind, found, followed, access_result, opcode_effect, fetch_access, next_action_of, action_result, own_event, own, looks, t, sent, taken}
+use Rattle.ga_node.specs.Changes.{node_after_changes as changed_by}
+use Rattle.ga_node.specs.Table.{AddressAccess, Plain, Reads, Writes, event_with_kind, target_read_result, with_following_changes, access_result, opcode_effect, fetch_access, next_action_of, action_result, own_event, own, looks, t, sent, taken}
 use Rattle.ga_node.proofs.Looks.{own_blind}
-use Rattle.ga_grid.specs.Chip.{nowhere, record_at}
+use Rattle.ga_grid.specs.Chip.{default_node, record_at}
 use Rattle.ga_grid.specs.declared.node_id.NodeId.{NodeId}
 use Rattle.ga_event.specs.declared.event.Event.{Event}
 use Rattle.ga_event.specs.declared.event.Event.TheVariants.{Own, Pass}
 use Rattle.ga_event.specs.declared.event.Cause.{Cause}
-use Rattle.ga_event.specs.Apply.{EventOutcome, neighbour_states, refusal_of, some_if_allowed, after, apply, cause_of, run, replay, AgreeOutsideMarks, shown_state, shown_neighbour_state}
+use Rattle.ga_event.specs.Apply.{EventOutcome, neighbour_states, refusal_of, some_if_allowed, after, apply, cause_of, run, replay, AgreeOutsideMarks, shown_wait_state, shown_neighbour_state}
 use Rattle.ga_causal.specs.Dependence.{cause_touches}
 use Rattle.ga_causal.specs.Words.{received_word, local_history_with_reads, with_received_words}
 use Rattle.ga_causal.proofs.Runs.{first_of_run, keeps_of}
@@ -40,33 +40,33 @@ use Rattle.ga_causal.proofs.Consistent.{turned, swap_filter, not_both, kept_alik
 
 -- A node's own event depends on the word of `io` alone, whatever shows that word.
 
-found_same : (target : Target) (reader : ReadKind) (seen other : Seen) (n : NodeRecord) → io_word seen ≡ io_word other → found target reader seen n ≡ found target reader other n
-unfolding found
+found_same : (target : AddressTarget) (reader : ReadKind) (seen other : SeenNeighbours) (n : NodeRecord) → io_word seen ≡ io_word other → target_read_result target reader seen n ≡ target_read_result target reader other n
+unfolding target_read_result
 found_same (Ram k) reader seen other n h = refl
 found_same (Rom k) reader seen other n h = refl
 found_same Io reader seen other n h = rw h refl
 found_same (Ports sides) reader seen other n h = refl
 found_same Bad reader seen other n h = refl
 
-access_same : (reader : ReadKind) (access : Access) (seen other : Seen) (n : NodeRecord) → io_word seen ≡ io_word other → access_result reader access seen n ≡ access_result reader access other n
+access_same : (reader : ReadKind) (access : AddressAccess) (seen other : SeenNeighbours) (n : NodeRecord) → io_word seen ≡ io_word other → access_result reader access seen n ≡ access_result reader access other n
 access_same reader (Plain changes) seen other n h = refl
-access_same reader (Reads address more) seen other n h = ap (λ found. followed found more) (found_same (address_target address) reader seen other n h)
+access_same reader (Reads address more) seen other n h = ap (λ target_read_result. with_following_changes target_read_result more) (found_same (address_target address) reader seen other n h)
 access_same reader (Writes address more) seen other n h = refl
 
-done_same : (due : NextAction) (seen other : Seen) (n : NodeRecord) → io_word seen ≡ io_word other → action_result due seen n ≡ action_result due other n
-done_same due.Fetch seen other n h = ap (with_kind kind.Fetch) (access_same Instruction (fetch_access n) seen other n h)
-done_same (due.Run op) seen other n h = ap (with_kind _) (access_same Stack (opcode_effect op n) seen other n h)
+done_same : (due : NextAction) (seen other : SeenNeighbours) (n : NodeRecord) → io_word seen ≡ io_word other → action_result due seen n ≡ action_result due other n
+done_same due.Fetch seen other n h = ap (event_with_kind kind.Fetch) (access_same Instruction (fetch_access n) seen other n h)
+done_same (due.Run op) seen other n h = ap (event_with_kind _) (access_same Stack (opcode_effect op n) seen other n h)
 
-own_same : (seen other : Seen) (n : NodeRecord) → io_word seen ≡ io_word other → own seen n ≡ own other n
+own_same : (seen other : SeenNeighbours) (n : NodeRecord) → io_word seen ≡ io_word other → own seen n ≡ own other n
 unfolding own own_event
 own_same seen other n h = ap (λ event. (event.0, changed_by event.1 n)) (done_same (next_action_of n) seen other n h)
 
 -- what an event with this word makes of a node that it touches
 abbrev pub Becomes : ℕ → NodeRecord → Event → Option ℕ → NodeRecord → Type 0
-Becomes n x (Own node) word y = (seen : Seen) × (y ≡ (own seen x).1) × (word ≡ cond (looks x) (Some (io_word seen)) None)
+Becomes n x (Own node) word y = (seen : SeenNeighbours) × (y ≡ (own seen x).1) × (word ≡ cond (looks x) (Some (io_word seen)) None)
 Becomes n x (Pass writer reader side) word y = y ≡ cond (n == reader.number) (taken (unwrap_or word 0) x) (sent x)
 
-pub own_once : (x : NodeRecord) (seen other : Seen) → ◌≡◌ {A = Option ℕ} (cond (looks x) (Some (io_word seen)) None) (cond (looks x) (Some (io_word other)) None) → own seen x ≡ own other x
+pub own_once : (x : NodeRecord) (seen other : SeenNeighbours) → ◌≡◌ {A = Option ℕ} (cond (looks x) (Some (io_word seen)) None) (cond (looks x) (Some (io_word other)) None) → own seen x ≡ own other x
 own_once x seen other = go (looks x) refl
   where
     go : (b : Bool) → looks x ≡ b → ◌≡◌ {A = Option ℕ} (cond b (Some (io_word seen)) None) (cond b (Some (io_word other)) None) → own seen x ≡ own other x
@@ -81,12 +81,12 @@ becomes_one n x (Pass writer reader side) word y z p q = p ∙ sym q
 pub after_is : (c d : List NodeRecord) (e : Event) (told : EventOutcome) → apply c e ≡ Some (d, told) → after c e ≡ (d, told)
 after_is c d e told h = go (refusal_of c e) h
   where
-    go : (o : Option NotReady) → some_if_allowed o (after c e) ≡ Some (d, told) → after c e ≡ (d, told)
+    go : (o : Option EventRefusal) → some_if_allowed o (after c e) ≡ Some (d, told) → after c e ≡ (d, told)
     go None k = same_Some (after c e) (d, told) k
     go (Some why) k = absurd (cc)
 
 own_becomes : (c : List NodeRecord) (node : NodeId) → node.number < length c → Becomes node.number (record_at c node.number) (Own node) (received_word c (Own node)) (record_at (after c (Own node)).0 node.number)
-own_becomes c node l = (neighbour_states c node.number, get_or-set_same c node.number _ (record_of nowhere) l, refl)
+own_becomes c node l = (neighbour_states c node.number, get_or-set_same c node.number _ (record_of default_node) l, refl)
 
 pass_becomes : (c : List NodeRecord) (w r : NodeId) (side : Side) (n : ℕ) → n < length c → (((w.number == n) || ((r.number == n) || false)) ≡ true) → Becomes n (record_at c n) (Pass w r side) (received_word c (Pass w r side)) (record_at (after c (Pass w r side)).0 n)
 pass_becomes c w r side n l touched = elim (cases_eq n r.number) [ inl e ↦ as_reader e | inr ne ↦ as_writer ne ]
@@ -104,7 +104,7 @@ pass_becomes c w r side n l touched = elim (cases_eq n r.number) [ inl e ↦ as_
     as_reader e =
         let size : length mid ≡ length c = length-set c w.number (sent from) in
         ap (λ (z : ℕ). record_at (set mid r.number (taken word (record_at c r.number))) z) e
-        ∙ get_or-set_same mid r.number (taken word (record_at c r.number)) (record_of nowhere) (omega (arith, e, l, size))
+        ∙ get_or-set_same mid r.number (taken word (record_at c r.number)) (record_of default_node) (omega (arith, e, l, size))
         ∙ ap (λ (z : ℕ). taken word (record_at c z)) (sym e)
         ∙ sym (cond-true (n == r.number) (taken word (record_at c n)) (sent (record_at c n)) (eq-eqb n r.number e))
 
@@ -117,9 +117,9 @@ pass_becomes c w r side n l touched = elim (cases_eq n r.number) [ inl e ↦ as_
     as_writer : (n ≡ r.number → ⊥) → record_at (set mid r.number (taken word (record_at c r.number))) n ≡ cond (n == r.number) (taken word (record_at c n)) (sent (record_at c n))
     as_writer ne =
         let e : n ≡ w.number = is_writer ne in
-        get_or-set_other mid r.number n (taken word (record_at c r.number)) (record_of nowhere) ne
+        get_or-set_other mid r.number n (taken word (record_at c r.number)) (record_of default_node) ne
         ∙ ap (λ (z : ℕ). record_at mid z) e
-        ∙ get_or-set_same c w.number (sent from) (record_of nowhere) (omega (arith, e, l))
+        ∙ get_or-set_same c w.number (sent from) (record_of default_node) (omega (arith, e, l))
         ∙ ap (λ (z : ℕ). sent (record_at c z)) (sym e)
         ∙ sym (cond-false (n == r.number) (taken word (record_at c n)) (sent (record_at c n)) (ne_eqb n r.number ne))
 
@@ -182,7 +182,7 @@ same_node chip other last now es fs n h k size at alike =
       | inl l ↦ lives_one n (record_at chip n) (local_history_with_reads n chip es) (record_at last n) (record_at now n) (lived n chip last es a.0 l a.1)
           (subst (λ z. Lives n (record_at chip n) z (record_at now n)) (sym alike)
           (subst (λ z. Lives n z (local_history_with_reads n other fs) (record_at now n)) (sym at) (lived n other now fs b.0 (omega (arith, l, size)) b.1)))
-      | inr l ↦ get_or_past last n (record_of nowhere) (omega (arith, l, here)) ∙ sym (get_or_past now n (record_of nowhere) (omega (arith, l, size, there)))
+      | inr l ↦ get_or_past last n (record_of default_node) (omega (arith, l, here)) ∙ sym (get_or_past now n (record_of default_node) (omega (arith, l, size, there)))
     ]
 
 pub same_chip : (chip last now : List NodeRecord) (es fs : List Event) → replay chip es ≡ Some last → replay chip fs ≡ Some now
@@ -190,7 +190,7 @@ pub same_chip : (chip last now : List NodeRecord) (es fs : List Event) → repla
 same_chip chip last now es fs h k alike =
     let a = ran chip last es h in
     let b = ran chip now fs k in
-    ext_get_or (record_of nowhere) last now (sym (same_size chip last es a.0 a.1) ∙ same_size chip now fs b.0 b.1) (λ n l. same_node chip chip last now es fs n h k refl refl (alike n))
+    ext_get_or (record_of default_node) last now (sym (same_size chip last es a.0 a.1) ∙ same_size chip now fs b.0 b.1) (λ n l. same_node chip chip last now es fs n h k refl refl (alike n))
 
 -- ---- Equivalent lists have the same local histories with the words.
 
@@ -200,7 +200,7 @@ beside_alike : (marks : ℕ → Bool) (c d : List NodeRecord) (side : Side) (at 
 beside_alike marks c d side None ns a free = (refl, free)
 beside_alike marks c d side (Some n) ns a free =
     let p : (marks n ≡ false) × (list_any marks ns ≡ false) = or_parts (marks n) (list_any marks ns) free in
-    (ap (λ (z : NodeRecord). shown_state z.wait side) (a.same n p.0), p.1)
+    (ap (λ (z : NodeRecord). shown_wait_state z.wait side) (a.same n p.0), p.1)
 
 seen_alike : (marks : ℕ → Bool) (c d : List NodeRecord) (n : ℕ) → AgreeOutsideMarks marks c d → list_any marks (neighbours n) ≡ false → neighbour_states c n ≡ neighbour_states d n
 unfolding neighbours neighbour_states
@@ -228,7 +228,7 @@ word_alike marks c d (Own node) a free =
     ∙ ap (λ (z : NodeRecord). cond (looks z) (Some (io_word (neighbour_states d node.number))) None) (a.same node.number ((or_parts (marks node.number) false ((sees_parts marks c (Own node) free).0)).0))
   where
     go : (b : Bool) → list_any marks (looked_at_nodes (Own node) b) ≡ false → ◌≡◌ {A = Option ℕ} (cond b (Some (io_word (neighbour_states c node.number))) None) (cond b (Some (io_word (neighbour_states d node.number))) None)
-    go true f = ap (λ (z : Seen). Some (io_word z)) (seen_alike marks c d node.number a f)
+    go true f = ap (λ (z : SeenNeighbours). Some (io_word z)) (seen_alike marks c d node.number a f)
     go false f = refl
 word_alike marks c d (Pass w r side) a free =
     ap (λ (z : NodeRecord). Some (t z)) (a.same w.number ((or_parts (marks w.number) (marks r.number || false) ((sees_parts marks c (Pass w r side) free).0)).0))

@@ -52,14 +52,14 @@ abbrev pub oldest_cause : List Cause → ℕ → ℕ → ℕ
 oldest_cause events cause place = least_passing_below (is_causal_predecessor events cause place) place
 
 -- the links from the cause to a place that depends on it, made from their end; at most `most` of them
-unfoldable pub links_to : ℕ → List Cause → ℕ → ℕ → List Link
-links_to zero events cause place = []
-links_to (suc most) events cause place =
+unfoldable pub chain_links_to : ℕ → List Cause → ℕ → ℕ → List Link
+chain_links_to zero events cause place = []
+chain_links_to (suc most) events cause place =
     if place == cause then record { place = cause; rule = 0 } ∷ []
-    else links_to most events cause (oldest_cause events cause place)
+    else chain_links_to most events cause (oldest_cause events cause place)
     ++ record { place = place; rule = dependence_rule_at events (oldest_cause events cause place) place } ∷ []
 
 -- the chain from the cause to a place, and none where that does not depend on it: the only answer that is found
 unfoldable pub chain_of : List Cause → ℕ → ℕ → Option (List Link)
 chain_of events cause place =
-    if slice_index_or (dependent_flags events cause) place false then Some (links_to (suc place) events cause place) else None
+    if slice_index_or (dependent_flags events cause) place false then Some (chain_links_to (suc place) events cause place) else None

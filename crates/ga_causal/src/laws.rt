@@ -9,7 +9,7 @@ ghost use Rattle.ga_event.specs.Touches.{touches};
 ghost use Rattle.ga_event.specs.Apply.{EventOutcome, replay, run, cause_of};
 ghost use Rattle.ga_causal.specs.declared.chain.Link.{Link};
 ghost use Rattle.ga_causal.specs.Chains.{IsChain, IsChainTo, IsChainAnswer, chain_of};
-ghost use Rattle.ga_causal.specs.Steps.{links_with_events, numbered_events, numbered_with_observed, count_touching_events, IsKthStep};
+ghost use Rattle.ga_causal.specs.Steps.{links_with_events, numbered_events, numbered_events_with_observed, count_touching_events, IsKthStep};
 ghost use Rattle.ga_causal.specs.Dependence.{dependent_flags, rest, without_flagged, DependsOn, HasNoLooks, position_of_step, events_after_rewind, events_after_rewinds};
 ghost use Rattle.ga_event.specs.Told.{events_of_causes};
 ghost use Rattle.ga_causal.specs.Equivalence.{AreIndependent, AreEquivalent, numbered_outcomes, local_history, local_history_outcomes};
@@ -36,7 +36,7 @@ pub fn rest_replays()
         (now : List NodeRecord) × (run chip (events_of_causes (rest causes i)) ≡ Some (now, without_flagged (dependent_flags causes i) steps)) }
     ensures steps { (events : List Cause) (i : ℕ) → numbered_events (rest events i) ≡ without_flagged (dependent_flags events i) (numbered_events events) }
     ensures seen { (events : List Cause) (i : ℕ) →
-        numbered_with_observed (rest events i) ≡ without_flagged (dependent_flags events i) (numbered_with_observed events) }
+        numbered_events_with_observed (rest events i) ≡ without_flagged (dependent_flags events i) (numbered_events_with_observed events) }
 {}
 
 /// The flags of `dependent_flags` are the places of the events that depend on the one at the place `i`. There must be one: past the end
@@ -59,7 +59,7 @@ pub fn rest_is_largest()
         (j : ℕ) → DependsOn events i j → IsTrue (slice_index_or dropped j false) }
     ensures seen { (events : List Cause) (i : ℕ) (dropped : List Bool) →
         IsTrue (slice_index_or dropped i false) →
-        numbered_with_observed (without_flagged dropped events) ≡ without_flagged dropped (numbered_with_observed events) →
+        numbered_events_with_observed (without_flagged dropped events) ≡ without_flagged dropped (numbered_events_with_observed events) →
         (j : ℕ) → DependsOn events i j → IsTrue (slice_index_or dropped j false) }
 {}
 
@@ -114,7 +114,7 @@ pub fn causal_consistency()
     ensures events { (chip last now : List NodeRecord) (events others : List Event) (steps made : List (Cause × EventOutcome)) →
         run chip events ≡ Some (last, steps) → run chip others ≡ Some (now, made) →
         let causes = map (λ (s : Cause × EventOutcome). s.0) in
-        (AreEquivalent chip events others ↔ IsPermutation (numbered_with_observed (causes steps)) (numbered_with_observed (causes made))) }
+        (AreEquivalent chip events others ↔ IsPermutation (numbered_events_with_observed (causes steps)) (numbered_events_with_observed (causes made))) }
     ensures steps { (chip last now : List NodeRecord) (events others : List Event) (steps made : List (Cause × EventOutcome)) →
         run chip events ≡ Some (last, steps) → run chip others ≡ Some (now, made) →
         let causes = map (λ (s : Cause × EventOutcome). s.0) in

@@ -13,12 +13,12 @@ use Rattle.ga_state_expectations.specs.declared.source.LineExpectation.{LineExpe
 use Rattle.ga_check_report.specs.declared.outcome.Breach.{Breach}
 use Rattle.ga_check_report.specs.declared.outcome.ExpectationOutcome.{ExpectationOutcome}
 use Rattle.ga_check_report.specs.declared.outcome.ExpectationOutcome.TheVariants.{Holds, Broken, Unknown}
-use Rattle.ga_check_report.specs.Outcomes.{IsOutcome}
-use Rattle.ga_check_report.specs.BreachDecisions.{breach_state, unmet_state, IsBreachDecided}
+use Rattle.ga_check_report.specs.Outcomes.{IsExpectationOutcome}
+use Rattle.ga_check_report.specs.BreachDecisions.{breach_state, state_of_unmet_expectation, IsBreachDecided}
 
 -- the state of an end that breaks an expectation is one of the search
-pub unmet_inside : (s : State) (found : EndSearchResult) (expectation : NodeExpectation) (outcome : ExpectationOutcome) → IsOutcome s found (AtEnds expectation) outcome
-    → IfSome (unmet_state outcome) (λ number. number < length found.searched.chips)
+pub unmet_inside : (s : State) (found : EndSearchResult) (expectation : NodeExpectation) (outcome : ExpectationOutcome) → IsExpectationOutcome s found (AtEnds expectation) outcome
+    → IfSome (state_of_unmet_expectation outcome) (λ number. number < length found.searched.chips)
 unmet_inside s found expectation Holds is = tt
 unmet_inside s found expectation Unknown is = tt
 unmet_inside s found expectation (Broken breach) is =

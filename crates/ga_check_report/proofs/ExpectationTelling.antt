@@ -34,7 +34,7 @@ use Rattle.ga_check_report.specs.declared.outcome.ExpectationOutcome.{Expectatio
 use Rattle.ga_check_report.specs.declared.outcome.ExpectationOutcome.TheVariants.{Holds, Broken}
 use Rattle.ga_check_report.specs.declared.outcome.ExpectationOutcome.TheVariants as outcome
 use Rattle.ga_check_report.specs.declared.report.Verdict.TheVariants.{Clean, Unclean, Unknown, Saved, Ended}
-use Rattle.ga_check_report.specs.Outcomes.{HasNoBreach, IsBreach, IsOutcome, AreOutcomes, is_broken, is_unknown, HoldsInEveryOrder, IsBrokenInSomeOrder}
+use Rattle.ga_check_report.specs.Outcomes.{HasNoBreach, IsBreach, IsExpectationOutcome, AreExpectationOutcomes, is_outcome_broken, is_outcome_unknown, HoldsInEveryOrder, IsBrokenInSomeOrder}
 use Rattle.ga_check_report.specs.Expected.{LeadsToBreach, WritesExpectationsReport}
 use Rattle.ga_check_report.specs.Expected.WritesExpectationsReport.{all, led, unbroken, missing, no_memory, too_long}
 
@@ -83,7 +83,7 @@ held s found OneEnd are whole few =
           (it.0, it.4 ∙ sym it.6 ∙ ap (λ (e : StoredEnd). slice_get found.searched.chips e.state) same ∙ first.6),
     )
 
-pub outcome_held : (s : State) (found : EndSearchResult) (expectation : Expectation) → AreEndsOfChip (chip_of s) found → IsOutcome s found expectation Holds
+pub outcome_held : (s : State) (found : EndSearchResult) (expectation : Expectation) → AreEndsOfChip (chip_of s) found → IsExpectationOutcome s found expectation Holds
     → HoldsInEveryOrder (chip_of s) expectation
 outcome_held s found expectation are it = held s found expectation are it.0 it.1
 
@@ -134,7 +134,7 @@ saved_not_unbroken : (unknown : Bool) → Saved ≡ cond unknown Unknown (Ended 
 saved_not_unbroken true is = cc
 saved_not_unbroken false is = cc
 
-each_holds : (outcomes : List ExpectationOutcome) (place : ℕ) → place < length outcomes → list_any is_broken outcomes ≡ false → list_any is_unknown outcomes ≡ false
+each_holds : (outcomes : List ExpectationOutcome) (place : ℕ) → place < length outcomes → list_any is_outcome_broken outcomes ≡ false → list_any is_outcome_unknown outcomes ≡ false
     → get_or outcomes place outcome.Unknown ≡ Holds
 each_holds [] place below broken unknown = absurd (omega arith)
 each_holds (Holds ∷ outcomes) zero below broken unknown = refl
@@ -148,7 +148,7 @@ HasBroken outcomes = (place : ℕ) × (breach : Breach) × (place < length outco
 one_later : (first : ExpectationOutcome) (outcomes : List ExpectationOutcome) → HasBroken outcomes → HasBroken (first ∷ outcomes)
 one_later first outcomes it = let below = it.2 in (suc it.0, it.1, omega arith, it.3)
 
-some_broken : (outcomes : List ExpectationOutcome) → list_any is_broken outcomes ≡ true → HasBroken outcomes
+some_broken : (outcomes : List ExpectationOutcome) → list_any is_outcome_broken outcomes ≡ true → HasBroken outcomes
 some_broken [] is = absurd (true≢false (sym is))
 some_broken (Holds ∷ outcomes) is = one_later Holds outcomes (some_broken outcomes is)
 some_broken (Broken breach ∷ outcomes) is = (0, breach, omega arith, refl)
@@ -158,12 +158,12 @@ abbrev EachHolds : List LineExpectation → State → Type 0
 EachHolds expectations s = (place : ℕ) (one : LineExpectation) → slice_get expectations place ≡ Some one → HoldsInEveryOrder (chip_of s) one.expectation
 
 all_held : (s : State) (found : EndSearchResult) (expectations : List LineExpectation) (outcomes : List ExpectationOutcome) → AreEndsOfChip (chip_of s) found
-    → AreOutcomes s found expectations outcomes → list_any is_broken outcomes ≡ false → list_any is_unknown outcomes ≡ false → EachHolds expectations s
+    → AreExpectationOutcomes s found expectations outcomes → list_any is_outcome_broken outcomes ≡ false → list_any is_outcome_unknown outcomes ≡ false → EachHolds expectations s
 all_held s found expectations outcomes are known broken unknown = λ place one at.
     let within : place < length expectations = slice_get_within expectations place one at in
     let size = known.size in
     let holds : get_or outcomes place outcome.Unknown ≡ Holds = each_holds outcomes place (omega arith) broken unknown in
-    outcome_held s found one.expectation are (subst (IsOutcome s found one.expectation) holds (known.known place one at))
+    outcome_held s found one.expectation are (subst (IsExpectationOutcome s found one.expectation) holds (known.known place one at))
 
 abbrev OneIsBroken : List LineExpectation → State → Type 0
 OneIsBroken expectations s =
@@ -171,23 +171,23 @@ OneIsBroken expectations s =
     × IsBrokenInSomeOrder s found one.expectation
 
 one_broken : (s : State) (found : EndSearchResult) (expectations : List LineExpectation) (outcomes : List ExpectationOutcome) → AreEndsOfChip (chip_of s) found
-    → AreOutcomes s found expectations outcomes → list_any is_broken outcomes ≡ true → OneIsBroken expectations s
+    → AreExpectationOutcomes s found expectations outcomes → list_any is_outcome_broken outcomes ≡ true → OneIsBroken expectations s
 one_broken s found expectations outcomes are known broken =
     let it = some_broken outcomes broken in
     let below = it.2 in
     let size = known.size in
     let one = some_at expectations it.0 (omega arith) in
-    (found, it.0, one.0, are, one.1, outcome_broken s found one.0.expectation it.1 are (subst (IsOutcome s found one.0.expectation) it.3 (known.known it.0 one.0 one.1)))
+    (found, it.0, one.0, are, one.1, outcome_broken s found one.0.expectation it.1 are (subst (IsExpectationOutcome s found one.0.expectation) it.3 (known.known it.0 one.0 one.1)))
 
 pub clean_told : (request : CheckRequest) (expectations : List LineExpectation) (asked : ℕ) (s : State) (text : List ℕ) → WritesExpectationsReport request expectations asked s text Clean
     → EachHolds expectations s
 clean_told request expectations asked s text (all found outcomes decisions are known decides start (inl out)) =
-    let parts = clean_by (list_any is_broken outcomes) (list_any is_unknown outcomes) out.1 in
+    let parts = clean_by (list_any is_outcome_broken outcomes) (list_any is_outcome_unknown outcomes) out.1 in
     all_held s found expectations outcomes are known parts.0 parts.1
 clean_told request expectations asked s text (all found outcomes decisions are known decides start (inr out)) = absurd (let q = out.1 in cc)
 clean_told request expectations asked s text (led one last at leads (inl out)) = absurd (let q = out.1 in cc)
 clean_told request expectations asked s text (led one last at leads (inr out)) = absurd (let q = out.1 in cc)
-clean_told request expectations asked s text (unbroken found one it are at known (inl out)) = absurd (clean_not_unbroken (is_unknown it) out.1)
+clean_told request expectations asked s text (unbroken found one it are at known (inl out)) = absurd (clean_not_unbroken (is_outcome_unknown it) out.1)
 clean_told request expectations asked s text (unbroken found one it are at known (inr out)) = absurd (let q = out.1 in cc)
 clean_told request expectations asked s text (missing past (inl out)) = absurd (let q = out.1 in cc)
 clean_told request expectations asked s text (missing past (inr out)) = absurd (let q = out.1 in cc)
@@ -199,11 +199,11 @@ clean_told request expectations asked s text (too_long (inr out)) = absurd (let 
 pub unclean_told : (request : CheckRequest) (expectations : List LineExpectation) (asked : ℕ) (s : State) (text : List ℕ) → WritesExpectationsReport request expectations asked s text Unclean
     → OneIsBroken expectations s
 unclean_told request expectations asked s text (all found outcomes decisions are known decides start (inl out)) =
-    one_broken s found expectations outcomes are known (unclean_by (list_any is_broken outcomes) (list_any is_unknown outcomes) out.1)
+    one_broken s found expectations outcomes are known (unclean_by (list_any is_outcome_broken outcomes) (list_any is_outcome_unknown outcomes) out.1)
 unclean_told request expectations asked s text (all found outcomes decisions are known decides start (inr out)) = absurd (let q = out.1 in cc)
 unclean_told request expectations asked s text (led one last at leads (inl out)) = absurd (let q = out.1 in cc)
 unclean_told request expectations asked s text (led one last at leads (inr out)) = absurd (let q = out.1 in cc)
-unclean_told request expectations asked s text (unbroken found one it are at known (inl out)) = absurd (unclean_not_unbroken (is_unknown it) out.1)
+unclean_told request expectations asked s text (unbroken found one it are at known (inl out)) = absurd (unclean_not_unbroken (is_outcome_unknown it) out.1)
 unclean_told request expectations asked s text (unbroken found one it are at known (inr out)) = absurd (let q = out.1 in cc)
 unclean_told request expectations asked s text (missing past (inl out)) = absurd (let q = out.1 in cc)
 unclean_told request expectations asked s text (missing past (inr out)) = absurd (let q = out.1 in cc)
@@ -214,11 +214,11 @@ unclean_told request expectations asked s text (too_long (inr out)) = absurd (le
 
 pub session_told : (request : CheckRequest) (expectations : List LineExpectation) (asked : ℕ) (s : State) (text : List ℕ) → WritesExpectationsReport request expectations asked s text Saved
     → (one : LineExpectation) × (last : State) × (slice_get expectations (asked - 1) ≡ Some one) × LeadsToBreach s one.expectation last × (text ≡ saved_text last)
-session_told request expectations asked s text (all found outcomes decisions are known decides start (inl out)) = absurd (not_saved (list_any is_broken outcomes) (list_any is_unknown outcomes) out.1)
+session_told request expectations asked s text (all found outcomes decisions are known decides start (inl out)) = absurd (not_saved (list_any is_outcome_broken outcomes) (list_any is_outcome_unknown outcomes) out.1)
 session_told request expectations asked s text (all found outcomes decisions are known decides start (inr out)) = absurd (let q = out.1 in cc)
 session_told request expectations asked s text (led one last at leads (inl out)) = (one, last, at, leads, out.0)
 session_told request expectations asked s text (led one last at leads (inr out)) = absurd (let q = out.1 in cc)
-session_told request expectations asked s text (unbroken found one it are at known (inl out)) = absurd (saved_not_unbroken (is_unknown it) out.1)
+session_told request expectations asked s text (unbroken found one it are at known (inl out)) = absurd (saved_not_unbroken (is_outcome_unknown it) out.1)
 session_told request expectations asked s text (unbroken found one it are at known (inr out)) = absurd (let q = out.1 in cc)
 session_told request expectations asked s text (missing past (inl out)) = absurd (let q = out.1 in cc)
 session_told request expectations asked s text (missing past (inr out)) = absurd (let q = out.1 in cc)

@@ -8,7 +8,7 @@ use Rattle.ga_node.specs.Record.{NodeRecord}
 use Rattle.ga_event.specs.declared.event.Event.{Event}
 use Rattle.ga_event.specs.declared.made.Made.{Made}
 use Rattle.ga_event.specs.Apply.{replay}
-use Rattle.ga_lab.specs.Machine.{State, chip_of, earlier, state_after_undo}
+use Rattle.ga_lab.specs.Machine.{State, chip_of, earlier_state, state_after_undo}
 use Rattle.ga_state_conditions.specs.declared.condition.StateCondition.{StateCondition}
 use Rattle.ga_state_links.specs.LinkExpectations.{IsLinkBreach}
 use Rattle.ga_state_ends.specs.Ends.{EndSearchResult}
@@ -19,7 +19,7 @@ use Rattle.ga_check_report.specs.declared.outcome.ExpectationOutcome.{Expectatio
 use Rattle.ga_check_report.specs.declared.outcome.ExpectationOutcome.TheVariants.{Holds, Broken, Unknown}
 use Rattle.ga_check_report.specs.Checking.{HasAppendedEvents}
 use Rattle.ga_check_report.specs.Never.{HasReachedEvent}
-use Rattle.ga_check_report.specs.Outcomes.{IsOutcomeBy, IsReachedBreach, IsOutcome}
+use Rattle.ga_check_report.specs.Outcomes.{IsOutcomeByFindings, IsReachedBreach, IsExpectationOutcome}
 use Rattle.ga_check_report.specs.Expected.{LeadsToBreach}
 use Rattle.ga_check_report.specs.inner.{IsNeverOf}
 use Rattle.ga_check_report.specs.declared.outcome.Breach.{Breach}
@@ -28,10 +28,10 @@ use Rattle.ga_check_report.proofs.Leading.{made_more}
 
 -- ---- events that are undone
 
-pub undone_none : (s : State) (n : ℕ) → n ≡ length s.kept → s ≡ earlier s n
+pub undone_none : (s : State) (n : ℕ) → n ≡ length s.kept → s ≡ earlier_state s n
 undone_none s n is = ap (λ (es : List Event). record s { kept = es }) (sym (take_all n s.kept (omega arith)))
 
-pub undone_more : (s t u : State) (n m : ℕ) → t ≡ earlier s n → u ≡ state_after_undo t → n ≤ length s.kept → n ≡ m + 1 → u ≡ earlier s m
+pub undone_more : (s t u : State) (n m : ℕ) → t ≡ earlier_state s n → u ≡ state_after_undo t → n ≤ length s.kept → n ≡ m + 1 → u ≡ earlier_state s m
 undone_more s t u n m at undone within next =
     let size : length (take n s.kept) ≡ n = length-take-le n s.kept within in
     let fewer : length (take n s.kept) - 1 ≡ m = omega arith in
@@ -40,7 +40,7 @@ undone_more s t u n m at undone within next =
     ∙ ap (λ (es : List Event). record s { kept = es }) (take-take m n s.kept (omega arith))
 
 -- the events of a session are undone: the machine keeps what it kept
-pub all_undone : (s t u : State) (events : List Event) (n : ℕ) → n ≡ length s.kept → HasAppendedEvents s events t → u ≡ earlier t n → HasAppendedEvents s [] u
+pub all_undone : (s t u : State) (events : List Event) (n : ℕ) → n ≡ length s.kept → HasAppendedEvents s events t → u ≡ earlier_state t n → HasAppendedEvents s [] u
 all_undone s t u events n size led is = record {
   load = ap (λ (z : State). z.load) is ∙ led.load;
   limit = ap (λ (z : State). z.limit) is ∙ led.limit;
@@ -80,8 +80,8 @@ reached_as s t last conditions which made same it = record {
   leads = it.leads;
 }
 
-pub outcome_as : (s t : State) (found : EndSearchResult) (expectation : Expectation) (outcome : ExpectationOutcome) → HasAppendedEvents s [] t → IsOutcome t found expectation outcome
-    → IsOutcome s found expectation outcome
+pub outcome_as : (s t : State) (found : EndSearchResult) (expectation : Expectation) (outcome : ExpectationOutcome) → HasAppendedEvents s [] t → IsExpectationOutcome t found expectation outcome
+    → IsExpectationOutcome s found expectation outcome
 outcome_as s t found expectation Holds same it = it
 outcome_as s t found (AtEnds expectation) (Broken breach) same it = it
 outcome_as s t found (Never conditions) (Broken breach) same it = (it.0, it.1, it.2, reached_as s t it.1 conditions.items it.0 it.2 same it.3, it.4)
@@ -96,7 +96,7 @@ outcome_as s t found expectation Unknown same it = it
 abbrev pub AreKnownBelow : State → EndSearchResult → List LineExpectation → ℕ → List ExpectationOutcome → Type 0
 AreKnownBelow s found expectations to outcomes =
     (length outcomes ≡ to)
-    × ((place : ℕ) (one : LineExpectation) → place < to → slice_get expectations place ≡ Some one → IsOutcome s found one.expectation (get_or outcomes place Unknown))
+    × ((place : ℕ) (one : LineExpectation) → place < to → slice_get expectations place ≡ Some one → IsExpectationOutcome s found one.expectation (get_or outcomes place Unknown))
 
 pub none_known : (s : State) (found : EndSearchResult) (expectations : List LineExpectation) (outcomes : List ExpectationOutcome) → outcomes ≡ []
     → AreKnownBelow s found expectations 0 outcomes
@@ -104,26 +104,26 @@ none_known s found expectations outcomes is = (ap (λ (list : List ExpectationOu
 
 pub known_more : (s : State) (found : EndSearchResult) (expectations : List LineExpectation) (to : ℕ) (one : LineExpectation) (outcomes later : List ExpectationOutcome)
     (outcome : ExpectationOutcome) → AreKnownBelow s found expectations to outcomes → slice_get expectations to ≡ Some one → later ≡ outcomes ++ outcome ∷ []
-    → IsOutcome s found one.expectation outcome → AreKnownBelow s found expectations (to + 1) later
+    → IsExpectationOutcome s found one.expectation outcome → AreKnownBelow s found expectations (to + 1) later
 known_more s found expectations to one outcomes later outcome are at added is =
     subst (λ (list : List ExpectationOutcome). AreKnownBelow s found expectations (to + 1) list) (sym added) (
       length_push outcomes outcome ∙ ap (λ (n : ℕ). n + 1) are.0,
       λ place it less there. elim (cases_lt place to) [
         | inl below ↦
-            subst (IsOutcome s found it.expectation) (sym (get_or_append_left outcomes (outcome ∷ []) Unknown place (omega (arith, below, are.0)))) (are.1 place it below there)
+            subst (IsExpectationOutcome s found it.expectation) (sym (get_or_append_left outcomes (outcome ∷ []) Unknown place (omega (arith, below, are.0)))) (are.1 place it below there)
         | inr past ↦
             let this : place ≡ to = omega arith in
             let same : it ≡ one = same_Some it one (sym there ∙ ap (slice_get expectations) this ∙ at) in
             let value : get_or (outcomes ++ outcome ∷ []) place Unknown ≡ outcome =
             get_or_push outcomes outcome Unknown place (omega (arith, this, are.0)) in
-            subst (IsOutcome s found it.expectation) (sym value) (subst (λ (x : LineExpectation). IsOutcome s found x.expectation outcome) (sym same) is)
+            subst (IsExpectationOutcome s found it.expectation) (sym value) (subst (λ (x : LineExpectation). IsExpectationOutcome s found x.expectation outcome) (sym same) is)
       ],
     )
 
 -- ---- what is known of one
 
-pub widened : (found : EndSearchResult) (none : Type 0) (is_breach : Breach → Type 0) (outcome : ExpectationOutcome) → IsOutcomeBy found (Unit {0}) (λ breach. ⊥) outcome → none
-    → IsOutcomeBy found none is_breach outcome
+pub widened : (found : EndSearchResult) (none : Type 0) (is_breach : Breach → Type 0) (outcome : ExpectationOutcome) → IsOutcomeByFindings found (Unit {0}) (λ breach. ⊥) outcome → none
+    → IsOutcomeByFindings found none is_breach outcome
 widened found none is_breach Holds it met = (it.0, met)
 widened found none is_breach (Broken breach) it met = absurd it
 widened found none is_breach Unknown it met = (it.0, met)
@@ -134,10 +134,10 @@ led_there s t conditions which made it = (it.events ++ it.event ∷ [], made_mor
 
 -- the expectation of a line, whose conditions these are
 pub never_report : (s : State) (found : EndSearchResult) (conditions : List StateCondition) (expectation : Expectation) (outcome : ExpectationOutcome) → IsNeverOf conditions expectation
-    → IsOutcomeBy found (HasNoReachedEvent found conditions) (IsReachedBreach s conditions) outcome → IsOutcome s found expectation outcome
+    → IsOutcomeByFindings found (HasNoReachedEvent found conditions) (IsReachedBreach s conditions) outcome → IsExpectationOutcome s found expectation outcome
 never_report s found conditions (AtEnds expectation) outcome is it = absurd is
 never_report s found conditions (Never listed) outcome is it =
-    subst (λ (list : List StateCondition). IsOutcomeBy found (HasNoReachedEvent found list) (IsReachedBreach s list) outcome) (sym is) it
+    subst (λ (list : List StateCondition). IsOutcomeByFindings found (HasNoReachedEvent found list) (IsReachedBreach s list) outcome) (sym is) it
 never_report s found conditions (Passes expected) outcome is it = absurd is
 never_report s found conditions EveryOrderEnds outcome is it = absurd is
 never_report s found conditions OneEnd outcome is it = absurd is

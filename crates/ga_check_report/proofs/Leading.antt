@@ -12,7 +12,7 @@ use Rattle.ga_event.specs.Next.{next}
 use Rattle.ga_races.proofs.Exact.{replay_into}
 use Rattle.ga_races.proofs.Independence.{replay_more}
 use Rattle.ga_lab.specs.declared.fault.LabFault.{LabFault}
-use Rattle.ga_lab.specs.Machine.{State, chip_of, answer_to_event, made_next_event, step_answer, state_after_step, with_event, unless_refused}
+use Rattle.ga_lab.specs.Machine.{State, chip_of, answer_to_event, made_next_event, step_answer, state_after_step, with_event, state_unless_refused}
 use Rattle.ga_lab.specs.declared.fault.LabFault.TheVariants.{Memory, Full, Spent}
 use Rattle.ga_lab.proofs.Forward.{applied}
 use Rattle.ga_state_ends.specs.Ends.{EndSearchResult, AreEndsOfChip}
@@ -23,7 +23,7 @@ use Rattle.ga_check_report.specs.Checking.{HasAppendedEvents, HasReachedEndKind}
 
 pub stepped_is : (s : State) (n : NodeId) (m : Made) (e : Event) → step_answer s n ≡ Ok m → next (chip_of s) n ≡ Ok e → state_after_step s n ≡ with_event s (Ok e)
 stepped_is s n m e answer is =
-    ap (λ (a : Result Made LabFault). unless_refused s a (with_event s (next (chip_of s) n))) answer ∙ ap (with_event s) is
+    ap (λ (a : Result Made LabFault). state_unless_refused s a (with_event s (next (chip_of s) n))) answer ∙ ap (with_event s) is
 
 abbrev ok_or : Made → Result Made LabFault → Made
 ok_or default (Ok made) = made

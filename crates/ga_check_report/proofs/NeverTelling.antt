@@ -11,11 +11,11 @@ use Rattle.ga_lab.specs.declared.fault.LabFault.{LabFault}
 use Rattle.ga_lab.specs.Machine.{State, chip_of, made_next_event, with_event}
 use Rattle.ga_state_search.specs.declared.fault.SearchFault.{SearchFault}
 use Rattle.ga_state_conditions.specs.declared.condition.StateCondition.{StateCondition}
-use Rattle.ga_state_conditions.specs.Reached.{IsConditionMet, IsReachedOn}
+use Rattle.ga_state_conditions.specs.Reached.{IsConditionMet, IsConditionReachedOn}
 use Rattle.ga_state_conditions.proofs.Whole.{none_met}
 use Rattle.ga_check_report.specs.Checking.{HasAppendedEvents}
 use Rattle.ga_check_report.specs.EndTexts.{is_fully_explored}
-use Rattle.ga_check_report.specs.Answers.{reached_answer}
+use Rattle.ga_check_report.specs.Answers.{reached_event_answer}
 use Rattle.ga_check_report.specs.Never.{HasReachedEvent, WritesNeverReport}
 use Rattle.ga_check_report.specs.Never.WritesNeverReport.{none, one, no_memory, too_long}
 use Rattle.ga_check_report.specs.declared.request.CheckRequest.{CheckRequest}
@@ -44,7 +44,7 @@ never_told request conditions session s text (too_long (inr out)) last events ev
 
 abbrev pub IsReachedTold : CheckRequest → List StateCondition → Bool → State → List ℕ → Type 0
 IsReachedTold request conditions session s text =
-    (which : ℕ) × (last : State) × (made : Made) × HasReachedEvent conditions which s last made × (text ≡ reached_answer request.format session (length conditions) which made last)
+    (which : ℕ) × (last : State) × (made : Made) × HasReachedEvent conditions which s last made × (text ≡ reached_event_answer request.format session (length conditions) which made last)
 
 pub reached_told : (request : CheckRequest) (conditions : List StateCondition) (session : Bool) (s : State) (text : List ℕ) → WritesNeverReport request conditions session s text Unclean
     → IsReachedTold request conditions session s text
@@ -59,29 +59,29 @@ reached_told request conditions session s text (too_long (inr out)) = absurd (le
 
 -- the machine that made the events of a session, and then its last
 pub reached_by : (s t u : State) (conditions : List StateCondition) (which : ℕ) (events : List Event) (event : Event) (chip : List NodeRecord) (made : Made)
-    → replay (chip_of s) events ≡ Some chip → IsReachedOn conditions which chip event → HasAppendedEvents s events t → replay (chip_of s) events ≡ Some (chip_of t)
+    → replay (chip_of s) events ≡ Some chip → IsConditionReachedOn conditions which chip event → HasAppendedEvents s events t → replay (chip_of s) events ≡ Some (chip_of t)
     → made ≡ made_next_event t event → u ≡ with_event t (Ok event) → HasReachedEvent conditions which s u made
 reached_by s t u conditions which events event chip made led is appended there report leads = record {
   events = events;
   before = t;
   led = appended;
   event = event;
-  reached = subst (λ (c : List NodeRecord). IsReachedOn conditions which c event) (same_Some chip (chip_of t) (sym led ∙ there)) is;
+  reached = subst (λ (c : List NodeRecord). IsConditionReachedOn conditions which c event) (same_Some chip (chip_of t) (sym led ∙ there)) is;
   report = report;
   leads = leads;
 }
 
 -- the events of a session can be made, and then its last
 pub session_can : (load : List NodeRecord) (conditions : List StateCondition) (which : ℕ) (events : List Event) (event : Event)
-    → ((chip : List NodeRecord) × (replay load events ≡ Some chip) × IsReachedOn conditions which chip event) → IsSome (replay load events)
+    → ((chip : List NodeRecord) × (replay load events ≡ Some chip) × IsConditionReachedOn conditions which chip event) → IsSome (replay load events)
 session_can load conditions which events event it = subst (λ (o : Option (List NodeRecord)). IsSome o) (sym it.1) refl
 
 pub last_can : (load there : List NodeRecord) (conditions : List StateCondition) (which : ℕ) (events : List Event) (event : Event)
-    → ((chip : List NodeRecord) × (replay load events ≡ Some chip) × IsReachedOn conditions which chip event) → replay load events ≡ Some there → IsEnabled there event
+    → ((chip : List NodeRecord) × (replay load events ≡ Some chip) × IsConditionReachedOn conditions which chip event) → replay load events ≡ Some there → IsEnabled there event
 last_can load there conditions which events event it led = subst (λ (c : List NodeRecord). IsEnabled c event) (same_Some it.0 there (sym it.1 ∙ led)) it.2.enabled
 
 pub reached_result : (s t u : State) (conditions : List StateCondition) (which : ℕ) (events : List Event) (event : Event) (result : Result Made LabFault)
-    → ((chip : List NodeRecord) × (replay (chip_of s) events ≡ Some chip) × IsReachedOn conditions which chip event) → HasAppendedEvents s events t
+    → ((chip : List NodeRecord) × (replay (chip_of s) events ≡ Some chip) × IsConditionReachedOn conditions which chip event) → HasAppendedEvents s events t
     → replay (chip_of s) events ≡ Some (chip_of t) → IfOk result (λ made. made ≡ made_next_event t event) → OnOk result (u ≡ with_event t (Ok event))
     → IfOk result (λ made. HasReachedEvent conditions which s u made)
 reached_result s t u conditions which events event (Ok made) it appended there report leads =

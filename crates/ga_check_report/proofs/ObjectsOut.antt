@@ -9,33 +9,33 @@ use Rattle.ga_state_expectations.specs.declared.source.LineExpectation.{LineExpe
 use Rattle.ga_check_report.specs.declared.outcome.ExpectationOutcome.{ExpectationOutcome}
 use Rattle.ga_check_report.specs.declared.outcome.ExpectationOutcome.TheVariants.{Unknown}
 use Rattle.ga_check_report.specs.EndTexts.{node_end_at}
-use Rattle.ga_check_report.specs.EndJson.{is_listed_end, node_row_fields, node_row, node_rows, optional_row, kind_objects, kinds_objects}
-use Rattle.ga_check_report.specs.ExpectationJson.{decided_objects, expectation_objects}
+use Rattle.ga_check_report.specs.EndJson.{is_listed_node_end, node_row_fields, node_row, node_rows, optional_json_row, end_kind_objects, end_kinds_objects}
+use Rattle.ga_check_report.specs.ExpectationJson.{decided_expectation_objects, expectation_objects}
 use Rattle.std.specs.Prelude.{slice_index_or}
 
 pub next_objects : (file : List ℕ) (outcomes : List ExpectationOutcome) (decisions : List (Option EndDecision)) (expectations : List LineExpectation) (i : ℕ)
     (one : LineExpectation) (outcome : ExpectationOutcome) (decision : Option EndDecision) → one ≡ get_or expectations i one → i < length expectations
     → outcome ≡ get_or outcomes i Unknown → decision ≡ get_or decisions i None
     → expectation_objects file outcomes decisions i (drop i expectations)
-    ≡ decided_objects file (i + 1) one outcome decision ++ expectation_objects file outcomes decisions (i + 1) (drop (i + 1) expectations)
+    ≡ decided_expectation_objects file (i + 1) one outcome decision ++ expectation_objects file outcomes decisions (i + 1) (drop (i + 1) expectations)
 next_objects file outcomes decisions expectations i one outcome decision at within is decides =
     let rest = expectation_objects file outcomes decisions (i + 1) (drop (i + 1) expectations) in
     ap (expectation_objects file outcomes decisions i) (drop_more expectations i one within)
-    ∙ ap (λ (x : LineExpectation). decided_objects file (i + 1) x (get_or outcomes i Unknown) (get_or decisions i None) ++ rest) (sym at)
-    ∙ ap (λ (x : ExpectationOutcome). decided_objects file (i + 1) one x (get_or decisions i None) ++ rest) (sym is)
-    ∙ ap (λ (x : Option EndDecision). decided_objects file (i + 1) one outcome x ++ rest) (sym decides)
+    ∙ ap (λ (x : LineExpectation). decided_expectation_objects file (i + 1) x (get_or outcomes i Unknown) (get_or decisions i None) ++ rest) (sym at)
+    ∙ ap (λ (x : ExpectationOutcome). decided_expectation_objects file (i + 1) one x (get_or decisions i None) ++ rest) (sym is)
+    ∙ ap (λ (x : Option EndDecision). decided_expectation_objects file (i + 1) one outcome x ++ rest) (sym decides)
 
 pub next_kind : (file : List ℕ) (decisions : List (Option EndDecision)) (kinds : List EndKind) (i : ℕ) (default : EndKind) (decision : Option EndDecision) → i < length kinds
     → decision ≡ get_or decisions i None
-    → kinds_objects file decisions i (drop i kinds) ≡ kind_objects file (i + 1) (get_or kinds i default) decision ++ kinds_objects file decisions (i + 1) (drop (i + 1) kinds)
+    → end_kinds_objects file decisions i (drop i kinds) ≡ end_kind_objects file (i + 1) (get_or kinds i default) decision ++ end_kinds_objects file decisions (i + 1) (drop (i + 1) kinds)
 next_kind file decisions kinds i default decision within is =
-    ap (kinds_objects file decisions i) (drop_more kinds i default within)
-    ∙ ap (λ (d : Option EndDecision). kind_objects file (i + 1) (get_or kinds i default) d ++ kinds_objects file decisions (i + 1) (drop (i + 1) kinds)) (sym is)
+    ap (end_kinds_objects file decisions i) (drop_more kinds i default within)
+    ∙ ap (λ (d : Option EndDecision). end_kind_objects file (i + 1) (get_or kinds i default) d ++ end_kinds_objects file decisions (i + 1) (drop (i + 1) kinds)) (sym is)
 
 -- ---- the rows of nodes
 
 abbrev is_listed : EndKind → ℕ → Bool
-is_listed kind n = is_listed_end (node_end_at kind.nodes n) (slice_index_or kind.unclean n false)
+is_listed kind n = is_listed_node_end (node_end_at kind.nodes n) (slice_index_or kind.unclean n false)
 
 rows_more : (kind : EndKind) (n more : ℕ) → node_rows kind n (suc more) ≡ node_row kind n (node_rows kind (n + 1) more)
 unfolding node_rows
@@ -47,9 +47,9 @@ rows_none kind n zero is = refl
 rows_none kind n (suc more) is = absurd (omega arith)
 
 rows_next : (kind : EndKind) (n more : ℕ) (listed : Bool) → more ≡ suc (143 - n) → is_listed kind n ≡ listed
-    → node_rows kind n more ≡ optional_row listed (node_row_fields kind n) (node_rows kind (n + 1) (143 - n))
+    → node_rows kind n more ≡ optional_json_row listed (node_row_fields kind n) (node_rows kind (n + 1) (143 - n))
 rows_next kind n more listed is l =
-    ap (node_rows kind n) is ∙ rows_more kind n (143 - n) ∙ ap (λ (b : Bool). optional_row b (node_row_fields kind n) (node_rows kind (n + 1) (143 - n))) l
+    ap (node_rows kind n) is ∙ rows_more kind n (143 - n) ∙ ap (λ (b : Bool). optional_json_row b (node_row_fields kind n) (node_rows kind (n + 1) (143 - n))) l
 
 -- the node has a row
 pub row_taken : (kind : EndKind) (n : ℕ) → n < 144 → is_listed kind n ≡ true

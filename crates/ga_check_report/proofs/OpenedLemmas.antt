@@ -5,7 +5,7 @@ use Rattle.ga_console.specs.declared.run.Status.{Status}
 use Rattle.ga_explorer.specs.Opening.{ExplorerState, IsSessionOpened}
 use Rattle.ga_json.specs.declared.format.ReportFormat.{ReportFormat}
 use Rattle.ga_json.specs.declared.format.ReportFormat.TheVariants as format
-use Rattle.ga_check_report.specs.Opened.{IsUnopenedAnswer, HasRefusalObjects, IsOpenedForObjects}
+use Rattle.ga_check_report.specs.Opened.{IsUnopenedAnswer, HasRefusalObjects, IsOpenedForJsonOutput}
 use Rattle.ga_check_report.specs.inner.{IsProgramOpened}
 
 pub opened_as_text : (form : ReportFormat) (limit : ℕ) (left : List ℕ) (input : UnreadInput) (rest written : List ℕ) (result : Result ExplorerState Status) → form ≡ format.Text
@@ -17,6 +17,6 @@ opened_as_text form limit left input rest written (Err status) is it =
 
 pub opened_as_objects : (form : ReportFormat) (file : List ℕ) (limit : ℕ) (left : List ℕ) (input : UnreadInput) (rest written : List ℕ) (result : Result ExplorerState Status)
     → ((read : List ℕ) (status : Status) → HasRefusalObjects None file read rest written status → IsUnopenedAnswer form read rest written status)
-    → IsOpenedForObjects None file limit left input rest written result → IsProgramOpened form limit left input rest written result
+    → IsOpenedForJsonOutput None file limit left input rest written result → IsProgramOpened form limit left input rest written result
 opened_as_objects form file limit left input rest written (Ok begun) same it = it
 opened_as_objects form file limit left input rest written (Err status) same it = (it.0, it.1, same it.0 status it.2)

@@ -2,7 +2,7 @@
 use Rattle.std.proofs.Common.{◌≡◌, ◌∙◌, ℕ, zero, suc, Bool, true, false, cond, List, [], ◌∷◌, ◌++◌, Option, Some, None, Result, Ok, Err, refl, sym, ap, ap₂, append_assoc, append-nil}
 use Rattle.std.specs.Prelude.{unwrap_or}
 use Rattle.ga_node.specs.Record.{NodeRecord}
-use Rattle.ga_node.specs.declared.kind.NotReady.{NotReady}
+use Rattle.ga_node.specs.declared.kind.EventRefusal.{EventRefusal}
 use Rattle.ga_grid.specs.declared.node_id.NodeId.{NodeId}
 use Rattle.ga_grid.specs.Grid.{node_id}
 use Rattle.ga_grid.specs.Chip.{record_at}
@@ -14,9 +14,9 @@ use Rattle.ga_event.proofs.Nexts.{next_can}
 use Rattle.ga_races.proofs.Exact.{replay_into}
 use Rattle.ga_races.proofs.Independence.{replay_more}
 use Rattle.ga_lab.specs.declared.fault.LabFault.{LabFault}
-use Rattle.ga_lab.specs.Machine.{State, chip_of, step_answer, state_after_step, with_event, unless_refused}
+use Rattle.ga_lab.specs.Machine.{State, chip_of, step_answer, state_after_step, with_event, state_unless_refused}
 use Rattle.ga_check_report.specs.Checking.{HasAppendedEvents}
-use Rattle.ga_check_report.specs.Settled.{fetches_from_ports, settled_at_node, settled_below, settled}
+use Rattle.ga_check_report.specs.Settled.{fetches_from_ports, state_after_settling_node, state_after_settling_below, state_after_settling}
 
 record IsLater (s t : State) : Type 0 where
   events : List Event
@@ -43,30 +43,30 @@ after_event s t e l can =
 after_step : (s t : State) (n : NodeId) → IsLater s t → IsLater s (state_after_step t n)
 after_step s t n l = go (next (chip_of t) n) refl (step_answer t n)
   where
-    go : (x : Result Event NotReady) → next (chip_of t) n ≡ x → (a : Result Made LabFault) → IsLater s (unless_refused t a (with_event t x))
+    go : (x : Result Event EventRefusal) → next (chip_of t) n ≡ x → (a : Result Made LabFault) → IsLater s (state_unless_refused t a (with_event t x))
     go x is (Err why) = l
     go (Err why) is (Ok m) = l
     go (Ok e) is (Ok m) = after_event s t e l (next_can (chip_of t) n e is)
 
-after_settling : (s t : State) (n : NodeId) → IsLater s t → IsLater s (settled_at_node t n)
+after_settling : (s t : State) (n : NodeId) → IsLater s t → IsLater s (state_after_settling_node t n)
 after_settling s t n l = go (fetches_from_ports (record_at (chip_of t) n.number))
   where
     go : (b : Bool) → IsLater s (cond b (state_after_step t n) t)
     go true = after_step s t n l
     go false = l
 
-after_all_below : (s : State) (n : ℕ) → replay s.load s.kept ≡ Some (chip_of s) → IsLater s (settled_below s n)
+after_all_below : (s : State) (n : ℕ) → replay s.load s.kept ≡ Some (chip_of s) → IsLater s (state_after_settling_below s n)
 after_all_below s zero runs = itself s runs
-after_all_below s (suc n) runs = after_settling s (settled_below s n) (node_id n) (after_all_below s n runs)
+after_all_below s (suc n) runs = after_settling s (state_after_settling_below s n) (node_id n) (after_all_below s n runs)
 
-later : (s : State) → replay s.load s.kept ≡ Some (chip_of s) → IsLater s (settled s)
-unfolding settled
+later : (s : State) → replay s.load s.kept ≡ Some (chip_of s) → IsLater s (state_after_settling s)
+unfolding state_after_settling
 later s runs = after_all_below s 144 runs
 
-pub behind_waits : (s : State) → replay s.load s.kept ≡ Some (chip_of s) → (waits : List Event) × HasAppendedEvents s waits (settled s)
-    × ((events : List Event) → replay (chip_of (settled s)) events ≡ replay (chip_of s) (waits ++ events))
+pub behind_waits : (s : State) → replay s.load s.kept ≡ Some (chip_of s) → (waits : List Event) × HasAppendedEvents s waits (state_after_settling s)
+    × ((events : List Event) → replay (chip_of (state_after_settling s)) events ≡ replay (chip_of s) (waits ++ events))
 behind_waits s runs =
     let l = later s runs in
-    let led : replay (chip_of s) l.events ≡ Some (chip_of (settled s)) =
+    let led : replay (chip_of s) l.events ≡ Some (chip_of (state_after_settling s)) =
     sym (replay_into s.kept l.events s.load (chip_of s) runs) ∙ ap₂ replay (sym l.made.load) (sym l.made.kept) ∙ l.runs in
-    (l.events, l.made, λ events. sym (replay_into l.events events (chip_of s) (chip_of (settled s)) led))
+    (l.events, l.made, λ events. sym (replay_into l.events events (chip_of s) (chip_of (state_after_settling s)) led))

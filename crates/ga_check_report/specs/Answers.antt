@@ -17,8 +17,8 @@ use Rattle.ga_check_report.specs.EndTexts.{ends_text}
 use Rattle.ga_check_report.specs.EndJson.{ends_json}
 use Rattle.ga_check_report.specs.ExpectationTexts.{expectations_text}
 use Rattle.ga_check_report.specs.ExpectationJson.{expectations_json}
-use Rattle.ga_check_report.specs.NeverTexts.{unreached_text, reached_text}
-use Rattle.ga_check_report.specs.NeverJson.{unreached_json, reached_json}
+use Rattle.ga_check_report.specs.NeverTexts.{unreached_event_text, reached_event_text}
+use Rattle.ga_check_report.specs.NeverJson.{unreached_event_json, reached_event_json}
 use Rattle.ga_json.specs.Diagnostics.{diagnostics_json}
 
 -- nothing was found out
@@ -40,18 +40,18 @@ expectations_answer_by (format.Json file) request found expectations outcomes de
 abbrev pub expectations_answer : CheckRequest → EndSearchResult → List LineExpectation → List ExpectationOutcome → List (Option EndDecision) → Text
 expectations_answer request found expectations outcomes decisions = expectations_answer_by request.format request found expectations outcomes decisions
 
-abbrev pub unreached_answer_by : ReportFormat → CheckRequest → EndSearchResult → Text
-unreached_answer_by format.Text request found = unreached_text request found
-unreached_answer_by (format.Json file) request found = unreached_json file.now found
+abbrev pub unreached_event_answer_by : ReportFormat → CheckRequest → EndSearchResult → Text
+unreached_event_answer_by format.Text request found = unreached_event_text request found
+unreached_event_answer_by (format.Json file) request found = unreached_event_json file.now found
 
-abbrev pub unreached_answer : CheckRequest → EndSearchResult → Text
-unreached_answer request found = unreached_answer_by request.format request found
+abbrev pub unreached_event_answer : CheckRequest → EndSearchResult → Text
+unreached_event_answer request found = unreached_event_answer_by request.format request found
 
-abbrev pub reached_answer_by : ReportFormat → ℕ → ℕ → Made → State → Text
-reached_answer_by format.Text conditions which made s = reached_text false conditions which made s
-reached_answer_by (format.Json file) conditions which made s = reached_json file.now (length s.kept) which made
+abbrev pub reached_event_answer_by : ReportFormat → ℕ → ℕ → Made → State → Text
+reached_event_answer_by format.Text conditions which made s = reached_event_text false conditions which made s
+reached_event_answer_by (format.Json file) conditions which made s = reached_event_json file.now (length s.kept) which made
 
 -- the machine has made the event; or its session
-abbrev pub reached_answer : ReportFormat → Bool → ℕ → ℕ → Made → State → Text
-reached_answer form true conditions which made s = reached_text true conditions which made s
-reached_answer form false conditions which made s = reached_answer_by form conditions which made s
+abbrev pub reached_event_answer : ReportFormat → Bool → ℕ → ℕ → Made → State → Text
+reached_event_answer form true conditions which made s = reached_event_text true conditions which made s
+reached_event_answer form false conditions which made s = reached_event_answer_by form conditions which made s

@@ -11,7 +11,7 @@ use Rattle.ga_lab.specs.declared.fault.LabFault.TheVariants as fault
 use Rattle.ga_console.specs.declared.run.Status.{Status}
 use Rattle.ga_console.specs.declared.run.Status.TheVariants.{ImageRefused, StreamFault}
 use Rattle.ga_explorer_text.specs.Saved.{saved_text}
-use Rattle.ga_explorer.specs.Opening.{OpensExplorer, IsLeadingText, ExplorerState}
+use Rattle.ga_explorer.specs.Opening.{OpensExplorer, IsTextBeforeCommands, ExplorerState}
 use Rattle.ga_state_ends.specs.Ends.{EndSearchResult, AreEndsOfChip, is_unclean}
 use Rattle.ga_state_ends.specs.declared.end_kind.EndKind.{EndKind}
 use Rattle.ga_check_report.specs.declared.request.CheckRequest.{CheckRequest}
@@ -25,8 +25,8 @@ use Rattle.ga_check_report.specs.Settled.{check_start}
 -- ---- the verdict
 
 -- an end that isn't clean was found; or there is none; or there may be others
-abbrev pub verdict_of : EndSearchResult → Verdict
-verdict_of found =
+abbrev pub ends_verdict : EndSearchResult → Verdict
+ends_verdict found =
     if list_any is_unclean found.kinds then Unclean
     else if is_fully_explored found.fault then Clean
     else Unknown
@@ -54,20 +54,20 @@ pub record HasReachedEndKind (found : EndSearchResult) (asked : ℕ) (old new : 
 -- ---- the text
 
 -- a text was written whole, or that failed
-abbrev pub IsReportOutput : Text → Verdict → Text → Verdict → Type 0
-IsReportOutput whole verdict text end = ((text ≡ whole) × (end ≡ verdict)) ⊎ (TextHasPrefix whole text × (end ≡ Ended StreamFault))
+abbrev pub IsWrittenWithVerdict : Text → Verdict → Text → Verdict → Type 0
+IsWrittenWithVerdict whole verdict text end = ((text ≡ whole) × (end ≡ verdict)) ⊎ (TextHasPrefix whole text × (end ≡ Ended StreamFault))
 
 -- The text about a machine: the kinds of its ends; or the session of one that is named by its number; or that there is no such kind; or
 -- that there was no memory; or that the machine keeps fewer events than the session has.
 pub data WritesEndsReport (request : CheckRequest) (asked : ℕ) (s : State) (text : Text) (verdict : Verdict) : Type 0 where
-  all : (found : EndSearchResult) → AreEndsOfChip (chip_of s) found → asked ≡ 0 → IsReportOutput (ends_answer request found) (verdict_of found) text verdict
+  all : (found : EndSearchResult) → AreEndsOfChip (chip_of s) found → asked ≡ 0 → IsWrittenWithVerdict (ends_answer request found) (ends_verdict found) text verdict
       → WritesEndsReport request asked s text verdict
-  none : (found : EndSearchResult) → AreEndsOfChip (chip_of s) found → length found.kinds < asked → IsReportOutput (missing_kind_text asked found) (missing_kind_verdict found) text verdict
+  none : (found : EndSearchResult) → AreEndsOfChip (chip_of s) found → length found.kinds < asked → IsWrittenWithVerdict (missing_kind_text asked found) (missing_kind_verdict found) text verdict
       → WritesEndsReport request asked s text verdict
-  led : (found : EndSearchResult) (last : State) → AreEndsOfChip (chip_of s) found → HasReachedEndKind found asked s last → IsReportOutput (saved_text last) Saved text verdict
+  led : (found : EndSearchResult) (last : State) → AreEndsOfChip (chip_of s) found → HasReachedEndKind found asked s last → IsWrittenWithVerdict (saved_text last) Saved text verdict
       → WritesEndsReport request asked s text verdict
-  no_memory : IsReportOutput (refusal_answer request.format fault.Memory) (Ended ImageRefused) text verdict → WritesEndsReport request asked s text verdict
-  too_long : 0 < asked → IsReportOutput (refusal_answer request.format fault.Full) (Ended ImageRefused) text verdict → WritesEndsReport request asked s text verdict
+  no_memory : IsWrittenWithVerdict (refusal_answer request.format fault.Memory) (Ended ImageRefused) text verdict → WritesEndsReport request asked s text verdict
+  too_long : 0 < asked → IsWrittenWithVerdict (refusal_answer request.format fault.Full) (Ended ImageRefused) text verdict → WritesEndsReport request asked s text verdict
 
 -- An image or source was accepted, and the ends of its machine were written, from where its idle nodes waited if they were to. Nothing is done with
 -- what was read after it.
@@ -76,7 +76,7 @@ pub record IsCheckOfProgram (request : CheckRequest) (limit : ℕ) (settles : Bo
   pub ahead : Bytes
   pub begun : ExplorerState
   pub splits : read ≡ text ++ ahead
-  pub front : IsLeadingText text (ahead ++ rest)
+  pub front : IsTextBeforeCommands text (ahead ++ rest)
   pub opens : OpensExplorer text limit begun
   pub tells : WritesEndsReport request asked (check_start settles begun.lab) written verdict
 

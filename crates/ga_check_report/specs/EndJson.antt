@@ -51,19 +51,19 @@ is_idle_end Writes = false
 is_idle_end (Stopped code) = false
 
 -- a node with a row: it isn't idle, or it isn't clean
-abbrev pub is_listed_end : NodeEnd → Bool → Bool
-is_listed_end end unclean = not (is_idle_end end) || unclean
+abbrev pub is_listed_node_end : NodeEnd → Bool → Bool
+is_listed_node_end end unclean = not (is_idle_end end) || unclean
 
-abbrev pub optional_row : Bool → List NamedValue → JsonItems → JsonItems
-optional_row true fields rows = item (json_object fields) rows
-optional_row false fields rows = rows
+abbrev pub optional_json_row : Bool → List NamedValue → JsonItems → JsonItems
+optional_json_row true fields rows = item (json_object fields) rows
+optional_json_row false fields rows = rows
 
 abbrev pub node_row_fields : EndKind → ℕ → List NamedValue
 node_row_fields kind n = node_end_fields n (node_end_at kind.nodes n) (slice_index_or kind.unclean n false)
 
 -- the row of the node of this number, if it has one, and rows after it
 abbrev pub node_row : EndKind → ℕ → JsonItems → JsonItems
-node_row kind n rows = optional_row (is_listed_end (node_end_at kind.nodes n) (slice_index_or kind.unclean n false)) (node_row_fields kind n) rows
+node_row kind n rows = optional_json_row (is_listed_node_end (node_end_at kind.nodes n) (slice_index_or kind.unclean n false)) (node_row_fields kind n) rows
 
 -- the rows of so many nodes from this one on
 unfoldable pub node_rows : EndKind → ℕ → ℕ → JsonItems
@@ -93,14 +93,14 @@ decision_objects file place None = []
 decision_objects file place (Some decision) =
     json_line (decision_object file place true decision.0) ++ json_line (decision_object file place false decision.1)
 
-abbrev pub kind_objects : Text → ℕ → EndKind → Option EndDecision → Text
-kind_objects file place kind decision = json_line (end_object file place kind) ++ decision_objects file place decision
+abbrev pub end_kind_objects : Text → ℕ → EndKind → Option EndDecision → Text
+end_kind_objects file place kind decision = json_line (end_object file place kind) ++ decision_objects file place decision
 
 -- the objects of the kinds from this place on
-abbrev pub kinds_objects : Text → List (Option EndDecision) → ℕ → List EndKind → Text
-kinds_objects file decisions place [] = []
-kinds_objects file decisions place (kind ∷ kinds) =
-    kind_objects file (place + 1) kind (slice_index_or decisions place None) ++ kinds_objects file decisions (place + 1) kinds
+abbrev pub end_kinds_objects : Text → List (Option EndDecision) → ℕ → List EndKind → Text
+end_kinds_objects file decisions place [] = []
+end_kinds_objects file decisions place (kind ∷ kinds) =
+    end_kind_objects file (place + 1) kind (slice_index_or decisions place None) ++ end_kinds_objects file decisions (place + 1) kinds
 
 -- ---- the whole answer
 
@@ -121,4 +121,4 @@ ends_head file found =
     ++ (codes "kinds", number (pos (length found.kinds))) ∷ (codes "endless", optional_text_json (known_endless_word found.fault found.has_cycle_before found.has_cycle)) ∷ []
 
 abbrev pub ends_json : Text → EndSearchResult → Text
-ends_json file found = json_line (json_object (ends_head file found)) ++ kinds_objects file found.decisions 0 found.kinds
+ends_json file found = json_line (json_object (ends_head file found)) ++ end_kinds_objects file found.decisions 0 found.kinds

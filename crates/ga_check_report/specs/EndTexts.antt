@@ -68,8 +68,8 @@ abbrev pub stopped_nodes_text : List NodeEnd → Text
 stopped_nodes_text nodes = texts_of_nodes (λ n. stopped_node_text (node_end_at nodes n) n) 0 144
 
 -- the nodes of this part
-abbrev pub part_names_text : EndPart → List NodeEnd → Text
-part_names_text part nodes = texts_of_nodes (λ n. optional_name_text (is_in_end_part part (node_end_at nodes n)) n) 0 144
+abbrev pub end_part_names_text : EndPart → List NodeEnd → Text
+end_part_names_text part nodes = texts_of_nodes (λ n. optional_name_text (is_in_end_part part (node_end_at nodes n)) n) 0 144
 
 -- the nodes that make no further step and don't rest cleanly
 abbrev pub unclean_names_text : List Bool → Text
@@ -103,7 +103,7 @@ end_text [] still = quiet_end_text still
 end_text (blank ∷ going) still = endless_end_text (blank ∷ going) still
 
 abbrev pub node_ends_text : List NodeEnd → Text
-node_ends_text nodes = end_text (part_names_text Continuing nodes) (halted_nodes_text (stopped_nodes_text nodes) (part_names_text Reading nodes) (part_names_text Writing nodes))
+node_ends_text nodes = end_text (end_part_names_text Continuing nodes) (halted_nodes_text (stopped_nodes_text nodes) (end_part_names_text Reading nodes) (end_part_names_text Writing nodes))
 
 -- how many ends are of the kind, if they are several
 abbrev pub end_count_text : ℕ → Text
@@ -121,14 +121,14 @@ abbrev pub end_kind_text : ℕ → EndKind → Text
 end_kind_text number kind = end_kind_line number (node_ends_text kind.nodes) kind.ends ++ unclean_line (unclean_names_text kind.unclean)
 
 -- the lines of a kind of end, and the line of what decides that it isn't clean
-abbrev pub decided_kind_text : ℕ → EndKind → Option EndDecision → Text
-decided_kind_text number kind decision = end_kind_text number kind ++ end_decision_text decision
+abbrev pub decided_end_kind_text : ℕ → EndKind → Option EndDecision → Text
+decided_end_kind_text number kind decision = end_kind_text number kind ++ end_decision_text decision
 
 -- the lines of the kinds from this place on, and of each what decides; the kinds are numbered from 1 on
-abbrev pub kinds_text : List (Option EndDecision) → ℕ → List EndKind → Text
-kinds_text decisions place [] = []
-kinds_text decisions place (kind ∷ kinds) =
-    decided_kind_text (place + 1) kind (slice_index_or decisions place None) ++ kinds_text decisions (place + 1) kinds
+abbrev pub end_kinds_text : List (Option EndDecision) → ℕ → List EndKind → Text
+end_kinds_text decisions place [] = []
+end_kinds_text decisions place (kind ∷ kinds) =
+    decided_end_kind_text (place + 1) kind (slice_index_or decisions place None) ++ end_kinds_text decisions (place + 1) kinds
 
 -- ---- the whole answer
 
@@ -172,7 +172,7 @@ final_line_text request (Some fault) before cycle = search_stop_text request fau
 -- the head, the lines of these kinds, and the last line
 abbrev pub ends_report_text : CheckRequest → EndSearchResult → List EndKind → Text
 ends_report_text request found kinds =
-    ends_header (is_fully_explored found.fault) (length found.searched.chips) (length kinds) ++ kinds_text found.decisions 0 kinds
+    ends_header (is_fully_explored found.fault) (length found.searched.chips) (length kinds) ++ end_kinds_text found.decisions 0 kinds
     ++ final_line_text request found.fault found.has_cycle_before found.has_cycle
 
 abbrev pub ends_text : CheckRequest → EndSearchResult → Text

@@ -1,7 +1,7 @@
 -- What `ga144 check --json` prints of the expectations of a program (docs/JSON.md; this project's own).
 use Rattle.std.specs.Prelude.{ℕ, ◌+◌, pos, List, [], ◌∷◌, ◌++◌, length, drop, codes, slice_index_or, Option, Some, None}
 use Rattle.ga_text.specs.Lines.{Text}
-use Rattle.ga_ports.specs.Address.{only}
+use Rattle.ga_ports.specs.Address.{single_side_set}
 use Rattle.ga_json.specs.Values.{JsonValue, number, string}
 use Rattle.ga_json.specs.FieldValues.{text_json, optional_number_json}
 use Rattle.ga_json.specs.Fields.{NamedValue, json_object}
@@ -40,7 +40,7 @@ observation_sides (Is word) = []
 observation_sides Runs = []
 observation_sides AwaitsCode = []
 observation_sides (Reads sides) = side_list_text sides
-observation_sides (Writes side) = side_list_text (only side)
+observation_sides (Writes side) = side_list_text (single_side_set side)
 observation_sides (Stopped stop) = []
 
 abbrev pub observation_details : NodeObservation → List NamedValue
@@ -108,15 +108,15 @@ abbrev pub expectation_object : Text → ℕ → ℕ → Text → ExpectationOut
 expectation_object file place line words outcome = json_object (expectation_fields file place line words outcome ++ outcome_details outcome)
 
 -- and those of what decides that it is broken
-abbrev pub decided_objects : Text → ℕ → LineExpectation → ExpectationOutcome → Option EndDecision → Text
-decided_objects file place one outcome decision =
+abbrev pub decided_expectation_objects : Text → ℕ → LineExpectation → ExpectationOutcome → Option EndDecision → Text
+decided_expectation_objects file place one outcome decision =
     json_line (expectation_object file place one.line one.text.items outcome) ++ decision_objects file place decision
 
 -- the objects of the expectations from this place on
 abbrev pub expectation_objects : Text → List ExpectationOutcome → List (Option EndDecision) → ℕ → List LineExpectation → Text
 expectation_objects file outcomes decisions place [] = []
 expectation_objects file outcomes decisions place (one ∷ others) =
-    decided_objects file (place + 1) one (slice_index_or outcomes place Unknown) (slice_index_or decisions place None)
+    decided_expectation_objects file (place + 1) one (slice_index_or outcomes place Unknown) (slice_index_or decisions place None)
     ++ expectation_objects file outcomes decisions (place + 1) others
 
 -- ---- the whole answer

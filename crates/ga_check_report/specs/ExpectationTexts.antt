@@ -2,7 +2,7 @@
 -- of expectations, the line of each with what decides that it is broken, and which bound was met.
 use Rattle.std.specs.Prelude.{ℕ, ◌+◌, Bool, true, false, List, [], ◌∷◌, ◌++◌, length, codes, decimal, slice_index_or, Option, Some, None}
 use Rattle.ga_word.specs.Word.{hex6_of}
-use Rattle.ga_ports.specs.Address.{only, has_side}
+use Rattle.ga_ports.specs.Address.{single_side_set, has_side}
 use Rattle.ga_ports.specs.declared.side.Side.TheVariants as side
 use Rattle.ga_text.specs.Lines.{Text}
 use Rattle.ga_state_search.specs.declared.fault.SearchFault.{SearchFault}
@@ -17,7 +17,7 @@ use Rattle.ga_check_report.specs.declared.outcome.Breach.TheVariants.{Unmet, Rea
 use Rattle.ga_check_report.specs.declared.outcome.ExpectationOutcome.{ExpectationOutcome}
 use Rattle.ga_check_report.specs.declared.outcome.ExpectationOutcome.TheVariants.{Holds, Broken, Unknown}
 use Rattle.ga_check_report.specs.LinkFaults.{link_fault_text}
-use Rattle.ga_check_report.specs.DecisionTexts.{made_text, end_decision_text}
+use Rattle.ga_check_report.specs.DecisionTexts.{event_text_without_line_end, end_decision_text}
 use Rattle.ga_check_report.specs.EndTexts.{counted_noun_text, at_least_text, is_fully_explored, search_stop_text}
 
 -- ---- what a node holds or does
@@ -37,7 +37,7 @@ observation_text (Is word) = codes "is " ++ hex6_of word
 observation_text Runs = codes "runs"
 observation_text AwaitsCode = codes "waits for code"
 observation_text (Reads sides) = codes "waits to read" ++ side_words sides
-observation_text (Writes side) = codes "waits to write" ++ side_words (only side)
+observation_text (Writes side) = codes "waits to write" ++ side_words (single_side_set side)
 observation_text (Stopped stop) = codes "stop " ++ decimal stop
 
 -- ---- the line of an expectation, which has this number, from 1 on
@@ -48,7 +48,7 @@ session_option_text number = codes ": --session " ++ decimal number
 -- what breaks it; if not each state was explored, there may be more ends
 abbrev pub breach_text : Bool → ℕ → Breach → Text
 breach_text whole number (Unmet state observation) = observation_text observation ++ session_option_text number
-breach_text whole number (Reached made) = made_text made ++ session_option_text number
+breach_text whole number (Reached made) = event_text_without_line_end made ++ session_option_text number
 breach_text whole number (OverLink place fault) = link_fault_text place fault ++ session_option_text number
 breach_text whole number Endless = codes "some order goes on for ever"
 breach_text whole number (SeveralEnds ends) = at_least_text whole ++ decimal ends ++ codes " ends"
@@ -59,22 +59,22 @@ outcome_text whole number Holds = codes ": holds in every order\n"
 outcome_text whole number (Broken breach) = codes ": broken, " ++ breach_text whole number breach ++ codes "\n"
 outcome_text whole number Unknown = codes ": not known\n"
 
-abbrev pub expectation_front : ℕ → Text
-expectation_front line = codes "line " ++ decimal line ++ codes ": "
+abbrev pub expectation_line_start : ℕ → Text
+expectation_line_start line = codes "line " ++ decimal line ++ codes ": "
 
 -- where it is, its words and what is known of it
 abbrev pub expectation_line : Bool → ℕ → LineExpectation → ExpectationOutcome → Text
-expectation_line whole number one outcome = expectation_front one.line ++ one.text.items ++ outcome_text whole number outcome
+expectation_line whole number one outcome = expectation_line_start one.line ++ one.text.items ++ outcome_text whole number outcome
 
 -- and what decides that it is broken
-abbrev pub decided_line : Bool → ℕ → LineExpectation → ExpectationOutcome → Option EndDecision → Text
-decided_line whole number one outcome decision = expectation_line whole number one outcome ++ end_decision_text decision
+abbrev pub decided_expectation_line : Bool → ℕ → LineExpectation → ExpectationOutcome → Option EndDecision → Text
+decided_expectation_line whole number one outcome decision = expectation_line whole number one outcome ++ end_decision_text decision
 
 -- the lines of the expectations from this place on
 abbrev pub expectations_lines_text : Bool → List ExpectationOutcome → List (Option EndDecision) → ℕ → List LineExpectation → Text
 expectations_lines_text whole outcomes decisions place [] = []
 expectations_lines_text whole outcomes decisions place (one ∷ others) =
-    decided_line whole (place + 1) one (slice_index_or outcomes place Unknown) (slice_index_or decisions place None)
+    decided_expectation_line whole (place + 1) one (slice_index_or outcomes place Unknown) (slice_index_or decisions place None)
     ++ expectations_lines_text whole outcomes decisions (place + 1) others
 
 -- ---- the whole answer
@@ -85,14 +85,14 @@ expectations_header whole states expectations =
     at_least_text whole ++ counted_noun_text states (codes " state") ++ codes ", " ++ counted_noun_text expectations (codes " expectation") ++ codes "\n"
 
 -- why the search stopped before its end, if it did
-abbrev pub optional_stop_text : CheckRequest → Option SearchFault → Text
-optional_stop_text request None = []
-optional_stop_text request (Some fault) = search_stop_text request fault
+abbrev pub optional_search_stop_text : CheckRequest → Option SearchFault → Text
+optional_search_stop_text request None = []
+optional_search_stop_text request (Some fault) = search_stop_text request fault
 
 abbrev pub expectations_text : CheckRequest → EndSearchResult → List LineExpectation → List ExpectationOutcome → List (Option EndDecision) → Text
 expectations_text request found expectations outcomes decisions =
     expectations_header (is_fully_explored found.fault) (length found.searched.chips) (length expectations)
-    ++ expectations_lines_text (is_fully_explored found.fault) outcomes decisions 0 expectations ++ optional_stop_text request found.fault
+    ++ expectations_lines_text (is_fully_explored found.fault) outcomes decisions 0 expectations ++ optional_search_stop_text request found.fault
 
 -- ---- no session
 
@@ -102,5 +102,5 @@ missing_session_text asked expectations =
     codes "no session " ++ decimal asked ++ codes ": " ++ counted_noun_text expectations (codes " expectation") ++ codes "\n"
 
 -- nothing breaks the expectation of this number that a session leads to: its line
-abbrev pub unbroken_text : Bool → ℕ → LineExpectation → ExpectationOutcome → Text
-unbroken_text whole asked one outcome = codes "no session " ++ decimal asked ++ codes ": " ++ expectation_line whole asked one outcome
+abbrev pub unbroken_expectation_text : Bool → ℕ → LineExpectation → ExpectationOutcome → Text
+unbroken_expectation_text whole asked one outcome = codes "no session " ++ decimal asked ++ codes ": " ++ expectation_line whole asked one outcome

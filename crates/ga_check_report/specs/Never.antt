@@ -7,24 +7,24 @@ use Rattle.ga_lab.specs.Machine.{State, chip_of, made_next_event, with_event}
 use Rattle.ga_lab.specs.declared.fault.LabFault.TheVariants as fault
 use Rattle.ga_console.specs.declared.run.Status.{Status}
 use Rattle.ga_console.specs.declared.run.Status.TheVariants.{ImageRefused}
-use Rattle.ga_explorer.specs.Opening.{OpensExplorer, IsLeadingText, ExplorerState}
+use Rattle.ga_explorer.specs.Opening.{OpensExplorer, IsTextBeforeCommands, ExplorerState}
 use Rattle.ga_state_ends.specs.Ends.{EndSearchResult, AreEndsOfChip}
 use Rattle.ga_state_conditions.specs.declared.asked.ConditionFault.{ConditionFault}
 use Rattle.ga_state_conditions.specs.declared.condition.StateCondition.{StateCondition}
-use Rattle.ga_state_conditions.specs.Asked.{state_conditions_in}
-use Rattle.ga_state_conditions.specs.Reached.{IsReachedOn, HasNoReachedEvent}
+use Rattle.ga_state_conditions.specs.Asked.{parsed_state_conditions}
+use Rattle.ga_state_conditions.specs.Reached.{IsConditionReachedOn, HasNoReachedEvent}
 use Rattle.ga_check_report.specs.declared.request.CheckRequest.{CheckRequest}
 use Rattle.ga_check_report.specs.declared.report.Verdict.{Verdict}
 use Rattle.ga_check_report.specs.declared.report.Verdict.TheVariants.{Clean, Unclean, Unknown, Ended}
-use Rattle.ga_check_report.specs.Checking.{HasAppendedEvents, IsReportOutput}
+use Rattle.ga_check_report.specs.Checking.{HasAppendedEvents, IsWrittenWithVerdict}
 use Rattle.ga_check_report.specs.EndTexts.{is_fully_explored}
-use Rattle.ga_check_report.specs.Answers.{refusal_answer, unreached_answer, reached_answer}
+use Rattle.ga_check_report.specs.Answers.{refusal_answer, unreached_event_answer, reached_event_answer}
 use Rattle.ga_check_report.specs.Opened.{IsUnopenedAnswer}
 use Rattle.ga_check_report.specs.Settled.{check_start}
 
 -- no such event comes, or it isn't known
-abbrev pub unreached_verdict : EndSearchResult → Verdict
-unreached_verdict found = if is_fully_explored found.fault then Clean else Unknown
+abbrev pub unreached_event_verdict : EndSearchResult → Verdict
+unreached_event_verdict found = if is_fully_explored found.fault then Clean else Unknown
 
 -- Events led the machine to one on which the event was enabled, and it made the event: that meets the condition at this place.
 pub record HasReachedEvent (conditions : List StateCondition) (which : ℕ) (old new : State) (made : Made) : Type 0 where
@@ -32,7 +32,7 @@ pub record HasReachedEvent (conditions : List StateCondition) (which : ℕ) (old
   pub before : State
   pub led : HasAppendedEvents old events before
   pub event : Event
-  pub reached : IsReachedOn conditions which (chip_of before) event
+  pub reached : IsConditionReachedOn conditions which (chip_of before) event
   pub report : made ≡ made_next_event before event
   pub leads : new ≡ with_event before (Ok event)
 
@@ -40,34 +40,34 @@ pub record HasReachedEvent (conditions : List StateCondition) (which : ℕ) (old
 -- memory; or that the machine keeps fewer events than the session has.
 pub data WritesNeverReport (request : CheckRequest) (conditions : List StateCondition) (session : Bool) (s : State) (text : Text) (verdict : Verdict) : Type 0 where
   none : (found : EndSearchResult) → AreEndsOfChip (chip_of s) found → HasNoReachedEvent found conditions
-      → IsReportOutput (unreached_answer request found) (unreached_verdict found) text verdict → WritesNeverReport request conditions session s text verdict
+      → IsWrittenWithVerdict (unreached_event_answer request found) (unreached_event_verdict found) text verdict → WritesNeverReport request conditions session s text verdict
   one : (which : ℕ) (last : State) (made : Made) → HasReachedEvent conditions which s last made
-      → IsReportOutput (reached_answer request.format session (length conditions) which made last) Unclean text verdict → WritesNeverReport request conditions session s text verdict
-  no_memory : IsReportOutput (refusal_answer request.format fault.Memory) (Ended ImageRefused) text verdict → WritesNeverReport request conditions session s text verdict
-  too_long : IsReportOutput (refusal_answer request.format fault.Full) (Ended ImageRefused) text verdict → WritesNeverReport request conditions session s text verdict
+      → IsWrittenWithVerdict (reached_event_answer request.format session (length conditions) which made last) Unclean text verdict → WritesNeverReport request conditions session s text verdict
+  no_memory : IsWrittenWithVerdict (refusal_answer request.format fault.Memory) (Ended ImageRefused) text verdict → WritesNeverReport request conditions session s text verdict
+  too_long : IsWrittenWithVerdict (refusal_answer request.format fault.Full) (Ended ImageRefused) text verdict → WritesNeverReport request conditions session s text verdict
 
 -- The text by the conditions of a text; none if that has a fault.
-abbrev pub WritesForConditions : Result (List StateCondition) ConditionFault → CheckRequest → Bool → State → Text → Result Verdict ConditionFault → Type 0
-WritesForConditions (Ok conditions) request session s text (Ok verdict) = WritesNeverReport request conditions session s text verdict
-WritesForConditions (Ok conditions) request session s text (Err why) = ⊥
-WritesForConditions (Err fault) request session s text (Ok verdict) = ⊥
-WritesForConditions (Err fault) request session s text (Err why) = (text ≡ []) × (why ≡ fault)
+abbrev pub WritesReportForConditions : Result (List StateCondition) ConditionFault → CheckRequest → Bool → State → Text → Result Verdict ConditionFault → Type 0
+WritesReportForConditions (Ok conditions) request session s text (Ok verdict) = WritesNeverReport request conditions session s text verdict
+WritesReportForConditions (Ok conditions) request session s text (Err why) = ⊥
+WritesReportForConditions (Err fault) request session s text (Ok verdict) = ⊥
+WritesReportForConditions (Err fault) request session s text (Err why) = (text ≡ []) × (why ≡ fault)
 
 -- An image or source was accepted, and the text is about its machine, from where its idle nodes waited if they were to. Nothing is done with what
 -- was read after it.
-pub record IsNeverOfProgram (request : CheckRequest) (limit : ℕ) (settles : Bool) (asked : Text) (session : Bool) (read rest : Bytes) (written : Text)
+pub record IsNeverReportOfProgram (request : CheckRequest) (limit : ℕ) (settles : Bool) (asked : Text) (session : Bool) (read rest : Bytes) (written : Text)
     (verdict : Result Verdict ConditionFault) : Type 0 where
   pub text : Text
   pub ahead : Bytes
   pub begun : ExplorerState
   pub splits : read ≡ text ++ ahead
-  pub front : IsLeadingText text (ahead ++ rest)
+  pub front : IsTextBeforeCommands text (ahead ++ rest)
   pub opens : OpensExplorer text limit begun
-  pub tells : WritesForConditions (state_conditions_in begun.notes asked) request session (check_start settles begun.lab) written verdict
+  pub tells : WritesReportForConditions (parsed_state_conditions begun.notes asked) request session (check_start settles begun.lab) written verdict
 
 -- What may have been written, where read was read of the input and rest is left of it, and the verdict.
 pub data IsNeverOutcome (request : CheckRequest) (limit : ℕ) (settles : Bool) (asked : Text) (session : Bool) (read rest : Bytes) (written : Text)
     (verdict : Result Verdict ConditionFault) : Type 0 where
-  checked : IsNeverOfProgram request limit settles asked session read rest written verdict → IsNeverOutcome request limit settles asked session read rest written verdict
+  checked : IsNeverReportOfProgram request limit settles asked session read rest written verdict → IsNeverOutcome request limit settles asked session read rest written verdict
   unbegun : (status : Status) → verdict ≡ Ok (Ended status) → IsUnopenedAnswer request.format read rest written status
       → IsNeverOutcome request limit settles asked session read rest written verdict

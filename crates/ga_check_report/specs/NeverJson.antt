@@ -13,24 +13,24 @@ use Rattle.ga_check_report.specs.JsonValues.{search_fields}
 use Rattle.ga_check_report.specs.EventJson.{event_details}
 
 -- no such event was found: none comes if each state was explored
-abbrev pub unreached_word : EndSearchResult → Text
-unreached_word found = if is_fully_explored found.fault then codes "holds" else codes "unknown"
+abbrev pub unreached_event_word : EndSearchResult → Text
+unreached_event_word found = if is_fully_explored found.fault then codes "holds" else codes "unknown"
 
-abbrev pub unreached_fields : Text → EndSearchResult → List NamedValue
-unreached_fields file found =
-    search_fields (codes "never") file found ++ (codes "outcome", string (unreached_word found)) ∷ []
+abbrev pub unreached_event_fields : Text → EndSearchResult → List NamedValue
+unreached_event_fields file found =
+    search_fields (codes "never") file found ++ (codes "outcome", string (unreached_event_word found)) ∷ []
 
-abbrev pub unreached_json : Text → EndSearchResult → Text
-unreached_json file found = json_line (json_object (unreached_fields file found))
+abbrev pub unreached_event_json : Text → EndSearchResult → Text
+unreached_event_json file found = json_line (json_object (unreached_event_fields file found))
 
 -- the condition of this number held, counted from 1, after this number of events
-abbrev pub reached_fields : Text → ℕ → ℕ → List NamedValue
-reached_fields file events condition =
+abbrev pub reached_event_fields : Text → ℕ → ℕ → List NamedValue
+reached_event_fields file events condition =
     (codes "answer", string (codes "never")) ∷ (codes "file", text_json file) ∷ (codes "outcome", string (codes "broken"))
     ∷ (codes "condition", number (pos condition)) ∷ (codes "events", number (pos events)) ∷ []
 
-abbrev pub reached_object : Text → ℕ → ℕ → Made → JsonValue
-reached_object file events condition made = json_object (reached_fields file events condition ++ event_details made)
+abbrev pub reached_event_object : Text → ℕ → ℕ → Made → JsonValue
+reached_event_object file events condition made = json_object (reached_event_fields file events condition ++ event_details made)
 
-abbrev pub reached_json : Text → ℕ → ℕ → Made → Text
-reached_json file events which made = json_line (reached_object file events (which + 1) made)
+abbrev pub reached_event_json : Text → ℕ → ℕ → Made → Text
+reached_event_json file events which made = json_line (reached_event_object file events (which + 1) made)

@@ -13,15 +13,15 @@ use Rattle.ga_check_report.specs.declared.request.CheckRequest.{CheckRequest}
 use Rattle.ga_check_report.specs.EndTexts.{counted_noun_text, search_stop_text}
 
 -- no such event was found among this number of states: none comes if each was explored; else the bound that was met
-abbrev pub not_reached_text : CheckRequest → ℕ → Option SearchFault → Text
-not_reached_text request states None = codes "never, in " ++ counted_noun_text states (codes " state") ++ codes "\n"
-not_reached_text request states (Some fault) =
+abbrev pub event_not_reached_text : CheckRequest → ℕ → Option SearchFault → Text
+event_not_reached_text request states None = codes "never, in " ++ counted_noun_text states (codes " state") ++ codes "\n"
+event_not_reached_text request states (Some fault) =
     codes "not reached in " ++ counted_noun_text states (codes " state") ++ codes ", " ++ search_stop_text request fault
 
-abbrev pub unreached_text : CheckRequest → EndSearchResult → Text
-unreached_text request found = not_reached_text request (length found.searched.chips) found.fault
+abbrev pub unreached_event_text : CheckRequest → EndSearchResult → Text
+unreached_event_text request found = event_not_reached_text request (length found.searched.chips) found.fault
 
 -- the event that the machine made, as `run until` prints it, with the number of the condition if there are several; or its session
-abbrev pub reached_text : Bool → ℕ → ℕ → Made → State → Text
-reached_text true conditions which made s = saved_text s
-reached_text false conditions which made s = run_text conditions (length s.kept) (the_end.Reached made which)
+abbrev pub reached_event_text : Bool → ℕ → ℕ → Made → State → Text
+reached_event_text true conditions which made s = saved_text s
+reached_event_text false conditions which made s = run_text conditions (length s.kept) (the_end.Reached made which)

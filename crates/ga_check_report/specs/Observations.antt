@@ -1,7 +1,7 @@
 -- What a node holds or does on a chip on which an expectation isn't met (F18A Technology Reference DB001, registers, memory map and ports; the
 -- stops are this project's own).
 use Rattle.std.specs.Prelude.{ℕ, zero, suc, ◌%◌}
-use Rattle.ga_word.specs.Word.{words}
+use Rattle.ga_word.specs.Word.{word_modulus}
 use Rattle.ga_node.specs.Record.{NodeRecord}
 use Rattle.ga_node.specs.declared.wait.Wait.{Wait}
 use Rattle.ga_node.specs.declared.wait.Wait.TheVariants.{Nothing, Fetch, Read, Write}
@@ -28,9 +28,9 @@ abbrev pub observed_action : NodeRecord → NodeObservation
 observed_action node = observation_by_stop node.stop node.wait
 
 -- what it has of what is required: the value that is tested, as a word, or else what it does
-abbrev pub observation_of : NodeRequirement → NodeRecord → NodeObservation
-observation_of (required.Holds test) node = Is (node_value node 0 test.value % words)
-observation_of (required.Reads sides) node = observed_action node
-observation_of (required.Writes side) node = observed_action node
-observation_of required.AwaitsCode node = observed_action node
-observation_of (required.Stopped number) node = observed_action node
+abbrev pub observation_of_node : NodeRequirement → NodeRecord → NodeObservation
+observation_of_node (required.Holds test) node = Is (node_value node 0 test.value % word_modulus)
+observation_of_node (required.Reads sides) node = observed_action node
+observation_of_node (required.Writes side) node = observed_action node
+observation_of_node required.AwaitsCode node = observed_action node
+observation_of_node (required.Stopped number) node = observed_action node

@@ -12,14 +12,14 @@ use Rattle.ga_json.specs.declared.format.ReportFormat.TheVariants as format
 use Rattle.ga_json.specs.Diagnostics.{diagnostics_json}
 
 -- a text was written whole, and this is the status; or that failed
-abbrev pub IsRefusalOutput : Text → Status → Text → Status → Type 0
-IsRefusalOutput whole status written end = ((written ≡ whole) × (end ≡ status)) ⊎ (TextHasPrefix whole written × (end ≡ StreamFault))
+abbrev pub IsWrittenWithStatus : Text → Status → Text → Status → Type 0
+IsWrittenWithStatus whole status written end = ((written ≡ whole) × (end ≡ status)) ⊎ (TextHasPrefix whole written × (end ≡ StreamFault))
 
 -- an object for each line of the reason, and of what standard error has
 abbrev pub HasRefusalObjects : Option Text → Text → Bytes → Bytes → Text → Status → Type 0
 HasRefusalObjects chip file read rest written end =
     (reason told : Text) × (status : Status) × IsUnopenedSession chip read rest reason status
-    × IsRefusalOutput (diagnostics_json file reason ++ diagnostics_json file told) status written end
+    × IsWrittenWithStatus (diagnostics_json file reason ++ diagnostics_json file told) status written end
 
 -- the reason as text, and what standard error has
 abbrev pub IsUnopenedAnswer : ReportFormat → Bytes → Bytes → Text → Status → Type 0
@@ -27,6 +27,6 @@ IsUnopenedAnswer format.Text read rest written end = IsUnopenedSession None read
 IsUnopenedAnswer (format.Json file) read rest written end = HasRefusalObjects None file.now read rest written end
 
 -- A text was taken of what was left to read, and a machine opened on it; or no session begins, and there are such objects.
-abbrev pub IsOpenedForObjects : Option Text → Text → ℕ → Bytes → UnreadInput → Bytes → Text → Result ExplorerState Status → Type 0
-IsOpenedForObjects chip file limit left input rest written (Ok begun) = IsSessionOpened chip limit left input rest written (Ok begun)
-IsOpenedForObjects chip file limit left input rest written (Err status) = (read : Bytes) × (left ≡ read ++ rest) × HasRefusalObjects chip file read rest written status
+abbrev pub IsOpenedForJsonOutput : Option Text → Text → ℕ → Bytes → UnreadInput → Bytes → Text → Result ExplorerState Status → Type 0
+IsOpenedForJsonOutput chip file limit left input rest written (Ok begun) = IsSessionOpened chip limit left input rest written (Ok begun)
+IsOpenedForJsonOutput chip file limit left input rest written (Err status) = (read : Bytes) × (left ≡ read ++ rest) × HasRefusalObjects chip file read rest written status

@@ -2,8 +2,8 @@
 -- Reference DB001, ports and reset; in which order is this project's own choice).
 use Rattle.std.specs.Prelude.{ℕ, zero, suc, ◌==◌, Bool, true, false, ◌&&◌, if◌then◌else◌, is_none}
 use Rattle.ga_ports.specs.Address.{address_target}
-use Rattle.ga_ports.specs.declared.address.Target.{Target}
-use Rattle.ga_ports.specs.declared.address.Target.TheVariants.{Ram, Rom, Io, Ports, Bad}
+use Rattle.ga_ports.specs.declared.address.AddressTarget.{AddressTarget}
+use Rattle.ga_ports.specs.declared.address.AddressTarget.TheVariants.{Ram, Rom, Io, Ports, Bad}
 use Rattle.ga_node.specs.Record.{NodeRecord}
 use Rattle.ga_node.specs.Table.{refusal}
 use Rattle.ga_grid.specs.declared.node_id.NodeId.{NodeId}
@@ -11,7 +11,7 @@ use Rattle.ga_grid.specs.Chip.{record_at}
 use Rattle.ga_grid.specs.Grid.{node_id}
 use Rattle.ga_lab.specs.Machine.{State, chip_of, state_after_step}
 
-abbrev pub is_port_target : Target → Bool
+abbrev pub is_port_target : AddressTarget → Bool
 is_port_target (Ports sides) = true
 is_port_target (Ram k) = false
 is_port_target (Rom k) = false
@@ -23,18 +23,18 @@ abbrev pub fetches_from_ports : NodeRecord → Bool
 fetches_from_ports n = is_none (refusal n) && n.slot == 4 && is_port_target (address_target n.p)
 
 -- the machine after a step of the node, where that is to wait for code
-abbrev pub settled_at_node : State → NodeId → State
-settled_at_node s n = if fetches_from_ports (record_at (chip_of s) n.number) then state_after_step s n else s
+abbrev pub state_after_settling_node : State → NodeId → State
+state_after_settling_node s n = if fetches_from_ports (record_at (chip_of s) n.number) then state_after_step s n else s
 
 -- the machine after each node with a lower number, one after another, made its step, where that is to wait for code
-abbrev pub settled_below : State → ℕ → State
-settled_below s zero = s
-settled_below s (suc n) = settled_at_node (settled_below s n) (node_id n)
+abbrev pub state_after_settling_below : State → ℕ → State
+state_after_settling_below s zero = s
+state_after_settling_below s (suc n) = state_after_settling_node (state_after_settling_below s n) (node_id n)
 
 -- the machine after each node made its step, where that is to wait for code; as far as the limit of kept events allows
-unfoldable pub settled : State → State
-settled s = settled_below s 144
+unfoldable pub state_after_settling : State → State
+state_after_settling s = state_after_settling_below s 144
 
 -- the machine from which the search begins, by whether its idle nodes wait first
 abbrev pub check_start : Bool → State → State
-check_start settles s = if settles then settled s else s
+check_start settles s = if settles then state_after_settling s else s

@@ -6,12 +6,12 @@ ghost use Rattle.ga_lab.specs.Machine.{chip_of};
 ghost use Rattle.ga_lab.specs.declared.fault.LabFault.TheVariants.{Memory, Full};
 ghost use Rattle.ga_state_ends.specs.Ends.{AreEndsOfChip};
 ghost use Rattle.ga_state_conditions.specs.Reached.{IsReachedEvent, HasNoReachedEvent};
-ghost use Rattle.ga_state_expectations.specs.Unmet.{IsUnmetAt, IsFirstUnmet};
+ghost use Rattle.ga_state_expectations.specs.Unmet.{IsExpectationUnmetAt, IsFirstUnmetState};
 ghost use Rattle.ga_state_expectations.specs.declared.source.Expectation.TheVariants.{AtEnds, Never};
 ghost use Rattle.ga_check_report.specs.inner.{IsNeverOf, WritesSessionOf};
-ghost use Rattle.ga_check_report.specs.Checking.{IsReportOutput};
-ghost use Rattle.ga_check_report.specs.ExpectationTexts.{unbroken_text};
-ghost use Rattle.ga_check_report.specs.Expected.{unbroken_verdict, LeadsToBreach};
+ghost use Rattle.ga_check_report.specs.Checking.{IsWrittenWithVerdict};
+ghost use Rattle.ga_check_report.specs.ExpectationTexts.{unbroken_expectation_text};
+ghost use Rattle.ga_check_report.specs.Expected.{unbroken_expectation_verdict, LeadsToBreach};
 ghost use Rattle.ga_check_report.specs.EndTexts.{is_fully_explored};
 
 use crate::ends_text::is_fully_explored;
@@ -19,15 +19,17 @@ use crate::judging::{judge_count, judge_endless, without_breach};
 use crate::link_breach::tell_link;
 use crate::making::make_all;
 use crate::never::make_reached;
-use crate::outcome::{ExpectationOutcome, is_unknown};
+use crate::outcome::{ExpectationOutcome, is_outcome_unknown};
 use crate::outcome_text::{no_session_front, write_expectation};
 use crate::report::{Verdict, sent, tell_refused, tell_saved_as};
 use crate::request::CheckRequest;
 use ga_console::Status;
 use ga_lab::{Lab, LabFault};
-use ga_state_conditions::{ReachedEvent, StateCondition, StateConditions, find_event};
+use ga_state_conditions::{ReachedEvent, StateCondition, StateConditions, find_reached_event};
 use ga_state_ends::FoundEnds;
-use ga_state_expectations::{Expectation, LineExpectation, NodeExpectation, find_unmet};
+use ga_state_expectations::{
+    Expectation, LineExpectation, NodeExpectation, find_unmet_expectation,
+};
 use ga_text::{WriteResult, Writer};
 use std::alloc::Global;
 use std::io::Write;
@@ -77,7 +79,7 @@ fn tell_unmet<W: Write>(
     requires said { one.now.expectation ≡ AtEnds expectation.now }
     ensures { WritesText (λ text. WritesSessionOf request.entry one.now asked lab.old text result) (W.contents writer.old) (W.contents writer.new) }
 {
-    match find_unmet(alloc, found, expectation) {
+    match find_unmet_expectation(alloc, found, expectation) {
         Ok(unmet) => tell_by_state(
             alloc,
             lab,
@@ -107,7 +109,7 @@ fn tell_by_state<W: Write>(
 ) -> Verdict
     requires ends { AreEndsOfChip (chip_of lab.old) found.now }
     requires said { one.now.expectation ≡ AtEnds expectation.now }
-    requires unmet { IsFirstUnmet found.now expectation.now unmet }
+    requires unmet { IsFirstUnmetState found.now expectation.now unmet }
     ensures { WritesText (λ text. WritesSessionOf request.entry one.now asked lab.old text result) (W.contents writer.old) (W.contents writer.new) }
 {
     match unmet {
@@ -140,7 +142,7 @@ fn tell_path<W: Write>(
 ) -> Verdict
     requires ends { AreEndsOfChip (chip_of lab.old) found.now }
     requires said { one.now.expectation ≡ AtEnds expectation.now }
-    requires unmet { IsUnmetAt found.now expectation.now state }
+    requires unmet { IsExpectationUnmetAt found.now expectation.now state }
     ensures { WritesText (λ text. WritesSessionOf request.entry one.now asked lab.old text result) (W.contents writer.old) (W.contents writer.new) }
 {
     match lead_to_state(alloc, lab, found, expectation, state) {
@@ -162,7 +164,7 @@ fn lead_to_state(
     state: u32,
 ) -> Result<(), LabFault>
     requires ends { AreEndsOfChip (chip_of lab.old) found.now }
-    requires unmet { IsUnmetAt found.now expectation.now state }
+    requires unmet { IsExpectationUnmetAt found.now expectation.now state }
     ensures led { OnOk result (LeadsToBreach lab.old (AtEnds expectation.now) lab.new) }
     ensures faults { IfErr result (λ why. (why ≡ Full) ⊎ (why ≡ Memory)) }
 {
@@ -188,7 +190,7 @@ fn tell_never<W: Write>(
     ensures { WritesText (λ text. WritesSessionOf request.entry one.now asked lab.old text result) (W.contents writer.old) (W.contents writer.new) }
 {
     let listed = conditions.as_slice();
-    match find_event(alloc, found, listed) {
+    match find_reached_event(alloc, found, listed) {
         Ok(reached) => tell_by_event(
             alloc, lab, found, one, listed, reached, request, asked, writer,
         ),
@@ -256,12 +258,12 @@ pub(crate) fn tell_unbroken<W: Write>(
     outcome: &ExpectationOutcome,
     writer: &mut W,
 ) -> Verdict
-    ensures { WritesText (λ text. IsReportOutput (unbroken_text (is_fully_explored found.now.fault) asked one.now outcome.now) (unbroken_verdict outcome.now) text result)
+    ensures { WritesText (λ text. IsWrittenWithVerdict (unbroken_expectation_text (is_fully_explored found.now.fault) asked one.now outcome.now) (unbroken_expectation_verdict outcome.now) text result)
         (W.contents writer.old) (W.contents writer.new) }
 {
     let mut out = Writer::new(writer);
     let said = write_unbroken(is_fully_explored(found), one, asked, outcome, &mut out);
-    sent(said, unbroken_verdict(outcome), &mut out)
+    sent(said, unbroken_expectation_verdict(outcome), &mut out)
 }
 
 /// Writes that no session leads to what breaks the expectation.
@@ -275,17 +277,17 @@ fn write_unbroken<W: Write>(
     outcome: &ExpectationOutcome,
     writer: &mut Writer<'_, W>,
 ) -> WriteResult
-    ensures { WritesExactly result (unbroken_text whole asked one.now outcome.now) W.contents writer.old writer.new }
+    ensures { WritesExactly result (unbroken_expectation_text whole asked one.now outcome.now) W.contents writer.old writer.new }
 {
     writer.write_blocks(no_session_front(asked).as_slice())?;
     write_expectation(whole, asked as usize, one, *outcome, writer)
 }
 
 /// The verdict where no session leads to what breaks an expectation: there is none, or it isn't known.
-fn unbroken_verdict(outcome: &ExpectationOutcome) -> Verdict
-    ensures { result ≡ unbroken_verdict outcome.now }
+fn unbroken_expectation_verdict(outcome: &ExpectationOutcome) -> Verdict
+    ensures { result ≡ unbroken_expectation_verdict outcome.now }
 {
-    if is_unknown(*outcome) {
+    if is_outcome_unknown(*outcome) {
         Verdict::Unknown
     } else {
         Verdict::Ended(Status::ImageRefused)

@@ -3,8 +3,8 @@
 ghost use Rattle.std.specs.Prelude.{◌≡◌, ◌≤◌, ◌+◌, ◌++◌};
 ghost use Rattle.arrayvec.specs.ArrayVec.{array_vec_len};
 ghost use Rattle.ga_event.specs.declared.made.Made.TheVariants.{Pass};
-ghost use Rattle.ga_display.specs.Texts.{kind_text};
-ghost use Rattle.ga_check_report.specs.DecisionTexts.{made_text, end_decision_text};
+ghost use Rattle.ga_display.specs.Texts.{own_event_kind_text};
+ghost use Rattle.ga_check_report.specs.DecisionTexts.{event_text_without_line_end, end_decision_text};
 
 use arrayvec::ArrayVec;
 use ga_event::Made;
@@ -45,7 +45,7 @@ pub(crate) fn decision_line(decision: Option<EndDecision>) -> TextBuffer
 /// Adds an event.
 pub(crate) fn push_made(out: &mut TextBuffer, made: Made)
     requires { array_vec_len out.old + MADE_ROOM ≤ 256 }
-    ensures text { out.new.items ≡ out.old.items ++ made_text made }
+    ensures text { out.new.items ≡ out.old.items ++ event_text_without_line_end made }
     ensures len { array_vec_len out.new ≤ array_vec_len out.old + MADE_ROOM }
 {
     match made {
@@ -66,7 +66,7 @@ pub(crate) fn push_made(out: &mut TextBuffer, made: Made)
 /// Adds a pass, by both of its steps and the word.
 fn push_pass(out: &mut TextBuffer, writer: (NodeId, u32), reader: (NodeId, u32), word: Word18)
     requires { array_vec_len out.old + MADE_ROOM ≤ 256 }
-    ensures text { out.new.items ≡ out.old.items ++ made_text (Pass writer.0 writer.1 reader.0 reader.1 word) }
+    ensures text { out.new.items ≡ out.old.items ++ event_text_without_line_end (Pass writer.0 writer.1 reader.0 reader.1 word) }
     ensures len { array_vec_len out.new ≤ array_vec_len out.old + MADE_ROOM }
 {
     push_text(out, b"pass ");
@@ -79,7 +79,7 @@ fn push_pass(out: &mut TextBuffer, writer: (NodeId, u32), reader: (NodeId, u32),
 /// Adds what an event of a node's own was.
 fn push_kind(out: &mut TextBuffer, kind: OwnEventKind)
     requires { array_vec_len out.old + KIND_ROOM ≤ 256 }
-    ensures text { out.new.items ≡ out.old.items ++ kind_text kind }
+    ensures text { out.new.items ≡ out.old.items ++ own_event_kind_text kind }
     ensures len { array_vec_len out.new ≤ array_vec_len out.old + KIND_ROOM }
 {
     match kind {

@@ -3,7 +3,7 @@
 ghost use Rattle.std.specs.Prelude.{◌≡◌, ◌≤◌, ◌+◌, ◌++◌, false, codes, slice_index_or};
 ghost use Rattle.ga_explorer_text.specs.Waiting.{name_text_of_node};
 ghost use Rattle.arrayvec.specs.ArrayVec.{array_vec_len};
-ghost use Rattle.ga_check_report.specs.EndTexts.{node_end_at, stopped_node_text, optional_name_text, can_continue, waits_to_read, waits_to_write, is_in_end_part, stopped_nodes_text, part_names_text, unclean_names_text};
+ghost use Rattle.ga_check_report.specs.EndTexts.{node_end_at, stopped_node_text, optional_name_text, can_continue, waits_to_read, waits_to_write, is_in_end_part, stopped_nodes_text, end_part_names_text, unclean_names_text};
 
 use arrayvec::ArrayVec;
 use ga_grid::NodeId;
@@ -72,7 +72,7 @@ fn push_stop(out: &mut Stops, end: NodeEnd, node: NodeId)
 
 /// The nodes of a part.
 pub(crate) fn nodes_of(part: EndPart, nodes: &[NodeEnd; 144]) -> Names
-    ensures { result.items ≡ part_names_text part nodes.now }
+    ensures { result.items ≡ end_part_names_text part nodes.now }
 {
     let mut out = ArrayVec::new();
     'nodes: for number in 0..144u8 {

@@ -6,7 +6,7 @@ ghost use Rattle.ga_json.specs.Compact.{json_line};
 ghost use Rattle.ga_json.specs.Fields.{named_field_value, json_object};
 ghost use Rattle.ga_check_report.specs.JsonValues.{optional_text_json};
 ghost use Rattle.ga_check_report.specs.EventJson.{event_details};
-ghost use Rattle.ga_check_report.specs.EndJson.{end_fields, end_object, decision_fields, decision_object, decision_objects, kind_objects, kinds_objects, endless_word, known_endless_word, ends_head, ends_json};
+ghost use Rattle.ga_check_report.specs.EndJson.{end_fields, end_object, decision_fields, decision_object, decision_objects, end_kind_objects, end_kinds_objects, endless_word, known_endless_word, ends_head, ends_json};
 
 use crate::ends_text::is_fully_explored;
 use crate::json_fields::{event_fields, search_fields};
@@ -97,7 +97,7 @@ fn write_kinds_objects<W: Write>(
     found: &FoundEnds,
     writer: &mut Writer<'_, W>,
 ) -> WriteResult
-    ensures { WritesExactly result (kinds_objects file.now found.now.decisions 0 kinds.now) W.contents writer.old writer.new }
+    ensures { WritesExactly result (end_kinds_objects file.now found.now.decisions 0 kinds.now) W.contents writer.old writer.new }
 {
     'kinds: for place in 0..kinds.len() {
         write_kind_objects(
@@ -122,7 +122,7 @@ fn write_kind_objects<W: Write>(
     decision: Option<EndDecision>,
     writer: &mut Writer<'_, W>,
 ) -> WriteResult
-    ensures { WritesExactly result (kind_objects file.now number kind.now decision) W.contents writer.old writer.new }
+    ensures { WritesExactly result (end_kind_objects file.now number kind.now decision) W.contents writer.old writer.new }
 {
     write_end_object(file, number, kind, writer)?;
     write_decision_objects(file, number, decision, writer)

@@ -4,7 +4,7 @@ ghost use Rattle.std.specs.Prelude.{◌≡◌, ◌≤◌, ◌+◌, ◌++◌, len
 ghost use Rattle.arrayvec.specs.ArrayVec.{array_vec_len};
 ghost use Rattle.ga_text.specs.Output.{WritesExactly};
 ghost use Rattle.ga_check_report.specs.declared.end_nodes.EndPart.TheVariants.{Reading, Writing};
-ghost use Rattle.ga_check_report.specs.EndTexts.{stopped_nodes_text, part_names_text, unclean_names_text, enclosed_text, halted_nodes_text, quiet_end_text, endless_end_text, end_text, node_ends_text, end_count_text, end_kind_line, unclean_line, end_kind_text, decided_kind_text, kinds_text, counted_noun_text, at_least_text, is_fully_explored, ends_header, search_stop_text, termination_text, final_line_text, ends_text, missing_kind_text};
+ghost use Rattle.ga_check_report.specs.EndTexts.{stopped_nodes_text, end_part_names_text, unclean_names_text, enclosed_text, halted_nodes_text, quiet_end_text, endless_end_text, end_text, node_ends_text, end_count_text, end_kind_line, unclean_line, end_kind_text, decided_end_kind_text, end_kinds_text, counted_noun_text, at_least_text, is_fully_explored, ends_header, search_stop_text, termination_text, final_line_text, ends_text, missing_kind_text};
 
 use crate::decision_text::decision_line;
 use crate::end_nodes::{EndPart, NAMES_ROOM, STOPS_ROOM, nodes_of, stops_among, unclean_among};
@@ -211,7 +211,7 @@ fn write_kinds<W: Write>(
     found: &FoundEnds,
     writer: &mut Writer<'_, W>,
 ) -> WriteResult
-    ensures { WritesExactly result (kinds_text found.now.decisions 0 kinds.now) W.contents writer.old writer.new }
+    ensures { WritesExactly result (end_kinds_text found.now.decisions 0 kinds.now) W.contents writer.old writer.new }
 {
     'kinds: for place in 0..kinds.len() {
         write_decided_kind(
@@ -231,7 +231,7 @@ fn write_decided_kind<W: Write>(
     decision: Option<EndDecision>,
     writer: &mut Writer<'_, W>,
 ) -> WriteResult
-    ensures { WritesExactly result (decided_kind_text number kind.now decision) W.contents writer.old writer.new }
+    ensures { WritesExactly result (decided_end_kind_text number kind.now decision) W.contents writer.old writer.new }
 {
     write_kind(number, kind, writer)?;
     writer.write_blocks(decision_line(decision).as_slice())
@@ -319,7 +319,7 @@ fn push_going(out: &mut EndLine, going: &[u8], still: &[u8])
 
 /// What the nodes do that make no further step, each part after a comma.
 fn still_among(nodes: &[NodeEnd; 144]) -> Still
-    ensures text { result.items ≡ halted_nodes_text (stopped_nodes_text nodes.now) (part_names_text Reading nodes.now) (part_names_text Writing nodes.now) }
+    ensures text { result.items ≡ halted_nodes_text (stopped_nodes_text nodes.now) (end_part_names_text Reading nodes.now) (end_part_names_text Writing nodes.now) }
 {
     let mut out = ArrayVec::new();
     push_text(&mut out, stops_among(nodes).as_slice());

@@ -8,11 +8,11 @@ ghost use Rattle.ga_console.specs.declared.run.Status.TheVariants.{ImageRefused}
 ghost use Rattle.ga_state_ends.specs.Ends.{AreEndsOfChip};
 ghost use Rattle.ga_check_report.specs.declared.outcome.ExpectationOutcome.TheVariants.{Unknown};
 ghost use Rattle.ga_check_report.specs.declared.report.Verdict.TheVariants.{Ended};
-ghost use Rattle.ga_check_report.specs.Checking.{IsReportOutput};
+ghost use Rattle.ga_check_report.specs.Checking.{IsWrittenWithVerdict};
 ghost use Rattle.ga_check_report.specs.Answers.{expectations_answer};
-ghost use Rattle.ga_check_report.specs.ExpectationTexts.{expectations_lines_text, expectations_text, missing_session_text, optional_stop_text};
-ghost use Rattle.ga_check_report.specs.Outcomes.{AreOutcomes, outcomes_verdict};
-ghost use Rattle.ga_check_report.specs.Expected.{WritesForNotes, WritesExpectationsReport, WritesProgramReport, IsProgramOutcome};
+ghost use Rattle.ga_check_report.specs.ExpectationTexts.{expectations_lines_text, expectations_text, missing_session_text, optional_search_stop_text};
+ghost use Rattle.ga_check_report.specs.Outcomes.{AreExpectationOutcomes, outcomes_verdict};
+ghost use Rattle.ga_check_report.specs.Expected.{WritesReportForDebugInfo, WritesExpectationsReport, WritesProgramReport, IsProgramOutcome};
 ghost use Rattle.ga_check_report.specs.Settled.{check_start};
 ghost use Rattle.ga_check_report.specs.inner.{WritesOutcomes};
 
@@ -81,7 +81,7 @@ fn answer_expectations<W: Write>(
     watch: &SearchControl,
     writer: &mut W,
 ) -> Verdict
-    ensures { WritesText (λ text. WritesForNotes begun.notes request.entry asked (check_start settles begun.lab) text result) (W.contents writer.old) (W.contents writer.new) }
+    ensures { WritesText (λ text. WritesReportForDebugInfo begun.notes request.entry asked (check_start settles begun.lab) text result) (W.contents writer.old) (W.contents writer.new) }
 {
     match parse_expectations(alloc, begun.notes()) {
         Ok(expectations) => settle_and_judge(
@@ -237,7 +237,7 @@ fn decide_and_tell<W: Write>(
     writer: &mut W,
 ) -> Verdict
     requires ends { (load : List NodeRecord) × AreEndsOfChip load found.old }
-    requires known { (s : State) × AreOutcomes s found.old expectations.now outcomes.now }
+    requires known { (s : State) × AreExpectationOutcomes s found.old expectations.now outcomes.now }
     ensures { WritesText (λ text. WritesOutcomes request.entry found.old expectations.now outcomes.now text result) (W.contents writer.old) (W.contents writer.new) }
 {
     match decide_breaches(alloc, found, expectations, outcomes) {
@@ -262,7 +262,7 @@ fn tell_outcomes<W: Write>(
     decisions: &[Option<EndDecision>],
     writer: &mut W,
 ) -> Verdict
-    ensures { WritesText (λ text. IsReportOutput (expectations_answer request.entry found.now expectations.now outcomes.now decisions.now) (outcomes_verdict outcomes.now) text result)
+    ensures { WritesText (λ text. IsWrittenWithVerdict (expectations_answer request.entry found.now expectations.now outcomes.now decisions.now) (outcomes_verdict outcomes.now) text result)
         (W.contents writer.old) (W.contents writer.new) }
 {
     let mut out = Writer::new(writer);
@@ -362,7 +362,7 @@ fn write_stop<W: Write>(
     found: &FoundEnds,
     writer: &mut Writer<'_, W>,
 ) -> WriteResult
-    ensures { WritesExactly result (optional_stop_text request.entry found.now.fault) W.contents writer.old writer.new }
+    ensures { WritesExactly result (optional_search_stop_text request.entry found.now.fault) W.contents writer.old writer.new }
 {
     match found.fault() {
         None => writer.write_text(b""),
@@ -372,7 +372,7 @@ fn write_stop<W: Write>(
 
 /// Writes that there are fewer expectations.
 fn tell_missing<W: Write>(expectations: usize, asked: u32, writer: &mut W) -> Verdict
-    ensures { WritesText (λ text. IsReportOutput (missing_session_text asked expectations) (Ended ImageRefused) text result)
+    ensures { WritesText (λ text. IsWrittenWithVerdict (missing_session_text asked expectations) (Ended ImageRefused) text result)
         (W.contents writer.old) (W.contents writer.new) }
 {
     let mut out = Writer::new(writer);

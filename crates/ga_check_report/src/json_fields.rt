@@ -5,7 +5,7 @@ ghost use Rattle.arrayvec.specs.ArrayVec.{array_vec_len};
 ghost use Rattle.ga_node.specs.declared.kind.OwnEventKind.TheVariants.{Run, Stop};
 ghost use Rattle.ga_event.specs.declared.made.Made.TheVariants.{Own, Pass};
 ghost use Rattle.ga_json.specs.Fields.{named_field_value};
-ghost use Rattle.ga_check_report.specs.JsonValues.{stop_word, stop_json, search_fields};
+ghost use Rattle.ga_check_report.specs.JsonValues.{search_stop_word, search_stop_json, search_fields};
 ghost use Rattle.ga_check_report.specs.EventJson.{step_details, event_details};
 
 use crate::ends_text::is_fully_explored;
@@ -125,17 +125,17 @@ pub(crate) fn search_fields<'a>(
 
 /// The bound that was met, if one was.
 fn stop_field<'a>(fault: Option<SearchFault>) -> Field<'a>
-    ensures { named_field_value result ≡ (codes "stopped", stop_json fault) }
+    ensures { named_field_value result ≡ (codes "stopped", search_stop_json fault) }
 {
     match fault {
         None => Field::absent(b"stopped"),
-        Some(why) => Field::text(b"stopped", stop_word(why)),
+        Some(why) => Field::text(b"stopped", search_stop_word(why)),
     }
 }
 
 /// The bound that was met, in a word.
-fn stop_word(why: SearchFault) -> &'static [u8]
-    ensures { result.now ≡ stop_word why }
+fn search_stop_word(why: SearchFault) -> &'static [u8]
+    ensures { result.now ≡ search_stop_word why }
 {
     match why {
         SearchFault::Full => b"states",

@@ -13,14 +13,14 @@ ghost use Rattle.ga_explorer_text.specs.Saved.{saved_text};
 ghost use Rattle.ga_state_ends.specs.Ends.{EndSearchResult, AreEndsOfChip, is_unclean};
 ghost use Rattle.ga_state_conditions.specs.declared.condition.StateCondition.{StateCondition};
 ghost use Rattle.ga_state_conditions.specs.Reached.{IsConditionMet};
-ghost use Rattle.ga_check_report.specs.Answers.{ends_answer, reached_answer};
+ghost use Rattle.ga_check_report.specs.Answers.{ends_answer, reached_event_answer};
 ghost use Rattle.ga_check_report.specs.Never.{HasReachedEvent, WritesNeverReport};
-ghost use Rattle.ga_check_report.specs.Settled.{settled};
+ghost use Rattle.ga_check_report.specs.Settled.{state_after_settling};
 ghost use Rattle.ga_state_expectations.specs.declared.source.Expectation.{Expectation as AnExpectation};
 ghost use Rattle.ga_state_expectations.specs.declared.source.LineExpectation.{LineExpectation};
 ghost use Rattle.ga_check_report.specs.declared.outcome.Breach.{Breach as ABreach};
 ghost use Rattle.ga_check_report.specs.declared.outcome.ExpectationOutcome.TheVariants.{Holds, Broken};
-ghost use Rattle.ga_check_report.specs.Outcomes.{IsOutcome, HoldsInEveryOrder, IsBrokenInSomeOrder};
+ghost use Rattle.ga_check_report.specs.Outcomes.{IsExpectationOutcome, HoldsInEveryOrder, IsBrokenInSomeOrder};
 ghost use Rattle.ga_check_report.specs.Expected.{LeadsToBreach, WritesExpectationsReport};
 ghost use Rattle.ga_check_report.specs.Checking.{WritesEndsReport, HasAppendedEvents, HasReachedEndKind};
 ghost use Rattle.ga_check_report.specs.declared.request.CheckRequest.{CheckRequest};
@@ -54,22 +54,22 @@ pub fn never_verdict_sound()
 /// Where it is `Unclean`, the text is that of an event that meets one of the conditions, or of its session.
 pub fn reached_verdict_sound()
     ensures { (request : CheckRequest) (conditions : List StateCondition) (session : Bool) (s : State) (text : Text) → WritesNeverReport request conditions session s text Unclean →
-        (which : ℕ) × (last : State) × (made : Made) × HasReachedEvent conditions which s last made × (text ≡ reached_answer request.format session (length conditions) which made last) }
+        (which : ℕ) × (last : State) × (made : Made) × HasReachedEvent conditions which s last made × (text ≡ reached_event_answer request.format session (length conditions) which made last) }
 {}
 
 /// A machine that has come to rest keeps some events more, and else is as it was. So what holds from there holds of the program: a list of
 /// events from there is one, after those, from the machine before.
 pub fn settling_appends_events()
-    ensures { (s : State) → replay s.load s.kept ≡ Some (chip_of s) → (waits : List Event) × HasAppendedEvents s waits (settled s)
-        × ((events : List Event) → replay (chip_of (settled s)) events ≡ replay (chip_of s) (waits ++ events)) }
+    ensures { (s : State) → replay s.load s.kept ≡ Some (chip_of s) → (waits : List Event) × HasAppendedEvents s waits (state_after_settling s)
+        × ((events : List Event) → replay (chip_of (state_after_settling s)) events ≡ replay (chip_of s) (waits ++ events)) }
 {}
 
 /// An expectation that a search shows to hold does so in every order, and one that it shows to be broken doesn't in some order.
 pub fn expectation_outcomes_sound()
     ensures holds { (s : State) (found : EndSearchResult) (expectation : AnExpectation) → AreEndsOfChip (chip_of s) found →
-        IsOutcome s found expectation Holds → HoldsInEveryOrder (chip_of s) expectation }
+        IsExpectationOutcome s found expectation Holds → HoldsInEveryOrder (chip_of s) expectation }
     ensures broken { (s : State) (found : EndSearchResult) (expectation : AnExpectation) (breach : ABreach) → AreEndsOfChip (chip_of s) found →
-        IsOutcome s found expectation (Broken breach) → IsBrokenInSomeOrder s found expectation }
+        IsExpectationOutcome s found expectation (Broken breach) → IsBrokenInSomeOrder s found expectation }
 {}
 
 /// Where the verdict about expectations is `Clean`, each holds in every order, and its line says so. Where it is `Unclean`, one is broken.

@@ -34,6 +34,6 @@ pub use expected::check_program;
 pub use ga_json::ReportFormat;
 pub use ga_state_conditions::ConditionFault;
 pub use never::check_never;
-pub use opening::open_for_objects;
+pub use opening::open_for_json_output;
 pub use report::{Verdict, check_ends};
 pub use request::CheckRequest;

@@ -9,7 +9,7 @@ ghost use Rattle.ga_state_ends.specs.Ends.{AreEndsOfChip};
 ghost use Rattle.ga_state_links.specs.LinkExpectations.{IsLinkBreach};
 ghost use Rattle.ga_state_links.specs.Places.{HasNoLinkBreach};
 ghost use Rattle.ga_state_expectations.specs.declared.source.Expectation.TheVariants.{Passes};
-ghost use Rattle.ga_check_report.specs.Outcomes.{IsOverLinkBreach, IsOutcomeBy};
+ghost use Rattle.ga_check_report.specs.Outcomes.{IsOverLinkBreach, IsOutcomeByFindings};
 ghost use Rattle.ga_check_report.specs.Expected.{LeadsToBreach};
 ghost use Rattle.ga_check_report.specs.inner.{WritesSessionOf};
 
@@ -37,7 +37,7 @@ pub(crate) fn judge_link(
 ) -> Result<ExpectationOutcome, LabFault>
     requires { (load : List NodeRecord) × AreEndsOfChip load found.old }
     ensures known { (load : List NodeRecord) → AreEndsOfChip load found.old →
-        IfOk result (IsOutcomeBy found.old (HasNoLinkBreach found.old expected.now) (IsOverLinkBreach load expected.now)) }
+        IfOk result (IsOutcomeByFindings found.old (HasNoLinkBreach found.old expected.now) (IsOverLinkBreach load expected.now)) }
     ensures faults { IfErr result (λ why. (why ≡ Full) ⊎ (why ≡ Memory)) }
     ensures same { found.new ≡ found.old }
 {
@@ -55,7 +55,7 @@ fn link_outcome(
 ) -> ExpectationOutcome
     requires { IfNone breach.now (HasNoLinkBreach found.now expected.now) }
     ensures { (load : List NodeRecord) → IfSome breach.now (λ it. IsLinkBreach load expected.now it.events.items it.place it.fault) →
-        IsOutcomeBy found.now (HasNoLinkBreach found.now expected.now) (IsOverLinkBreach load expected.now) result }
+        IsOutcomeByFindings found.now (HasNoLinkBreach found.now expected.now) (IsOverLinkBreach load expected.now) result }
 {
     match breach {
         Some(it) => ExpectationOutcome::Broken(Breach::OverLink {

@@ -1,7 +1,7 @@
 //! How the words over a link break an expectation, as text and as fields of an object.
 
 ghost use Rattle.std.specs.Prelude.{◌≡◌, ◌≤◌, ◌+◌, ◌%◌, ◌++◌, map, codes, decimal};
-ghost use Rattle.ga_word.specs.Word.{hex6_of, words};
+ghost use Rattle.ga_word.specs.Word.{hex6_of, word_modulus};
 ghost use Rattle.arrayvec.specs.ArrayVec.{array_vec_len};
 ghost use Rattle.ga_json.specs.Fields.{named_field_value};
 ghost use Rattle.ga_check_report.specs.LinkFaults.{link_fault_text, link_fault_word, link_fault_details};
@@ -31,7 +31,7 @@ fn push_word_number(out: &mut TextBuffer, place: u32)
 /// Adds which word came after all that are expected.
 fn push_further_word(out: &mut TextBuffer, word: u32)
     requires { array_vec_len out.old + FAULT_ROOM ≤ 256 }
-    ensures text { out.new.items ≡ out.old.items ++ (codes "a further word is " ++ hex6_of (word % words)) }
+    ensures text { out.new.items ≡ out.old.items ++ (codes "a further word is " ++ hex6_of (word % word_modulus)) }
     ensures len { array_vec_len out.new ≤ array_vec_len out.old + FAULT_ROOM }
 {
     let word = Word18::from_low_bits(word);

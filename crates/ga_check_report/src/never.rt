@@ -5,12 +5,12 @@ ghost use Rattle.ga_text.specs.Output.{WritesExactly, WritesText, ReadsAndWrites
 ghost use Rattle.ga_lab.specs.Machine.{chip_of};
 ghost use Rattle.ga_lab.specs.declared.fault.LabFault.TheVariants.{Memory, Full};
 ghost use Rattle.ga_state_ends.specs.Ends.{AreEndsOfChip};
-ghost use Rattle.ga_state_conditions.specs.Asked.{state_conditions_in};
+ghost use Rattle.ga_state_conditions.specs.Asked.{parsed_state_conditions};
 ghost use Rattle.ga_state_conditions.specs.Reached.{IsReachedEvent, HasNoReachedEvent};
 ghost use Rattle.ga_check_report.specs.declared.report.Verdict.TheVariants.{Unclean};
-ghost use Rattle.ga_check_report.specs.Answers.{reached_answer, unreached_answer};
-ghost use Rattle.ga_check_report.specs.Checking.{IsReportOutput};
-ghost use Rattle.ga_check_report.specs.Never.{unreached_verdict, HasReachedEvent, WritesNeverReport, WritesForConditions, IsNeverOutcome};
+ghost use Rattle.ga_check_report.specs.Answers.{reached_event_answer, unreached_event_answer};
+ghost use Rattle.ga_check_report.specs.Checking.{IsWrittenWithVerdict};
+ghost use Rattle.ga_check_report.specs.Never.{unreached_event_verdict, HasReachedEvent, WritesNeverReport, WritesReportForConditions, IsNeverOutcome};
 ghost use Rattle.ga_check_report.specs.Settled.{check_start};
 
 use crate::ends_text::is_fully_explored;
@@ -25,7 +25,8 @@ use ga_explorer::Explorer;
 use ga_json::ReportFormat;
 use ga_lab::{Lab, LabFault, Made};
 use ga_state_conditions::{
-    ConditionFault, ReachedEvent, StateCondition, find_event, find_session, parse_state_conditions,
+    ConditionFault, ReachedEvent, StateCondition, find_reached_event, find_session_reaching,
+    parse_state_conditions,
 };
 use ga_state_ends::{FoundEnds, find_ends};
 use ga_state_search::SearchControl;
@@ -83,7 +84,7 @@ fn answer_conditions<W: Write>(
     watch: &SearchControl,
     writer: &mut W,
 ) -> Result<Verdict, ConditionFault>
-    ensures { WritesText (λ text. WritesForConditions (state_conditions_in begun.notes asked.now) request.entry session (check_start settles begun.lab) text result)
+    ensures { WritesText (λ text. WritesReportForConditions (parsed_state_conditions begun.notes asked.now) request.entry session (check_start settles begun.lab) text result)
         (W.contents writer.old) (W.contents writer.new) }
 {
     match parse_state_conditions(begun.notes(), asked) {
@@ -155,7 +156,7 @@ fn look_among<W: Write>(
     requires ends { AreEndsOfChip (chip_of lab.old) found.old }
     ensures { WritesText (λ text. WritesNeverReport request.entry conditions.now session lab.old text result) (W.contents writer.old) (W.contents writer.new) }
 {
-    match find_event(alloc, found, conditions) {
+    match find_reached_event(alloc, found, conditions) {
         Ok(reached) => tell_found_event(
             alloc, lab, found, request, reached, conditions, session, writer,
         ),
@@ -237,7 +238,7 @@ pub(crate) fn make_reached(
     ensures faults { IfErr result (λ why. (why ≡ Full) ⊎ (why ≡ Memory)) }
     ensures same { found.new ≡ found.old }
 {
-    match find_session(alloc, found, conditions, reached) {
+    match find_session_reaching(alloc, found, conditions, reached) {
         Ok(events) => {
             make_all(lab, events.as_slice())?;
             make(lab, reached.event)
@@ -256,7 +257,7 @@ fn tell_reached<W: Write>(
     session: bool,
     writer: &mut W,
 ) -> Verdict
-    ensures { WritesText (λ text. IsReportOutput (reached_answer format.entry session conditions which made lab.now) Unclean text result)
+    ensures { WritesText (λ text. IsWrittenWithVerdict (reached_event_answer format.entry session conditions which made lab.now) Unclean text result)
         (W.contents writer.old) (W.contents writer.new) }
 {
     if session {
@@ -275,7 +276,7 @@ fn tell_made<W: Write>(
     made: Made,
     writer: &mut W,
 ) -> Verdict
-    ensures { WritesText (λ text. IsReportOutput (reached_answer format.entry false conditions which made lab.now) Unclean text result)
+    ensures { WritesText (λ text. IsWrittenWithVerdict (reached_event_answer format.entry false conditions which made lab.now) Unclean text result)
         (W.contents writer.old) (W.contents writer.new) }
 {
     let mut out = Writer::new(writer);
@@ -295,7 +296,7 @@ fn write_reached<W: Write>(
     made: Made,
     writer: &mut Writer<'_, W>,
 ) -> WriteResult
-    ensures { WritesExactly result (reached_answer format.entry false conditions which made lab.now) W.contents writer.old writer.new }
+    ensures { WritesExactly result (reached_event_answer format.entry false conditions which made lab.now) W.contents writer.old writer.new }
 {
     match format {
         ReportFormat::Text => write_made(lab, conditions, which, made, writer),
@@ -307,17 +308,17 @@ fn write_reached<W: Write>(
 
 /// Writes that no such event was found, and what is pending.
 fn tell_unreached<W: Write>(request: CheckRequest<'_>, found: &FoundEnds, writer: &mut W) -> Verdict
-    ensures { WritesText (λ text. IsReportOutput (unreached_answer request.entry found.now) (unreached_verdict found.now) text result)
+    ensures { WritesText (λ text. IsWrittenWithVerdict (unreached_event_answer request.entry found.now) (unreached_event_verdict found.now) text result)
         (W.contents writer.old) (W.contents writer.new) }
 {
     let mut out = Writer::new(writer);
     let said = write_unreached(request, found, &mut out);
-    sent(said, unreached_verdict(found), &mut out)
+    sent(said, unreached_event_verdict(found), &mut out)
 }
 
 /// The verdict where no such event was found: none comes, or it isn't known.
-fn unreached_verdict(found: &FoundEnds) -> Verdict
-    ensures { result ≡ unreached_verdict found.now }
+fn unreached_event_verdict(found: &FoundEnds) -> Verdict
+    ensures { result ≡ unreached_event_verdict found.now }
 {
     if is_fully_explored(found) {
         Verdict::Clean
@@ -335,7 +336,7 @@ fn write_unreached<W: Write>(
     found: &FoundEnds,
     writer: &mut Writer<'_, W>,
 ) -> WriteResult
-    ensures { WritesExactly result (unreached_answer request.entry found.now) W.contents writer.old writer.new }
+    ensures { WritesExactly result (unreached_event_answer request.entry found.now) W.contents writer.old writer.new }
 {
     match request.format {
         ReportFormat::Text => write_unreached_text(request, found, writer),

@@ -5,7 +5,7 @@ ghost use Rattle.ga_text.specs.Output.{WritesExactly};
 ghost use Rattle.ga_json.specs.Values.{string};
 ghost use Rattle.ga_json.specs.Fields.{named_field_value};
 ghost use Rattle.ga_check_report.specs.EventJson.{event_details};
-ghost use Rattle.ga_check_report.specs.NeverJson.{unreached_word, unreached_fields, unreached_json, reached_fields, reached_json};
+ghost use Rattle.ga_check_report.specs.NeverJson.{unreached_event_word, unreached_event_fields, unreached_event_json, reached_event_fields, reached_event_json};
 
 use crate::ends_text::is_fully_explored;
 use crate::json_fields::{event_fields, search_fields};
@@ -24,15 +24,15 @@ pub(crate) fn write_unreached_json<W: Write>(
     found: &FoundEnds,
     writer: &mut Writer<'_, W>,
 ) -> WriteResult
-    ensures { WritesExactly result (unreached_json file.now found.now) W.contents writer.old writer.new }
+    ensures { WritesExactly result (unreached_event_json file.now found.now) W.contents writer.old writer.new }
 {
-    let fields = unreached_fields(file, found);
+    let fields = unreached_event_fields(file, found);
     write_object(fields.as_slice(), writer)
 }
 
 /// The fields of that object.
-fn unreached_fields<'a>(file: &'a [u8], found: &FoundEnds) -> RowFields<'a>
-    ensures { map named_field_value result.items ≡ unreached_fields file.now found.now }
+fn unreached_event_fields<'a>(file: &'a [u8], found: &FoundEnds) -> RowFields<'a>
+    ensures { map named_field_value result.items ≡ unreached_event_fields file.now found.now }
 {
     let mut fields = search_fields(b"never", file, found);
     let outcome = unreached_field(found);
@@ -42,7 +42,7 @@ fn unreached_fields<'a>(file: &'a [u8], found: &FoundEnds) -> RowFields<'a>
 
 /// What is known where no such event was found.
 fn unreached_field<'a>(found: &FoundEnds) -> Field<'a>
-    ensures { named_field_value result ≡ (codes "outcome", string (unreached_word found.now)) }
+    ensures { named_field_value result ≡ (codes "outcome", string (unreached_event_word found.now)) }
 {
     if is_fully_explored(found) {
         Field::text(b"outcome", b"holds")
@@ -62,15 +62,15 @@ pub(crate) fn write_reached_json<W: Write>(
     made: Made,
     writer: &mut Writer<'_, W>,
 ) -> WriteResult
-    ensures { WritesExactly result (reached_json file.now events which made) W.contents writer.old writer.new }
+    ensures { WritesExactly result (reached_event_json file.now events which made) W.contents writer.old writer.new }
 {
-    let fields = reached_fields(file, events, which, made);
+    let fields = reached_event_fields(file, events, which, made);
     write_object(fields.as_slice(), writer)
 }
 
 /// The fields of that object.
-fn reached_fields<'a>(file: &'a [u8], events: u32, which: u8, made: Made) -> RowFields<'a>
-    ensures { map named_field_value result.items ≡ reached_fields file.now events (which + 1) ++ event_details made }
+fn reached_event_fields<'a>(file: &'a [u8], events: u32, which: u8, made: Made) -> RowFields<'a>
+    ensures { map named_field_value result.items ≡ reached_event_fields file.now events (which + 1) ++ event_details made }
 {
     let mut fields = row_fields(&[
         Field::text(b"answer", b"never"),

@@ -2,7 +2,7 @@
 
 ghost use Rattle.std.specs.Prelude.{◌≡◌, false};
 ghost use Rattle.ga_text.specs.Output.{WritesExactly};
-ghost use Rattle.ga_check_report.specs.NeverTexts.{not_reached_text, unreached_text, reached_text};
+ghost use Rattle.ga_check_report.specs.NeverTexts.{event_not_reached_text, unreached_event_text, reached_event_text};
 
 use crate::ends_text::{push_counted, stopped_line};
 use crate::request::CheckRequest;
@@ -26,7 +26,7 @@ pub(crate) fn write_made<W: Write>(
     made: Made,
     writer: &mut Writer<'_, W>,
 ) -> WriteResult
-    ensures { WritesExactly result (reached_text false conditions which made lab.now) W.contents writer.old writer.new }
+    ensures { WritesExactly result (reached_event_text false conditions which made lab.now) W.contents writer.old writer.new }
 {
     let ran = RunResult {
         events: u64::from(lab.counts().kept),
@@ -45,7 +45,7 @@ pub(crate) fn write_unreached_text<W: Write>(
     found: &FoundEnds,
     writer: &mut Writer<'_, W>,
 ) -> WriteResult
-    ensures { WritesExactly result (unreached_text request.entry found.now) W.contents writer.old writer.new }
+    ensures { WritesExactly result (unreached_event_text request.entry found.now) W.contents writer.old writer.new }
 {
     writer.write_blocks(unreached_line(request, found.count_states(), found.fault()).as_slice())
 }
@@ -56,7 +56,7 @@ fn unreached_line(
     states: usize,
     fault: Option<SearchFault>,
 ) -> TextBuffer
-    ensures { result.items ≡ not_reached_text request.entry states fault }
+    ensures { result.items ≡ event_not_reached_text request.entry states fault }
 {
     let mut out = ArrayVec::new();
     match fault {

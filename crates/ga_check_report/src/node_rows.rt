@@ -5,7 +5,7 @@ ghost use Rattle.ga_json.specs.Values.{item, no_items};
 ghost use Rattle.ga_state_ends.specs.declared.end_kind.NodeEnd.TheVariants.{Stopped};
 ghost use Rattle.ga_json.specs.Fields.{named_field_value, json_object};
 ghost use Rattle.ga_check_report.specs.EndTexts.{node_end_at};
-ghost use Rattle.ga_check_report.specs.EndJson.{is_idle_end, is_listed_end, node_action_fields, node_end_fields, node_row_fields, node_rows};
+ghost use Rattle.ga_check_report.specs.EndJson.{is_idle_end, is_listed_node_end, node_action_fields, node_end_fields, node_row_fields, node_rows};
 
 use crate::end_nodes::{is_unclean, node_end_at};
 use ga_grid::NodeId;
@@ -64,17 +64,17 @@ fn next_listed(kind: &EndKind, from: u8) -> Option<NodeId>
 
 /// Whether the node has a row.
 fn is_listed(kind: &EndKind, node: NodeId) -> bool
-    ensures { result ≡ is_listed_end (node_end_at kind.now.nodes node.number) (slice_index_or kind.now.unclean node.number false) }
+    ensures { result ≡ is_listed_node_end (node_end_at kind.now.nodes node.number) (slice_index_or kind.now.unclean node.number false) }
 {
-    is_listed_end(
+    is_listed_node_end(
         node_end_at(&kind.nodes, node),
         is_unclean(&kind.unclean, node),
     )
 }
 
 /// Whether a node that does this has a row: it isn't idle, or it isn't clean.
-fn is_listed_end(end: NodeEnd, is_unclean: bool) -> bool
-    ensures { result ≡ is_listed_end end is_unclean }
+fn is_listed_node_end(end: NodeEnd, is_unclean: bool) -> bool
+    ensures { result ≡ is_listed_node_end end is_unclean }
 {
     !is_idle_end(end) || is_unclean
 }

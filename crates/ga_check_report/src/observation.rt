@@ -2,7 +2,7 @@
 
 ghost use Rattle.std.specs.Prelude.{◌≡◌};
 ghost use Rattle.ga_node.specs.Record.{record_of};
-ghost use Rattle.ga_check_report.specs.Observations.{observation_by_wait, observed_action, observation_of};
+ghost use Rattle.ga_check_report.specs.Observations.{observation_by_wait, observed_action, observation_of_node};
 
 use crate::node_value::node_value;
 use crate::outcome::NodeObservation;
@@ -35,8 +35,8 @@ fn observed_action(node: &Node) -> NodeObservation
 }
 
 /// What a node has of what is required: the value that is tested, or else what it does.
-pub(crate) fn observation_of(requirement: &NodeRequirement, node: &Node) -> NodeObservation
-    ensures { result ≡ observation_of requirement.now (record_of node.now) }
+pub(crate) fn observation_of_node(requirement: &NodeRequirement, node: &Node) -> NodeObservation
+    ensures { result ≡ observation_of_node requirement.now (record_of node.now) }
 {
     match requirement {
         NodeRequirement::Holds(test) => {

@@ -3,9 +3,9 @@
 ghost use Rattle.std.specs.Prelude.{◌≡◌, ◌++◌, [], Some};
 ghost use Rattle.ga_text.specs.Lines.{Bytes};
 ghost use Rattle.ga_text.specs.Input.{IsWithinInputLimit};
-ghost use Rattle.ga_text.specs.Output.{IsWrittenOrTruncated, IsSameStream, WritesExactly, WritesText};
+ghost use Rattle.ga_text.specs.Output.{IsTextWrittenOrTruncated, IsSameStream, WritesExactly, WritesText};
 ghost use Rattle.ga_explorer.specs.Opening.{image_text_of};
-ghost use Rattle.ga_check_report.specs.Opened.{IsRefusalOutput, IsOpenedForObjects};
+ghost use Rattle.ga_check_report.specs.Opened.{IsWrittenWithStatus, IsOpenedForJsonOutput};
 ghost use Rattle.ga_check_report.specs.inner.{IsProgramOpened, told_lines};
 ghost use Rattle.ga_json.specs.Diagnostics.{diagnostics_json};
 ghost use Rattle.ga_json.specs.declared.format.ReportFormat.TheVariants.{Json};
@@ -43,7 +43,7 @@ pub(crate) fn open_program<R: Read, W: Write, E: Write>(
     match format {
         ReportFormat::Text => open_lab(alloc, input, reader, writer, errors, None, limit),
         ReportFormat::Json(file) => {
-            open_for_objects(alloc, input, reader, writer, errors, file, None, limit)
+            open_for_json_output(alloc, input, reader, writer, errors, file, None, limit)
         }
     }
 }
@@ -53,7 +53,7 @@ pub(crate) fn open_program<R: Read, W: Write, E: Write>(
 ///
 /// # Errors
 /// The status of a program that ends so.
-pub fn open_for_objects<R: Read, W: Write, E: Write>(
+pub fn open_for_json_output<R: Read, W: Write, E: Write>(
     alloc: Global,
     input: &mut Input,
     reader: &mut R,
@@ -67,7 +67,7 @@ pub fn open_for_objects<R: Read, W: Write, E: Write>(
     ensures begun { (left before : Bytes) →
         R.remaining reader.old ≡ Some left → W.contents writer.old ≡ Some before →
         (rest text : Bytes) × (R.remaining reader.new ≡ Some rest) × (W.contents writer.new ≡ Some (before ++ text))
-        × IsOpenedForObjects (image_text_of chip) file.now limit left input.new rest text result }
+        × IsOpenedForJsonOutput (image_text_of chip) file.now limit left input.new rest text result }
     ensures within { IsWithinInputLimit input.new }
 {
     let mut reason = Vec::new(alloc);
@@ -108,7 +108,7 @@ fn tell_unopened<W: Write>(
     status: Status,
     writer: &mut W,
 ) -> Status
-    ensures { WritesText (λ text. IsRefusalOutput (diagnostics_json file.now reason.now ++ diagnostics_json file.now told.now) status text result)
+    ensures { WritesText (λ text. IsWrittenWithStatus (diagnostics_json file.now reason.now ++ diagnostics_json file.now told.now) status text result)
         (W.contents writer.old) (W.contents writer.new) }
 {
     let mut out = Writer::new(writer);
@@ -119,8 +119,8 @@ fn tell_unopened<W: Write>(
 /// Writes what is pending, and answers a status, or that a write failed.
 fn status_sent<W: Write>(said: WriteResult, status: Status, writer: &mut Writer<'_, W>) -> Status
     ensures same { IsSameStream writer.old writer.new }
-    ensures written { (before whole : Bytes) → IsWrittenOrTruncated said (W.contents writer.old.stream.now) before whole writer.old.pending.items →
-        (text : Bytes) × (W.contents writer.new.stream.now ≡ Some (before ++ text)) × IsRefusalOutput whole status text result }
+    ensures written { (before whole : Bytes) → IsTextWrittenOrTruncated said (W.contents writer.old.stream.now) before whole writer.old.pending.items →
+        (text : Bytes) × (W.contents writer.new.stream.now ≡ Some (before ++ text)) × IsWrittenWithStatus whole status text result }
 {
     match said {
         Ok(()) => match writer.flush() {

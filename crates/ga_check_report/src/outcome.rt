@@ -2,7 +2,7 @@
 
 ghost use Rattle.std.specs.Prelude.{◌≡◌};
 ghost use Rattle.std.specs.List.{list_any};
-ghost use Rattle.ga_check_report.specs.Outcomes.{is_broken, is_unknown, outcomes_verdict};
+ghost use Rattle.ga_check_report.specs.Outcomes.{is_outcome_broken, is_outcome_unknown, outcomes_verdict};
 
 use crate::report::Verdict;
 use ga_lab::Made;
@@ -63,8 +63,8 @@ pub(crate) enum ExpectationOutcome {
 pub(crate) type OutcomeParts = (Breach, NodeObservation, Made, LinkFault);
 
 /// Whether the expectation doesn't hold in some order.
-fn is_broken(outcome: ExpectationOutcome) -> bool
-    ensures { result ≡ is_broken outcome }
+fn is_outcome_broken(outcome: ExpectationOutcome) -> bool
+    ensures { result ≡ is_outcome_broken outcome }
 {
     match outcome {
         ExpectationOutcome::Holds => false,
@@ -74,8 +74,8 @@ fn is_broken(outcome: ExpectationOutcome) -> bool
 }
 
 /// Whether it isn't known.
-pub(crate) fn is_unknown(outcome: ExpectationOutcome) -> bool
-    ensures { result ≡ is_unknown outcome }
+pub(crate) fn is_outcome_unknown(outcome: ExpectationOutcome) -> bool
+    ensures { result ≡ is_outcome_unknown outcome }
 {
     match outcome {
         ExpectationOutcome::Holds => false,
@@ -86,16 +86,16 @@ pub(crate) fn is_unknown(outcome: ExpectationOutcome) -> bool
 
 /// Whether one of the expectations doesn't hold in some order.
 fn has_broken(outcomes: &[ExpectationOutcome]) -> bool
-    ensures { result ≡ list_any is_broken outcomes.now }
+    ensures { result ≡ list_any is_outcome_broken outcomes.now }
 {
-    outcomes.iter().any(|outcome| is_broken(*outcome))
+    outcomes.iter().any(|outcome| is_outcome_broken(*outcome))
 }
 
 /// Whether one of them isn't known.
 fn has_unknown(outcomes: &[ExpectationOutcome]) -> bool
-    ensures { result ≡ list_any is_unknown outcomes.now }
+    ensures { result ≡ list_any is_outcome_unknown outcomes.now }
 {
-    outcomes.iter().any(|outcome| is_unknown(*outcome))
+    outcomes.iter().any(|outcome| is_outcome_unknown(*outcome))
 }
 
 /// Whether an expectation is broken; or else one isn't known; or each holds.

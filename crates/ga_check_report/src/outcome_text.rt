@@ -3,8 +3,8 @@
 ghost use Rattle.std.specs.Prelude.{◌≡◌, ◌≤◌, ◌+◌, ◌++◌, length, codes, decimal};
 ghost use Rattle.arrayvec.specs.ArrayVec.{array_vec_len};
 ghost use Rattle.ga_text.specs.Output.{WritesExactly};
-ghost use Rattle.ga_ports.specs.Address.{only};
-ghost use Rattle.ga_check_report.specs.ExpectationTexts.{optional_side_text, side_words, observation_text, session_option_text, breach_text, outcome_text, expectation_front, expectation_line, expectations_header, missing_session_text};
+ghost use Rattle.ga_ports.specs.Address.{single_side_set};
+ghost use Rattle.ga_check_report.specs.ExpectationTexts.{optional_side_text, side_words, observation_text, session_option_text, breach_text, outcome_text, expectation_line_start, expectation_line, expectations_header, missing_session_text};
 
 use crate::decision_text::{MADE_ROOM, push_made};
 use crate::ends_text::{at_least_text, push_counted};
@@ -55,7 +55,7 @@ pub(crate) fn push_sides(out: &mut TextBuffer, sides: PortSet)
 
 /// The sides that are one.
 pub(crate) fn sides_of(side: Side) -> PortSet
-    ensures { result ≡ only side }
+    ensures { result ≡ single_side_set side }
 {
     PortSet::of(side.bit())
 }
@@ -145,8 +145,8 @@ fn outcome_text(whole: bool, number: usize, outcome: ExpectationOutcome) -> Text
 }
 
 /// What comes before the words of an expectation.
-fn expectation_front(line: u32) -> TextBuffer
-    ensures { result.items ≡ expectation_front line }
+fn expectation_line_start(line: u32) -> TextBuffer
+    ensures { result.items ≡ expectation_line_start line }
 {
     let mut out = ArrayVec::new();
     push_text(&mut out, b"line ");
@@ -168,7 +168,7 @@ pub(crate) fn write_expectation<W: Write>(
 ) -> WriteResult
     ensures { WritesExactly result (expectation_line whole number one.now outcome) W.contents writer.old writer.new }
 {
-    writer.write_blocks(expectation_front(one.line).as_slice())?;
+    writer.write_blocks(expectation_line_start(one.line).as_slice())?;
     writer.write_blocks(one.text.as_slice())?;
     writer.write_blocks(outcome_text(whole, number, outcome).as_slice())
 }

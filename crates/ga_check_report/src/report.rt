@@ -3,7 +3,7 @@
 ghost use Rattle.std.specs.Prelude.{◌≡◌, ◌≤◌, ◌<◌, ◌⊎◌, ◌++◌, true, false, Some, length, OnOk, IfErr};
 ghost use Rattle.std.specs.List.{list_any};
 ghost use Rattle.ga_text.specs.Lines.{Bytes};
-ghost use Rattle.ga_text.specs.Output.{IsWrittenOrTruncated, IsSameStream, WritesExactly, WritesText, ReadsAndWrites};
+ghost use Rattle.ga_text.specs.Output.{IsTextWrittenOrTruncated, IsSameStream, WritesExactly, WritesText, ReadsAndWrites};
 ghost use Rattle.ga_lab.specs.Machine.{chip_of};
 ghost use Rattle.ga_explorer_text.specs.Saved.{saved_text};
 ghost use Rattle.ga_console.specs.declared.run.Status.TheVariants.{ImageRefused};
@@ -12,7 +12,7 @@ ghost use Rattle.ga_lab.specs.declared.fault.LabFault.TheVariants.{Memory, Full}
 ghost use Rattle.ga_check_report.specs.Settled.{check_start};
 ghost use Rattle.ga_check_report.specs.EndTexts.{missing_kind_text};
 ghost use Rattle.ga_check_report.specs.Answers.{refusal_answer, ends_answer};
-ghost use Rattle.ga_check_report.specs.Checking.{WritesEndsReport, IsCheckOutcome, IsReportOutput, HasReachedEndKind, verdict_of, missing_kind_verdict};
+ghost use Rattle.ga_check_report.specs.Checking.{WritesEndsReport, IsCheckOutcome, IsWrittenWithVerdict, HasReachedEndKind, ends_verdict, missing_kind_verdict};
 ghost use Rattle.ga_check_report.specs.declared.report.Verdict.TheVariants.{Saved, Ended};
 
 use crate::ends_json::write_ends_json;
@@ -196,12 +196,12 @@ fn lead_to(alloc: Global, lab: &mut Lab, found: &FoundEnds, asked: u32) -> Resul
 
 /// Writes the kinds of end.
 fn tell_all<W: Write>(request: CheckRequest<'_>, found: &FoundEnds, writer: &mut W) -> Verdict
-    ensures { WritesText (λ text. IsReportOutput (ends_answer request.entry found.now) (verdict_of found.now) text result)
+    ensures { WritesText (λ text. IsWrittenWithVerdict (ends_answer request.entry found.now) (ends_verdict found.now) text result)
         (W.contents writer.old) (W.contents writer.new) }
 {
     let mut out = Writer::new(writer);
     let said = write_answer(request, found, &mut out);
-    sent(said, verdict_of(found), &mut out)
+    sent(said, ends_verdict(found), &mut out)
 }
 
 /// Writes the kinds of end in the format that was asked for.
@@ -223,7 +223,7 @@ fn write_answer<W: Write>(
 
 /// Writes that there is no kind of end of this number.
 fn tell_none<W: Write>(asked: u32, found: &FoundEnds, writer: &mut W) -> Verdict
-    ensures { WritesText (λ text. IsReportOutput (missing_kind_text asked found.now) (missing_kind_verdict found.now) text result)
+    ensures { WritesText (λ text. IsWrittenWithVerdict (missing_kind_text asked found.now) (missing_kind_verdict found.now) text result)
         (W.contents writer.old) (W.contents writer.new) }
 {
     let mut out = Writer::new(writer);
@@ -233,7 +233,7 @@ fn tell_none<W: Write>(asked: u32, found: &FoundEnds, writer: &mut W) -> Verdict
 
 /// Writes the session that leads to the current state of a lab, and returns this verdict.
 pub(crate) fn tell_saved_as<W: Write>(verdict: Verdict, lab: &Lab, writer: &mut W) -> Verdict
-    ensures { WritesText (λ text. IsReportOutput (saved_text lab.now) verdict text result) (W.contents writer.old) (W.contents writer.new) }
+    ensures { WritesText (λ text. IsWrittenWithVerdict (saved_text lab.now) verdict text result) (W.contents writer.old) (W.contents writer.new) }
 {
     let mut out = Writer::new(writer);
     let said = write_save(lab, &mut out);
@@ -246,7 +246,7 @@ pub(crate) fn tell_refused<W: Write>(
     fault: LabFault,
     writer: &mut W,
 ) -> Verdict
-    ensures { WritesText (λ text. IsReportOutput (refusal_answer format.entry fault) (Ended ImageRefused) text result)
+    ensures { WritesText (λ text. IsWrittenWithVerdict (refusal_answer format.entry fault) (Ended ImageRefused) text result)
         (W.contents writer.old) (W.contents writer.new) }
 {
     let mut out = Writer::new(writer);
@@ -279,8 +279,8 @@ pub(crate) fn sent<W: Write>(
     writer: &mut Writer<'_, W>,
 ) -> Verdict
     ensures same { IsSameStream writer.old writer.new }
-    ensures written { (before whole : Bytes) → IsWrittenOrTruncated said (W.contents writer.old.stream.now) before whole writer.old.pending.items →
-        (text : Bytes) × (W.contents writer.new.stream.now ≡ Some (before ++ text)) × IsReportOutput whole verdict text result }
+    ensures written { (before whole : Bytes) → IsTextWrittenOrTruncated said (W.contents writer.old.stream.now) before whole writer.old.pending.items →
+        (text : Bytes) × (W.contents writer.new.stream.now ≡ Some (before ++ text)) × IsWrittenWithVerdict whole verdict text result }
 {
     match said {
         Ok(()) => match writer.flush() {
@@ -292,8 +292,8 @@ pub(crate) fn sent<W: Write>(
 }
 
 /// Whether an end that isn't clean was found, or there is none, or there may be others.
-fn verdict_of(found: &FoundEnds) -> Verdict
-    ensures { result ≡ verdict_of found.now }
+fn ends_verdict(found: &FoundEnds) -> Verdict
+    ensures { result ≡ ends_verdict found.now }
 {
     if has_unclean(found.kinds()) {
         Verdict::Unclean

@@ -5,12 +5,12 @@ ghost use Rattle.ga_ports.specs.Address.{address_target};
 ghost use Rattle.ga_node.specs.Record.{record_of};
 ghost use Rattle.ga_node.specs.Table.{refusal};
 ghost use Rattle.ga_lab.specs.Machine.{state_after_step};
-ghost use Rattle.ga_check_report.specs.Settled.{is_port_target, fetches_from_ports, settled_at_node, settled, check_start};
+ghost use Rattle.ga_check_report.specs.Settled.{is_port_target, fetches_from_ports, state_after_settling_node, state_after_settling, check_start};
 
 use ga_grid::NodeId;
 use ga_lab::{Lab, LabFault};
 use ga_node::{Node, Place};
-use ga_ports::{Target, classify_address};
+use ga_ports::{AddressTarget, classify_address};
 use std::alloc::AllocError;
 
 /// Where `settles` is set, makes the event of each node by which it comes to wait for code, where that is its next, in the order of
@@ -25,7 +25,7 @@ pub fn settle_waiting_nodes(lab: &mut Lab, settles: bool) -> Result<(), AllocErr
 }
 
 fn settle_all(lab: &mut Lab) -> Result<(), AllocError>
-    ensures ok { OnOk result (lab.new ≡ settled lab.old) }
+    ensures ok { OnOk result (lab.new ≡ state_after_settling lab.old) }
 {
     'nodes: for number in 0..144u8 {
         settle_node(lab, NodeId::new(number))?;
@@ -34,7 +34,7 @@ fn settle_all(lab: &mut Lab) -> Result<(), AllocError>
 }
 
 fn settle_node(lab: &mut Lab, node: NodeId) -> Result<(), AllocError>
-    ensures ok { OnOk result (lab.new ≡ settled_at_node lab.old node) }
+    ensures ok { OnOk result (lab.new ≡ state_after_settling_node lab.old node) }
 {
     if fetches_from_ports(lab.node(node)) {
         step(lab, node)
@@ -81,20 +81,20 @@ fn is_fetch_due(at: &Node) -> bool
 
 /// What a node's P names.
 #[tactic(auto, unfolding(ga_node::specs::Record::record_of))]
-fn target_of_p(at: &Node) -> Target
+fn target_of_p(at: &Node) -> AddressTarget
     ensures { result ≡ address_target (record_of at.now).p }
 {
     classify_address(at.get(Place::P))
 }
 
-fn is_port_target(target: Target) -> bool
+fn is_port_target(target: AddressTarget) -> bool
     ensures { result ≡ is_port_target target }
 {
     match target {
-        Target::Ports(_) => true,
-        Target::Ram(_) => false,
-        Target::Rom(_) => false,
-        Target::Io => false,
-        Target::Bad => false,
+        AddressTarget::Ports(_) => true,
+        AddressTarget::Ram(_) => false,
+        AddressTarget::Rom(_) => false,
+        AddressTarget::Io => false,
+        AddressTarget::Bad => false,
     }
 }

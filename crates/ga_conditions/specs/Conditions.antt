@@ -7,7 +7,7 @@ use Rattle.ga_text.specs.Parsing.{parse_number, with_prepended_byte, split_at_sp
 use Rattle.ga_text.specs.Digits.{hex_byte_value}
 use Rattle.ga_ports.specs.Steps.{◌>>=◌}
 use Rattle.ga_grid.specs.declared.node_id.NodeId.{NodeId}
-use Rattle.ga_scheduler.specs.Values.{is_possible}
+use Rattle.ga_scheduler.specs.Values.{can_be_passed}
 use Rattle.ga_scheduler.specs.declared.value_test.NodeValue.TheVariants.{P, Cell}
 use Rattle.ga_scheduler.specs.declared.value_test.Comparison.TheVariants.{Equal}
 use Rattle.ga_scheduler.specs.declared.value_test.ValueTest.{ValueTest}
@@ -16,19 +16,19 @@ use Rattle.ga_scheduler.specs.declared.condition.Condition.TheVariants.{Never, P
 use Rattle.ga_debug_info.specs.declared.notes.DebugInfo.{DebugInfo}
 use Rattle.ga_debug_info.specs.declared.notes.LabelAddress.{LabelAddress}
 use Rattle.ga_debug_info.specs.Notes.{line_address, label_address_of}
-use Rattle.ga_conditions.specs.Numbers.{fitting_word, hex_word_in, operand_in, first_operand}
-use Rattle.ga_conditions.specs.Tests.{comparison_in, test_in}
+use Rattle.ga_conditions.specs.Numbers.{word_if_in_range, parsed_hex_word, parsed_operand, first_known_operand}
+use Rattle.ga_conditions.specs.Tests.{parsed_comparison, parsed_value_test}
 
 -- ---- a condition: `reach` and `change` hold only at the event that makes it so
 
 -- the labels of a program, where there is source
-abbrev pub labels_in : Option DebugInfo → List LabelAddress
-labels_in None = []
-labels_in (Some notes) = notes.names.items
+abbrev pub labels_of_debug_info : Option DebugInfo → List LabelAddress
+labels_of_debug_info None = []
+labels_of_debug_info (Some notes) = notes.names.items
 
 -- a number that is a word
 abbrev pub parse_operand_word : List LabelAddress → NodeId → Line → Option ℕ
-parse_operand_word names node text = option_and_then fitting_word (operand_in names node text)
+parse_operand_word names node text = option_and_then word_if_in_range (parsed_operand names node text)
 
 -- `= NUMBER`
 unfoldable pub parse_equal_word : List LabelAddress → NodeId → Line → Option ℕ
@@ -37,14 +37,14 @@ parse_equal_word names node text = do
   if pointwise nat_eq parts.0 (codes "=") then parse_operand_word names node parts.1 else None
 
 -- the test, if its number is a word or counts steps
-abbrev pub valid_test : ValueTest → Option ValueTest
-valid_test test = if is_possible test then Some test else None
+abbrev pub valid_value_test : ValueTest → Option ValueTest
+valid_value_test test = if can_be_passed test then Some test else None
 
 -- `VALUE OP NUMBER` of a node
 unfoldable pub parse_test_condition : Option DebugInfo → NodeId → Line → Option Condition
 parse_test_condition notes node text = do
-  test ← test_in (labels_in notes) node text
-  possible ← valid_test test
+  test ← parsed_value_test (labels_of_debug_info notes) node text
+  possible ← valid_value_test test
   Some (HoldsValue node possible)
 
 -- `NNN K`
@@ -58,17 +58,17 @@ parse_step_condition text = do
 -- `OP NUMBER` of a word that passes
 unfoldable pub parse_word_condition : NodeId → NodeId → Line → Line → Option Condition
 parse_word_condition writer reader sign text = do
-  comparison ← comparison_in sign
+  comparison ← parsed_comparison sign
   word ← parse_operand_word [] reader text
   Some (Passes writer reader comparison word)
 
 -- `OP NUMBER` or `J` after `NNN MMM`
-abbrev pub link_condition_split : NodeId → NodeId → Option (Line × Line) → Line → Option Condition
-link_condition_split writer reader None text = option_map (PassesNumber writer reader) (parse_number text)
-link_condition_split writer reader (Some parts) text = parse_word_condition writer reader parts.0 parts.1
+abbrev pub link_condition_from_split : NodeId → NodeId → Option (Line × Line) → Line → Option Condition
+link_condition_from_split writer reader None text = option_map (PassesNumber writer reader) (parse_number text)
+link_condition_from_split writer reader (Some parts) text = parse_word_condition writer reader parts.0 parts.1
 
 abbrev pub parse_link_condition : NodeId → NodeId → Line → Option Condition
-parse_link_condition writer reader text = link_condition_split writer reader (split_at_space text) text
+parse_link_condition writer reader text = link_condition_from_split writer reader (split_at_space text) text
 
 -- `NNN MMM OP NUMBER` or `NNN MMM J`
 unfoldable pub parse_pass_condition : Line → Option Condition
@@ -80,12 +80,12 @@ parse_pass_condition text = do
   parse_link_condition writer reader second.1
 
 -- the word at an address of the node's memory is this one
-abbrev pub cell_equals : NodeId → ℕ → ℕ → Condition
-cell_equals node address word = HoldsValue node (record { value = Cell address; comparison = Equal; number = word })
+abbrev pub cell_equals_condition : NodeId → ℕ → ℕ → Condition
+cell_equals_condition node address word = HoldsValue node (record { value = Cell address; comparison = Equal; number = word })
 
 -- P of the node is this address
-abbrev pub p_equals : NodeId → ℕ → Condition
-p_equals node address = HoldsValue node (record { value = P; comparison = Equal; number = address })
+abbrev pub p_equals_condition : NodeId → ℕ → Condition
+p_equals_condition node address = HoldsValue node (record { value = P; comparison = Equal; number = address })
 
 -- `NNN HH = NUMBER`
 unfoldable pub parse_memory_condition : Option DebugInfo → Line → Option Condition
@@ -94,8 +94,8 @@ parse_memory_condition notes text = do
   second ← split_at_space first.1
   node ← parse_node first.0
   address ← hex_byte_value second.0
-  word ← parse_equal_word (labels_in notes) node second.1
-  Some (cell_equals node address word)
+  word ← parse_equal_word (labels_of_debug_info notes) node second.1
+  Some (cell_equals_condition node address word)
 
 -- the address of the first instruction word of a node that a line begins, which only source gives
 abbrev pub source_line_address : Option DebugInfo → NodeId → ℕ → Option ℕ
@@ -110,17 +110,17 @@ parse_line_address notes node name text =
       source_line_address notes node line)
     else None
 
-abbrev pub label_or_line_split : Option DebugInfo → NodeId → Option (Line × Line) → Line → Option ℕ
-label_or_line_split notes node None text = label_address_of (labels_in notes) node text
-label_or_line_split notes node (Some parts) text = parse_line_address notes node parts.0 parts.1
+abbrev pub label_or_line_from_split : Option DebugInfo → NodeId → Option (Line × Line) → Line → Option ℕ
+label_or_line_from_split notes node None text = label_address_of (labels_of_debug_info notes) node text
+label_or_line_from_split notes node (Some parts) text = parse_line_address notes node parts.0 parts.1
 
 -- a label, or `line N`
 abbrev pub parse_label_or_line : Option DebugInfo → NodeId → Line → Option ℕ
-parse_label_or_line notes node text = label_or_line_split notes node (split_at_space text) text
+parse_label_or_line notes node text = label_or_line_from_split notes node (split_at_space text) text
 
 -- an address, or else a label or a line
 abbrev pub parse_address_or_label : Option DebugInfo → NodeId → Line → Option ℕ
-parse_address_or_label notes node text = first_operand (hex_word_in text) (parse_label_or_line notes node text)
+parse_address_or_label notes node text = first_known_operand (parsed_hex_word text) (parse_label_or_line notes node text)
 
 -- `NNN X`
 unfoldable pub parse_node_and_address : Option DebugInfo → Line → Option (NodeId × ℕ)
@@ -131,32 +131,32 @@ parse_node_and_address notes text = do
   Some (node, address)
 
 -- `HH` or `HH = NUMBER` after `NNN`
-abbrev pub node_change_split : List LabelAddress → NodeId → Option (Line × Line) → Line → Option Condition
-node_change_split names node None text = do
+abbrev pub node_change_from_split : List LabelAddress → NodeId → Option (Line × Line) → Line → Option Condition
+node_change_from_split names node None text = do
   address ← hex_byte_value text
   Some (WritesTo node address None)
-node_change_split names node (Some parts) text = do
+node_change_from_split names node (Some parts) text = do
   address ← hex_byte_value parts.0
   word ← parse_equal_word names node parts.1
   Some (WritesTo node address (Some word))
 
 abbrev pub parse_node_change : List LabelAddress → NodeId → Line → Option Condition
-parse_node_change names node text = node_change_split names node (split_at_space text) text
+parse_node_change names node text = node_change_from_split names node (split_at_space text) text
 
 -- `NNN HH` or `NNN HH = NUMBER`
 unfoldable pub parse_change_condition : Option DebugInfo → Line → Option Condition
 parse_change_condition notes text = do
   parts ← split_at_space text
   node ← parse_node parts.0
-  parse_node_change (labels_in notes) node parts.1
+  parse_node_change (labels_of_debug_info notes) node parts.1
 
 -- a condition of one word
 unfoldable pub one_word_condition : Line → Option Condition
 one_word_condition name = if pointwise nat_eq name (codes "stop") then Some Stops else None
 
 -- a condition of a word and what follows it
-unfoldable pub named_condition : Option DebugInfo → Line → Line → Option Condition
-named_condition notes name text =
+unfoldable pub condition_by_keyword : Option DebugInfo → Line → Line → Option Condition
+condition_by_keyword notes name text =
     if pointwise nat_eq name (codes "stop") then option_map StopsAt (parse_node text)
     else if pointwise nat_eq name (codes "wait") then option_map WaitsAt (parse_node text)
     else if pointwise nat_eq name (codes "step") then parse_step_condition text
@@ -164,7 +164,7 @@ named_condition notes name text =
     else if pointwise nat_eq name (codes "mem") then parse_memory_condition notes text
     else if pointwise nat_eq name (codes "p") then (do
       it ← parse_node_and_address notes text
-      Some (p_equals it.0 it.1))
+      Some (p_equals_condition it.0 it.1))
     else if pointwise nat_eq name (codes "reach") then (do
       it ← parse_node_and_address notes text
       Some (Reaches it.0 it.1))
@@ -175,34 +175,34 @@ named_condition notes name text =
 
 abbrev pub condition_from_split : Option DebugInfo → Option (Line × Line) → Line → Option Condition
 condition_from_split notes None text = one_word_condition text
-condition_from_split notes (Some parts) text = named_condition notes parts.0 parts.1
+condition_from_split notes (Some parts) text = condition_by_keyword notes parts.0 parts.1
 
-abbrev pub condition_in : Option DebugInfo → Line → Option Condition
-condition_in notes text = condition_from_split notes (split_at_space text) text
+abbrev pub parsed_run_condition : Option DebugInfo → Line → Option Condition
+parsed_run_condition notes text = condition_from_split notes (split_at_space text) text
 
 -- ---- conditions with ` or ` between them
 
 -- what follows ` or ` if a text begins with that
-unfoldable pub after_or : Line → Option Line
-after_or (a ∷ b ∷ c ∷ d ∷ rest) = if (a == 32) && ((b == 111) && ((c == 114) && (d == 32))) then Some rest else None
-after_or _ = None
+unfoldable pub text_after_or_keyword : Line → Option Line
+text_after_or_keyword (a ∷ b ∷ c ∷ d ∷ rest) = if (a == 32) && ((b == 111) && ((c == 114) && (d == 32))) then Some rest else None
+text_after_or_keyword _ = None
 
-abbrev pub split_here_or_later : Option Line → Option (Line × Line) → Option (Line × Line)
-split_here_or_later None later = later
-split_here_or_later (Some rest) later = Some ([], rest)
+abbrev pub first_or_keyword_split : Option Line → Option (Line × Line) → Option (Line × Line)
+first_or_keyword_split None later = later
+first_or_keyword_split (Some rest) later = Some ([], rest)
 
 -- what comes before the first ` or ` of a text, and what follows it
-abbrev pub split_at_or : Line → Option (Line × Line)
-split_at_or [] = None
-split_at_or (b ∷ text) = split_here_or_later (after_or (b ∷ text)) (with_prepended_byte b (split_at_or text))
+abbrev pub split_at_or_keyword : Line → Option (Line × Line)
+split_at_or_keyword [] = None
+split_at_or_keyword (b ∷ text) = first_or_keyword_split (text_after_or_keyword (b ∷ text)) (with_prepended_byte b (split_at_or_keyword text))
 
 -- the first condition, and those after it if there are some
-abbrev pub first_part_and_rest : Option (Line × Line) → Line → Line × Option Line
-first_part_and_rest None text = (text, None)
-first_part_and_rest (Some parts) text = (parts.0, Some parts.1)
+abbrev pub first_condition_and_rest : Option (Line × Line) → Line → Line × Option Line
+first_condition_and_rest None text = (text, None)
+first_condition_and_rest (Some parts) text = (parts.0, Some parts.1)
 
 abbrev pub split_first_condition : Line → Line × Option Line
-split_first_condition text = first_part_and_rest (split_at_or text) text
+split_first_condition text = first_condition_and_rest (split_at_or_keyword text) text
 
 -- how many are watched at most
 abbrev pub condition_limit : ℕ
@@ -222,22 +222,22 @@ remaining_conditions more others None = Some (replicate more Never)
 remaining_conditions more others (Some text) = others text
 
 abbrev pub conditions_from_split : Option DebugInfo → ℕ → (Line → Option (List Condition)) → Line × Option Line → Option (List Condition)
-conditions_from_split notes more others parts = prepended_condition (condition_in notes parts.0) (remaining_conditions more others parts.1)
+conditions_from_split notes more others parts = prepended_condition (parsed_run_condition notes parts.0) (remaining_conditions more others parts.1)
 
 -- conditions with ` or ` between them, for a number of places
-unfoldable pub conditions_within : Option DebugInfo → ℕ → Line → Option (List Condition)
-conditions_within notes zero text = None
-conditions_within notes (suc more) text = conditions_from_split notes more (conditions_within notes more) (split_first_condition text)
+unfoldable pub parsed_conditions_within : Option DebugInfo → ℕ → Line → Option (List Condition)
+parsed_conditions_within notes zero text = None
+parsed_conditions_within notes (suc more) text = conditions_from_split notes more (parsed_conditions_within notes more) (split_first_condition text)
 
-abbrev pub conditions_in : Option DebugInfo → Line → Option (List Condition)
-conditions_in notes text = conditions_within notes condition_limit text
+abbrev pub parsed_run_conditions : Option DebugInfo → Line → Option (List Condition)
+parsed_run_conditions notes text = parsed_conditions_within notes condition_limit text
 
 -- the conditions where none is given: each holds never
 abbrev pub no_conditions : List Condition
 no_conditions = replicate condition_limit Never
 
 -- `until COND or COND ..`
-unfoldable pub until_in : Option DebugInfo → Line → Option (List Condition)
-until_in notes text = do
+unfoldable pub parsed_until : Option DebugInfo → Line → Option (List Condition)
+parsed_until notes text = do
   parts ← split_at_space text
-  if pointwise nat_eq parts.0 (codes "until") then conditions_in notes parts.1 else None
+  if pointwise nat_eq parts.0 (codes "until") then parsed_run_conditions notes parts.1 else None

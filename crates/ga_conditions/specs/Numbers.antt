@@ -11,17 +11,17 @@ use Rattle.ga_debug_info.specs.declared.notes.LabelAddress.{LabelAddress}
 use Rattle.ga_debug_info.specs.Notes.{label_address_of}
 
 -- a number that fits in a word
-abbrev pub fitting_word : ℕ → Option ℕ
-fitting_word n = if nat_lt n (2 ^ 18) then Some n else None
+abbrev pub word_if_in_range : ℕ → Option ℕ
+word_if_in_range n = if nat_lt n (2 ^ 18) then Some n else None
 
 -- a word of six hexadecimal digits, in either case
-unfoldable pub hex_word_in : Line → Option ℕ
-hex_word_in (a ∷ b ∷ c ∷ d ∷ e ∷ f ∷ []) = do
+unfoldable pub parsed_hex_word : Line → Option ℕ
+parsed_hex_word (a ∷ b ∷ c ∷ d ∷ e ∷ f ∷ []) = do
   high ← hex_byte_value (a ∷ b ∷ [])
   middle ← hex_byte_value (c ∷ d ∷ [])
   low ← hex_byte_value (e ∷ f ∷ [])
-  fitting_word (65536 * high + 256 * middle + low)
-hex_word_in _ = None
+  word_if_in_range (65536 * high + 256 * middle + low)
+parsed_hex_word _ = None
 
 -- ---- a number: decimal without leading zeros, or hexadecimal after 0x; after - it is negative, modulo 2^18
 
@@ -60,12 +60,12 @@ parse_plain_number text = if bytes_eq (take 1 text) (codes "-") then option_and_
 
 -- ---- the operand of a comparison: a number, a word as answers have it, the address of a port, or else that of a label of the node
 
-abbrev pub first_operand : Option ℕ → Option ℕ → Option ℕ
-first_operand None other = other
-first_operand (Some number) other = Some number
+abbrev pub first_known_operand : Option ℕ → Option ℕ → Option ℕ
+first_known_operand None other = other
+first_known_operand (Some number) other = Some number
 
 abbrev pub parse_plain_operand : Text → Option ℕ
-parse_plain_operand text = first_operand (parse_plain_number text) (first_operand (hex_word_in text) (named_port_address text))
+parse_plain_operand text = first_known_operand (parse_plain_number text) (first_known_operand (parsed_hex_word text) (named_port_address text))
 
-abbrev pub operand_in : List LabelAddress → NodeId → Text → Option ℕ
-operand_in names node text = first_operand (parse_plain_operand text) (label_address_of names node text)
+abbrev pub parsed_operand : List LabelAddress → NodeId → Text → Option ℕ
+parsed_operand names node text = first_known_operand (parse_plain_operand text) (label_address_of names node text)

@@ -12,12 +12,12 @@ use Rattle.ga_scheduler.specs.declared.value_test.NodeValue.TheVariants.{Step, P
 use Rattle.ga_scheduler.specs.declared.value_test.Comparison.{Comparison}
 use Rattle.ga_scheduler.specs.declared.value_test.Comparison.TheVariants.{Equal, Unequal, Less, AtMost, More, AtLeast}
 use Rattle.ga_scheduler.specs.declared.value_test.ValueTest.{ValueTest}
-use Rattle.ga_conditions.specs.Numbers.{operand_in}
+use Rattle.ga_conditions.specs.Numbers.{parsed_operand}
 
 -- ---- the value: t s r p a b i, d2 to d9, r1 to r8, io, slot, carry, step, or the cell [HH]
 
-abbrev pub one_letter_value : ℕ → Option NodeValue
-one_letter_value letter =
+abbrev pub node_value_of_one_letter : ℕ → Option NodeValue
+node_value_of_one_letter letter =
     if letter == 116 then Some (DataWord 0)
     else if letter == 115 then Some (DataWord 1)
     else if letter == 114 then Some (ReturnWord 0)
@@ -27,33 +27,33 @@ one_letter_value letter =
     else if letter == 105 then Some I
     else None
 
-abbrev pub two_letter_value : ℕ → ℕ → Option NodeValue
-two_letter_value stack place =
+abbrev pub node_value_of_two_letters : ℕ → ℕ → Option NodeValue
+node_value_of_two_letters stack place =
     if stack == 100 && nat_le 50 place && nat_le place 57 then Some (DataWord (place - 48))
     else if stack == 114 && nat_le 49 place && nat_le place 56 then Some (ReturnWord (place - 48))
     else if stack == 105 && place == 111 then Some Io
     else None
 
-abbrev pub cell_value : Text → Option NodeValue
-cell_value text =
+abbrev pub node_value_in_brackets : Text → Option NodeValue
+node_value_in_brackets text =
     if length text == 4 && slice_index text 0 == 91 && slice_index text 3 == 93 then option_map (λ address. Cell address) (hex_byte_value (slice_range text 1 3)) else None
 
-abbrev pub keyword_value : Text → Option NodeValue
-keyword_value text =
+abbrev pub node_value_of_keyword : Text → Option NodeValue
+node_value_of_keyword text =
     if bytes_eq text (codes "slot") then Some Slot
     else if bytes_eq text (codes "carry") then Some Carry
     else if bytes_eq text (codes "step") then Some Step
-    else cell_value text
+    else node_value_in_brackets text
 
-unfoldable pub named_value_in : Text → Option NodeValue
-named_value_in (letter ∷ []) = one_letter_value letter
-named_value_in (stack ∷ place ∷ []) = two_letter_value stack place
-named_value_in text = keyword_value text
+unfoldable pub parsed_node_value : Text → Option NodeValue
+parsed_node_value (letter ∷ []) = node_value_of_one_letter letter
+parsed_node_value (stack ∷ place ∷ []) = node_value_of_two_letters stack place
+parsed_node_value text = node_value_of_keyword text
 
 -- ---- the comparison
 
-abbrev pub comparison_in : Text → Option Comparison
-comparison_in text =
+abbrev pub parsed_comparison : Text → Option Comparison
+parsed_comparison text =
     if bytes_eq text (codes "=") || bytes_eq text (codes "==") then Some Equal
     else if bytes_eq text (codes "!=") then Some Unequal
     else if bytes_eq text (codes "<") then Some Less
@@ -64,11 +64,11 @@ comparison_in text =
 
 -- ---- the test, with the labels of a program
 
-unfoldable pub test_in : List LabelAddress → NodeId → Text → Option ValueTest
-test_in names node text = do
+unfoldable pub parsed_value_test : List LabelAddress → NodeId → Text → Option ValueTest
+parsed_value_test names node text = do
   after_value ← split_at_space text
   after_sign ← split_at_space after_value.1
-  value ← named_value_in after_value.0
-  comparison ← comparison_in after_sign.0
-  number ← operand_in names node after_sign.1
+  value ← parsed_node_value after_value.0
+  comparison ← parsed_comparison after_sign.0
+  number ← parsed_operand names node after_sign.1
   Some (record { value = value; comparison = comparison; number = number })

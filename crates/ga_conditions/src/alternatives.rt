@@ -1,7 +1,7 @@
 //! Some conditions with `or` between them, as text.
 
 ghost use Rattle.std.specs.Prelude.{◌≡◌, ◌≤◌, length, drop, if◌then◌else◌, IsTrue, Some, None, option_map};
-ghost use Rattle.ga_conditions.specs.Conditions.{after_or, split_at_or, split_first_condition, conditions_in, no_conditions, until_in};
+ghost use Rattle.ga_conditions.specs.Conditions.{text_after_or_keyword, split_at_or_keyword, split_first_condition, parsed_run_conditions, no_conditions, parsed_until};
 
 use crate::condition::parse_run_condition;
 use ga_debug_info::DebugInfo;
@@ -20,9 +20,9 @@ pub fn no_conditions() -> Conditions
 }
 
 /// Whether a text begins with ` or `.
-#[tactic(auto, unfolding(crate::specs::Conditions::after_or))]
+#[tactic(auto, unfolding(crate::specs::Conditions::text_after_or_keyword))]
 fn begins_or(text: &[u8]) -> bool
-    ensures rest { after_or text.now ≡ (if result then Some (drop 4 text.now) else None) }
+    ensures rest { text_after_or_keyword text.now ≡ (if result then Some (drop 4 text.now) else None) }
     ensures long { IsTrue result → 4 ≤ length text.now }
 {
     match text {
@@ -32,8 +32,8 @@ fn begins_or(text: &[u8]) -> bool
 }
 
 /// What comes before the first ` or `, and what follows it.
-fn split_at_or(text: &[u8]) -> Option<(&[u8], &[u8])>
-    ensures { option_map (λ parts. (parts.0.now, parts.1.now)) result ≡ split_at_or text.now }
+fn split_at_or_keyword(text: &[u8]) -> Option<(&[u8], &[u8])>
+    ensures { option_map (λ parts. (parts.0.now, parts.1.now)) result ≡ split_at_or_keyword text.now }
 {
     for place in 0..text.len() {
         let (before, rest) = text.split_at(place);
@@ -49,7 +49,7 @@ pub fn split_first_condition(text: &[u8]) -> (&[u8], Option<&[u8]>)
     ensures first { result.0.now ≡ (split_first_condition text.now).0 }
     ensures others { option_map (λ others. others.now) result.1 ≡ (split_first_condition text.now).1 }
 {
-    match split_at_or(text) {
+    match split_at_or_keyword(text) {
         Some((first, others)) => (first, Some(others)),
         None => (text, None),
     }
@@ -57,7 +57,7 @@ pub fn split_first_condition(text: &[u8]) -> (&[u8], Option<&[u8]>)
 
 /// The conditions of a text, at most as many as a run watches; or none.
 pub fn parse_conditions(notes: &Option<DebugInfo>, text: &[u8]) -> Option<Conditions>
-    ensures { result ≡ conditions_in notes.now text.now }
+    ensures { result ≡ parsed_run_conditions notes.now text.now }
 {
     let mut conditions = no_conditions();
     let mut left = text;
@@ -73,9 +73,9 @@ pub fn parse_conditions(notes: &Option<DebugInfo>, text: &[u8]) -> Option<Condit
 }
 
 /// `until` and the conditions that follow it.
-#[tactic(auto, unfolding(crate::specs::Conditions::until_in))]
+#[tactic(auto, unfolding(crate::specs::Conditions::parsed_until))]
 pub fn parse_until(notes: &Option<DebugInfo>, text: &[u8]) -> Option<Conditions>
-    ensures { result ≡ until_in notes.now text.now }
+    ensures { result ≡ parsed_until notes.now text.now }
 {
     let (name, rest) = split_at_space(text)?;
     match name {

@@ -1,10 +1,10 @@
 //! One condition of a run or of a search back, as text.
 
 ghost use Rattle.std.specs.Prelude.{◌≡◌};
-ghost use Rattle.ga_conditions.specs.Conditions.{condition_in, one_word_condition, named_condition, parse_test_condition, valid_test, parse_step_condition, parse_pass_condition, parse_link_condition, parse_word_condition, labels_in, parse_memory_condition, parse_node_and_address, p_equals, parse_change_condition, parse_node_change, parse_address_or_label, parse_label_or_line, parse_line_address, source_line_address, parse_equal_word, parse_operand_word};
+ghost use Rattle.ga_conditions.specs.Conditions.{parsed_run_condition, one_word_condition, condition_by_keyword, parse_test_condition, valid_value_test, parse_step_condition, parse_pass_condition, parse_link_condition, parse_word_condition, labels_of_debug_info, parse_memory_condition, parse_node_and_address, p_equals_condition, parse_change_condition, parse_node_change, parse_address_or_label, parse_label_or_line, parse_line_address, source_line_address, parse_equal_word, parse_operand_word};
 
 use crate::numbers::{parse_hex_word, parse_operand};
-use crate::tests_of_values::{parse_comparison, parse_test};
+use crate::tests_of_values::{parse_comparison, parse_value_test};
 use ga_debug_info::{DebugInfo, LabelAddress, label_address};
 use ga_grid::NodeId;
 use ga_scheduler::{Comparison, Condition, NodeValue, ValueTest};
@@ -13,10 +13,10 @@ use ga_word::Word18;
 
 /// The condition that a text spells, or none.
 pub fn parse_run_condition(notes: &Option<DebugInfo>, text: &[u8]) -> Option<Condition>
-    ensures { result ≡ condition_in notes.now text.now }
+    ensures { result ≡ parsed_run_condition notes.now text.now }
 {
     match split_at_space(text) {
-        Some((name, rest)) => named_condition(notes, name, rest),
+        Some((name, rest)) => condition_by_keyword(notes, name, rest),
         None => one_word_condition(text),
     }
 }
@@ -31,9 +31,9 @@ fn one_word_condition(name: &[u8]) -> Option<Condition>
     }
 }
 
-#[tactic(auto, unfolding(crate::specs::Conditions::named_condition))]
-fn named_condition(notes: &Option<DebugInfo>, name: &[u8], rest: &[u8]) -> Option<Condition>
-    ensures { result ≡ named_condition notes.now name.now rest.now }
+#[tactic(auto, unfolding(crate::specs::Conditions::condition_by_keyword))]
+fn condition_by_keyword(notes: &Option<DebugInfo>, name: &[u8], rest: &[u8]) -> Option<Condition>
+    ensures { result ≡ condition_by_keyword notes.now name.now rest.now }
 {
     if name == b"stop".as_slice() {
         Some(Condition::StopsAt(parse_node(rest)?))
@@ -47,7 +47,7 @@ fn named_condition(notes: &Option<DebugInfo>, name: &[u8], rest: &[u8]) -> Optio
         holds_of(notes, rest)
     } else if name == b"p".as_slice() {
         let (node, address) = parse_node_and_address(notes, rest)?;
-        Some(p_equals(node, address))
+        Some(p_equals_condition(node, address))
     } else if name == b"reach".as_slice() {
         let (node, address) = parse_node_and_address(notes, rest)?;
         Some(Condition::Reaches { node, address })
@@ -60,7 +60,7 @@ fn named_condition(notes: &Option<DebugInfo>, name: &[u8], rest: &[u8]) -> Optio
 
 /// The labels of a program, where there is source.
 fn names(notes: &Option<DebugInfo>) -> &[LabelAddress]
-    ensures { result.now ≡ labels_in notes.now }
+    ensures { result.now ≡ labels_of_debug_info notes.now }
 {
     match notes {
         Some(notes) => notes.names.as_slice(),
@@ -70,9 +70,13 @@ fn names(notes: &Option<DebugInfo>) -> &[LabelAddress]
 
 /// The test, if its number is a word or counts steps.
 fn possible(test: ValueTest) -> Option<ValueTest>
-    ensures { result ≡ valid_test test }
+    ensures { result ≡ valid_value_test test }
 {
-    if test.is_possible() { Some(test) } else { None }
+    if test.can_be_passed() {
+        Some(test)
+    } else {
+        None
+    }
 }
 
 /// `VALUE OP NUMBER` of a node
@@ -80,13 +84,13 @@ fn possible(test: ValueTest) -> Option<ValueTest>
 fn tested(notes: &Option<DebugInfo>, node: NodeId, text: &[u8]) -> Option<Condition>
     ensures { result ≡ parse_test_condition notes.now node text.now }
 {
-    let test = possible(parse_test(names(notes), node, text)?)?;
+    let test = possible(parse_value_test(names(notes), node, text)?)?;
     Some(Condition::HoldsValue { node, test })
 }
 
 /// P of the node is this address.
-fn p_equals(node: NodeId, address: u32) -> Condition
-    ensures { result ≡ p_equals node address }
+fn p_equals_condition(node: NodeId, address: u32) -> Condition
+    ensures { result ≡ p_equals_condition node address }
 {
     Condition::HoldsValue {
         node,

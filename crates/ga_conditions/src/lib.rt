@@ -11,4 +11,4 @@ pub use alternatives::{
 };
 pub use condition::parse_run_condition;
 pub use numbers::{parse_hex_word, parse_operand};
-pub use tests_of_values::{parse_comparison, parse_test, parse_value};
+pub use tests_of_values::{parse_comparison, parse_node_value, parse_value_test};

@@ -1,7 +1,7 @@
 //! Numbers of conditions.
 
 ghost use Rattle.std.specs.Prelude.{◌≡◌};
-ghost use Rattle.ga_conditions.specs.Numbers.{hex_word_in, parse_hex_digit, append_hex_digit, parse_hex_number, parse_unsigned_number, negative_word, parse_plain_number, parse_plain_operand, operand_in};
+ghost use Rattle.ga_conditions.specs.Numbers.{parsed_hex_word, parse_hex_digit, append_hex_digit, parse_hex_number, parse_unsigned_number, negative_word, parse_plain_number, parse_plain_operand, parsed_operand};
 
 use ga_debug_info::{LabelAddress, label_address};
 use ga_grid::NodeId;
@@ -10,9 +10,9 @@ use ga_text::{parse_hex_byte, parse_number};
 use ga_word::Word18;
 
 /// A word as answers have it: six hexadecimal digits, in either case.
-#[tactic(auto, unfolding(crate::specs::Numbers::hex_word_in))]
+#[tactic(auto, unfolding(crate::specs::Numbers::parsed_hex_word))]
 pub fn parse_hex_word(text: &[u8]) -> Option<Word18>
-    ensures { result ≡ hex_word_in text.now }
+    ensures { result ≡ parsed_hex_word text.now }
 {
     match text {
         [a, b, c, d, e, f] => {
@@ -105,7 +105,7 @@ fn plain_operand(text: &[u8]) -> Option<u32>
 
 /// A number, a word as answers have it, the address of a port, or else that of a label of the node.
 pub fn parse_operand(names: &[LabelAddress], node: NodeId, text: &[u8]) -> Option<u32>
-    ensures { result ≡ operand_in names.now node text.now }
+    ensures { result ≡ parsed_operand names.now node text.now }
 {
     match plain_operand(text) {
         Some(number) => Some(number),

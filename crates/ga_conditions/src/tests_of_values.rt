@@ -1,7 +1,7 @@
 //! Comparisons of a value that a node holds with a number, as text.
 
 ghost use Rattle.std.specs.Prelude.{◌≡◌};
-ghost use Rattle.ga_conditions.specs.Tests.{one_letter_value, two_letter_value, cell_value, keyword_value, named_value_in, comparison_in, test_in};
+ghost use Rattle.ga_conditions.specs.Tests.{node_value_of_one_letter, node_value_of_two_letters, node_value_in_brackets, node_value_of_keyword, parsed_node_value, parsed_comparison, parsed_value_test};
 
 use crate::numbers::parse_operand;
 use ga_debug_info::LabelAddress;
@@ -10,8 +10,8 @@ use ga_scheduler::{Comparison, NodeValue, ValueTest};
 use ga_text::{parse_hex_byte, split_at_space};
 
 // The register of one letter.
-fn one_letter_value(letter: u8) -> Option<NodeValue>
-    ensures { result ≡ one_letter_value letter }
+fn node_value_of_one_letter(letter: u8) -> Option<NodeValue>
+    ensures { result ≡ node_value_of_one_letter letter }
 {
     match letter {
         b't' => Some(NodeValue::DataWord(0)),
@@ -26,8 +26,8 @@ fn one_letter_value(letter: u8) -> Option<NodeValue>
 }
 
 // A word of a stack by its place, or `io`.
-fn two_letter_value(stack: u8, place: u8) -> Option<NodeValue>
-    ensures { result ≡ two_letter_value stack place }
+fn node_value_of_two_letters(stack: u8, place: u8) -> Option<NodeValue>
+    ensures { result ≡ node_value_of_two_letters stack place }
 {
     if stack == b'd' && place >= b'2' && place <= b'9' {
         Some(NodeValue::DataWord(place - b'0'))
@@ -41,8 +41,8 @@ fn two_letter_value(stack: u8, place: u8) -> Option<NodeValue>
 }
 
 // The cell of two hexadecimal digits in brackets.
-fn cell_value(text: &[u8]) -> Option<NodeValue>
-    ensures { result ≡ cell_value text.now }
+fn node_value_in_brackets(text: &[u8]) -> Option<NodeValue>
+    ensures { result ≡ node_value_in_brackets text.now }
 {
     if text.len() == 4 && text[0] == b'[' && text[3] == b']' {
         let address = parse_hex_byte(&text[1..3])?;
@@ -53,8 +53,8 @@ fn cell_value(text: &[u8]) -> Option<NodeValue>
 }
 
 // The value of a longer name.
-fn keyword_value(text: &[u8]) -> Option<NodeValue>
-    ensures { result ≡ keyword_value text.now }
+fn node_value_of_keyword(text: &[u8]) -> Option<NodeValue>
+    ensures { result ≡ node_value_of_keyword text.now }
 {
     if text == b"slot".as_slice() {
         Some(NodeValue::Slot)
@@ -63,25 +63,25 @@ fn keyword_value(text: &[u8]) -> Option<NodeValue>
     } else if text == b"step".as_slice() {
         Some(NodeValue::Step)
     } else {
-        cell_value(text)
+        node_value_in_brackets(text)
     }
 }
 
 /// The value with this name: `t s r p a b i`, `d2` to `d9`, `r1` to `r8`, `io`, `slot`, `carry`, `step` or a cell `[HH]`.
-#[tactic(auto, unfolding(crate::specs::Tests::named_value_in))]
-pub fn parse_value(text: &[u8]) -> Option<NodeValue>
-    ensures { result ≡ named_value_in text.now }
+#[tactic(auto, unfolding(crate::specs::Tests::parsed_node_value))]
+pub fn parse_node_value(text: &[u8]) -> Option<NodeValue>
+    ensures { result ≡ parsed_node_value text.now }
 {
     match text {
-        [letter] => one_letter_value(*letter),
-        [stack, place] => two_letter_value(*stack, *place),
-        _ => keyword_value(text),
+        [letter] => node_value_of_one_letter(*letter),
+        [stack, place] => node_value_of_two_letters(*stack, *place),
+        _ => node_value_of_keyword(text),
     }
 }
 
 /// The comparison with this sign: `=` or `==`, `!=`, `<`, `<=`, `>` or `>=`.
 pub fn parse_comparison(text: &[u8]) -> Option<Comparison>
-    ensures { result ≡ comparison_in text.now }
+    ensures { result ≡ parsed_comparison text.now }
 {
     if text == b"=".as_slice() || text == b"==".as_slice() {
         Some(Comparison::Equal)
@@ -101,14 +101,14 @@ pub fn parse_comparison(text: &[u8]) -> Option<Comparison>
 }
 
 /// The test of a value of the node, `VALUE OP NUMBER` with a space between; none if it has another form. The number may be a label of the
-/// node, and need not be possible ([`ValueTest::is_possible`]).
-#[tactic(auto, unfolding(crate::specs::Tests::test_in))]
-pub fn parse_test(names: &[LabelAddress], node: NodeId, text: &[u8]) -> Option<ValueTest>
-    ensures { result ≡ test_in names.now node text.now }
+/// node, and need not be possible ([`ValueTest::can_be_passed`]).
+#[tactic(auto, unfolding(crate::specs::Tests::parsed_value_test))]
+pub fn parse_value_test(names: &[LabelAddress], node: NodeId, text: &[u8]) -> Option<ValueTest>
+    ensures { result ≡ parsed_value_test names.now node text.now }
 {
     let (value, rest) = split_at_space(text)?;
     let (sign, number) = split_at_space(rest)?;
-    let value = parse_value(value)?;
+    let value = parse_node_value(value)?;
     let comparison = parse_comparison(sign)?;
     let number = parse_operand(names, node, number)?;
     Some(ValueTest {

@@ -9,7 +9,7 @@ use Rattle.std.specs.Prelude.{codes}
 use Rattle.std.proofs.lemmas.List.{take_all}
 use Rattle.std.proofs.lemmas.List.Elements.{All-from_recursion, All-append}
 use Rattle.ga_grid.specs.Grid.{yxx_of}
-use Rattle.ga_text.specs.Lines.{HasNoLineFeed, ends_line}
+use Rattle.ga_text.specs.Lines.{HasNoLineFeed, is_line_end_byte}
 use Rattle.ga_console.specs.Session.{quit_line}
 use Rattle.ga_console.specs.inner.Run.{IsAhead, IsLineAhead, IsNumberAhead}
 use Rattle.ga_console.specs.declared.command.Command.{Command}
@@ -101,7 +101,7 @@ step_line node = 115 ∷ 116 ∷ 101 ∷ 112 ∷ 32 ∷ name_of_node node
 -- no byte of it is a line feed
 step_feeds : (node : NodeId) → HasNoLineFeed (step_line node)
 unfolding step_line
-step_feeds node = All-from_recursion (λ b. ends_line b ≡ false) (step_line node)
+step_feeds node = All-from_recursion (λ b. is_line_end_byte b ≡ false) (step_line node)
     (refl, (refl, (refl, (refl, (refl, (not_feed _ (omega arith), (not_feed _ (omega arith), (not_feed _ (omega arith), tt))))))))
 
 pub step_front : (text : List ℕ) (node : NodeId) → 9 ≤ length text
@@ -161,7 +161,7 @@ count_front text front = record {
   line = codes "count";
   more = drop 6 text;
   splits = sym (take-append-drop 6 text) ∙ ap (λ (t : List ℕ). t ++ drop 6 text) front;
-  no_feed = All-from_recursion (λ b. ends_line b ≡ false) (codes "count") (refl, (refl, (refl, (refl, (refl, tt)))));
+  no_feed = All-from_recursion (λ b. is_line_end_byte b ≡ false) (codes "count") (refl, (refl, (refl, (refl, (refl, tt)))));
   counts = refl;
   short = omega arith;
   spelled = refl;
@@ -173,7 +173,7 @@ rewind_head node = 114 ∷ 101 ∷ 119 ∷ 105 ∷ 110 ∷ 100 ∷ 32 ∷ (name_
 
 head_feeds : (node : NodeId) → HasNoLineFeed (rewind_head node)
 unfolding rewind_head
-head_feeds node = All-from_recursion (λ b. ends_line b ≡ false) (rewind_head node)
+head_feeds node = All-from_recursion (λ b. is_line_end_byte b ≡ false) (rewind_head node)
     (refl, (refl, (refl, (refl, (refl, (refl, (refl, (not_feed _ (omega arith), (not_feed _ (omega arith), (not_feed _ (omega arith), (refl, tt)))))))))))
 
 -- a number after the head of a rewind
@@ -199,7 +199,7 @@ rewind_front text node k digits long front b6 b10 name h =
       splits = eleven text long ∙ rw (b0, b1, b2, b3, b4, b5, b6, b10)
           (ap (λ (t : List ℕ). 114 ∷ 101 ∷ 119 ∷ 105 ∷ 110 ∷ 100 ∷ 32 ∷ (t ++ 32 ∷ drop 11 text)) (sym named)
           ∙ ap (λ (t : List ℕ). 114 ∷ 101 ∷ 119 ∷ 105 ∷ 110 ∷ 100 ∷ 32 ∷ (name_of_node node ++ 32 ∷ t)) rest);
-      no_feed = All-append (λ b. ends_line b ≡ false) (rewind_head node) (decimal k) (head_feeds node) (subst HasNoLineFeed h.spelled h.line.no_feed);
+      no_feed = All-append (λ b. is_line_end_byte b ≡ false) (rewind_head node) (decimal k) (head_feeds node) (subst HasNoLineFeed h.spelled h.line.no_feed);
       counts = omega (arith, size);
       short = omega (arith, h.few);
       spelled = (h.fits, refl);

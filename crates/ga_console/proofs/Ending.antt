@@ -3,7 +3,7 @@ use Rattle.std.proofs.Common.{◌≡◌, ◌≢◌, ℕ, ◌≤◌, List, [], le
 use Rattle.std.specs.Prelude.{Some, None, ◌⊎◌, Result, Ok, Err}
 use Rattle.std.proofs.lemmas.Option.{none-some, same_Some}
 use Rattle.ga_console.specs.Commands.{SpellsCommand}
-use Rattle.ga_console.specs.Session.{AnswerRelation, AnswersLine, AnswersOrQuits, EndsAtNoAnswer, quit_line}
+use Rattle.ga_console.specs.Session.{AnswerRelation, AnswersLine, AnswersOrQuits, EndsSessionAtNoAnswer, quit_line}
 use Rattle.ga_console.specs.inner.Run.{AnswersOrEnds, AnswersCommand, ObeysCommand, end_at}
 use Rattle.ga_console.specs.declared.command.Command.{Command}
 use Rattle.ga_console.specs.declared.commands.CommandsEnd.{CommandsEnd}
@@ -73,10 +73,10 @@ module _ {M : Type 0} (A R : AnswerRelation M) (m new : M) (answer : List ℕ) w
 
 -- where no answer ends the session
 module _ {M : Type 0} (A : AnswerRelation M) (m new : M) (answer : List ℕ) where
-  pub only_answers : (line : List ℕ) → AnswersLine A m line answer new ⊎ AnswersLine EndsAtNoAnswer m line answer new → AnswersLine A m line answer new
+  pub only_answers : (line : List ℕ) → AnswersLine A m line answer new ⊎ AnswersLine EndsSessionAtNoAnswer m line answer new → AnswersLine A m line answer new
   only_answers line (inl h) = h
   only_answers line (inr h) = λ part kept. absurd (h part kept).0
 
-  pub only_obeys : (asked : Command) → AnswersCommand A m asked new answer ⊎ AnswersCommand EndsAtNoAnswer m asked new answer → AnswersCommand A m asked new answer
+  pub only_obeys : (asked : Command) → AnswersCommand A m asked new answer ⊎ AnswersCommand EndsSessionAtNoAnswer m asked new answer → AnswersCommand A m asked new answer
   only_obeys asked (inl h) = h
   only_obeys asked (inr h) = λ line short spelled. absurd (h line short spelled)

@@ -6,18 +6,18 @@ use Rattle.std.proofs.lemmas.List.{append-nil, take_all}
 use Rattle.std.proofs.Math.Seq.{take-append_seam}
 use Rattle.std.proofs.lemmas.Grind.{flat_map-append}
 use Rattle.std.proofs.lemmas.Bool.Decides.{nat_tests}
-use Rattle.ga_text.specs.Lines.{lines_of, ended, text_of, terminated_lines, HasNoLineFeed}
-use Rattle.ga_console.specs.Session.{AnswerRelation, quit_line, Answers, AnswersToRefusal, WritesAnswersBy, HasNoQuit, lines_within_bound, ReadsWholeLines, ReadsLines, QuitsAfter, ServesCommandsBy, ServesToEnd, ServesToQuit, ServesToRefusal, ServesToInputLimit, ServesToReadFailure, ServesToWriteFailureBy}
+use Rattle.ga_text.specs.Lines.{lines_of, line_with_line_feed, text_of_lines, terminated_lines, HasNoLineFeed}
+use Rattle.ga_console.specs.Session.{AnswerRelation, quit_line, Answers, AnswersLinesUntilRefusal, WritesAnswersBy, HasNoQuit, lines_within_bound, ReadsWholeLines, ReadsLines, QuitsAfter, ServesCommandsBy, ServesToEnd, ServesToQuit, ServesToRefusal, ServesToInputLimit, ServesToReadFailure, ServesToWriteFailureBy}
 use Rattle.ga_console.specs.declared.commands.CommandsEnd.{CommandsEnd}
 use Rattle.ga_console.specs.declared.commands.CommandsEnd.TheVariants.{Ended, Quit, Refused, Past, ReadFailed}
 use Rattle.ga_console.proofs.Ending.{EndsAt, IsAnswered}
 use Rattle.ga_text.specs.declared.output.WriteError.{WriteError}
 use Rattle.ga_text.proofs.TextLemmas.{lines_front, ended_front, lines_last, ended_whole, more_lines}
 
-text_push : (lines : List (List ℕ)) (line tail : List ℕ) → text_of lines ++ (line ++ 10 ∷ tail) ≡ text_of (lines ++ line ∷ []) ++ tail
+text_push : (lines : List (List ℕ)) (line tail : List ℕ) → text_of_lines lines ++ (line ++ 10 ∷ tail) ≡ text_of_lines (lines ++ line ∷ []) ++ tail
 text_push lines line tail =
-    sym (ap (λ (t : List ℕ). t ++ tail) (flat_map-append ended lines (line ∷ []) ∙ ap (λ (t : List ℕ). text_of lines ++ t) (append-nil (ended line)))
-    ∙ append_assoc (text_of lines) (ended line) tail ∙ ap (λ (t : List ℕ). text_of lines ++ t) (append_assoc line (10 ∷ []) tail))
+    sym (ap (λ (t : List ℕ). t ++ tail) (flat_map-append line_with_line_feed lines (line ∷ []) ∙ ap (λ (t : List ℕ). text_of_lines lines ++ t) (append-nil (line_with_line_feed line)))
+    ∙ append_assoc (text_of_lines lines) (line_with_line_feed line) tail ∙ ap (λ (t : List ℕ). text_of_lines lines ++ t) (append_assoc line (10 ∷ []) tail))
 
 all_push : (P : List ℕ → Type 0) (lines : List (List ℕ)) (line : List ℕ) → AllByRecursion P lines → P line → AllByRecursion P (lines ++ line ∷ [])
 all_push P [] line h p = (p, tt)
@@ -34,11 +34,11 @@ answers_push A m (l ∷ ls) text next line answer new h a =
 -- what was heard of the whole, and what is left of it
 pub record Heard {M : Type 0} (A : AnswerRelation M) (first : M) (whole : List ℕ) (start : ℕ) (left : List ℕ) (taken number : ℕ) (text : List ℕ) (m : M) : Type 0 where
   pub lines : List (List ℕ)
-  pub splits : whole ≡ text_of lines ++ left
+  pub splits : whole ≡ text_of_lines lines ++ left
   pub feeds : AllByRecursion HasNoLineFeed lines
   pub no_quit : HasNoQuit lines
   pub answers : Answers A first lines text m
-  pub counts : taken ≡ start + length (text_of lines)
+  pub counts : taken ≡ start + length (text_of_lines lines)
   pub numbers : number ≡ length lines
 
 pub heard_none : {M : Type 0} (A : AnswerRelation M) (m : M) (whole : List ℕ) (start : ℕ) → Heard A m whole start whole start 0 [] m
@@ -145,27 +145,27 @@ module _ {M : Type 0} {A : AnswerRelation M} {first : M} {whole : List ℕ} {sta
     (h : Heard A first whole start left taken number text m) where
   -- what was read, up to the end of these bytes
   pub read_to : List ℕ → List ℕ
-  read_to bytes = text_of h.lines ++ bytes
+  read_to bytes = text_of_lines h.lines ++ bytes
 
   pub split_at : (bytes rest : List ℕ) → left ≡ bytes ++ rest → whole ≡ read_to bytes ++ rest
   unfolding read_to
-  split_at bytes rest e = h.splits ∙ ap (λ (l : List ℕ). text_of h.lines ++ l) e ∙ sym (append_assoc (text_of h.lines) bytes rest)
+  split_at bytes rest e = h.splits ∙ ap (λ (l : List ℕ). text_of_lines h.lines ++ l) e ∙ sym (append_assoc (text_of_lines h.lines) bytes rest)
 
-  length_to : (bytes : List ℕ) → length (read_to bytes) ≡ length (text_of h.lines) + length bytes
+  length_to : (bytes : List ℕ) → length (read_to bytes) ≡ length (text_of_lines h.lines) + length bytes
   unfolding read_to
-  length_to bytes = length-append (text_of h.lines) bytes
+  length_to bytes = length-append (text_of_lines h.lines) bytes
 
   -- one line more was heard
   pub heard_push : (part more : List ℕ) (now n : ℕ) (answer : List ℕ) (new : M) → left ≡ part ++ 10 ∷ more → HasNoLineFeed part
       → now ≡ taken + length part + 1 → n ≡ number + 1 → IsAnswered A m part answer new → Heard A first whole start more now n (text ++ answer) new
   heard_push part more now n answer new e none counts one a = record {
     lines = h.lines ++ part ∷ [];
-    splits = h.splits ∙ ap (λ (l : List ℕ). text_of h.lines ++ l) e ∙ text_push h.lines part more;
+    splits = h.splits ∙ ap (λ (l : List ℕ). text_of_lines h.lines ++ l) e ∙ text_push h.lines part more;
     feeds = all_push HasNoLineFeed h.lines part h.feeds none;
     no_quit = all_push (λ l. l ≢ quit_line) h.lines part h.no_quit a.1;
     answers = answers_push A first h.lines text m part answer new h.answers a.0;
     numbers = omega (arith, h.numbers, one, length-append h.lines (part ∷ []));
-    counts = omega (arith, h.counts, counts, ap length (sym (text_push h.lines part [])), length-append (text_of h.lines) (part ++ 10 ∷ []), length-append part (10 ∷ []), length-append (text_of (h.lines ++ part ∷ [])) []);
+    counts = omega (arith, h.counts, counts, ap length (sym (text_push h.lines part [])), length-append (text_of_lines h.lines) (part ++ 10 ∷ []), length-append part (10 ∷ []), length-append (text_of_lines (h.lines ++ part ∷ [])) []);
   }
 
   -- A write failed: the lines heard were answered.
@@ -200,7 +200,7 @@ module _ {M : Type 0} {A : AnswerRelation M} {first : M} {whole : List ℕ} {sta
   unfolding read_to
   heard_ended part rest none nothing short =
       let same : h.lines ≡ lines_of (read_to part) =
-      sym (ap (λ (p : List ℕ). lines_of (text_of h.lines ++ p)) none ∙ lines_front h.lines [] h.feeds ∙ append-nil h.lines) in
+      sym (ap (λ (p : List ℕ). lines_of (text_of_lines h.lines ++ p)) none ∙ lines_front h.lines [] h.feeds ∙ append-nil h.lines) in
       let P : List (List ℕ) → Type 0 = λ ls. HasNoQuit ls in
       let Q : List (List ℕ) → Type 0 = λ ls. Answers A first ls text m in
       record {
@@ -244,16 +244,16 @@ module _ {M : Type 0} {A : AnswerRelation M} {first : M} {whole : List ℕ} {sta
 
   -- the session ended at a line `quit`, and bytes after it were read
   pub read_past : List ℕ → List ℕ → List ℕ
-  read_past part bytes = text_of (h.lines ++ part ∷ []) ++ bytes
+  read_past part bytes = text_of_lines (h.lines ++ part ∷ []) ++ bytes
 
   pub split_past : (part bytes rest : List ℕ) → left ≡ part ++ 10 ∷ (bytes ++ rest) → whole ≡ read_past part bytes ++ rest
   unfolding read_past
-  split_past part bytes rest e = h.splits ∙ ap (λ (l : List ℕ). text_of h.lines ++ l) e ∙ text_push h.lines part (bytes ++ rest)
-      ∙ sym (append_assoc (text_of (h.lines ++ part ∷ [])) bytes rest)
+  split_past part bytes rest e = h.splits ∙ ap (λ (l : List ℕ). text_of_lines h.lines ++ l) e ∙ text_push h.lines part (bytes ++ rest)
+      ∙ sym (append_assoc (text_of_lines (h.lines ++ part ∷ [])) bytes rest)
 
-  length_past : (part bytes : List ℕ) → length (read_past part bytes) ≡ length (text_of h.lines) + length part + 1 + length bytes
+  length_past : (part bytes : List ℕ) → length (read_past part bytes) ≡ length (text_of_lines h.lines) + length part + 1 + length bytes
   unfolding read_past
-  length_past part bytes = omega (arith, ap length (text_push h.lines part bytes), length-append (text_of h.lines) (part ++ 10 ∷ bytes), length-append part (10 ∷ bytes))
+  length_past part bytes = omega (arith, ap length (text_push h.lines part bytes), length-append (text_of_lines h.lines) (part ++ 10 ∷ bytes), length-append part (10 ∷ bytes))
 
   heard_quit : (part bytes rest : List ℕ) (now : ℕ) → HasNoLineFeed part → part ≡ quit_line → now ≡ taken + length part + 1 → now + length bytes ≤ 16777216
       → ServesToQuit A (16777216 - start) first (read_past part bytes) rest text m
@@ -304,7 +304,7 @@ module _ {M : Type 0} {A : AnswerRelation M} {first : M} {whole : List ℕ} {sta
       let Q : List ℕ → Type 0 = λ t. ServesToQuit A (16777216 - start) first read rest t m in
       subst P (sym e) (subst Q (sym (ap (λ (t : List ℕ). text ++ t) none ∙ append-nil text)) s)
 
-  refusal_push : (R : AnswerRelation M) (part answer : List ℕ) (new : M) → R m part answer new → AnswersToRefusal A R first (h.lines ++ part ∷ []) (text ++ answer) new
+  refusal_push : (R : AnswerRelation M) (part answer : List ℕ) (new : M) → R m part answer new → AnswersLinesUntilRefusal A R first (h.lines ++ part ∷ []) (text ++ answer) new
   refusal_push R part answer new r = (h.lines, part, text, answer, m, refl, h.answers, r, refl)
 
   refused_here : (R : AnswerRelation M) (part bytes rest answer : List ℕ) (now n : ℕ) (new : M) → HasNoLineFeed part → now ≡ taken + length part + 1

@@ -1,7 +1,7 @@
 -- From the parts of a race to the whole.
 use Rattle.std.proofs.Common.{ℕ, List, inl, inr, ◌≡◌, ◌≢◌, ◌<◌, zero, suc, ◌+◌, ◌*◌, ◌⊎◌, [], ◌∷◌, ◌++◌, length, replicate, sum_by, Some, refl, sym, ap, ◌∙◌, arith}
 use Rattle.ga_console.specs.Run.{ReadsOnlyImage, WritesImageRefusal}
-use Rattle.ga_text.specs.Output.{IsReadWhole, IsInputTooLong}
+use Rattle.ga_text.specs.Output.{IsImageReadWhole, IsInputTooLong}
 use Rattle.std.specs.Prelude.{slice_get}
 use Rattle.std.proofs.lemmas.List.{length-replicate}
 use Rattle.std.proofs.lemmas.List.Sums.{sum_by-cons}
@@ -27,7 +27,7 @@ use Rattle.ga_console.specs.declared.run.Status.TheVariants.{Done, ImageRefused,
 
 -- ---- of an input that was read whole nothing was read that its text doesn't need
 
-pub alone_whole : (text ahead rest : List ℕ) → IsReadWhole text ahead rest → ReadsOnlyImage text ahead rest
+pub alone_whole : (text ahead rest : List ℕ) → IsImageReadWhole text ahead rest → ReadsOnlyImage text ahead rest
 alone_whole text ahead rest (inl to_end_line) = inl to_end_line
 alone_whole text ahead rest (inr to_the_end) = inr (inl to_the_end)
 

@@ -3,16 +3,16 @@ use Rattle.std.proofs.Common.{◌≡◌, ℕ, List, [], ◌∷◌, Result, Ok, E
 use Rattle.ga_grid.specs.declared.node_id.NodeId.{NodeId}
 use Rattle.ga_event.specs.Next.{next}
 use Rattle.ga_event.specs.declared.made.Made.{Made}
-use Rattle.ga_lab.specs.Machine.{State, chip_of, step_answer, with_event, unless_refused, undo_answer, rewind_answer, state_after_rewind}
+use Rattle.ga_lab.specs.Machine.{State, chip_of, step_answer, with_event, state_unless_refused, undo_answer, rewind_answer, state_after_rewind}
 use Rattle.ga_lab.specs.declared.fault.LabFault.{LabFault}
-use Rattle.ga_display.specs.declared.wording.Wording.TheVariants.{Brief}
+use Rattle.ga_display.specs.declared.wording.RefusalWording.TheVariants.{Brief}
 use Rattle.ga_console.specs.Replies.{Reply, IsCommandReply, IsBriefAnswer, brief_reply, step_reply, back_reply, rewind_reply, IsReachedByLines}
 use Rattle.ga_console.specs.Replies.IsAnswerInWording.{long, command, syntax}
 use Rattle.ga_console.specs.declared.command.Command.{Command}
 use Rattle.ga_console.specs.declared.command.Command.TheVariants.{Step, Back, Rewind, Node, Memory, Trace, Why, Count, Dump, Quit}
 use Rattle.ga_shared.proofs.Logs.{with_event-load as event_load}
 
-unless_load : (s : State) (answer : Result Made LabFault) (new : State) → new.load ≡ s.load → (unless_refused s answer new).load ≡ s.load
+unless_load : (s : State) (answer : Result Made LabFault) (new : State) → new.load ≡ s.load → (state_unless_refused s answer new).load ≡ s.load
 unless_load s (Ok made) new same = same
 unless_load s (Err why) new same = refl
 

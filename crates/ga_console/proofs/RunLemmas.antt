@@ -5,10 +5,10 @@ use Rattle.ga_image.proofs.Room.{short_image}
 use Rattle.ga_image.specs.declared.fault.ImageFault.{ImageFault}
 use Rattle.ga_text.specs.Input.{input_limit}
 use Rattle.ga_text.specs.Image.{HasNoEndLine}
-use Rattle.ga_text.specs.Output.{IsWritten, ready}
+use Rattle.ga_text.specs.Output.{IsTextWritten, ready}
 use Rattle.ga_lab.specs.Machine.{State}
-use Rattle.ga_console.specs.Session.{AnswerRelation, ServesCommands, IsWrittenOrPrefix}
-use Rattle.ga_console.specs.Run.{WritesSessionBy, IsServedSession, Refused, WritesImageRefusal, IsOpenedOnImage, IsFaultOfImage, IsImageOfInput, ReadsOnlyImage, status_of}
+use Rattle.ga_console.specs.Session.{AnswerRelation, ServesCommands, IsWholeOrPrefixOnWriteError}
+use Rattle.ga_console.specs.Run.{WritesSessionBy, IsServedSession, Refused, WritesImageRefusal, IsOpenedOnImage, IsFaultOfImage, IsImageOfInput, ReadsOnlyImage, status_of_commands_end}
 use Rattle.ga_console.specs.inner.Run.{AfterImage}
 use Rattle.ga_console.specs.declared.commands.CommandsEnd.{CommandsEnd}
 use Rattle.ga_console.specs.declared.commands.CommandsEnd.TheVariants as end
@@ -17,11 +17,11 @@ use Rattle.ga_console.specs.declared.run.Status.{Status}
 use Rattle.ga_console.specs.declared.run.Status.TheVariants.{Done, ImageRefused, StreamFault, NotFinished, CommandRefused}
 
 -- a text that nothing was written of yet
-pub written_fresh : (contents : Option (List ℕ)) (before text pending : List ℕ) → contents ≡ Some before → pending ≡ text → IsWritten contents before text pending
+pub written_fresh : (contents : Option (List ℕ)) (before text pending : List ℕ) → contents ≡ Some before → pending ≡ text → IsTextWritten contents before text pending
 written_fresh contents before text pending e p = record { sent = []; held = e ∙ ap Some (sym (append-nil before)); splits = sym p }
 
 -- and all was written of
-pub all_sent : (contents : Option (List ℕ)) (before text : List ℕ) (h : IsWritten contents before text []) → h.sent ≡ text
+pub all_sent : (contents : Option (List ℕ)) (before text : List ℕ) (h : IsTextWritten contents before text []) → h.sent ≡ text
 all_sent contents before text h = sym (h.splits ∙ append-nil h.sent)
 
 -- the same machine under another name
@@ -30,7 +30,7 @@ pub serves_from : {M : Type 0} (A R : AnswerRelation M) (room : ℕ) (m other : 
 serves_from {M} A R room m other read rest text last ending e s =
     let P : M → Type 0 = λ x. ServesCommands A R room x read rest text last ending in subst P e s
 
-pub runs_served : {M : Type 0} (A R : AnswerRelation M) (begin : State → M) (limit : ℕ) (read rest text : List ℕ) (ending : Result CommandsEnd WriteError) (status : Status) → status ≡ status_of ending
+pub runs_served : {M : Type 0} (A R : AnswerRelation M) (begin : State → M) (limit : ℕ) (read rest text : List ℕ) (ending : Result CommandsEnd WriteError) (status : Status) → status ≡ status_of_commands_end ending
     → IsServedSession A R begin limit read rest text ending → WritesSessionBy A R begin limit read rest text status
 runs_served A R begin limit read rest text ending Done e s = (ending, sym e, s)
 runs_served A R begin limit read rest text (Ok end.Ended) ImageRefused e s = cc
@@ -61,7 +61,7 @@ refused_in image ahead rest fault part (inl e) = inl e
 refused_in image ahead rest fault part (inr e) = inr (record { image = image; ahead = ahead; splits = refl; part = part; faulty = e })
 
 served_in : {M : Type 0} (A R : AnswerRelation M) (begin : State → M) (limit : ℕ) (image commands rest said text : List ℕ) (machine : State) (last : M) (ending : Result CommandsEnd WriteError) → IsImageOfInput image commands rest
-    → IsOpenedOnImage image limit machine → ServesCommands A R (input_limit - length image) (begin machine) commands rest said last ending → IsWrittenOrPrefix ending (ready ++ said) text
+    → IsOpenedOnImage image limit machine → ServesCommands A R (input_limit - length image) (begin machine) commands rest said last ending → IsWholeOrPrefixOnWriteError ending (ready ++ said) text
     → IsServedSession A R begin limit (image ++ commands) rest text ending
 served_in A R begin limit image commands rest said text machine last ending part opens serves written =
     let P : State → Type 0 = λ m. ServesCommands A R (input_limit - length image) (begin m) commands rest said last ending in

@@ -56,15 +56,15 @@ pub record IsTruncationOf (IsText : Text → Type 0) (text : Text) : Type 0 wher
   pub front : TextHasPrefix whole text
 
 -- P holds of the image that was read, and nothing was read after it
-abbrev pub HoldsOfImage : Bytes → Bytes → (Text → Type 0) → Type 0
-HoldsOfImage read rest P = (image : Text) × (ahead : Bytes) × (read ≡ image ++ ahead) × ReadsOnlyImage image ahead rest × P image
+abbrev pub ReadsImageThatSatisfies : Bytes → Bytes → (Text → Type 0) → Type 0
+ReadsImageThatSatisfies read rest P = (image : Text) × (ahead : Bytes) × (read ≡ image ++ ahead) × ReadsOnlyImage image ahead rest × P image
 
 -- What a race may have written, where read was read of its input and rest is left of it.
 abbrev pub WritesRaceReport : ℕ → ℕ → ℕ → Bytes → Bytes → Text → Status → Type 0
-WritesRaceReport limit workers calls read rest text Done = HoldsOfImage read rest (λ image. IsRaceReport limit workers calls image text)
-WritesRaceReport limit workers calls read rest text ImageRefused = HoldsOfImage read rest (λ image. IsImageRefusal image text)
+WritesRaceReport limit workers calls read rest text Done = ReadsImageThatSatisfies read rest (λ image. IsRaceReport limit workers calls image text)
+WritesRaceReport limit workers calls read rest text ImageRefused = ReadsImageThatSatisfies read rest (λ image. IsImageRefusal image text)
 -- a read in the image failed, or a write of the report or of the refusal
 WritesRaceReport limit workers calls read rest text StreamFault = ((text ≡ []) × HasNoEndLine read)
-    ⊎ HoldsOfImage read rest (λ image. IsTruncationOf (IsRaceReport limit workers calls image) text ⊎ IsTruncationOf (IsImageRefusal image) text)
+    ⊎ ReadsImageThatSatisfies read rest (λ image. IsTruncationOf (IsRaceReport limit workers calls image) text ⊎ IsTruncationOf (IsImageRefusal image) text)
 WritesRaceReport limit workers calls read rest text NotFinished = text ≡ []
 WritesRaceReport limit workers calls read rest text CommandRefused = ⊥

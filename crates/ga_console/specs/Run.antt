@@ -7,12 +7,12 @@ use Rattle.ga_text.specs.Lines.{Bytes, Text, lines_of}
 use Rattle.ga_image.specs.Grammar.{IsImage}
 use Rattle.ga_image.specs.FirstFault.{memory_fault, IsFirstFault}
 use Rattle.ga_image.specs.declared.fault.ImageFault.{ImageFault}
-use Rattle.ga_text.specs.Input.{input_limit, block_size}
+use Rattle.ga_text.specs.Input.{input_limit, input_block_size}
 use Rattle.ga_text.specs.Output.{TextHasPrefix, ready}
 use Rattle.ga_text.specs.Image.{EndsWithEndLine, HasNoEndLine}
 use Rattle.ga_lab.specs.Machine.{State, initial_state}
 use Rattle.ga_display.specs.Texts.{image_fault_text}
-use Rattle.ga_console.specs.Session.{AnswerRelation, EndsAtNoAnswer, ServesCommands, IsWrittenOrPrefix}
+use Rattle.ga_console.specs.Session.{AnswerRelation, EndsSessionAtNoAnswer, ServesCommands, IsWholeOrPrefixOnWriteError}
 use Rattle.ga_console.specs.Replies.{IsBriefAnswer}
 use Rattle.ga_console.specs.declared.commands.CommandsEnd.{CommandsEnd}
 use Rattle.ga_console.specs.declared.commands.CommandsEnd.TheVariants as end
@@ -29,7 +29,7 @@ IsImageOfInput image commands rest = EndsWithEndLine image
 -- Nothing is read that the image doesn't need: after its line `end` only what the same read returned, after all that is within
 -- the bound the byte that exceeds it.
 abbrev pub ReadsOnlyImage : Text → Bytes → Bytes → Type 0
-ReadsOnlyImage image ahead rest = (EndsWithEndLine image × (length ahead < block_size))
+ReadsOnlyImage image ahead rest = (EndsWithEndLine image × (length ahead < input_block_size))
     ⊎ ((ahead ≡ []) × (rest ≡ []) × HasNoEndLine image)
     ⊎ ((length image ≡ input_limit) × (length ahead ≡ 1) × HasNoEndLine image)
 
@@ -44,7 +44,7 @@ pub record IsServedSession {M : Type 0} (A R : AnswerRelation M) (begin : State 
   pub accepted : IsImage (lines_of image) chip
   pub last : M
   pub serves : ServesCommands A R (input_limit - length image) (begin (initial_state (records_of chip) limit)) commands rest said last ending
-  pub written : IsWrittenOrPrefix ending (ready ++ said) text
+  pub written : IsWholeOrPrefixOnWriteError ending (ready ++ said) text
 
 -- the image was refused with its first fault, and nothing was read after it
 pub record IsFaultyImageInput (read rest : Bytes) (fault : ImageFault) : Type 0 where
@@ -58,32 +58,32 @@ pub record IsFaultyImageInput (read rest : Bytes) (fault : ImageFault) : Type 0 
 abbrev pub Refused : Bytes → Bytes → ImageFault → Type 0
 Refused read rest fault = (fault ≡ memory_fault) ⊎ IsFaultyImageInput read rest fault
 
-abbrev pub status_of : Result CommandsEnd WriteError → Status
-status_of (Ok end.Ended) = Done
-status_of (Ok end.Quit) = Done
-status_of (Ok (end.Refused number)) = CommandRefused
-status_of (Ok (end.Past number)) = StreamFault
-status_of (Ok end.ReadFailed) = StreamFault
-status_of (Err failed) = StreamFault
+abbrev pub status_of_commands_end : Result CommandsEnd WriteError → Status
+status_of_commands_end (Ok end.Ended) = Done
+status_of_commands_end (Ok end.Quit) = Done
+status_of_commands_end (Ok (end.Refused number)) = CommandRefused
+status_of_commands_end (Ok (end.Past number)) = StreamFault
+status_of_commands_end (Ok end.ReadFailed) = StreamFault
+status_of_commands_end (Err failed) = StreamFault
 
 -- What a session may have written, where read was read of its input and rest is left of it.
 abbrev pub WritesSessionBy : {M : Type 0} → AnswerRelation M → AnswerRelation M → (State → M) → ℕ → Bytes → Bytes → Text → Status → Type 0
-WritesSessionBy A R begin limit read rest text Done = (ending : Result CommandsEnd WriteError) × (status_of ending ≡ Done) × IsServedSession A R begin limit read rest text ending
+WritesSessionBy A R begin limit read rest text Done = (ending : Result CommandsEnd WriteError) × (status_of_commands_end ending ≡ Done) × IsServedSession A R begin limit read rest text ending
 WritesSessionBy A R begin limit read rest text ImageRefused = (fault : ImageFault) × Refused read rest fault × (text ≡ image_fault_text fault)
 -- the command part failed, or a read in the image part, or a write of the refusal
 WritesSessionBy A R begin limit read rest text StreamFault =
     ((ending : Result CommandsEnd WriteError)
-    × (status_of ending ≡ StreamFault)
+    × (status_of_commands_end ending ≡ StreamFault)
     × IsServedSession A R begin limit read rest text ending)
     ⊎ ((text ≡ []) × HasNoEndLine read)
     ⊎ ((fault : ImageFault) × Refused read rest fault × TextHasPrefix (image_fault_text fault) text)
 WritesSessionBy A R begin limit read rest text NotFinished = ⊥
 WritesSessionBy A R begin limit read rest text CommandRefused =
-    (ending : Result CommandsEnd WriteError) × (status_of ending ≡ CommandRefused) × IsServedSession A R begin limit read rest text ending
+    (ending : Result CommandsEnd WriteError) × (status_of_commands_end ending ≡ CommandRefused) × IsServedSession A R begin limit read rest text ending
 
 -- The debugger's session.
 abbrev pub WritesSession : ℕ → Bytes → Bytes → Text → Status → Type 0
-WritesSession limit read rest text status = WritesSessionBy IsBriefAnswer EndsAtNoAnswer (λ s. s) limit read rest text status
+WritesSession limit read rest text status = WritesSessionBy IsBriefAnswer EndsSessionAtNoAnswer (λ s. s) limit read rest text status
 
 -- a refusal was written whole, or that failed
 abbrev pub WritesImageRefusal : ImageFault → Text → Status → Type 0

@@ -18,8 +18,8 @@ abbrev pub AnswerRelation : Type 0 → Type 1
 AnswerRelation M = M → Line → Text → M → Type 0
 
 -- no answer ends the session
-abbrev pub EndsAtNoAnswer : {M : Type 0} → AnswerRelation M
-EndsAtNoAnswer m line answer new = ⊥
+abbrev pub EndsSessionAtNoAnswer : {M : Type 0} → AnswerRelation M
+EndsSessionAtNoAnswer m line answer new = ⊥
 
 -- the line that ends a session
 abbrev pub quit_line : Line
@@ -51,8 +51,8 @@ Answers {M} A m (line ∷ lines) text last =
     × (text ≡ answer ++ more)
 
 -- The same, where the last line is answered so that the session ends.
-abbrev pub AnswersToRefusal : {M : Type 0} → AnswerRelation M → AnswerRelation M → M → List Line → Text → M → Type 0
-AnswersToRefusal {M} A R m lines text last =
+abbrev pub AnswersLinesUntilRefusal : {M : Type 0} → AnswerRelation M → AnswerRelation M → M → List Line → Text → M → Type 0
+AnswersLinesUntilRefusal {M} A R m lines text last =
     (before : List Line)
     × (line : Line)
     × (said answer : Text)
@@ -70,7 +70,7 @@ lines_within_bound room read = if nat_le (length read) room then lines_of read e
 -- after them, the refusal of that.
 abbrev pub WritesAnswersBy : {M : Type 0} → Text → AnswerRelation M → AnswerRelation M → ℕ → M → Bytes → List Line → Text → M → Type 0
 WritesAnswersBy limit_refusal A R room m read lines text last = Answers A m lines text last
-    ⊎ AnswersToRefusal A R m lines text last
+    ⊎ AnswersLinesUntilRefusal A R m lines text last
     ⊎ ((room < length read) × (lines ≡ terminated_lines (take room read)) × (said : Text) × Answers A m lines said last × (text ≡ said ++ limit_refusal))
 
 -- A last line without a line feed is heard only where nothing is left to read.
@@ -111,7 +111,7 @@ pub record ServesToRefusal {M : Type 0} (A R : AnswerRelation M) (number room : 
   pub heard : List Line
   pub after : List Line
   pub no_quit : HasNoQuit heard
-  pub answers : AnswersToRefusal A R m heard text last
+  pub answers : AnswersLinesUntilRefusal A R m heard text last
   pub counts : number ≡ length heard
   pub front : ReadsLines read rest heard after
 
@@ -153,6 +153,6 @@ abbrev pub ServesCommands : {M : Type 0} → AnswerRelation M → AnswerRelation
 ServesCommands A R room m read rest text last ending = ServesCommandsBy input_limit_refusal A R room m read rest text last ending
 
 -- What is written of all that was said: the whole, or where a write failed, a front of it.
-abbrev pub IsWrittenOrPrefix : Result CommandsEnd WriteError → Text → Bytes → Type 0
-IsWrittenOrPrefix (Ok ending) said text = text ≡ said
-IsWrittenOrPrefix (Err failed) said text = TextHasPrefix said text
+abbrev pub IsWholeOrPrefixOnWriteError : Result CommandsEnd WriteError → Text → Bytes → Type 0
+IsWholeOrPrefixOnWriteError (Ok ending) said text = text ≡ said
+IsWholeOrPrefixOnWriteError (Err failed) said text = TextHasPrefix said text

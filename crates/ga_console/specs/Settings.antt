@@ -7,13 +7,13 @@ abbrev pub IsBetween : ℕ → ℕ → ℕ → Type 0
 IsBetween least greatest n = (least ≤ n) × (n ≤ greatest)
 
 -- each number is in its range
-abbrev pub AreInRange : Settings → Type 0
-AreInRange (Debug limit) = IsBetween 1 4000000 limit
-AreInRange (Explore limit strict json chip file) = IsBetween 1 100000000 limit
-AreInRange (Race workers calls limit) = IsBetween 1 16 workers × IsBetween 1 100000 calls × IsBetween 1 4000000 limit
-AreInRange (Check most seconds settled session never ends json progress files) = IsBetween 1 4294967295 most × IfSome seconds (IsBetween 1 4294967295) × IfSome session (IsBetween 1 4294967295)
-AreInRange Dap = Unit {0}
-AreInRange (Assemble json file) = Unit {0}
-AreInRange (List file) = Unit {0}
-AreInRange (Disassemble file) = Unit {0}
-AreInRange (Draw limit cause rewind from to all only fold races chip file) = IsBetween 1 100000000 limit × IsBetween 1 4294967295 from × IsBetween 1 4294967295 to
+abbrev pub AreSettingsInRange : Settings → Type 0
+AreSettingsInRange (Debug limit) = IsBetween 1 4000000 limit
+AreSettingsInRange (Explore limit strict json chip file) = IsBetween 1 100000000 limit
+AreSettingsInRange (Race workers calls limit) = IsBetween 1 16 workers × IsBetween 1 100000 calls × IsBetween 1 4000000 limit
+AreSettingsInRange (Check most seconds settled session never ends json progress files) = IsBetween 1 4294967295 most × IfSome seconds (IsBetween 1 4294967295) × IfSome session (IsBetween 1 4294967295)
+AreSettingsInRange Dap = Unit {0}
+AreSettingsInRange (Assemble json file) = Unit {0}
+AreSettingsInRange (List file) = Unit {0}
+AreSettingsInRange (Disassemble file) = Unit {0}
+AreSettingsInRange (Draw limit cause rewind from to all only fold races chip file) = IsBetween 1 100000000 limit × IsBetween 1 4294967295 from × IsBetween 1 4294967295 to

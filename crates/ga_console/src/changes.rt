@@ -1,11 +1,11 @@
 //! The commands that change the machine.
 ghost use Rattle.ga_event.specs.Told.{count_steps};
-ghost use Rattle.ga_text.specs.Output.{WritesSome, WritesExactly};
+ghost use Rattle.ga_text.specs.Output.{WritesSomeText, WritesExactly};
 ghost use Rattle.ga_display.specs.Texts.{worded_step_refusal_text};
 ghost use Rattle.ga_console.specs.Replies.{IsCommandReply};
 ghost use Rattle.ga_console.specs.declared.command.Command.TheVariants.{Step, Back, Rewind};
 
-use ga_display::{Wording, write_event, write_removed};
+use ga_display::{RefusalWording, write_event, write_removed_events};
 use ga_grid::NodeId;
 use ga_lab::{Lab, LabFault};
 use ga_text::{WriteResult, Writer};
@@ -16,10 +16,10 @@ use std::io::Write;
 pub fn step<W: Write>(
     lab: &mut Lab,
     node: NodeId,
-    wording: Wording,
+    wording: RefusalWording,
     writer: &mut Writer<'_, W>,
 ) -> WriteResult
-    ensures { WritesSome result (λ text. IsCommandReply wording lab.old (Step node) text lab.new)
+    ensures { WritesSomeText result (λ text. IsCommandReply wording lab.old (Step node) text lab.new)
         W.contents writer.old writer.new }
 {
     match lab.step_inlined(node) {
@@ -29,12 +29,16 @@ pub fn step<W: Write>(
 }
 
 /// `back`: takes the newest event back.
-pub fn back<W: Write>(lab: &mut Lab, wording: Wording, writer: &mut Writer<'_, W>) -> WriteResult
-    ensures { WritesSome result (λ text. IsCommandReply wording lab.old Back text lab.new)
+pub fn back<W: Write>(
+    lab: &mut Lab,
+    wording: RefusalWording,
+    writer: &mut Writer<'_, W>,
+) -> WriteResult
+    ensures { WritesSomeText result (λ text. IsCommandReply wording lab.old Back text lab.new)
         W.contents writer.old writer.new }
 {
     match lab.undo() {
-        Ok(()) => { write_removed(writer, 1, lab.counts().kept) }
+        Ok(()) => { write_removed_events(writer, 1, lab.counts().kept) }
         Err(fault) => writer.write_text(wording.refusal(fault)),
     }
 }
@@ -44,14 +48,14 @@ pub fn rewind<W: Write>(
     lab: &mut Lab,
     node: NodeId,
     step: u32,
-    wording: Wording,
+    wording: RefusalWording,
     writer: &mut Writer<'_, W>,
 ) -> WriteResult
-    ensures { WritesSome result (λ text. IsCommandReply wording lab.old (Rewind node step) text lab.new)
+    ensures { WritesSomeText result (λ text. IsCommandReply wording lab.old (Rewind node step) text lab.new)
         W.contents writer.old writer.new }
 {
     match lab.rewind(node, step) {
-        Ok(removed) => { write_removed(writer, removed, lab.counts().kept) }
+        Ok(removed) => { write_removed_events(writer, removed, lab.counts().kept) }
         Err(fault) => write_step_refusal(fault, node, lab, wording, writer),
     }
 }
@@ -62,7 +66,7 @@ fn write_step_refusal<W: Write>(
     fault: LabFault,
     node: NodeId,
     lab: &Lab,
-    wording: Wording,
+    wording: RefusalWording,
     writer: &mut Writer<'_, W>,
 ) -> WriteResult
     ensures { WritesExactly result (worded_step_refusal_text wording node (count_steps node.number lab.now.kept) fault)

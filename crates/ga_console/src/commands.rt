@@ -2,8 +2,8 @@
 ghost use Rattle.std.specs.Prelude.{◌≡◌, ◌-◌, ◌++◌, Some};
 ghost use Rattle.ga_text.specs.Lines.{Bytes};
 ghost use Rattle.ga_text.specs.Input.{IsWithinInputLimit, input_limit};
-ghost use Rattle.ga_text.specs.Output.{IsWritten, IsWrittenOrTruncated, IsSameStream};
-ghost use Rattle.ga_console.specs.Session.{ServesCommands, ServesCommandsBy, IsWrittenOrPrefix};
+ghost use Rattle.ga_text.specs.Output.{IsTextWritten, IsTextWrittenOrTruncated, IsSameStream};
+ghost use Rattle.ga_console.specs.Session.{ServesCommands, ServesCommandsBy, IsWholeOrPrefixOnWriteError};
 ghost use Rattle.ga_console.specs.inner.Run.{end_at};
 
 use super::fast_path::{PrefixCommand, parse_prefix_command};
@@ -41,12 +41,12 @@ pub fn serve_commands<S: Responder, R: Read, W: Write>(
     requires { IsWithinInputLimit input.old }
     ensures same { IsSameStream writer.old writer.new }
     ensures serves { (left before said : Bytes) → R.remaining reader.old ≡ Some left →
-        IsWritten (W.contents writer.old.stream.now) before said writer.old.pending.items →
+        IsTextWritten (W.contents writer.old.stream.now) before said writer.old.pending.items →
         (read rest text sent : Bytes)
         × (input.old.bytes ++ left ≡ read ++ rest) × (R.remaining reader.new ≡ Some rest)
         × (W.contents writer.new.stream.now ≡ Some (before ++ sent))
         × ServesCommands S.answers S.refuses (input_limit - input.old.taken) session.old read rest text session.new result
-        × IsWrittenOrPrefix result (said ++ text) sent }
+        × IsWholeOrPrefixOnWriteError result (said ++ text) sent }
 {
     serve_commands_by(b"no 33 input\n", alloc, input, reader, writer, session)
 }
@@ -66,12 +66,12 @@ pub fn serve_commands_by<S: Responder, R: Read, W: Write>(
     requires { IsWithinInputLimit input.old }
     ensures same { IsSameStream writer.old writer.new }
     ensures serves { (left before said : Bytes) → R.remaining reader.old ≡ Some left →
-        IsWritten (W.contents writer.old.stream.now) before said writer.old.pending.items →
+        IsTextWritten (W.contents writer.old.stream.now) before said writer.old.pending.items →
         (read rest text sent : Bytes)
         × (input.old.bytes ++ left ≡ read ++ rest) × (R.remaining reader.new ≡ Some rest)
         × (W.contents writer.new.stream.now ≡ Some (before ++ sent))
         × ServesCommandsBy limit_refusal.now S.answers S.refuses (input_limit - input.old.taken) session.old read rest text session.new result
-        × IsWrittenOrPrefix result (said ++ text) sent }
+        × IsWholeOrPrefixOnWriteError result (said ++ text) sent }
 {
     let ending = answer_lines(limit_refusal, alloc, input, reader, writer, session)?;
     writer.flush()?;
@@ -90,11 +90,11 @@ fn answer_lines<S: Responder, R: Read, W: Write>(
     requires { IsWithinInputLimit input.old }
     ensures same { IsSameStream writer.old writer.new }
     ensures serves { (left before said : Bytes) → R.remaining reader.old ≡ Some left →
-        IsWritten (W.contents writer.old.stream.now) before said writer.old.pending.items →
+        IsTextWritten (W.contents writer.old.stream.now) before said writer.old.pending.items →
         (read rest text : Bytes)
         × (input.old.bytes ++ left ≡ read ++ rest) × (R.remaining reader.new ≡ Some rest)
         × ServesCommandsBy limit_refusal.now S.answers S.refuses (input_limit - input.old.taken) session.old read rest text session.new result
-        × IsWrittenOrTruncated result (W.contents writer.new.stream.now) before (said ++ text) writer.new.pending.items }
+        × IsTextWrittenOrTruncated result (W.contents writer.new.stream.now) before (said ++ text) writer.new.pending.items }
 {
     let mut line = LineBuffer::new();
     let mut number = 0;

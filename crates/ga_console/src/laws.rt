@@ -10,7 +10,7 @@ ghost use Rattle.ga_console.specs.Run.{IsOpenedOnImage};
 use ga_lab::laws::machine_keeps_waits_consistent;
 
 /// In each chip to which a session comes, each node's wait fits its slot and its stop: so its dump is an image.
-pub fn session_keeps_steady()
+pub fn session_keeps_waits_consistent()
     ensures { (image : Bytes) (limit : ℕ) (machine last : State) (lines : List Line) →
         IsOpenedOnImage image limit machine → IsReachedByLines machine lines last → HaveConsistentWaits (chip_of last) }
 {

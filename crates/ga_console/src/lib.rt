@@ -18,6 +18,9 @@ pub use command::{Command, parse_debugger_command};
 pub use commands::{CommandsEnd, serve_commands, serve_commands_by};
 pub use race::race_report;
 pub use responder::{LineAction, Responder, answer_in_wording, execute_in_wording};
-pub use run::{Status, open_image, refuse, session, session_with_responder, status_of};
-pub use settings::{CommandLineFault, Settings, arguments};
+pub use run::{
+    Status, open_image, session, session_with_responder, status_of_commands_end,
+    write_image_refusal,
+};
+pub use settings::{CommandLineFault, Settings, parse_command_line};
 pub use step_selector::StepSelector;

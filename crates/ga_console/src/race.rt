@@ -5,7 +5,7 @@ ghost use Rattle.ga_grid.specs.Chip.{records_of};
 ghost use Rattle.ga_console.specs.Race.{worker_calls, race_report_text, IsRaceOfWorkers, WritesRaceReport};
 ghost use Rattle.ga_console.specs.inner.Run.{Races, Writes};
 
-use super::run::{Status, refuse};
+use super::run::{Status, write_image_refusal};
 use ga_grid::{Chip, NodeId};
 use ga_image::{ImageCause, parse};
 use ga_shared::{Call, ClosedLab, OpenGate, race};
@@ -64,7 +64,7 @@ fn run_image<T: Threads + Wait + Sync, W: Write>(
             if fault.cause == ImageCause::Memory {
                 return Status::NotFinished;
             }
-            refuse(writer, fault)
+            write_image_refusal(writer, fault)
         }
     }
 }

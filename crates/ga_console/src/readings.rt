@@ -1,13 +1,13 @@
 //! The commands that read the machine and leave it as it is.
-ghost use Rattle.ga_text.specs.Output.{WritesSome};
+ghost use Rattle.ga_text.specs.Output.{WritesSomeText};
 ghost use Rattle.std.specs.Prelude.{◌≡◌, ◌++◌, length, flat_map};
 ghost use Rattle.ga_display.specs.Texts.{event_text, chain_header_text};
 ghost use Rattle.ga_console.specs.Replies.{IsCommandReply, node_without_step, steps_text};
-ghost use Rattle.ga_display.specs.declared.wording.Wording.{Wording as Worded};
+ghost use Rattle.ga_display.specs.declared.wording.RefusalWording.{RefusalWording as Worded};
 ghost use Rattle.ga_console.specs.declared.command.Command.TheVariants.{Node, Memory, Trace, Why, Count, Dump};
 
 use ga_display::{
-    Wording, write_chain_head, write_counts, write_event, write_memory, write_node,
+    RefusalWording, write_chain_head, write_event, write_event_counts, write_memory, write_node,
     write_trace_head,
 };
 use ga_grid::NodeId;
@@ -19,7 +19,7 @@ use std::io::Write;
 
 /// `node NNN`: shows the node.
 pub fn node<W: Write>(lab: &Lab, node: NodeId, writer: &mut Writer<'_, W>) -> WriteResult
-    ensures { (wording : Worded) → WritesSome result (λ text. IsCommandReply wording lab.now (Node node) text lab.now)
+    ensures { (wording : Worded) → WritesSomeText result (λ text. IsCommandReply wording lab.now (Node node) text lab.now)
         W.contents writer.old writer.new }
 {
     write_node(writer, node, lab.node(node))
@@ -32,7 +32,7 @@ pub fn memory<W: Write>(
     address: u8,
     writer: &mut Writer<'_, W>,
 ) -> WriteResult
-    ensures { (wording : Worded) → WritesSome result (λ text. IsCommandReply wording lab.now (Memory node address) text lab.now)
+    ensures { (wording : Worded) → WritesSomeText result (λ text. IsCommandReply wording lab.now (Memory node address) text lab.now)
         W.contents writer.old writer.new }
 {
     write_memory(writer, node, address, lab.memory(node, address))
@@ -40,20 +40,20 @@ pub fn memory<W: Write>(
 
 /// `count`: shows how many events are kept, how many were made, and how many may be kept.
 pub fn count<W: Write>(lab: &Lab, writer: &mut Writer<'_, W>) -> WriteResult
-    ensures { (wording : Worded) → WritesSome result (λ text. IsCommandReply wording lab.now Count text lab.now)
+    ensures { (wording : Worded) → WritesSomeText result (λ text. IsCommandReply wording lab.now Count text lab.now)
         W.contents writer.old writer.new }
 {
-    write_counts(writer, lab.counts())
+    write_event_counts(writer, lab.counts())
 }
 
 /// `trace NNN`: shows the steps of the node, a line for each.
 pub fn trace<W: Write>(
     lab: &Lab,
     node: NodeId,
-    wording: Wording,
+    wording: RefusalWording,
     writer: &mut Writer<'_, W>,
 ) -> WriteResult
-    ensures { WritesSome result (λ text. IsCommandReply wording lab.now (Trace node) text lab.now)
+    ensures { WritesSomeText result (λ text. IsCommandReply wording lab.now (Trace node) text lab.now)
         W.contents writer.old writer.new }
 {
     match lab.history(node) {
@@ -64,7 +64,7 @@ pub fn trace<W: Write>(
 
 /// Says how many steps there are, then each of them.
 fn say_steps<W: Write>(node: NodeId, steps: &[Made], writer: &mut Writer<'_, W>) -> WriteResult
-    ensures { WritesSome result (λ text. text ≡ steps_text node steps.now)
+    ensures { WritesSomeText result (λ text. text ≡ steps_text node steps.now)
         W.contents writer.old writer.new }
 {
     write_trace_head(writer, node, steps.len())?;
@@ -79,10 +79,10 @@ pub fn why<W: Write>(
     lab: &Lab,
     from: (NodeId, u32),
     to: (NodeId, u32),
-    wording: Wording,
+    wording: RefusalWording,
     writer: &mut Writer<'_, W>,
 ) -> WriteResult
-    ensures { WritesSome result (λ text. IsCommandReply wording lab.now (Why from.0 from.1 to.0 to.1) text lab.now)
+    ensures { WritesSomeText result (λ text. IsCommandReply wording lab.now (Why from.0 from.1 to.0 to.1) text lab.now)
         W.contents writer.old writer.new }
 {
     match lab.explain(from, to) {
@@ -105,7 +105,7 @@ fn node_without_step(lab: &Lab, from: (NodeId, u32), to: NodeId) -> NodeId
 
 /// Writes how many events a chain has, then the report of each.
 fn say_chain<W: Write>(events: &[Made], writer: &mut Writer<'_, W>) -> WriteResult
-    ensures { WritesSome result (λ text. text ≡ chain_header_text (length events.now) ++ flat_map event_text events.now)
+    ensures { WritesSomeText result (λ text. text ≡ chain_header_text (length events.now) ++ flat_map event_text events.now)
         W.contents writer.old writer.new }
 {
     write_chain_head(writer, events.len())?;
@@ -119,10 +119,10 @@ fn say_chain<W: Write>(events: &[Made], writer: &mut Writer<'_, W>) -> WriteResu
 pub fn dump<W: Write>(
     alloc: Global,
     lab: &Lab,
-    wording: Wording,
+    wording: RefusalWording,
     writer: &mut Writer<'_, W>,
 ) -> WriteResult
-    ensures { WritesSome result (λ text. IsCommandReply wording lab.now Dump text lab.now)
+    ensures { WritesSomeText result (λ text. IsCommandReply wording lab.now Dump text lab.now)
         W.contents writer.old writer.new }
 {
     match print(alloc, lab.chip()) {

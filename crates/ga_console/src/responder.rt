@@ -1,16 +1,16 @@
 //! What answers the lines of a session.
-ghost use Rattle.ga_text.specs.Output.{WritesSome};
+ghost use Rattle.ga_text.specs.Output.{WritesSomeText};
 ghost use Rattle.std.specs.Prelude.{◌≡◌};
 ghost use Rattle.ga_text.specs.Lines.{Bytes};
 ghost use Rattle.ga_lab.specs.Machine.{State};
 ghost use Rattle.ga_console.specs.Replies.{IsAnswerInWording, IsCommandReply};
-ghost use Rattle.ga_console.specs.Session.{AnswersOrQuits, EndsAtNoAnswer};
+ghost use Rattle.ga_console.specs.Session.{AnswersOrQuits, EndsSessionAtNoAnswer};
 ghost use Rattle.ga_console.specs.inner.Run.{AnswersOrEnds, ObeysCommand};
 
 use super::changes::{back, rewind, step};
 use super::command::{Command, parse_debugger_command};
 use super::readings::{count, dump, memory, node, trace, why};
-use ga_display::Wording;
+use ga_display::RefusalWording;
 use ga_image::LINE_LIMIT;
 use ga_lab::Lab;
 use ga_text::{WriteError, WriteResult, Writer};
@@ -34,7 +34,7 @@ pub trait Responder: Drop {
     ghost answers: { Self → Bytes → Bytes → Self → Type 0 };
 
     // The same, where the session ends, as the command was refused.
-    ghost refuses: { Self → Bytes → Bytes → Self → Type 0 } = { EndsAtNoAnswer };
+    ghost refuses: { Self → Bytes → Bytes → Self → Type 0 } = { EndsSessionAtNoAnswer };
 
     // The session's machine on a lab that was opened.
     ghost begin: { State → Self };
@@ -53,7 +53,7 @@ pub trait Responder: Drop {
         line: &[u8],
         writer: &mut Writer<'_, W>,
     ) -> Result<LineAction, WriteError>
-        ensures { WritesSome result (AnswersOrEnds answers refuses self.old line.now self.new result) W.contents writer.old writer.new };
+        ensures { WritesSomeText result (AnswersOrEnds answers refuses self.old line.now self.new result) W.contents writer.old writer.new };
 
     /// Answers a line that spells a command of the debugger.
     ///
@@ -65,7 +65,7 @@ pub trait Responder: Drop {
         command: Command,
         writer: &mut Writer<'_, W>,
     ) -> Result<LineAction, WriteError>
-        ensures { WritesSome result (ObeysCommand answers refuses self.old command self.new result) W.contents writer.old writer.new };
+        ensures { WritesSomeText result (ObeysCommand answers refuses self.old command self.new result) W.contents writer.old writer.new };
 }
 
 impl Responder for Lab {
@@ -85,7 +85,7 @@ impl Responder for Lab {
         line: &[u8],
         writer: &mut Writer<'_, W>,
     ) -> Result<LineAction, WriteError> {
-        answer_in_wording(alloc, self, line, Wording::Brief, writer)
+        answer_in_wording(alloc, self, line, RefusalWording::Brief, writer)
     }
 
     #[inline(always)]
@@ -95,7 +95,7 @@ impl Responder for Lab {
         command: Command,
         writer: &mut Writer<'_, W>,
     ) -> Result<LineAction, WriteError> {
-        execute_in_wording(alloc, self, command, Wording::Brief, writer)?;
+        execute_in_wording(alloc, self, command, RefusalWording::Brief, writer)?;
         Ok(LineAction::Answered)
     }
 }
@@ -108,10 +108,10 @@ pub fn answer_in_wording<W: Write>(
     alloc: Global,
     lab: &mut Lab,
     line: &[u8],
-    wording: Wording,
+    wording: RefusalWording,
     writer: &mut Writer<'_, W>,
 ) -> Result<LineAction, WriteError>
-    ensures { WritesSome result (AnswersOrQuits (IsAnswerInWording wording) lab.old line.now lab.new result) W.contents writer.old writer.new }
+    ensures { WritesSomeText result (AnswersOrQuits (IsAnswerInWording wording) lab.old line.now lab.new result) W.contents writer.old writer.new }
 {
     if line.len() > LINE_LIMIT {
         writer.write_text(wording.long_line_refusal())?;
@@ -141,10 +141,10 @@ pub fn execute_in_wording<W: Write>(
     alloc: Global,
     lab: &mut Lab,
     command: Command,
-    wording: Wording,
+    wording: RefusalWording,
     writer: &mut Writer<'_, W>,
 ) -> WriteResult
-    ensures { WritesSome result (λ text. IsCommandReply wording lab.old command text lab.new) W.contents writer.old writer.new }
+    ensures { WritesSomeText result (λ text. IsCommandReply wording lab.old command text lab.new) W.contents writer.old writer.new }
 {
     match command {
         Command::Step(at) => step(lab, at, wording, writer),

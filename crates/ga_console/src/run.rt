@@ -2,7 +2,7 @@
 ghost use Rattle.ga_text.specs.Output.{WritesText, ReadsAndWrites, ReadsAheadAndWrites};
 ghost use Rattle.std.specs.Prelude.{◌≡◌, IfOk, IfErr};
 ghost use Rattle.ga_text.specs.Input.{IsWithinInputLimit};
-ghost use Rattle.ga_console.specs.Run.{WritesSession, WritesSessionBy, WritesImageRefusal, IsOpenedOnImage, IsFaultOfImage, status_of as status_that};
+ghost use Rattle.ga_console.specs.Run.{WritesSession, WritesSessionBy, WritesImageRefusal, IsOpenedOnImage, IsFaultOfImage, status_of_commands_end as status_that};
 ghost use Rattle.ga_console.specs.inner.Run.{AfterImage};
 
 use super::commands::{CommandsEnd, serve_commands};
@@ -67,7 +67,7 @@ pub fn session_with_responder<S: Responder, R: Read, W: Write>(
     let mut input = Input::new();
     let mut image = Vec::new(alloc);
     match read_image(&mut input, reader, &mut image) {
-        Err(_) => refuse(writer, NO_MEMORY),
+        Err(_) => write_image_refusal(writer, NO_MEMORY),
         Ok(ImageEnd::Failed) => Status::StreamFault,
         // No image that is accepted is so long.
         Ok(ImageEnd::Past) => after_image::<S, R, W>(
@@ -99,9 +99,9 @@ fn after_image<S: Responder, R: Read, W: Write>(
         Ok(lab) => {
             let mut session = S::open(lab);
             let mut said = Writer::ready(writer);
-            status_of(serve_commands(alloc, input, reader, &mut said, &mut session))
+            status_of_commands_end(serve_commands(alloc, input, reader, &mut said, &mut session))
         }
-        Err(fault) => refuse(writer, fault),
+        Err(fault) => write_image_refusal(writer, fault),
     }
 }
 
@@ -121,7 +121,7 @@ pub fn open_image(alloc: Global, image: Vec<u8>, limit: u32) -> Result<Lab, Imag
 }
 
 /// Writes the text of a refused image.
-pub fn refuse<W: Write>(writer: &mut W, fault: ImageFault) -> Status
+pub fn write_image_refusal<W: Write>(writer: &mut W, fault: ImageFault) -> Status
     ensures { WritesText (λ text. WritesImageRefusal fault text result) (W.contents writer.old) (W.contents writer.new) }
 {
     let mut text = TextBuffer::new();
@@ -133,7 +133,7 @@ pub fn refuse<W: Write>(writer: &mut W, fault: ImageFault) -> Status
 }
 
 /// The status of a session whose commands were served so.
-pub fn status_of(ending: Result<CommandsEnd, WriteError>) -> Status
+pub fn status_of_commands_end(ending: Result<CommandsEnd, WriteError>) -> Status
     ensures { result ≡ status_that ending }
 {
     match ending {

@@ -1,6 +1,6 @@
 //! The command line.
 ghost use Rattle.std.specs.Prelude.{IfOk};
-ghost use Rattle.ga_console.specs.Settings.{AreInRange};
+ghost use Rattle.ga_console.specs.Settings.{AreSettingsInRange};
 
 mod lines;
 mod refusals;
@@ -119,8 +119,8 @@ pub enum CommandLineFault {
 ///
 /// # Errors
 /// `Help`, where help or the version was asked for; `Refused`; `Memory`.
-pub fn arguments(alloc: Global, words: &[&str]) -> Result<Settings, CommandLineFault>
-    ensures in_range { IfOk result AreInRange }
+pub fn parse_command_line(alloc: Global, words: &[&str]) -> Result<Settings, CommandLineFault>
+    ensures in_range { IfOk result AreSettingsInRange }
 {
     let Ok(command) = program(alloc) else {
         return Err(CommandLineFault::Memory);
@@ -141,7 +141,7 @@ pub fn arguments(alloc: Global, words: &[&str]) -> Result<Settings, CommandLineF
 }
 
 fn chosen(alloc: Global, matches: &ArgMatches<'_>) -> Result<Settings, CommandLineFault>
-    ensures in_range { IfOk result AreInRange }
+    ensures in_range { IfOk result AreSettingsInRange }
 {
     match matches.subcommand() {
         Some(("debug", debug)) => Ok(Settings::Debug {
@@ -185,7 +185,7 @@ fn chosen(alloc: Global, matches: &ArgMatches<'_>) -> Result<Settings, CommandLi
 
 /// How far to search for ends, and what to write about them.
 fn checked(alloc: Global, check: &ArgMatches<'_>) -> Result<Settings, CommandLineFault>
-    ensures in_range { IfOk result AreInRange }
+    ensures in_range { IfOk result AreSettingsInRange }
 {
     let most = place(check.get_str("most"), DEFAULT_MOST)?;
     let session = kind(alloc, check.get_str("session"))?;
@@ -224,7 +224,7 @@ fn is_later_kind(session: Option<u32>) -> bool {
 
 /// What is to be drawn.
 fn drawn(alloc: Global, draw: &ArgMatches<'_>) -> Result<Settings, CommandLineFault>
-    ensures in_range { IfOk result AreInRange }
+    ensures in_range { IfOk result AreSettingsInRange }
 {
     let limit = limit(draw, DEFAULT_EXPLORED, GREATEST_EXPLORED)?;
     let from = place(draw.get_str("from"), 1)?;

@@ -6,7 +6,7 @@ use Rattle.ga_dap_views.specs.Threads.{has_thread}
 use Rattle.ga_dap_queries.specs.declared.debuggee.Debuggee.{Debuggee}
 use Rattle.ga_dap_control.specs.Configuring.{AreThreadMarks}
 use Rattle.ga_dap_protocol.specs.Sent.{SentMessages}
-use Rattle.ga_dap_queries.specs.Sending.{Message, Messages, Sends, SendsAll}
+use Rattle.ga_dap_queries.specs.Sending.{Message, Messages, SendsMessage, SendsMessages}
 use Rattle.ga_dap.specs.declared.unanswered.NoResponse.{NoResponse}
 use Rattle.ga_dap.specs.declared.unanswered.NoResponse.TheVariants.{Memory, Untold}
 use Rattle.ga_dap.specs.Client.{sent_messages_of}
@@ -14,10 +14,10 @@ use Rattle.ga_dap.specs.inner.Carrying.{Carries}
 use Rattle.std.specs.Prelude.{false}
 use Rattle.ga_dap_protocol.specs.declared.request.ClientRequest.{ClientRequest}
 use Rattle.ga_dap_queries.specs.declared.request_name.RequestName.{RequestName}
-use Rattle.ga_dap_control.specs.Requests.{AnswersAtOnce}
+use Rattle.ga_dap_control.specs.Requests.{AnswersImmediateRequest}
 use Rattle.ga_dap_control.specs.declared.launched.LaunchedProgram.{LaunchedProgram}
 use Rattle.ga_dap.specs.declared.session.Session.{Session}
-use Rattle.ga_dap.specs.Answering.{AnswersKnown, ChangesLaunchedOnly, AnswersIfLaunched, PerformsRequest, needs_stopped_chip}
+use Rattle.ga_dap.specs.Answering.{AnswersKnownRequest, ChangesLaunchedOnly, AnswersRequestIfLaunched, PerformsRequest, needs_stopped_chip}
 use Rattle.ga_dap.specs.Launches.{FileReadRelation}
 
 -- ---- marks of the nodes that have something to show
@@ -31,13 +31,13 @@ shown_so p nodes marks e h = λ n below. h n below ∙ ap (λ (z : List NodeId).
 pub back_again : (o : SentMessages) → o.bytes ≡ [] → sent_messages_of [] o.seq ≡ o
 back_again o none = ap (λ (b : List ℕ). sent_messages_of b o.seq) (sym none)
 
-pub sent_again : (o p : SentMessages) (messages : Messages) (new : SentMessages) → o.bytes ≡ [] → p ≡ sent_messages_of [] o.seq → SendsAll p messages new → SendsAll o messages new
+pub sent_again : (o p : SentMessages) (messages : Messages) (new : SentMessages) → o.bytes ≡ [] → p ≡ sent_messages_of [] o.seq → SendsMessages p messages new → SendsMessages o messages new
 sent_again o p messages new none e sent =
-    let P : SentMessages → Type 0 = λ z. SendsAll z messages new in subst P (e ∙ back_again o none) sent
+    let P : SentMessages → Type 0 = λ z. SendsMessages z messages new in subst P (e ∙ back_again o none) sent
 
 -- messages, and some after them
-pub sent_then : (old : SentMessages) (first : Message) (between : SentMessages) (rest : Messages) (new : SentMessages) → Sends old first between → SendsAll between rest new
-    → SendsAll old (first ∷ rest) new
+pub sent_then : (old : SentMessages) (first : Message) (between : SentMessages) (rest : Messages) (new : SentMessages) → SendsMessage old first between → SendsMessages between rest new
+    → SendsMessages old (first ∷ rest) new
 sent_then old first between rest new one all = (between, one, all)
 
 -- what a call did, in other words
@@ -50,7 +50,7 @@ carries_so (Err Untold) P Q Stays Still old new h f g = tt
 -- a request that the session itself doesn't answer is one of what was launched
 pub of_launched : {S : Type 0} (G : FileReadRelation S) (host : S) (s : Session) (command : RequestName) (request : ClientRequest) (messages : Messages) (new : Session)
     → command ≢ the.Initialize → command ≢ the.Launch → command ≢ the.Disconnect → command ≢ the.Terminate
-    → ChangesLaunchedOnly (AnswersIfLaunched command s.launched request) s messages new → AnswersKnown G host s command request messages host new
+    → ChangesLaunchedOnly (AnswersRequestIfLaunched command s.launched request) s messages new → AnswersKnownRequest G host s command request messages host new
 of_launched G host s the.Initialize request messages new i l d t does = absurd (i refl)
 of_launched G host s the.Launch request messages new i l d t does = absurd (l refl)
 of_launched G host s the.SetBreakpoints request messages new i l d t does = (does, refl)
@@ -80,7 +80,7 @@ of_launched G host s the.Disconnect request messages new i l d t does = absurd (
 -- one that makes no move and evaluates nothing is answered in place
 pub of_place : (command : RequestName) (l : LaunchedProgram) (request : ClientRequest) (messages : Messages) (new : LaunchedProgram)
     → command ≢ the.StepBack → command ≢ the.ReverseContinue → command ≢ the.Evaluate
-    → AnswersAtOnce command l request messages new → PerformsRequest command l request messages new
+    → AnswersImmediateRequest command l request messages new → PerformsRequest command l request messages new
 of_place the.Initialize l request messages new b r e does = does
 of_place the.Launch l request messages new b r e does = does
 of_place the.SetBreakpoints l request messages new b r e does = does

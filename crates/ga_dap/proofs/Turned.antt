@@ -7,20 +7,20 @@ use Rattle.ga_dap_protocol.specs.Sent.{SentMessages}
 use Rattle.ga_dap_protocol.specs.declared.request.ClientRequest.{ClientRequest}
 use Rattle.ga_dap_protocol.specs.declared.request.RequestError.{RequestError}
 use Rattle.ga_dap_protocol.specs.declared.request.RequestError.TheVariants as fault
-use Rattle.ga_dap_queries.specs.Sending.{SendsAll}
+use Rattle.ga_dap_queries.specs.Sending.{SendsMessages}
 use Rattle.ga_dap.specs.declared.session.Session.{Session}
 use Rattle.ga_dap.specs.declared.serving.SessionEnd.{SessionEnd}
 use Rattle.ga_dap.specs.declared.serving.SessionEnd.TheVariants as end
 use Rattle.ga_dap.specs.declared.turn.Progress.{Progress}
 use Rattle.ga_dap.specs.declared.turn.Progress.TheVariants.{On, End}
-use Rattle.ga_dap.specs.Client.{ArrivalRelation, IsRequestIn, IsReadDue, is_running, invalid_request_output}
+use Rattle.ga_dap.specs.Client.{RequestArrivalRelation, IsRequestInContent, IsReadDue, is_running, invalid_request_output}
 use Rattle.ga_dap.specs.Client.AnswersContent.{carried, wanting, no_request}
 use Rattle.ga_dap.specs.Launches.{FileReadRelation}
 use Rattle.ga_dap.specs.inner.Turning.{AnswersOrEnds, ContentOrEnds, DeclinesOrEnds, TakesOrEnds, GoesOnOrEnds, EndsTurn, TurnOrEnds, serving_at}
 use Rattle.ga_dap.proofs.Known.{back_again}
 
 pub content_so : {S : Type 0} (G : FileReadRelation S) (host after : S) (s t : Session) (content : Bytes) (request : ClientRequest) (old new : SentMessages) (progress : Progress)
-    → IsRequestIn content request → AnswersOrEnds G host s request old progress new after t → ContentOrEnds G host s content old progress new after t
+    → IsRequestInContent content request → AnswersOrEnds G host s request old progress new after t → ContentOrEnds G host s content old progress new after t
 content_so G host after s t content request old new On is h = (
   h.0,
   elim h.1 [ inl answers ↦ carried request is answers | inr refused ↦ wanting request is refused.0 refused.1 ],
@@ -38,7 +38,7 @@ pub takes_so : {S : Type 0} (G : FileReadRelation S) (host after : S) (s t : Ses
 takes_so G host after s t content text all rest old new On whole e h = (content, text, h.0, whole, e, h.1, h.2)
 takes_so G host after s t content text all rest old new (End ending) whole e h = let P : SessionEnd → Type 0 = λ z. TakesOrEnds G host s all old (End z) new after t rest in subst P (sym h) (text, e)
 
-pub turned_so : {S A : Type 0} (G : FileReadRelation S) (T : ArrivalRelation A) (host after : S) (arrivals came : A) (s t : Session) (ahead left ahead' rest : Bytes) (old new : SentMessages)
+pub turned_so : {S A : Type 0} (G : FileReadRelation S) (T : RequestArrivalRelation A) (host after : S) (arrivals came : A) (s t : Session) (ahead left ahead' rest : Bytes) (old new : SentMessages)
     (progress : Progress) → old.bytes ≡ [] → IsReadDue T (is_running s) ahead arrivals true came
     → TakesOrEnds G host s (ahead ++ left) old progress new after t (ahead' ++ rest)
     → TurnOrEnds G T (serving_at host arrivals s old.seq ahead left) progress new.bytes (serving_at after came t new.seq ahead' rest)
@@ -52,7 +52,7 @@ turned_so G T host after arrivals came s t ahead left ahead' rest old new On non
     taken = h.4;
     messages = h.2;
     answers = h.5;
-    sends = subst (λ (z : SentMessages). SendsAll z h.2 new) (sym (back_again old none)) h.6;
+    sends = subst (λ (z : SentMessages). SendsMessages z h.2 new) (sym (back_again old none)) h.6;
   },
 )
 turned_so G T host after arrivals came s t ahead left ahead' rest old new (End end.Done) none time h = (h.0, ahead', h.0 ∙ sym h.1)
@@ -60,7 +60,7 @@ turned_so G T host after arrivals came s t ahead left ahead' rest old new (End (
 turned_so G T host after arrivals came s t ahead left ahead' rest old new (End end.Memory) none time h = (tt, h.0 ++ ahead', h.1 ∙ sym (append_assoc h.0 ahead' rest))
 turned_so G T host after arrivals came s t ahead left ahead' rest old new (End end.StreamFault) none time h = (tt, ahead', h)
 
-pub gone_on_so : {S A : Type 0} (G : FileReadRelation S) (T : ArrivalRelation A) (host : S) (arrivals came : A) (s t : Session) (ahead left : Bytes) (old new : SentMessages)
+pub gone_on_so : {S A : Type 0} (G : FileReadRelation S) (T : RequestArrivalRelation A) (host : S) (arrivals came : A) (s t : Session) (ahead left : Bytes) (old new : SentMessages)
     (progress : Progress) → old.bytes ≡ [] → IsReadDue T (is_running s) ahead arrivals false came → GoesOnOrEnds s old progress new t
     → TurnOrEnds G T (serving_at host arrivals s old.seq ahead left) progress new.bytes (serving_at host came t new.seq ahead left)
 gone_on_so G T host arrivals came s t ahead left old new On none time h = (
@@ -73,7 +73,7 @@ gone_on_so G T host arrivals came s t ahead left old new On none time h = (
     messages = h.2;
     goes = h.4;
     session = h.5;
-    sends = subst (λ (z : SentMessages). SendsAll z h.2 new) (sym (back_again old none)) h.6;
+    sends = subst (λ (z : SentMessages). SendsMessages z h.2 new) (sym (back_again old none)) h.6;
     files = refl;
     ahead = refl;
     left = refl;

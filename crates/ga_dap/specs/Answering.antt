@@ -9,11 +9,11 @@ use Rattle.ga_dap_queries.specs.declared.debuggee.Debuggee.{Debuggee}
 use Rattle.ga_dap_queries.specs.declared.request_name.RequestName.{RequestName}
 use Rattle.ga_dap_queries.specs.declared.request_name.RequestName.TheVariants as the
 use Rattle.ga_dap_control.specs.Moving.{execution_without_goal}
-use Rattle.ga_dap_control.specs.Requests.{AnswersAtOnce}
+use Rattle.ga_dap_control.specs.Requests.{AnswersImmediateRequest}
 use Rattle.ga_dap_control.specs.declared.execution.Execution.{Execution}
 use Rattle.ga_dap_control.specs.declared.launched.LaunchedProgram.{LaunchedProgram}
 use Rattle.ga_dap.specs.declared.session.Session.{Session}
-use Rattle.ga_dap.specs.Evaluating.{Evaluates}
+use Rattle.ga_dap.specs.Evaluating.{AnswersEvaluateRequest}
 use Rattle.ga_dap.specs.Going.{StepsBack, ReverseContinues}
 use Rattle.ga_dap.specs.Launches.{FileReadRelation, Launches, bare_event_message}
 
@@ -37,8 +37,8 @@ ChangesProgramOnly IsCommandReply l messages new = IsCommandReply messages new.p
 abbrev pub PerformsRequest : RequestName → LaunchedProgram → ClientRequest → Messages → LaunchedProgram → Type 0
 PerformsRequest the.StepBack l request messages new = ChangesProgramOnly (StepsBack l.program request) l messages new
 PerformsRequest the.ReverseContinue l request messages new = ChangesProgramOnly (ReverseContinues l.settings l.program request) l messages new
-PerformsRequest the.Evaluate l request messages new = ChangesProgramOnly (Evaluates l.program request) l messages new
-PerformsRequest other l request messages new = AnswersAtOnce other l request messages new
+PerformsRequest the.Evaluate l request messages new = ChangesProgramOnly (AnswersEvaluateRequest l.program request) l messages new
+PerformsRequest other l request messages new = AnswersImmediateRequest other l request messages new
 
 -- requests that begin a run
 abbrev pub begins_run : RequestName → Bool
@@ -55,16 +55,16 @@ request_refusal_reason command r =
     else if not r.is_configured && begins_run command then Some (codes "configurationDone comes first")
     else None
 
-abbrev pub PerformsUnlessRefused : Option Text → RequestName → LaunchedProgram → ClientRequest → Messages → LaunchedProgram → Type 0
-PerformsUnlessRefused (Some why) command l request messages new = (messages ≡ refused_response request why ∷ []) × (new ≡ l)
-PerformsUnlessRefused None command l request messages new = PerformsRequest command l request messages new
+abbrev pub PerformsRequestUnlessRefused : Option Text → RequestName → LaunchedProgram → ClientRequest → Messages → LaunchedProgram → Type 0
+PerformsRequestUnlessRefused (Some why) command l request messages new = (messages ≡ refused_response request why ∷ []) × (new ≡ l)
+PerformsRequestUnlessRefused None command l request messages new = PerformsRequest command l request messages new
 
-abbrev pub AnswersWhileLaunched : RequestName → LaunchedProgram → ClientRequest → Messages → LaunchedProgram → Type 0
-AnswersWhileLaunched command l request messages new = PerformsUnlessRefused (request_refusal_reason command l.execution) command l request messages new
+abbrev pub AnswersRequestWhileLaunched : RequestName → LaunchedProgram → ClientRequest → Messages → LaunchedProgram → Type 0
+AnswersRequestWhileLaunched command l request messages new = PerformsRequestUnlessRefused (request_refusal_reason command l.execution) command l request messages new
 
-abbrev pub AnswersIfLaunched : RequestName → Option LaunchedProgram → ClientRequest → Messages → Option LaunchedProgram → Type 0
-AnswersIfLaunched command None request messages new = (messages ≡ refused_response request (codes "nothing is launched") ∷ []) × (new ≡ None)
-AnswersIfLaunched command (Some l) request messages new = (after : LaunchedProgram) × AnswersWhileLaunched command l request messages after × (new ≡ Some after)
+abbrev pub AnswersRequestIfLaunched : RequestName → Option LaunchedProgram → ClientRequest → Messages → Option LaunchedProgram → Type 0
+AnswersRequestIfLaunched command None request messages new = (messages ≡ refused_response request (codes "nothing is launched") ∷ []) × (new ≡ None)
+AnswersRequestIfLaunched command (Some l) request messages new = (after : LaunchedProgram) × AnswersRequestWhileLaunched command l request messages after × (new ≡ Some after)
 
 -- ---- of the session
 
@@ -78,33 +78,33 @@ abbrev pub launched_with_run_ended : Option LaunchedProgram → Option LaunchedP
 launched_with_run_ended None = None
 launched_with_run_ended (Some l) = Some (record l { execution = execution_without_goal l.execution })
 
-abbrev pub Terminates : Session → ClientRequest → Messages → Session → Type 0
-Terminates s request messages new =
+abbrev pub AnswersTerminateRequest : Session → ClientRequest → Messages → Session → Type 0
+AnswersTerminateRequest s request messages new =
     (messages ≡ bare_success_response request ∷ bare_event_message (codes "terminated") ∷ []) × (new ≡ record s { launched = launched_with_run_ended s.launched })
 
-abbrev pub Disconnects : Session → ClientRequest → Messages → Session → Type 0
-Disconnects s request messages new = (messages ≡ bare_success_response request ∷ []) × (new ≡ record s { is_over = true })
+abbrev pub AnswersDisconnectRequest : Session → ClientRequest → Messages → Session → Type 0
+AnswersDisconnectRequest s request messages new = (messages ≡ bare_success_response request ∷ []) × (new ≡ record s { is_over = true })
 
-abbrev pub Initializes : Session → ClientRequest → Messages → Session → Type 0
-Initializes s request messages new = (message : Message) × AnswersInitialize request message × (messages ≡ message ∷ []) × (new ≡ s)
+abbrev pub AnswersInitializeRequest : Session → ClientRequest → Messages → Session → Type 0
+AnswersInitializeRequest s request messages new = (message : Message) × AnswersInitialize request message × (messages ≡ message ∷ []) × (new ≡ s)
 
 -- what was launched alone changes
 abbrev pub ChangesLaunchedOnly : (Messages → Option LaunchedProgram → Type 0) → Session → Messages → Session → Type 0
 ChangesLaunchedOnly IsCommandReply s messages new = IsCommandReply messages new.launched × (new ≡ record s { launched = new.launched })
 
-abbrev pub AnswersKnown : {S : Type 0} → FileReadRelation S → S → Session → RequestName → ClientRequest → Messages → S → Session → Type 0
-AnswersKnown G host s the.Initialize request messages after new = Initializes s request messages new × (after ≡ host)
-AnswersKnown {S} G host s the.Launch request messages after new =
+abbrev pub AnswersKnownRequest : {S : Type 0} → FileReadRelation S → S → Session → RequestName → ClientRequest → Messages → S → Session → Type 0
+AnswersKnownRequest G host s the.Initialize request messages after new = AnswersInitializeRequest s request messages new × (after ≡ host)
+AnswersKnownRequest {S} G host s the.Launch request messages after new =
     ChangesLaunchedOnly (λ (m : Messages) (l : Option LaunchedProgram). Launches G host s.launched request m after l) s messages new
-AnswersKnown G host s the.Disconnect request messages after new = Disconnects s request messages new × (after ≡ host)
-AnswersKnown G host s the.Terminate request messages after new = Terminates s request messages new × (after ≡ host)
-AnswersKnown G host s other request messages after new = ChangesLaunchedOnly (AnswersIfLaunched other s.launched request) s messages new × (after ≡ host)
+AnswersKnownRequest G host s the.Disconnect request messages after new = AnswersDisconnectRequest s request messages new × (after ≡ host)
+AnswersKnownRequest G host s the.Terminate request messages after new = AnswersTerminateRequest s request messages new × (after ≡ host)
+AnswersKnownRequest G host s other request messages after new = ChangesLaunchedOnly (AnswersRequestIfLaunched other s.launched request) s messages new × (after ≡ host)
 
-abbrev pub AnswersIfKnown : {S : Type 0} → FileReadRelation S → S → Session → Option RequestName → ClientRequest → Messages → S → Session → Type 0
-AnswersIfKnown G host s None request messages after new = (messages ≡ refused_response request (codes "no such request") ∷ []) × (new ≡ s) × (after ≡ host)
-AnswersIfKnown G host s (Some command) request messages after new = AnswersKnown G host s command request messages after new
+abbrev pub AnswersRequestIfKnown : {S : Type 0} → FileReadRelation S → S → Session → Option RequestName → ClientRequest → Messages → S → Session → Type 0
+AnswersRequestIfKnown G host s None request messages after new = (messages ≡ refused_response request (codes "no such request") ∷ []) × (new ≡ s) × (after ≡ host)
+AnswersRequestIfKnown G host s (Some command) request messages after new = AnswersKnownRequest G host s command request messages after new
 
 -- a request is answered: the host and the session before, the messages, and both after
 abbrev pub AnswersRequest : {S : Type 0} → FileReadRelation S → S → Session → ClientRequest → Messages → S → Session → Type 0
 AnswersRequest G host s request messages after new =
-    (command : Option RequestName) × NamesRequest (string_bytes request.command) command × AnswersIfKnown G host s command request messages after new
+    (command : Option RequestName) × NamesRequest (string_bytes request.command) command × AnswersRequestIfKnown G host s command request messages after new

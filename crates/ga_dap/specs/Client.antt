@@ -15,18 +15,18 @@ use Rattle.ga_dap_protocol.specs.Sent.{SentMessages}
 use Rattle.ga_dap_protocol.specs.declared.request.ClientRequest.{ClientRequest}
 use Rattle.ga_dap_protocol.specs.declared.request.RequestError.{RequestError}
 use Rattle.ga_dap_protocol.specs.declared.request.RequestError.TheVariants as fault
-use Rattle.ga_dap_queries.specs.Sending.{Messages, SendsAll, refused_response}
+use Rattle.ga_dap_queries.specs.Sending.{Messages, SendsMessages, refused_response}
 use Rattle.ga_dap_control.specs.declared.launched.LaunchedProgram.{LaunchedProgram}
 use Rattle.ga_dap.specs.declared.session.Session.{Session}
 use Rattle.ga_dap.specs.declared.serving.SessionEnd.{SessionEnd}
 use Rattle.ga_dap.specs.declared.serving.SessionEnd.TheVariants as end
 use Rattle.ga_dap.specs.Answering.{AnswersRequest}
-use Rattle.ga_dap.specs.Going.{ContinuesRun}
+use Rattle.ga_dap.specs.Going.{MakesRunSlice}
 use Rattle.ga_dap.specs.Launches.{FileReadRelation, output_message}
 
 -- whether requests have come, as a host says: the host before, what it says, and after
-abbrev pub ArrivalRelation : Type 0 → Type 1
-ArrivalRelation A = A → Bool → A → Type 0
+abbrev pub RequestArrivalRelation : Type 0 → Type 1
+RequestArrivalRelation A = A → Bool → A → Type 0
 
 -- the state between two turns: the host's files and arrivals, the session, the number of the last message, and of the input
 -- what was read and not taken, and what was not read
@@ -64,8 +64,8 @@ abbrev pub invalid_request_output : RequestError → Messages
 invalid_request_output why = output_message (codes "stderr") (codes "ga144: " ++ request_error_text why ++ codes "\n") ∷ []
 
 -- a content part is this request
-abbrev pub IsRequestIn : Bytes → ClientRequest → Type 0
-IsRequestIn content r =
+abbrev pub IsRequestInContent : Bytes → ClientRequest → Type 0
+IsRequestInContent content r =
     (d : Data) × IsUtf8 content × (read content ≡ Some d) × IsRequest d r.seq (string_bytes r.command) (view r.arguments)
 
 abbrev pub out_of_memory_messages : ClientRequest → Messages
@@ -73,9 +73,9 @@ out_of_memory_messages request = refused_response request (codes "out of memory"
 
 -- a message is answered: it is a request that is carried out, or one to which memory is refused, and then nothing changes; or it is none
 pub data AnswersContent {S : Type 0} (G : FileReadRelation S) (host : S) (s : Session) (content : Bytes) (messages : Messages) (after : S) (new : Session) : Type 0 where
-  carried : (request : ClientRequest) → IsRequestIn content request → AnswersRequest G host s request messages after new
+  carried : (request : ClientRequest) → IsRequestInContent content request → AnswersRequest G host s request messages after new
       → AnswersContent G host s content messages after new
-  wanting : (request : ClientRequest) → IsRequestIn content request → messages ≡ out_of_memory_messages request → new ≡ s
+  wanting : (request : ClientRequest) → IsRequestInContent content request → messages ≡ out_of_memory_messages request → new ≡ s
       → AnswersContent G host s content messages after new
   no_request : (why : RequestError) → why ≢ fault.Memory → HoldsNoRequest content why → messages ≡ invalid_request_output why → new ≡ s → after ≡ host
       → AnswersContent G host s content messages after new
@@ -94,7 +94,7 @@ abbrev pub NeedsNoMoreInput : Bytes → Type 0
 NeedsNoMoreInput ahead = IsMessagePrefix ahead → ⊥
 
 -- whether it is time for a request: no run is under way, or one was read, or the host says that one has come
-abbrev pub IsReadDue : {A : Type 0} → ArrivalRelation A → Bool → Bytes → A → Bool → A → Type 0
+abbrev pub IsReadDue : {A : Type 0} → RequestArrivalRelation A → Bool → Bytes → A → Bool → A → Type 0
 IsReadDue T running ahead arrivals true after = ((running ≡ false) × (after ≡ arrivals)) ⊎ (NeedsNoMoreInput ahead × (after ≡ arrivals)) ⊎ T arrivals true after
 IsReadDue T running ahead arrivals false after = (running ≡ true) × (NeedsNoMoreInput ahead → ⊥) × T arrivals false after
 
@@ -106,7 +106,7 @@ pub record TakesMessage {S A : Type 0} (G : FileReadRelation S) (s : ServerState
   pub taken : remaining_input s ≡ text ++ remaining_input t
   pub messages : Messages
   pub answers : AnswersContent G s.files s.session content messages t.files t.session
-  pub sends : SendsAll (empty_sent_messages s.seq) messages (sent_messages_of sent t.seq)
+  pub sends : SendsMessages (empty_sent_messages s.seq) messages (sent_messages_of sent t.seq)
 
 -- the run in progress continues by a slice, and nothing is taken
 pub record ContinuesSessionRun {S A : Type 0} (s : ServerState S A) (sent : Bytes) (t : ServerState S A) : Type 0 where
@@ -114,22 +114,22 @@ pub record ContinuesSessionRun {S A : Type 0} (s : ServerState S A) (sent : Byte
   pub after : LaunchedProgram
   pub running : s.session.launched ≡ Some before
   pub messages : Messages
-  pub goes : ContinuesRun before messages after
+  pub goes : MakesRunSlice before messages after
   pub session : t.session ≡ record s.session { launched = Some after }
-  pub sends : SendsAll (empty_sent_messages s.seq) messages (sent_messages_of sent t.seq)
+  pub sends : SendsMessages (empty_sent_messages s.seq) messages (sent_messages_of sent t.seq)
   pub files : t.files ≡ s.files
   pub ahead : t.ahead ≡ s.ahead
   pub left : t.left ≡ s.left
 
-abbrev pub AnswersOrRuns : {S A : Type 0} → FileReadRelation S → Bool → ServerState S A → Bytes → ServerState S A → Type 0
-AnswersOrRuns G true s sent t = TakesMessage G s sent t
-AnswersOrRuns G false s sent t = ContinuesSessionRun s sent t
+abbrev pub AnswersMessageOrContinuesRun : {S A : Type 0} → FileReadRelation S → Bool → ServerState S A → Bytes → ServerState S A → Type 0
+AnswersMessageOrContinuesRun G true s sent t = TakesMessage G s sent t
+AnswersMessageOrContinuesRun G false s sent t = ContinuesSessionRun s sent t
 
-abbrev pub IsServerIteration : {S A : Type 0} → FileReadRelation S → ArrivalRelation A → ServerState S A → Bytes → ServerState S A → Type 0
-IsServerIteration G T s sent t = (time : Bool) × IsReadDue T (is_running s.session) s.ahead s.arrivals time t.arrivals × AnswersOrRuns G time s sent t
+abbrev pub IsServerIteration : {S A : Type 0} → FileReadRelation S → RequestArrivalRelation A → ServerState S A → Bytes → ServerState S A → Type 0
+IsServerIteration G T s sent t = (time : Bool) × IsReadDue T (is_running s.session) s.ahead s.arrivals time t.arrivals × AnswersMessageOrContinuesRun G time s sent t
 
 -- `n` turns, and what was sent in them
-abbrev pub ServesIterations : {S A : Type 0} → FileReadRelation S → ArrivalRelation A → ServerState S A → ℕ → Bytes → ServerState S A → Type 0
+abbrev pub ServesIterations : {S A : Type 0} → FileReadRelation S → RequestArrivalRelation A → ServerState S A → ℕ → Bytes → ServerState S A → Type 0
 ServesIterations G T begin zero said last = (said ≡ []) × (last ≡ begin)
 ServesIterations {S} {A} G T begin (suc count) said last = (between : ServerState S A) × (front : Bytes) × (sent : Bytes) × ServesIterations G T begin count front between
     × (between.session.is_over ≡ false) × IsServerIteration G T between sent last × (said ≡ front ++ sent)
@@ -160,7 +160,7 @@ initial_server_state files arrivals left = record { files = files; arrivals = ar
 
 -- A client was served: the turns were made, the session ended so after the last, and this was written; this is left of the
 -- input.
-pub record ServesClient {S A : Type 0} (G : FileReadRelation S) (T : ArrivalRelation A) (files : S) (arrivals : A) (input rest written : Bytes) (ending : SessionEnd) : Type 0 where
+pub record ServesClient {S A : Type 0} (G : FileReadRelation S) (T : RequestArrivalRelation A) (files : S) (arrivals : A) (input rest written : Bytes) (ending : SessionEnd) : Type 0 where
   pub count : ℕ
   pub said : Bytes
   pub last : ServerState S A

@@ -9,8 +9,8 @@ use Rattle.ga_grid.specs.declared.node_id.NodeId.{NodeId}
 use Rattle.ga_lab.specs.Machine.{chip_of}
 use Rattle.ga_console.specs.Session.{quit_line}
 use Rattle.ga_explorer.specs.Answers.{AnswersExplorerLine}
-use Rattle.ga_explorer.specs.Classes.{class_of_line}
-use Rattle.ga_dap_views.specs.Json.{whole_number}
+use Rattle.ga_explorer.specs.Classes.{command_class_of_line}
+use Rattle.ga_dap_views.specs.Json.{json_whole_number}
 use Rattle.ga_dap_queries.specs.Evaluating.{DenotesVariable, DenotesNoVariable, evaluate_body}
 use Rattle.ga_dap_views.specs.declared.variable.Variable.{Variable}
 use Rattle.ga_dap_protocol.specs.Messages.{member_text}
@@ -45,14 +45,14 @@ Commands p line new None = (new ≡ p) × (line ≡ quit_line)
 
 -- an answer as a text, without the blanks at its end
 unfoldable pub answer_object : Text → Data
-answer_object text = object (member (codes "result") (string text) (member (codes "variablesReference") (whole_number 0) no_members))
+answer_object text = object (member (codes "result") (string text) (member (codes "variablesReference") (json_whole_number 0) no_members))
 
 abbrev pub AreAnswerMessagesSince : ClientRequest → Text → Bool → (ℕ → Bool) → Debuggee → NodeId → Messages → Type 0
 AreAnswerMessagesSince request answer moved before new node messages = (shown : Text) × (rest : Messages) × IsTrimAsciiEnd answer shown
     × AreMachineChangeMessages moved before new node rest × (messages ≡ success_response request (answer_object (utf8_lossy shown)) ∷ rest)
 
 abbrev pub AreAnswerMessages : ClientRequest → Text → Text → Debuggee → Debuggee → NodeId → Messages → Type 0
-AreAnswerMessages request line answer p new node messages = (before : ℕ → Bool) × AreThreadMarks p before × AreAnswerMessagesSince request answer (is_change_done (class_of_line line) answer) before new node messages
+AreAnswerMessages request line answer p new node messages = (before : ℕ → Bool) × AreThreadMarks p before × AreAnswerMessagesSince request answer (is_change_done (command_class_of_line line) answer) before new node messages
 
 abbrev pub AreCommandMessages : ClientRequest → Text → Option Text → Debuggee → Debuggee → NodeId → Messages → Type 0
 AreCommandMessages request line (Some answer) p new node messages = AreAnswerMessages request line answer p new node messages
@@ -78,14 +78,14 @@ EvaluatesVariableOrCommand p request node expression (Some one) messages new = A
 EvaluatesVariableOrCommand p request node expression None messages new = EvaluatesCommandIfAllowed (is_repl_request request) p request node expression messages new
 
 -- an expression, without the blanks around it, in this node
-abbrev pub EvaluatesIn : Debuggee → ClientRequest → NodeId → Text → Messages → Debuggee → Type 0
-EvaluatesIn p request node expression messages new =
+abbrev pub EvaluatesExpressionInNode : Debuggee → ClientRequest → NodeId → Text → Messages → Debuggee → Type 0
+EvaluatesExpressionInNode p request node expression messages new =
     (asked : Option Variable) × IsDenotedVariable expression asked × EvaluatesVariableOrCommand p request node expression asked messages new
 
-abbrev pub EvaluatesIfPresent : Debuggee → ClientRequest → Option Text → Messages → Debuggee → Type 0
-EvaluatesIfPresent p request None messages new = (messages ≡ refused_response request (codes "evaluate: there is no expression") ∷ []) × (new ≡ p)
-EvaluatesIfPresent p request (Some given) messages new =
-    (node : NodeId) × (expression : Text) × IsEvaluationNode p request node × IsTrimAscii given expression × EvaluatesIn p request node expression messages new
+abbrev pub EvaluatesExpressionIfPresent : Debuggee → ClientRequest → Option Text → Messages → Debuggee → Type 0
+EvaluatesExpressionIfPresent p request None messages new = (messages ≡ refused_response request (codes "evaluate: there is no expression") ∷ []) × (new ≡ p)
+EvaluatesExpressionIfPresent p request (Some given) messages new =
+    (node : NodeId) × (expression : Text) × IsEvaluationNode p request node × IsTrimAscii given expression × EvaluatesExpressionInNode p request node expression messages new
 
-abbrev pub Evaluates : Debuggee → ClientRequest → Messages → Debuggee → Type 0
-Evaluates p request messages new = EvaluatesIfPresent p request (member_text (codes "expression") (view request.arguments)) messages new
+abbrev pub AnswersEvaluateRequest : Debuggee → ClientRequest → Messages → Debuggee → Type 0
+AnswersEvaluateRequest p request messages new = EvaluatesExpressionIfPresent p request (member_text (codes "expression") (view request.arguments)) messages new

@@ -10,7 +10,7 @@ use Rattle.ga_dap_queries.specs.declared.debuggee.Debuggee.{Debuggee}
 use Rattle.ga_dap_queries.specs.Sending.{Messages, refused_response}
 use Rattle.ga_dap_control.specs.Configuring.{AreThreadMarks}
 use Rattle.ga_dap_control.specs.Back.{requested_granularity, program_after_step_back, program_after_reverse, rollback_summary_text, IsRollbackSummary}
-use Rattle.ga_dap_control.specs.Slices.{MakesSlice}
+use Rattle.ga_dap_control.specs.Slices.{MakesEventSlice}
 use Rattle.ga_dap_control.specs.declared.configuration.Configuration.{Configuration}
 use Rattle.ga_dap_control.specs.declared.stop_reason.StopReason.{StopReason}
 use Rattle.ga_dap_control.specs.declared.launched.LaunchedProgram.{LaunchedProgram}
@@ -18,11 +18,11 @@ use Rattle.ga_dap.specs.Telling.{AreSliceMessages, AreReverseMessages}
 
 -- some events of the run are made, and the messages have what changed and why the run ended, if it did
 abbrev pub ContinuesRunUntil : LaunchedProgram → Option StopReason → Messages → LaunchedProgram → Type 0
-ContinuesRunUntil l stop messages new = MakesSlice l.program l.settings l.execution new.program new.execution stop × (new.settings ≡ l.settings)
+ContinuesRunUntil l stop messages new = MakesEventSlice l.program l.settings l.execution new.program new.execution stop × (new.settings ≡ l.settings)
     × (before : ℕ → Bool) × AreThreadMarks l.program before × AreSliceMessages before new.program new.settings stop messages
 
-abbrev pub ContinuesRun : LaunchedProgram → Messages → LaunchedProgram → Type 0
-ContinuesRun l messages new = (stop : Option StopReason) × ContinuesRunUntil l stop messages new
+abbrev pub MakesRunSlice : LaunchedProgram → Messages → LaunchedProgram → Type 0
+MakesRunSlice l messages new = (stop : Option StopReason) × ContinuesRunUntil l stop messages new
 
 -- a node was rolled back: the messages have what was removed with it, the threads that changed, and that the chip is stopped
 abbrev pub AreRollbackMessages : Debuggee → Debuggee → ClientRequest → NodeId → Text → Messages → Type 0

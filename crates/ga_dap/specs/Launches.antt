@@ -94,12 +94,12 @@ LaunchesWithArguments G host request (Some path) (Some limit) None messages afte
     RefusesLaunch host request (codes "launch: the order is rounds, greedy, or random with a seed of 0 to 4294967295") messages after new
 LaunchesWithArguments G host request (Some path) (Some limit) (Some schedule) messages after new = ReadsFile G host request path limit schedule messages after new
 
-abbrev pub LaunchesFirst : {S : Type 0} → FileReadRelation S → S → ClientRequest → Messages → S → Option LaunchedProgram → Type 0
-LaunchesFirst G host request messages after new =
+abbrev pub LaunchesFirstProgram : {S : Type 0} → FileReadRelation S → S → ClientRequest → Messages → S → Option LaunchedProgram → Type 0
+LaunchesFirstProgram G host request messages after new =
     let d = view request.arguments in LaunchesWithArguments G host request (member_text (codes "program") d) (parse_limit d) (parse_schedule d) messages after new
 
 -- one program is launched in a session
 abbrev pub Launches : {S : Type 0} → FileReadRelation S → S → Option LaunchedProgram → ClientRequest → Messages → S → Option LaunchedProgram → Type 0
-Launches G host None request messages after new = LaunchesFirst G host request messages after new
+Launches G host None request messages after new = LaunchesFirstProgram G host request messages after new
 Launches G host (Some l) request messages after new =
     (messages ≡ refused_response request (codes "launch: a program is launched already") ∷ []) × (after ≡ host) × (new ≡ Some l)

@@ -9,7 +9,7 @@ use crate::changes::emit_rollback_with_retry;
 use crate::unanswered::NoResponse;
 use ga_dap_control::{Configuration, reverse_continue_node, step_back_node};
 use ga_dap_protocol::{ClientRequest, Outbox};
-use ga_dap_queries::{Debuggee, thread_argument, thread_marks};
+use ga_dap_queries::{Debuggee, has_thread_by_node, thread_argument};
 use ga_grid::NodeId;
 use std::alloc::Global;
 
@@ -36,7 +36,7 @@ pub(crate) fn step_back(
     let Some(node) = thread_argument(&request.arguments) else {
         return refuse(request, "stepBack: no such thread", out);
     };
-    let before = thread_marks(&program.lab, program.nodes.as_slice());
+    let before = has_thread_by_node(&program.lab, program.nodes.as_slice());
     let gone = step_back_node(program, node, &request.arguments);
     emit_rollback_with_retry(alloc, program, &before, request, &gone, "step", out)
 }
@@ -66,7 +66,7 @@ pub(crate) fn reverse(
     let Some(node) = thread_argument(&request.arguments) else {
         return refuse(request, "reverseContinue: no such thread", out);
     };
-    let before = thread_marks(&program.lab, program.nodes.as_slice());
+    let before = has_thread_by_node(&program.lab, program.nodes.as_slice());
     let gone = reverse_continue_node(program, node, settings.points.points.as_slice());
     let reason = reverse_stop_reason(program, node);
     emit_rollback_with_retry(alloc, program, &before, request, &gone, reason, out)

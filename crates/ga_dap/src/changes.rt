@@ -2,7 +2,7 @@
 
 ghost use Rattle.std.specs.Prelude.{◌≡◌, [], codes, OnOk};
 ghost use Rattle.ga_causal.specs.Dependence.{is_marked};
-ghost use Rattle.ga_dap_queries.specs.Sending.{Sends, SendsAll, Messages};
+ghost use Rattle.ga_dap_queries.specs.Sending.{SendsMessage, SendsMessages, Messages};
 ghost use Rattle.ga_dap_control.specs.Back.{rollback_summary_text};
 ghost use Rattle.ga_dap.specs.Evaluating.{AreAnswerMessagesSince};
 ghost use Rattle.ga_dap.specs.Launches.{output_message};
@@ -15,7 +15,9 @@ use ga_dap_control::{
     Configuration, RollbackSummary, StopReason, emit_run_end, rollback_summary_text,
 };
 use ga_dap_protocol::{ClientRequest, Outbox};
-use ga_dap_queries::{Debuggee, emit_output, emit_stopped, emit_thread_changes, thread_marks};
+use ga_dap_queries::{
+    Debuggee, emit_output, emit_stopped, emit_thread_changes, has_thread_by_node,
+};
 use ga_grid::NodeId;
 use std::alloc::{AllocError, Global};
 
@@ -27,9 +29,9 @@ fn tell_threads(
     before: &[bool; 144],
     out: &mut Outbox,
 ) -> Result<(), AllocError>
-    ensures { OnOk result ((messages : Messages) × AreThreadMessages (is_marked before.now) program.now messages × SendsAll out.old messages out.new) }
+    ensures { OnOk result ((messages : Messages) × AreThreadMessages (is_marked before.now) program.now messages × SendsMessages out.old messages out.new) }
 {
-    let now = thread_marks(&program.lab, program.nodes.as_slice());
+    let now = has_thread_by_node(&program.lab, program.nodes.as_slice());
     emit_thread_changes(alloc, before, &now, out)
 }
 
@@ -43,7 +45,7 @@ fn tell_standing(
     node: NodeId,
     out: &mut Outbox,
 ) -> Result<(), AllocError>
-    ensures { OnOk result ((messages : Messages) × AreStoppedMessages (is_marked before.now) program.now reason.now description.now node messages × SendsAll out.old messages out.new) }
+    ensures { OnOk result ((messages : Messages) × AreStoppedMessages (is_marked before.now) program.now reason.now description.now node messages × SendsMessages out.old messages out.new) }
 {
     tell_threads(alloc, program, before, out)?;
     emit_stopped(alloc, reason, description, node, out)
@@ -57,7 +59,7 @@ fn tell_end(
     stop: Option<StopReason>,
     out: &mut Outbox,
 ) -> Result<(), AllocError>
-    ensures { OnOk result ((messages : Messages) × AreStopMessages program.now settings.now stop messages × SendsAll out.old messages out.new) }
+    ensures { OnOk result ((messages : Messages) × AreStopMessages program.now settings.now stop messages × SendsMessages out.old messages out.new) }
 {
     match stop {
         Some(why) => emit_run_end(alloc, program, settings, why, out),
@@ -73,7 +75,7 @@ fn tell_slice(
     stop: Option<StopReason>,
     out: &mut Outbox,
 ) -> Result<(), AllocError>
-    ensures { OnOk result ((messages : Messages) × AreSliceMessages (is_marked before.now) program.now settings.now stop messages × SendsAll out.old messages out.new) }
+    ensures { OnOk result ((messages : Messages) × AreSliceMessages (is_marked before.now) program.now settings.now stop messages × SendsMessages out.old messages out.new) }
 {
     tell_threads(alloc, program, before, out)?;
     tell_end(alloc, program, settings, stop, out)
@@ -110,7 +112,7 @@ fn tell_gone(
     gone: &RollbackSummary,
     out: &mut Outbox,
 ) -> Result<(), AllocError>
-    ensures { OnOk result (Sends out.old (output_message (codes "console") (rollback_summary_text gone.now.node gone.now.before gone.now.removed program.now.lab)) out.new) }
+    ensures { OnOk result (SendsMessage out.old (output_message (codes "console") (rollback_summary_text gone.now.node gone.now.before gone.now.removed program.now.lab)) out.new) }
 {
     let text = rollback_summary_text(alloc, &program.lab, gone)?;
     emit_output(alloc, "console", text.as_str(), out)
@@ -125,7 +127,7 @@ fn tell_back(
     reason: &str,
     out: &mut Outbox,
 ) -> Result<(), AllocError>
-    ensures { OnOk result ((messages : Messages) × AreReverseMessages (is_marked before.now) program.now request.now gone.now.node (rollback_summary_text gone.now.node gone.now.before gone.now.removed program.now.lab) reason.now messages × SendsAll out.old messages out.new) }
+    ensures { OnOk result ((messages : Messages) × AreReverseMessages (is_marked before.now) program.now request.now gone.now.node (rollback_summary_text gone.now.node gone.now.before gone.now.removed program.now.lab) reason.now messages × SendsMessages out.old messages out.new) }
 {
     out.acknowledge(request)?;
     tell_gone(alloc, program, gone, out)?;
@@ -166,7 +168,7 @@ fn tell_moved(
     node: NodeId,
     out: &mut Outbox,
 ) -> Result<(), AllocError>
-    ensures { OnOk result ((messages : Messages) × AreMachineChangeMessages moved (is_marked before.now) program.now node messages × SendsAll out.old messages out.new) }
+    ensures { OnOk result ((messages : Messages) × AreMachineChangeMessages moved (is_marked before.now) program.now node messages × SendsMessages out.old messages out.new) }
 {
     if moved {
         tell_standing(alloc, program, before, "goto", "by a command", node, out)
@@ -185,7 +187,7 @@ fn tell_command(
     node: NodeId,
     out: &mut Outbox,
 ) -> Result<(), AllocError>
-    ensures { OnOk result ((messages : Messages) × AreAnswerMessagesSince request.now answer.now moved (is_marked before.now) program.now node messages × SendsAll out.old messages out.new) }
+    ensures { OnOk result ((messages : Messages) × AreAnswerMessagesSince request.now answer.now moved (is_marked before.now) program.now node messages × SendsMessages out.old messages out.new) }
 {
     let body = text_body(alloc, answer)?;
     out.respond(request, body)?;

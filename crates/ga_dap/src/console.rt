@@ -3,10 +3,10 @@
 ghost use Rattle.std.specs.Prelude.{◌≡◌, []};
 ghost use Rattle.serde_json.specs.View.{view};
 ghost use Rattle.ga_text.specs.Lines.{Text};
-ghost use Rattle.ga_dap_queries.specs.Sending.{SendsAll, Messages};
+ghost use Rattle.ga_dap_queries.specs.Sending.{SendsMessages, Messages};
 ghost use Rattle.ga_dap_queries.specs.Evaluating.{DenotesNoVariable};
 ghost use Rattle.ga_dap_views.specs.Shown.{IsVariable};
-ghost use Rattle.ga_dap.specs.Evaluating.{Evaluates, EvaluatesIn, EvaluatesCommand, EvaluatesCommandIfAllowed, AreVariableValueMessages, is_repl_request};
+ghost use Rattle.ga_dap.specs.Evaluating.{AnswersEvaluateRequest, EvaluatesExpressionInNode, EvaluatesCommand, EvaluatesCommandIfAllowed, AreVariableValueMessages, is_repl_request};
 ghost use Rattle.ga_dap.specs.Telling.{is_change_done};
 ghost use Rattle.ga_dap.specs.inner.Carrying.{Carries};
 
@@ -15,9 +15,9 @@ use crate::changes::emit_command_with_retry;
 use crate::evaluating::{command_text, node_of_expression, value_body};
 use crate::unanswered::NoResponse;
 use ga_dap_protocol::{ClientRequest, Outbox, member_text};
-use ga_dap_queries::{Debuggee, parse_variable, thread_marks};
+use ga_dap_queries::{Debuggee, has_thread_by_node, parse_variable};
 use ga_dap_views::Variable;
-use ga_explorer::{CommandClass, class_of_line, is_refusal};
+use ga_explorer::{CommandClass, command_class_of_line, is_refusal};
 use ga_grid::NodeId;
 use std::alloc::Global;
 
@@ -72,9 +72,9 @@ fn obey(
     requires { out.old.bytes ≡ [] }
     ensures { Carries result (λ messages. EvaluatesCommand program.old request.now node line.now messages program.new) (program.new ≡ program.old) out.old out.new }
 {
-    let before = thread_marks(&program.lab, program.nodes.as_slice());
+    let before = has_thread_by_node(&program.lab, program.nodes.as_slice());
     let bytes = line.as_bytes();
-    let class = class_of_line(bytes);
+    let class = command_class_of_line(bytes);
     match command_text(alloc, program, bytes) {
         Ok(Some(answer)) => {
             let text = answer.as_slice();
@@ -116,7 +116,7 @@ fn evaluate_in(
     out: &mut Outbox,
 ) -> Result<(), NoResponse>
     requires { out.old.bytes ≡ [] }
-    ensures { Carries result (λ messages. EvaluatesIn program.old request.now node expression.now messages program.new) (program.new ≡ program.old) out.old out.new }
+    ensures { Carries result (λ messages. EvaluatesExpressionInNode program.old request.now node expression.now messages program.new) (program.new ≡ program.old) out.old out.new }
 {
     match parse_variable(alloc, expression) {
         Ok(Some(variable)) => show_value(alloc, program, request, node, variable, out),
@@ -133,7 +133,7 @@ pub(crate) fn evaluate(
     out: &mut Outbox,
 ) -> Result<(), NoResponse>
     requires { out.old.bytes ≡ [] }
-    ensures { Carries result (λ messages. Evaluates program.old request.now messages program.new) (program.new ≡ program.old) out.old out.new }
+    ensures { Carries result (λ messages. AnswersEvaluateRequest program.old request.now messages program.new) (program.new ≡ program.old) out.old out.new }
 {
     let Some(expression) = member_text(&request.arguments, "expression") else {
         return refuse(request, "evaluate: there is no expression", out);

@@ -11,14 +11,14 @@ ghost use Rattle.ga_dap_queries.specs.Evaluating.{evaluate_body};
 ghost use Rattle.ga_dap_queries.specs.Readings.{IsDeadlockStatus};
 ghost use Rattle.ga_dap.specs.Evaluating.{IsEvaluationNode, Commands, answer_object};
 ghost use Rattle.ga_dap.specs.inner.Carrying.{no_response_of_class};
-ghost use Rattle.ga_explorer.specs.Classes.{class_of_line};
+ghost use Rattle.ga_explorer.specs.Classes.{command_class_of_line};
 
 use crate::unanswered::NoResponse;
 use ga_console::LineAction;
 use ga_dap_protocol::ClientRequest;
 use ga_dap_queries::{Debuggee, evaluate, first_thread_node, frame_argument, is_deadlocked};
 use ga_dap_views::Variable;
-use ga_explorer::{CommandClass, answer_line, class_of_line};
+use ga_explorer::{CommandClass, answer_line, command_class_of_line};
 use ga_grid::NodeId;
 use ga_text::{OUTPUT_CAPACITY, Writer};
 use serde_json::{Value, json};
@@ -65,9 +65,9 @@ fn front_of_line(line: &[u8]) -> &[u8]
 
 /// Why a command has no answer, if an allocation failed after it was carried out: only a query changed nothing.
 fn no_response_to(line: &[u8]) -> NoResponse
-    ensures { result ≡ no_response_of_class (class_of_line line.now) }
+    ensures { result ≡ no_response_of_class (command_class_of_line line.now) }
 {
-    match class_of_line(line) {
+    match command_class_of_line(line) {
         Some(CommandClass::Change) => NoResponse::Untold,
         Some(CommandClass::Query) => NoResponse::Memory,
         None => NoResponse::Memory,

@@ -5,8 +5,8 @@ ghost use Rattle.serde_json.specs.View.{view};
 ghost use Rattle.ga_text.specs.Lines.{Bytes, Text};
 ghost use Rattle.ga_dap_queries.specs.Launching.{parse_limit, parse_schedule};
 ghost use Rattle.ga_dap.specs.declared.sources.SourceError.{SourceError as WhyUnread};
-ghost use Rattle.ga_dap.specs.Launches.{AreWarningMessages, LaunchesText, ReadsFile, LaunchesWithArguments, LaunchesFirst, launch_messages, launch_error_message, bare_event_message};
-ghost use Rattle.ga_dap_queries.specs.Sending.{Sends, SendsAll, Messages, refused_response};
+ghost use Rattle.ga_dap.specs.Launches.{AreWarningMessages, LaunchesText, ReadsFile, LaunchesWithArguments, LaunchesFirstProgram, launch_messages, launch_error_message, bare_event_message};
+ghost use Rattle.ga_dap_queries.specs.Sending.{SendsMessage, SendsMessages, Messages, refused_response};
 
 use crate::opening::{LaunchError, OpenedProgram, open_program};
 use crate::sources::{ProgramFiles, SourceError, source_error_text};
@@ -22,7 +22,7 @@ fn refuse_launch(
     why: &str,
     out: &mut Outbox,
 ) -> Result<Option<LaunchedProgram>, AllocError>
-    ensures { IfOk result (λ new. (new ≡ None) × Sends out.old (refused_response request.now why.now) out.new) }
+    ensures { IfOk result (λ new. (new ≡ None) × SendsMessage out.old (refused_response request.now why.now) out.new) }
 {
     out.refuse(request, why)?;
     Ok(None)
@@ -36,7 +36,7 @@ fn refuse_file(
     why: &str,
     out: &mut Outbox,
 ) -> Result<Option<LaunchedProgram>, AllocError>
-    ensures { IfOk result (λ new. (new ≡ None) × Sends out.old (launch_error_message request.now path.now why.now) out.new) }
+    ensures { IfOk result (λ new. (new ≡ None) × SendsMessage out.old (launch_error_message request.now path.now why.now) out.new) }
 {
     let why = format!(in alloc; "launch: {path}: {why}")?;
     out.refuse(request, why.as_str())?;
@@ -45,7 +45,7 @@ fn refuse_file(
 
 /// Sends the warnings about source, if there are any.
 fn tell_warnings(alloc: Global, warnings: &str, out: &mut Outbox) -> Result<(), AllocError>
-    ensures { OnOk result ((messages : Messages) × AreWarningMessages messages × SendsAll out.old messages out.new) }
+    ensures { OnOk result ((messages : Messages) × AreWarningMessages messages × SendsMessages out.old messages out.new) }
 {
     if warnings.is_empty() {
         Ok(())
@@ -61,7 +61,7 @@ fn tell_launched(
     request: &ClientRequest,
     out: &mut Outbox,
 ) -> Result<(), AllocError>
-    ensures { OnOk result ((warned : Messages) × AreWarningMessages warned × SendsAll out.old (launch_messages request.now warned) out.new) }
+    ensures { OnOk result ((warned : Messages) × AreWarningMessages warned × SendsMessages out.old (launch_messages request.now warned) out.new) }
 {
     out.acknowledge(request)?;
     tell_warnings(alloc, warnings, out)?;
@@ -78,7 +78,7 @@ fn launched_text(
     schedule: Schedule,
     out: &mut Outbox,
 ) -> Result<Option<LaunchedProgram>, AllocError>
-    ensures { IfOk result (λ new. (messages : Messages) × LaunchesText text.items path.now limit schedule request.now messages new × SendsAll out.old messages out.new) }
+    ensures { IfOk result (λ new. (messages : Messages) × LaunchesText text.items path.now limit schedule request.now messages new × SendsMessages out.old messages out.new) }
 {
     match open_program(alloc, path, text, limit) {
         Ok(opened) => {
@@ -114,7 +114,7 @@ fn launched_file<S: ProgramFiles>(
     schedule: Schedule,
     out: &mut Outbox,
 ) -> Result<Option<LaunchedProgram>, AllocError>
-    ensures { IfOk result (λ new. (messages : Messages) × ReadsFile S.gives sources.old request.now path.now limit schedule messages sources.new new × SendsAll out.old messages out.new) }
+    ensures { IfOk result (λ new. (messages : Messages) × ReadsFile S.gives sources.old request.now path.now limit schedule messages sources.new new × SendsMessages out.old messages out.new) }
 {
     match sources.read(alloc, path) {
         Ok(text) => launched_text(alloc, request, path, text, limit, schedule, out),
@@ -131,7 +131,7 @@ fn launched_limit<S: ProgramFiles>(
     limit: u32,
     out: &mut Outbox,
 ) -> Result<Option<LaunchedProgram>, AllocError>
-    ensures { IfOk result (λ new. (messages : Messages) × LaunchesWithArguments S.gives sources.old request.now (Some path.now) (Some limit) (parse_schedule (view request.now.arguments)) messages sources.new new × SendsAll out.old messages out.new) }
+    ensures { IfOk result (λ new. (messages : Messages) × LaunchesWithArguments S.gives sources.old request.now (Some path.now) (Some limit) (parse_schedule (view request.now.arguments)) messages sources.new new × SendsMessages out.old messages out.new) }
 {
     match parse_schedule(&request.arguments) {
         None => refuse_launch(
@@ -151,7 +151,7 @@ fn launched_path<S: ProgramFiles>(
     path: &str,
     out: &mut Outbox,
 ) -> Result<Option<LaunchedProgram>, AllocError>
-    ensures { IfOk result (λ new. (messages : Messages) × LaunchesWithArguments S.gives sources.old request.now (Some path.now) (parse_limit (view request.now.arguments)) (parse_schedule (view request.now.arguments)) messages sources.new new × SendsAll out.old messages out.new) }
+    ensures { IfOk result (λ new. (messages : Messages) × LaunchesWithArguments S.gives sources.old request.now (Some path.now) (parse_limit (view request.now.arguments)) (parse_schedule (view request.now.arguments)) messages sources.new new × SendsMessages out.old messages out.new) }
 {
     match parse_limit(&request.arguments) {
         None => refuse_launch(request, "launch: the limit is 1 to 100000000", out),
@@ -169,7 +169,7 @@ pub(crate) fn launch_program<S: ProgramFiles>(
     request: &ClientRequest,
     out: &mut Outbox,
 ) -> Result<Option<LaunchedProgram>, AllocError>
-    ensures { IfOk result (λ new. (messages : Messages) × LaunchesFirst S.gives sources.old request.now messages sources.new new × SendsAll out.old messages out.new) }
+    ensures { IfOk result (λ new. (messages : Messages) × LaunchesFirstProgram S.gives sources.old request.now messages sources.new new × SendsMessages out.old messages out.new) }
 {
     match member_text(&request.arguments, "program") {
         None => refuse_launch(request, "launch: there is no program", out),

@@ -14,7 +14,7 @@ ghost use Rattle.ga_explorer.specs.Opening.{begins_as_image, OpensSource};
 ghost use Rattle.ga_dap.specs.Opening.{OpensProgram, OpensText, IsNoProgram, IsRefusedSource, AreProgramNodes, AreNodesOfSource, program_explorer_state};
 ghost use Rattle.ga_dap.specs.inner.Unopened.{IfFault};
 
-use ga_console::{open_image, refuse};
+use ga_console::{open_image, write_image_refusal};
 use ga_dap_queries::Debuggee;
 use ga_debug_info::{DebugInfo, debug_info_of, format_faults};
 use ga_grid::{Chip, NodeId};
@@ -167,7 +167,7 @@ fn image_refused(alloc: Global, fault: ImageFault) -> LaunchError
         return LaunchError::Memory;
     }
     let mut text = Vec::new(alloc);
-    let _ = refuse(&mut text, fault);
+    let _ = write_image_refusal(&mut text, fault);
     told(alloc, text.as_slice())
 }
 

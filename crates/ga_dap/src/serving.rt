@@ -2,7 +2,7 @@
 
 ghost use Rattle.std.specs.Prelude.{◌≡◌, ◌++◌, [], Some, OnOk};
 ghost use Rattle.ga_text.specs.Lines.{Bytes};
-ghost use Rattle.ga_text.specs.Output.{IsWritten, IsWrittenOrTruncated};
+ghost use Rattle.ga_text.specs.Output.{IsTextWritten, IsTextWrittenOrTruncated};
 ghost use Rattle.ga_dap.specs.Client.{ServesClient};
 
 use crate::session::Session;
@@ -29,8 +29,8 @@ pub enum SessionEnd {
 
 /// Writes what is to be written.
 fn send<W: Write>(writer: &mut W, out: &mut Outbox) -> Result<(), WriteError>
-    ensures said { (before said : Bytes) → IsWritten (W.contents writer.old) before said out.old.bytes →
-        IsWrittenOrTruncated result (W.contents writer.new) before said [] }
+    ensures said { (before said : Bytes) → IsTextWritten (W.contents writer.old) before said out.old.bytes →
+        IsTextWrittenOrTruncated result (W.contents writer.new) before said [] }
     ensures sent { OnOk result (out.new ≡ record { bytes = []; seq = out.old.seq }) }
 {
     write_all(writer, out.bytes())?;

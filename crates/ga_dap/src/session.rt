@@ -1,12 +1,12 @@
 //! A session: what was launched, and the requests of the client.
 
 ghost use Rattle.std.specs.Prelude.{◌≡◌, ◌&&◌, [], ◌∷◌, Option, Some, None, codes, string_bytes, is_some, option_map, OnOk, OnErr};
-ghost use Rattle.ga_dap_control.specs.Requests.{AnswersAtOnce};
+ghost use Rattle.ga_dap_control.specs.Requests.{AnswersImmediateRequest};
 ghost use Rattle.ga_dap_control.specs.declared.launched.LaunchedProgram.{LaunchedProgram as ALaunched};
-ghost use Rattle.ga_dap_queries.specs.Sending.{SendsAll, Messages, bare_success_response};
-ghost use Rattle.ga_dap.specs.Answering.{AnswersRequest, AnswersKnown, AnswersWhileLaunched, PerformsRequest, AnswersIfLaunched, ChangesLaunchedOnly, Initializes, Disconnects, Terminates, launched_with_run_ended, needs_stopped_chip, begins_run, request_refusal_reason};
+ghost use Rattle.ga_dap_queries.specs.Sending.{SendsMessages, Messages, bare_success_response};
+ghost use Rattle.ga_dap.specs.Answering.{AnswersRequest, AnswersKnownRequest, AnswersRequestWhileLaunched, PerformsRequest, AnswersRequestIfLaunched, ChangesLaunchedOnly, AnswersInitializeRequest, AnswersDisconnectRequest, AnswersTerminateRequest, launched_with_run_ended, needs_stopped_chip, begins_run, request_refusal_reason};
 ghost use Rattle.ga_dap.specs.Client.{is_running, new_session};
-ghost use Rattle.ga_dap.specs.Going.{ContinuesRun};
+ghost use Rattle.ga_dap.specs.Going.{MakesRunSlice};
 ghost use Rattle.ga_dap.specs.Launches.{Launches, bare_event_message};
 ghost use Rattle.ga_dap.specs.inner.Carrying.{Carries};
 
@@ -16,9 +16,9 @@ use crate::console::evaluate;
 use crate::launching::launch_program;
 use crate::sources::ProgramFiles;
 use crate::unanswered::NoResponse;
-use ga_dap_control::{Execution, LaunchedProgram, answer_at_once, make_slice};
+use ga_dap_control::{Execution, LaunchedProgram, answer_immediate_request, make_event_slice};
 use ga_dap_protocol::{ClientRequest, Outbox};
-use ga_dap_queries::{RequestName, initialize, parse_request_name, thread_marks};
+use ga_dap_queries::{RequestName, has_thread_by_node, initialize, parse_request_name};
 use std::alloc::{AllocError, Global};
 
 /// A session.
@@ -78,7 +78,7 @@ impl Session {
         out: &mut Outbox,
     ) -> Result<(), NoResponse>
         requires { out.old.bytes ≡ [] }
-        ensures { Carries result (λ messages. AnswersKnown S.gives sources.old self.old command request.now messages sources.new self.new) (self.new ≡ self.old) out.old out.new }
+        ensures { Carries result (λ messages. AnswersKnownRequest S.gives sources.old self.old command request.now messages sources.new self.new) (self.new ≡ self.old) out.old out.new }
     {
         match command {
             RequestName::Initialize => self.initialize(alloc, request, out),
@@ -96,7 +96,7 @@ impl Session {
         request: &ClientRequest,
         out: &mut Outbox,
     ) -> Result<(), NoResponse>
-        ensures { Carries result (λ messages. Initializes self.old request.now messages self.new) (self.new ≡ self.old) out.old out.new }
+        ensures { Carries result (λ messages. AnswersInitializeRequest self.old request.now messages self.new) (self.new ≡ self.old) out.old out.new }
     {
         match initialize(alloc, request, out) {
             Ok(()) => Ok(()),
@@ -128,7 +128,7 @@ impl Session {
 
     /// `disconnect`: the session ends.
     fn disconnect(&mut self, request: &ClientRequest, out: &mut Outbox) -> Result<(), NoResponse>
-        ensures { Carries result (λ messages. Disconnects self.old request.now messages self.new) (self.new ≡ self.old) out.old out.new }
+        ensures { Carries result (λ messages. AnswersDisconnectRequest self.old request.now messages self.new) (self.new ≡ self.old) out.old out.new }
     {
         match out.acknowledge(request) {
             Ok(()) => {
@@ -141,7 +141,7 @@ impl Session {
 
     /// `terminate`: the run ends.
     fn terminate(&mut self, request: &ClientRequest, out: &mut Outbox) -> Result<(), NoResponse>
-        ensures { Carries result (λ messages. Terminates self.old request.now messages self.new) (self.new ≡ self.old) out.old out.new }
+        ensures { Carries result (λ messages. AnswersTerminateRequest self.old request.now messages self.new) (self.new ≡ self.old) out.old out.new }
     {
         match tell_terminated(request, out) {
             Ok(()) => {
@@ -161,7 +161,7 @@ impl Session {
         out: &mut Outbox,
     ) -> Result<(), NoResponse>
         requires { out.old.bytes ≡ [] }
-        ensures { Carries result (λ messages. ChangesLaunchedOnly (AnswersIfLaunched command self.old.launched request.now) self.old messages self.new) (self.new ≡ self.old) out.old out.new }
+        ensures { Carries result (λ messages. ChangesLaunchedOnly (AnswersRequestIfLaunched command self.old.launched request.now) self.old messages self.new) (self.new ≡ self.old) out.old out.new }
     {
         match &mut self.launched {
             Some(launched) => answer_by(alloc, launched, command, request, out),
@@ -172,7 +172,7 @@ impl Session {
 
 /// Sends that the run ended.
 fn tell_terminated(request: &ClientRequest, out: &mut Outbox) -> Result<(), AllocError>
-    ensures { OnOk result (SendsAll out.old (bare_success_response request.now ∷ bare_event_message (codes "terminated") ∷ []) out.new) }
+    ensures { OnOk result (SendsMessages out.old (bare_success_response request.now ∷ bare_event_message (codes "terminated") ∷ []) out.new) }
 {
     out.acknowledge(request)?;
     out.add_bare_event("terminated")
@@ -239,7 +239,7 @@ fn answer_by(
     out: &mut Outbox,
 ) -> Result<(), NoResponse>
     requires { out.old.bytes ≡ [] }
-    ensures { Carries result (λ messages. AnswersWhileLaunched command launched.old request.now messages launched.new) (launched.new ≡ launched.old) out.old out.new }
+    ensures { Carries result (λ messages. AnswersRequestWhileLaunched command launched.old request.now messages launched.new) (launched.new ≡ launched.old) out.old out.new }
 {
     match request_refusal_reason(command, &launched.execution) {
         Some(why) => refuse(request, why, out),
@@ -280,9 +280,9 @@ fn in_place(
     request: &ClientRequest,
     out: &mut Outbox,
 ) -> Result<(), NoResponse>
-    ensures { Carries result (λ messages. AnswersAtOnce command launched.old request.now messages launched.new) (launched.new ≡ launched.old) out.old out.new }
+    ensures { Carries result (λ messages. AnswersImmediateRequest command launched.old request.now messages launched.new) (launched.new ≡ launched.old) out.old out.new }
 {
-    match answer_at_once(alloc, launched, command, request, out) {
+    match answer_immediate_request(alloc, launched, command, request, out) {
         Ok(()) => Ok(()),
         Err(_) => Err(NoResponse::Memory),
     }
@@ -296,10 +296,10 @@ pub(crate) fn go_on_launched(
     out: &mut Outbox,
 ) -> Result<(), NoResponse>
     requires { out.old.bytes ≡ [] }
-    ensures { Carries result (λ messages. ContinuesRun launched.old messages launched.new) (Unit {0}) out.old out.new }
+    ensures { Carries result (λ messages. MakesRunSlice launched.old messages launched.new) (Unit {0}) out.old out.new }
 {
-    let before = thread_marks(&launched.program.lab, launched.program.nodes.as_slice());
-    let stop = make_slice(
+    let before = has_thread_by_node(&launched.program.lab, launched.program.nodes.as_slice());
+    let stop = make_event_slice(
         &mut launched.program,
         &launched.settings,
         &mut launched.execution,

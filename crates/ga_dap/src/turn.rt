@@ -4,15 +4,15 @@ ghost use Rattle.std.specs.Prelude.{◌≡◌, ◌++◌, [], Some, true, IfOk, I
 ghost use Rattle.ga_text.specs.Lines.{Bytes};
 ghost use Rattle.ga_dap_protocol.specs.Inbox.{IsNextMessage};
 ghost use Rattle.ga_dap_protocol.specs.Messages.{HoldsNoRequest};
-ghost use Rattle.ga_dap_queries.specs.Sending.{SendsAll};
-ghost use Rattle.ga_dap.specs.Client.{IsReadDue, IsRequestIn, is_running, invalid_request_output, out_of_memory_messages, request_error_text, empty_sent_messages};
+ghost use Rattle.ga_dap_queries.specs.Sending.{SendsMessages};
+ghost use Rattle.ga_dap.specs.Client.{IsReadDue, IsRequestInContent, is_running, invalid_request_output, out_of_memory_messages, request_error_text, empty_sent_messages};
 ghost use Rattle.ga_dap.specs.inner.Turning.{AnswersOrEnds, DeclinesOrEnds, ContentOrEnds, TakesOrEnds, GoesOnOrEnds, TurnOrEnds, serving_at};
 
 use crate::serving::SessionEnd;
 use crate::session::{Session, go_on_launched};
 use crate::sources::{PendingInput, ProgramFiles};
 use crate::unanswered::NoResponse;
-use ga_dap_protocol::{ClientRequest, Inbox, Next, Outbox, RequestError, read_request};
+use ga_dap_protocol::{ClientRequest, Inbox, NextMessage, Outbox, RequestError, read_request};
 use ga_dap_queries::emit_output;
 use std::alloc::{AllocError, Global};
 use std::io::Read;
@@ -25,7 +25,7 @@ pub(crate) enum Progress {
 }
 
 /// Takes the next message, and once more where memory was refused to it.
-fn next_message<R: Read>(inbox: &mut Inbox, reader: &mut R) -> Result<Next, AllocError>
+fn next_message<R: Read>(inbox: &mut Inbox, reader: &mut R) -> Result<NextMessage, AllocError>
     ensures next { (left : List ℕ) → R.remaining reader.old ≡ Some left → IfOk result (λ next.
         (rest : List ℕ) × (R.remaining reader.new ≡ Some rest) × IsNextMessage (inbox.old ++ left) next (inbox.new ++ rest)) }
     ensures refused { (left : List ℕ) → R.remaining reader.old ≡ Some left → OnErr result
@@ -39,7 +39,7 @@ fn next_message<R: Read>(inbox: &mut Inbox, reader: &mut R) -> Result<Next, Allo
 
 /// The request that a content part is; read once more where memory was refused to it.
 fn request_in(alloc: Global, content: &[u8]) -> Result<ClientRequest, RequestError>
-    ensures ok { IfOk result (λ r. IsRequestIn content.now r) }
+    ensures ok { IfOk result (λ r. IsRequestInContent content.now r) }
     ensures err { IfErr result (λ why. HoldsNoRequest content.now why) }
 {
     match read_request(alloc, content) {
@@ -64,7 +64,7 @@ fn request_error_text(why: RequestError) -> &'static str
 
 /// Sends that a message is no request.
 fn tell_no_request(alloc: Global, why: RequestError, out: &mut Outbox) -> Result<(), AllocError>
-    ensures sent { OnOk result (SendsAll out.old (invalid_request_output why) out.new) }
+    ensures sent { OnOk result (SendsMessages out.old (invalid_request_output why) out.new) }
     ensures err { OnErr result (out.new ≡ out.old) }
 {
     let words = request_error_text(why);
@@ -89,7 +89,7 @@ fn decline(alloc: Global, why: RequestError, out: &mut Outbox) -> Progress
 /// The refusal of a request for which an allocation failed, after the message of this number.
 #[tactic(auto, using(crate::proofs::Known::sent_again, ga_dap_queries::proofs::Sent::sent_one))]
 fn refusal_of(alloc: Global, request: &ClientRequest, seq: u64) -> Result<Outbox, AllocError>
-    ensures { IfOk result (λ out. SendsAll (empty_sent_messages seq) (out_of_memory_messages request.now) out) }
+    ensures { IfOk result (λ out. SendsMessages (empty_sent_messages seq) (out_of_memory_messages request.now) out) }
 {
     let mut out = Outbox::new(alloc);
     out.discard_unsent(seq);
@@ -99,7 +99,7 @@ fn refusal_of(alloc: Global, request: &ClientRequest, seq: u64) -> Result<Outbox
 
 /// The refusal of a request for want of memory, made once more where memory was refused to it.
 fn refusal_for(alloc: Global, request: &ClientRequest, seq: u64) -> Result<Outbox, AllocError>
-    ensures { IfOk result (λ out. SendsAll (empty_sent_messages seq) (out_of_memory_messages request.now) out) }
+    ensures { IfOk result (λ out. SendsMessages (empty_sent_messages seq) (out_of_memory_messages request.now) out) }
 {
     match refusal_of(alloc, request, seq) {
         Ok(refusal) => Ok(refusal),
@@ -170,16 +170,16 @@ fn take<S: ProgramFiles, R: Read>(
         × TakesOrEnds S.gives sources.old session.old (inbox.old ++ left) out.old result out.new sources.new session.new (inbox.new ++ rest) }
 {
     match next_message(inbox, reader) {
-        Ok(Next::Message(content)) => answer_content(
+        Ok(NextMessage::Message(content)) => answer_content(
             alloc,
             session,
             sources,
             content.as_slice(),
             out,
         ),
-        Ok(Next::End) => Progress::End(SessionEnd::Done),
-        Ok(Next::Failed) => Progress::End(SessionEnd::StreamFault),
-        Ok(Next::Wrong(why)) => Progress::End(SessionEnd::Broken(why)),
+        Ok(NextMessage::End) => Progress::End(SessionEnd::Done),
+        Ok(NextMessage::Failed) => Progress::End(SessionEnd::StreamFault),
+        Ok(NextMessage::Wrong(why)) => Progress::End(SessionEnd::Broken(why)),
         Err(_) => Progress::End(SessionEnd::Memory),
     }
 }

@@ -6,14 +6,14 @@ use Rattle.ga_lab.specs.Machine.{State}
 use Rattle.ga_debug_info.specs.declared.notes.DebugInfo.{DebugInfo}
 use Rattle.ga_dap_views.specs.declared.spots.SlotAddress.{SlotAddress}
 use Rattle.ga_dap_views.specs.Spots.{slot_address_after}
-use Rattle.ga_dap_breakpoints.specs.Lines.{op_of_step, previous_place, line_of_slot_address, enters_line, line_begins_after, nearest_line_start}
+use Rattle.ga_dap_breakpoints.specs.Lines.{op_of_step, previous_step_place, line_of_slot_address, enters_line, line_begins_after, nearest_line_start}
 
 abbrev ArrivesAtSlot : DebugInfo → State → NodeId → ℕ → Option SlotAddress → Option SlotAddress → Option Op → Bool → Type 0
 ArrivesAtSlot notes s node place before spot op begins = begins ≡ enters_line notes node before spot op (line_of_slot_address notes node spot)
 
 began_so : (notes : DebugInfo) (s : State) (node : NodeId) (place left : ℕ) (there spot : Option SlotAddress) (op : Option Op) (begins : Bool) → 0 < place → 0 < left
-    → there ≡ slot_address_after s node (previous_place 0 s node (place - 1)) → spot ≡ slot_address_after s node place → op ≡ op_of_step s node (place - 1) → ArrivesAtSlot notes s node place there spot op begins
-    → nearest_line_start notes s node place left ≡ cond begins place (nearest_line_start notes s node (previous_place 0 s node (place - 1)) (left - 1))
+    → there ≡ slot_address_after s node (previous_step_place 0 s node (place - 1)) → spot ≡ slot_address_after s node place → op ≡ op_of_step s node (place - 1) → ArrivesAtSlot notes s node place there spot op begins
+    → nearest_line_start notes s node place left ≡ cond begins place (nearest_line_start notes s node (previous_step_place 0 s node (place - 1)) (left - 1))
 unfolding nearest_line_start
 began_so notes s node place left there spot op begins some more there_is spot_is op_is comes =
     let k : ℕ = place - 1 in
@@ -24,26 +24,26 @@ began_so notes s node place left there spot op begins some more there_is spot_is
     let begins_is : begins ≡ line_begins_after 0 notes s node k =
     comes
     ∙ ap (λ (z : Option SlotAddress). enters_line notes node z spot op (line_of_slot_address notes node spot)) there_is
-    ∙ ap (λ (z : Option SlotAddress). enters_line notes node (slot_address_after s node (previous_place 0 s node k)) z op (line_of_slot_address notes node z)) (spot_is ∙ ap (slot_address_after s node) next)
-    ∙ ap (λ (z : Option Op). enters_line notes node (slot_address_after s node (previous_place 0 s node k)) (slot_address_after s node (k + 1)) z (line_of_slot_address notes node (slot_address_after s node (k + 1)))) op_is in
+    ∙ ap (λ (z : Option SlotAddress). enters_line notes node (slot_address_after s node (previous_step_place 0 s node k)) z op (line_of_slot_address notes node z)) (spot_is ∙ ap (slot_address_after s node) next)
+    ∙ ap (λ (z : Option Op). enters_line notes node (slot_address_after s node (previous_step_place 0 s node k)) (slot_address_after s node (k + 1)) z (line_of_slot_address notes node (slot_address_after s node (k + 1)))) op_is in
     ap (λ (z : ℕ). nearest_line_start notes s node z left) at
     ∙ ap (nearest_line_start notes s node (suc k)) room
-    ∙ ap (λ (b : Bool). cond b (suc k) (nearest_line_start notes s node (previous_place 0 s node k) m)) (sym begins_is)
-    ∙ ap (λ (z : ℕ). cond begins z (nearest_line_start notes s node (previous_place 0 s node k) m)) (sym at)
+    ∙ ap (λ (b : Bool). cond b (suc k) (nearest_line_start notes s node (previous_step_place 0 s node k) m)) (sym begins_is)
+    ∙ ap (λ (z : ℕ). cond begins z (nearest_line_start notes s node (previous_step_place 0 s node k) m)) (sym at)
 
 pub began_here : (notes : DebugInfo) (s : State) (node : NodeId) (place left : ℕ) (there spot : Option SlotAddress) (op : Option Op) (begins : Bool) → 0 < place → 0 < left
-    → there ≡ slot_address_after s node (previous_place 0 s node (place - 1)) → spot ≡ slot_address_after s node place → op ≡ op_of_step s node (place - 1) → ArrivesAtSlot notes s node place there spot op begins
+    → there ≡ slot_address_after s node (previous_step_place 0 s node (place - 1)) → spot ≡ slot_address_after s node place → op ≡ op_of_step s node (place - 1) → ArrivesAtSlot notes s node place there spot op begins
     → begins ≡ true → nearest_line_start notes s node place left ≡ place
 began_here notes s node place left there spot op begins some more there_is spot_is op_is comes is =
     began_so notes s node place left there spot op begins some more there_is spot_is op_is comes
-    ∙ ap (λ (b : Bool). cond b place (nearest_line_start notes s node (previous_place 0 s node (place - 1)) (left - 1))) is
+    ∙ ap (λ (b : Bool). cond b place (nearest_line_start notes s node (previous_step_place 0 s node (place - 1)) (left - 1))) is
 
 pub began_before : (notes : DebugInfo) (s : State) (node : NodeId) (place left : ℕ) (there spot : Option SlotAddress) (op : Option Op) (begins : Bool) → 0 < place → 0 < left
-    → there ≡ slot_address_after s node (previous_place 0 s node (place - 1)) → spot ≡ slot_address_after s node place → op ≡ op_of_step s node (place - 1) → ArrivesAtSlot notes s node place there spot op begins
-    → begins ≡ false → nearest_line_start notes s node place left ≡ nearest_line_start notes s node (previous_place 0 s node (place - 1)) (left - 1)
+    → there ≡ slot_address_after s node (previous_step_place 0 s node (place - 1)) → spot ≡ slot_address_after s node place → op ≡ op_of_step s node (place - 1) → ArrivesAtSlot notes s node place there spot op begins
+    → begins ≡ false → nearest_line_start notes s node place left ≡ nearest_line_start notes s node (previous_step_place 0 s node (place - 1)) (left - 1)
 began_before notes s node place left there spot op begins some more there_is spot_is op_is comes is =
     began_so notes s node place left there spot op begins some more there_is spot_is op_is comes
-    ∙ ap (λ (b : Bool). cond b place (nearest_line_start notes s node (previous_place 0 s node (place - 1)) (left - 1))) is
+    ∙ ap (λ (b : Bool). cond b place (nearest_line_start notes s node (previous_step_place 0 s node (place - 1)) (left - 1))) is
 
 pub began_at_load : (notes : DebugInfo) (s : State) (node : NodeId) (place left : ℕ) → place ≡ 0 → nearest_line_start notes s node place left ≡ 0
 unfolding nearest_line_start

@@ -13,12 +13,12 @@ use Rattle.ga_event.specs.declared.event.Event.{Event}
 use Rattle.ga_event.specs.declared.event.Cause.{Cause}
 use Rattle.ga_event.specs.Touches.{touches}
 use Rattle.ga_event.specs.Apply.{EventOutcome, run, replay, apply, after, some_if_allowed, refusal_of}
-use Rattle.ga_event.specs.Told.{count_steps, made_event_after, made_events_after, made_events_of}
+use Rattle.ga_event.specs.Told.{count_steps, made_event_after, made_events_after, made_events_of_node}
 use Rattle.ga_causal.proofs.Runs.{FirstOf, first_of_run, keeps_of, replay-cons}
 use Rattle.ga_lab.specs.Machine.{State, chip_of, history_of, step_answer, state_after_step, made_next_event}
 use Rattle.ga_provenance.proofs.Made.{none_past}
 use Rattle.ga_lab.proofs.Called.{Runs, runs_of, chip_is, told_is}
-use Rattle.ga_provenance.specs.Origins.{place_after_steps, node_after}
+use Rattle.ga_provenance.specs.Origins.{place_after_steps, node_after_steps}
 use Rattle.ga_dap_views.specs.declared.spots.SlotAddress.{SlotAddress}
 use Rattle.ga_dap_breakpoints.specs.Back.{is_at_slot_address, can_reach_slot, reaches_slot}
 use Rattle.ga_dap_views.specs.Spots.{slot_address_after, node_slot_address}
@@ -26,18 +26,18 @@ use Rattle.std.specs.List.{slice_get}
 use Rattle.std.specs.Result.{result_ok}
 use Rattle.std.proofs.lemmas.Bool.{ne_eqb}
 use Rattle.std.proofs.lemmas.Bool.Decides.{eqb_tells}
-use Rattle.ga_node.specs.declared.kind.NotReady.{NotReady}
+use Rattle.ga_node.specs.declared.kind.EventRefusal.{EventRefusal}
 use Rattle.ga_grid.proofs.NodeIds.{NodeId-same}
 use Rattle.ga_lab.specs.declared.fault.LabFault.{LabFault}
 use Rattle.ga_provenance.specs.Fetched.{fetched_cell}
-use Rattle.ga_scheduler.specs.Conditions.{is_step_of}
-use Rattle.ga_scheduler.specs.Running.{Running, event_by_step, run_after_step}
+use Rattle.ga_scheduler.specs.Conditions.{is_step_of_node}
+use Rattle.ga_scheduler.specs.Running.{Running, event_of_optional_step, run_after_step}
 use Rattle.ga_dap_breakpoints.specs.declared.back.Watched.{Watched}
 use Rattle.ga_dap_breakpoints.specs.declared.back.Watched.TheVariants.{ArrivesAtSlot, Writes}
 use Rattle.ga_dap_breakpoints.specs.declared.breakpoint.Breakpoint.{Breakpoint}
 use Rattle.ga_dap_breakpoints.specs.declared.hits.HitTally.{HitTally}
 use Rattle.ga_dap_breakpoints.specs.Breakpoints.{is_watched_event, tally_with_hit, tally_after_breakpoint, tally_after_breakpoints}
-use Rattle.ga_dap_breakpoints.specs.Conditions.{meets_test}
+use Rattle.ga_dap_breakpoints.specs.Conditions.{meets_optional_test}
 use Rattle.ga_dap_breakpoints.specs.Going.{tally_after_optional_event}
 use Rattle.ga_dap_breakpoints.specs.inner.Words.{keeps_kind, awaits_code, keeps_word, word_after, word_seen}
 use Rattle.ga_dap_breakpoints.specs.inner.Cells.{InstructionCells, cells_left, cell_known, cell_in, asks_word, cells_with, cells_asked, comes_by, has_done_by, cells_done, counted_by, cells_from, tally_by, cells_behind}
@@ -80,7 +80,7 @@ stands_at (e ∷ es) c last ts n (suc k) is all =
     (replay-cons c e front ∙ ap (λ (o : Option (List NodeRecord × EventOutcome)). option_and_then (λ first. replay first.0 front) o) f.first)
     ∙ stands_at es f.mid last f.others n left f.then (one_less (touches e n) (count_steps n es) k (all ∙ steps-cons n e es))
 
-pub node_now : (s : State) (n : ℕ) → IsSome (replay s.load s.kept) → node_after s n (count_steps n s.kept) ≡ record_at (chip_of s) n
+pub node_now : (s : State) (n : ℕ) → IsSome (replay s.load s.kept) → node_after_steps s n (count_steps n s.kept) ≡ record_at (chip_of s) n
 node_now s n some =
     let r : Runs s = runs_of s some in
     stands_at s.kept s.load r.last r.told n (count_steps n s.kept) r.run_is refl ∙ sym (ap (λ (z : List NodeRecord). record_at z n) (chip_is s r))
@@ -99,7 +99,7 @@ told_one before c (event.Pass w r side) = refl
 told_of : (c : List NodeRecord) (e : Event) (d : List NodeRecord) (t : EventOutcome) → apply c e ≡ Some (d, t) → t ≡ (after c e).1
 told_of c e d t h = go (refusal_of c e) h
   where
-    go : (o : Option NotReady) → some_if_allowed o (after c e) ≡ Some (d, t) → t ≡ (after c e).1
+    go : (o : Option EventRefusal) → some_if_allowed o (after c e) ≡ Some (d, t) → t ≡ (after c e).1
     go None is = sym (ap (λ (z : List NodeRecord × EventOutcome). z.1) (same_Some (after c e) (d, t) is))
     go (Some why) is = absurd (cc)
 
@@ -123,7 +123,7 @@ counted_run (e ∷ es) c last ts before n is =
 pub well_of : (s : State) → IsSome (replay s.load s.kept) → (n : ℕ) → IsWell s n
 well_of s some n =
     let r : Runs s = runs_of s some in
-    record { replays = some; counted = counted_run s.kept s.load r.last r.told [] n r.run_is ∙ ap (λ (z : List (Cause × EventOutcome)). length (made_events_of z n)) (sym (told_is s r)) }
+    record { replays = some; counted = counted_run s.kept s.load r.last r.told [] n r.run_is ∙ ap (λ (z : List (Cause × EventOutcome)). length (made_events_of_node z n)) (sym (told_is s r)) }
 
 -- ---- a cell that is known
 
@@ -169,7 +169,7 @@ known_asked true s cells n known = known_with s cells n known
 known_asked false s cells n known = known
 
 known_done : (watched : Watched) (n : NodeId) (told : Made) (s : State) (cells : InstructionCells) → IsKnown s cells → IsKnown s (cells_done watched n told s cells)
-known_done (ArrivesAtSlot at) n told s cells known = known_asked (is_step_of n.number told && asks_word at (record_at (chip_of s) n.number)) s cells n known
+known_done (ArrivesAtSlot at) n told s cells known = known_asked (is_step_of_node n.number told && asks_word at (record_at (chip_of s) n.number)) s cells n known
 known_done (Writes address) n told s cells known = known
 
 known_from : (told : Made) (s : State) (breakpoints : List Breakpoint) (cells : InstructionCells) → IsKnown s cells → IsKnown s (cells_from told s breakpoints cells)
@@ -194,7 +194,7 @@ comes_alike s node at cell some is =
     ]
 
 done_alike : (watched : Watched) (node : NodeId) (told : Made) (s : State) (cells : InstructionCells) → IsSome (replay s.load s.kept) → IsKnown s cells → has_done_by watched node told s cells ≡ is_watched_event watched node told s
-done_alike (ArrivesAtSlot at) node told s cells some known = ap (λ (b : Bool). is_step_of node.number told && b) (comes_alike s node at (cell_in s cells node) some (cell_is s cells node known))
+done_alike (ArrivesAtSlot at) node told s cells some known = ap (λ (b : Bool). is_step_of_node node.number told && b) (comes_alike s node at (cell_in s cells node) some (cell_is s cells node known))
 done_alike (Writes address) node told s cells some known = refl
 
 counted_alike : (told : Made) (s : State) (place : ℕ) (breakpoints : List Breakpoint) (cells : InstructionCells) (tally : HitTally) → IsSome (replay s.load s.kept) → IsKnown s cells
@@ -202,7 +202,7 @@ counted_alike : (told : Made) (s : State) (place : ℕ) (breakpoints : List Brea
 counted_alike told s place [] cells tally some known = refl
 counted_alike told s place (one ∷ rest) cells tally some known =
     let then : InstructionCells = cells_done one.watched one.node told s cells in
-    ap (λ (b : Bool). counted_by told s (place + 1) rest then (cond (b && meets_test one.condition (record_at (chip_of s) one.node.number) (count_steps one.node.number s.kept)) (tally_with_hit one place tally) tally))
+    ap (λ (b : Bool). counted_by told s (place + 1) rest then (cond (b && meets_optional_test one.condition (record_at (chip_of s) one.node.number) (count_steps one.node.number s.kept)) (tally_with_hit one place tally) tally))
     (done_alike one.watched one.node told s cells some known)
     ∙ counted_alike told s (place + 1) rest then (tally_after_breakpoint told s one place tally) some (known_done one.watched one.node told s cells known)
 
@@ -212,7 +212,7 @@ last_there : (xs : List Made) (x : Made) → slice_get (xs ++ x ∷ []) (length 
 last_there [] x = refl
 last_there (y ∷ xs) x = last_there xs x
 
-pub newest_own : (s : State) (m : NodeId) (told : Made) (by : Step s m told) (n : ℕ) → IsCounted s n → is_step_of n told ≡ true → slice_get (history_of (state_after_step s m) n) (count_steps n (state_after_step s m).kept - 1) ≡ Some told
+pub newest_own : (s : State) (m : NodeId) (told : Made) (by : Step s m told) (n : ℕ) → IsCounted s n → is_step_of_node n told ≡ true → slice_get (history_of (state_after_step s m) n) (count_steps n (state_after_step s m).kept - 1) ≡ Some told
 newest_own s m told by n counted own =
     let more : count_steps n (state_after_step s m).kept ≡ count_steps n s.kept + 1 = steps_more s m told by n ∙ ap (λ (b : Bool). count_steps n s.kept + cond b 1 0) own in
     let e : count_steps n (state_after_step s m).kept - 1 ≡ length (history_of s n) = omega (arith, more, counted) in
@@ -224,10 +224,10 @@ newest_own s m told by n counted own =
 
 -- a word stays where the event was no step of the node, or one that leaves it
 abbrev IsLeft : Made → ℕ → Type 0
-IsLeft told n = (before : NodeRecord) → is_step_of n told ≡ true → keeps_word (Some told) before n ≡ true
+IsLeft told n = (before : NodeRecord) → is_step_of_node n told ≡ true → keeps_word (Some told) before n ≡ true
 
 stays_so : (s : State) (m : NodeId) (told : Made) (by : Step s m told) (node : NodeId) (cell : Option ℕ) → IsCounted s node.number → IsLeft told node.number → cell ≡ word_seen node cell told (state_after_step s m)
-stays_so s m told by node cell counted left = go (is_step_of node.number told) refl
+stays_so s m told by node cell counted left = go (is_step_of_node node.number told) refl
   where
     t : State
     t = state_after_step s m
@@ -235,11 +235,11 @@ stays_so s m told by node cell counted left = go (is_step_of node.number told) r
     k : ℕ
     k = count_steps node.number t.kept - 1
 
-    go : (b : Bool) → is_step_of node.number told ≡ b → cell ≡ cond b (word_after t node k cell) cell
+    go : (b : Bool) → is_step_of_node node.number told ≡ b → cell ≡ cond b (word_after t node k cell) cell
     go false own = refl
     go true own =
-        sym (ap (λ (o : Option Made). cond (keeps_word o (node_after t node.number k) node.number) cell (fetched_cell t node (k + 1))) (newest_own s m told by node.number counted own)
-        ∙ ap (λ (b : Bool). cond b cell (fetched_cell t node (k + 1))) (left (node_after t node.number k) own))
+        sym (ap (λ (o : Option Made). cond (keeps_word o (node_after_steps t node.number k) node.number) cell (fetched_cell t node (k + 1))) (newest_own s m told by node.number counted own)
+        ∙ ap (λ (b : Bool). cond b cell (fetched_cell t node (k + 1))) (left (node_after_steps t node.number k) own))
 
 left_stays : (s : State) (m : NodeId) (told : Made) (by : Step s m told) (node : NodeId) (cell : Option ℕ) → IsCounted s node.number → IsLeft told node.number → IsWord s node cell → IsWord (state_after_step s m) node cell
 left_stays s m told by node cell counted left is = stays_so s m told by node cell counted left ∙ word_more s m told by node cell counted is
@@ -285,7 +285,7 @@ tally_told_by breakpoints tally cells None s = tally
 tally_told_by breakpoints tally cells (Some told) s = tally_by breakpoints told s cells tally
 
 pub known_next : (r : Running) (o : Option NodeId) (breakpoints : List Breakpoint) (cells : InstructionCells) → IsSome (replay r.state.load r.state.kept) → IsKnown r.state cells
-    → IsKnown (run_after_step r o).state (cells_told breakpoints (event_by_step r.state o) (run_after_step r o).state cells)
+    → IsKnown (run_after_step r o).state (cells_told breakpoints (event_of_optional_step r.state o) (run_after_step r o).state cells)
 known_next r None breakpoints cells some known = known
 known_next r (Some m) breakpoints cells some known = go (step_answer r.state m) refl
   where
@@ -300,7 +300,7 @@ known_next r (Some m) breakpoints cells some known = go (step_answer r.state m) 
         subst (λ (o : Option Made). IsKnown t (cells_told breakpoints o t cells)) (sym (ap result_ok at)) (subst (λ (z : State). IsKnown z cells) (refused_stays r.state m why at) known)
 
 pub tally_next : (r : Running) (o : Option NodeId) (breakpoints : List Breakpoint) (cells : InstructionCells) (tally : HitTally) → IsSome (replay r.state.load r.state.kept) → IsKnown r.state cells
-    → tally_told_by breakpoints tally cells (event_by_step r.state o) (run_after_step r o).state ≡ tally_after_optional_event breakpoints tally (event_by_step r.state o) (run_after_step r o).state
+    → tally_told_by breakpoints tally cells (event_of_optional_step r.state o) (run_after_step r o).state ≡ tally_after_optional_event breakpoints tally (event_of_optional_step r.state o) (run_after_step r o).state
 tally_next r None breakpoints cells tally some known = refl
 tally_next r (Some m) breakpoints cells tally some known = go (step_answer r.state m) refl
   where

@@ -23,12 +23,12 @@ use Rattle.ga_event.specs.declared.made.Made.{Made}
 use Rattle.ga_event.specs.declared.made.Made.TheVariants as made
 use Rattle.ga_event.specs.Touches.{touches}
 use Rattle.ga_event.specs.Apply.{EventOutcome, apply, after, some_if_allowed, cause_of, refusal_of, replay}
-use Rattle.ga_event.specs.Told.{count_steps, made_event_after, made_events_of}
+use Rattle.ga_event.specs.Told.{count_steps, made_event_after, made_events_of_node}
 use Rattle.ga_event.proofs.Nexts.{next_can}
 use Rattle.ga_rollback.proofs.Rewinding.{run_snoc}
 use Rattle.ga_event.specs.Next.{next}
 use Rattle.ga_lab.specs.declared.fault.LabFault.{LabFault}
-use Rattle.ga_lab.specs.Machine.{State, chip_of, history_of, outcomes_of_run, outcomes_of_kept, made_next_event, step_answer, with_event, unless_refused, state_after_step}
+use Rattle.ga_lab.specs.Machine.{State, chip_of, history_of, outcomes_of_run, outcomes_of_kept, made_next_event, step_answer, with_event, state_unless_refused, state_after_step}
 use Rattle.ga_lab.specs.Calls.{step as call_step}
 use Rattle.ga_lab.proofs.Called.{Runs, runs_of, runs_some, chip_is, told_is, call_runs}
 use Rattle.ga_lab.proofs.Stepping.{told_after}
@@ -36,13 +36,13 @@ use Rattle.ga_event.specs.declared.flow.part.NodePart.{NodePart}
 use Rattle.ga_event.specs.declared.flow.part.NodePart.TheVariants as part
 use Rattle.ga_event.specs.Flow.{Flow, send_flow, take_flow}
 use Rattle.ga_provenance.specs.declared.value.Value.{Value}
-use Rattle.ga_provenance.specs.Origins.{place_after_steps, node_after, optional_event_flow, flow_at, moved_source_part, moved_source_part_at, listed_part, value_of_step, origin_after_steps}
+use Rattle.ga_provenance.specs.Origins.{place_after_steps, node_after_steps, optional_event_flow, value_flow_at_step, moved_source_part, moved_source_part_at, listed_part, value_of_step, origin_after_steps}
 use Rattle.ga_provenance.specs.Fetched.{cell_of_target, cell_of_fetch, fetched_cell}
 use Rattle.ga_provenance.specs.inner.{by_kind}
 use Rattle.ga_provenance.proofs.Made.{moved_on}
 use Rattle.ga_provenance.proofs.Moves.{one_back}
-use Rattle.ga_scheduler.specs.Conditions.{is_step_of}
-use Rattle.ga_scheduler.specs.Running.{Running, event_by_step, run_after_step}
+use Rattle.ga_scheduler.specs.Conditions.{is_step_of_node}
+use Rattle.ga_scheduler.specs.Running.{Running, event_of_optional_step, run_after_step}
 use Rattle.ga_scheduler.proofs.Newest.{of_made}
 use Rattle.ga_scheduler.proofs.Stepping.{StepIs, step_is, stepped_is}
 use Rattle.ga_scheduler.proofs.WordCounts.{last_of, history_behind, kept_told}
@@ -52,8 +52,8 @@ use Rattle.ga_dap_views.specs.Spots.{node_slot_address, slot_address_after}
 use Rattle.ga_dap_breakpoints.specs.declared.stepping.Granularity.{Granularity}
 use Rattle.ga_dap_breakpoints.specs.declared.stepping.Granularity.TheVariants.{Instruction, Line}
 use Rattle.ga_dap_breakpoints.specs.declared.stepping.StepMove.{StepMove}
-use Rattle.ga_dap_breakpoints.specs.Stepping.{pending_call_after_step, reaches_end, completes_move}
-use Rattle.ga_dap_breakpoints.specs.Lines.{op_of_step, previous_place, line_of_slot_address, enters_line, line_begins_after}
+use Rattle.ga_dap_breakpoints.specs.Stepping.{pending_call_after_step, reaches_move_end, completes_move}
+use Rattle.ga_dap_breakpoints.specs.Lines.{op_of_step, previous_step_place, line_of_slot_address, enters_line, line_begins_after}
 use Rattle.ga_dap_breakpoints.specs.inner.Words.{keeps_kind, awaits_code, keeps_word, word_after, word_seen, spot_before, begins_by, reaches_by, is_moved_by}
 
 -- ---- a step that leaves the word
@@ -72,7 +72,7 @@ kept_by_pass true (wait.Write side) h = refl
 kept_by_pass true wait.Nothing h = refl
 kept_by_pass false w h = refl
 
-kept_on : (s : State) (node : NodeId) (k : ℕ) (told : Option Made) → slice_get (history_of s node.number) k ≡ told → keeps_word told (node_after s node.number k) node.number ≡ true
+kept_on : (s : State) (node : NodeId) (k : ℕ) (told : Option Made) → slice_get (history_of s node.number) k ≡ told → keeps_word told (node_after_steps s node.number k) node.number ≡ true
     → origin_after_steps s node (k + 1) part.I ≡ origin_after_steps s node k part.I
 kept_on s node k None at h = absurd (cc)
 kept_on s node k (Some (made.Own who step kind)) at h =
@@ -83,75 +83,75 @@ kept_on s node k (Some (made.Pass writer i reader j word)) at h =
     let more : k + 1 ≡ suc k = omega arith in
     ap (λ (z : ℕ). origin_after_steps s node z part.I) more
     ∙ moved_on s node k part.I part.I
-    (ap (λ (o : Option Made). moved_source_part (optional_event_flow o (node_after s node.number k) node.number part.I) part.I) at
-    ∙ kept_by_pass (node.number == reader.number) (node_after s node.number k).wait h)
+    (ap (λ (o : Option Made). moved_source_part (optional_event_flow o (node_after_steps s node.number k) node.number part.I) part.I) at
+    ∙ kept_by_pass (node.number == reader.number) (node_after_steps s node.number k).wait h)
 
-pub word_kept : (s : State) (node : NodeId) (k : ℕ) → keeps_word (slice_get (history_of s node.number) k) (node_after s node.number k) node.number ≡ true
+pub word_kept : (s : State) (node : NodeId) (k : ℕ) → keeps_word (slice_get (history_of s node.number) k) (node_after_steps s node.number k) node.number ≡ true
     → fetched_cell s node (k + 1) ≡ fetched_cell s node k
 word_kept s node k h = ap (λ (z : Value). cell_of_fetch s node.number z.step) (kept_on s node k (slice_get (history_of s node.number) k) refl h)
 
 pub word_right : (s : State) (node : NodeId) (k : ℕ) (word : Option ℕ) → word ≡ fetched_cell s node k → word_after s node k word ≡ fetched_cell s node (k + 1)
-word_right s node k word is = go (keeps_word (slice_get (history_of s node.number) k) (node_after s node.number k) node.number) refl
+word_right s node k word is = go (keeps_word (slice_get (history_of s node.number) k) (node_after_steps s node.number k) node.number) refl
   where
-    go : (b : Bool) → keeps_word (slice_get (history_of s node.number) k) (node_after s node.number k) node.number ≡ b → cond b word (fetched_cell s node (k + 1)) ≡ fetched_cell s node (k + 1)
+    go : (b : Bool) → keeps_word (slice_get (history_of s node.number) k) (node_after_steps s node.number k) node.number ≡ b → cond b word (fetched_cell s node (k + 1)) ≡ fetched_cell s node (k + 1)
     go true keeps = is ∙ sym (word_kept s node k keeps)
     go false keeps = refl
 
 -- as it is found
-keeps_is : (s : State) (node : NodeId) (k place : ℕ) (told : Option Made) (before : NodeRecord) (keeps : Bool) → place ≡ k → told ≡ slice_get (history_of s node.number) place → before ≡ node_after s node.number k
-    → keeps ≡ keeps_word told before node.number → keeps_word (slice_get (history_of s node.number) k) (node_after s node.number k) node.number ≡ keeps
+keeps_is : (s : State) (node : NodeId) (k place : ℕ) (told : Option Made) (before : NodeRecord) (keeps : Bool) → place ≡ k → told ≡ slice_get (history_of s node.number) place → before ≡ node_after_steps s node.number k
+    → keeps ≡ keeps_word told before node.number → keeps_word (slice_get (history_of s node.number) k) (node_after_steps s node.number k) node.number ≡ keeps
 keeps_is s node k place told before keeps at told_is before_is is =
     sym (is ∙ ap (λ (z : Option Made). keeps_word z before node.number) (told_is ∙ ap (slice_get (history_of s node.number)) at)
     ∙ ap (λ (z : NodeRecord). keeps_word (slice_get (history_of s node.number) k) z node.number) before_is)
 
 pub word_stays : (s : State) (node : NodeId) (k place : ℕ) (word : Option ℕ) (told : Option Made) (before : NodeRecord) (keeps : Bool) → place ≡ k → told ≡ slice_get (history_of s node.number) place
-    → before ≡ node_after s node.number k → keeps ≡ keeps_word told before node.number → keeps ≡ true → word ≡ word_after s node k word
+    → before ≡ node_after_steps s node.number k → keeps ≡ keeps_word told before node.number → keeps ≡ true → word ≡ word_after s node k word
 word_stays s node k place word told before keeps at told_is before_is is kept =
     sym (ap (λ (b : Bool). cond b word (fetched_cell s node (k + 1))) (keeps_is s node k place told before keeps at told_is before_is is ∙ kept))
 
 pub word_comes : (s : State) (node : NodeId) (k place : ℕ) (word found : Option ℕ) (told : Option Made) (before : NodeRecord) (keeps : Bool) → place ≡ k → told ≡ slice_get (history_of s node.number) place
-    → before ≡ node_after s node.number k → keeps ≡ keeps_word told before node.number → keeps ≡ false → found ≡ fetched_cell s node (place + 1) → found ≡ word_after s node k word
+    → before ≡ node_after_steps s node.number k → keeps ≡ keeps_word told before node.number → keeps ≡ false → found ≡ fetched_cell s node (place + 1) → found ≡ word_after s node k word
 word_comes s node k place word found told before keeps at told_is before_is is other found_is =
     found_is ∙ ap (λ (z : ℕ). fetched_cell s node (z + 1)) at
     ∙ sym (ap (λ (b : Bool). cond b word (fetched_cell s node (k + 1))) (keeps_is s node k place told before keeps at told_is before_is is ∙ other))
 
 -- ---- where a line begins
 
-stood_before : (began : ℕ) (s : State) (node : NodeId) (k : ℕ) (word : Option ℕ) → word ≡ fetched_cell s node k → spot_before began s node k word ≡ slot_address_after s node (previous_place began s node k)
+stood_before : (began : ℕ) (s : State) (node : NodeId) (k : ℕ) (word : Option ℕ) → word ≡ fetched_cell s node k → spot_before began s node k word ≡ slot_address_after s node (previous_step_place began s node k)
 stood_before began s node k word is =
-    let p : ℕ = previous_place began s node k in
+    let p : ℕ = previous_step_place began s node k in
     elim (eqb_tells p k) [
-      | inl same ↦ ap (λ (b : Bool). cond b (node_slot_address (node_after s node.number k) word) (slot_address_after s node p)) same.0 ∙ ap (node_slot_address (node_after s node.number k)) is ∙ ap (slot_address_after s node) (sym same.1)
-      | inr other ↦ ap (λ (b : Bool). cond b (node_slot_address (node_after s node.number k) word) (slot_address_after s node p)) other.0
+      | inl same ↦ ap (λ (b : Bool). cond b (node_slot_address (node_after_steps s node.number k) word) (slot_address_after s node p)) same.0 ∙ ap (node_slot_address (node_after_steps s node.number k)) is ∙ ap (slot_address_after s node) (sym same.1)
+      | inr other ↦ ap (λ (b : Bool). cond b (node_slot_address (node_after_steps s node.number k) word) (slot_address_after s node p)) other.0
     ]
 
 pub begins_alike : (began : ℕ) (notes : DebugInfo) (s : State) (node : NodeId) (k : ℕ) (before behind : Option ℕ) → before ≡ fetched_cell s node k → behind ≡ fetched_cell s node (k + 1)
     → begins_by began notes s node k before behind ≡ line_begins_after began notes s node k
 begins_alike began notes s node k before behind first then =
-    ap (λ (z : Option SlotAddress). enters_line notes node z (node_slot_address (node_after s node.number (k + 1)) behind) (op_of_step s node k) (line_of_slot_address notes node (node_slot_address (node_after s node.number (k + 1)) behind))) (stood_before began s node k before first)
-    ∙ ap (λ (z : Option ℕ). enters_line notes node (slot_address_after s node (previous_place began s node k)) (node_slot_address (node_after s node.number (k + 1)) z) (op_of_step s node k) (line_of_slot_address notes node (node_slot_address (node_after s node.number (k + 1)) z))) then
+    ap (λ (z : Option SlotAddress). enters_line notes node z (node_slot_address (node_after_steps s node.number (k + 1)) behind) (op_of_step s node k) (line_of_slot_address notes node (node_slot_address (node_after_steps s node.number (k + 1)) behind))) (stood_before began s node k before first)
+    ∙ ap (λ (z : Option ℕ). enters_line notes node (slot_address_after s node (previous_step_place began s node k)) (node_slot_address (node_after_steps s node.number (k + 1)) z) (op_of_step s node k) (line_of_slot_address notes node (node_slot_address (node_after_steps s node.number (k + 1)) z))) then
 
 -- as it is found
-pub stood_here : (began : ℕ) (s : State) (node : NodeId) (k before : ℕ) (word : Option ℕ) (stands : NodeRecord) (found : Option SlotAddress) → before ≡ previous_place began s node k → before ≡ k → stands ≡ node_after s node.number k
+pub stood_here : (began : ℕ) (s : State) (node : NodeId) (k before : ℕ) (word : Option ℕ) (stands : NodeRecord) (found : Option SlotAddress) → before ≡ previous_step_place began s node k → before ≡ k → stands ≡ node_after_steps s node.number k
     → found ≡ node_slot_address stands word → found ≡ spot_before began s node k word
 stood_here began s node k before word stands found is here at found_is =
     found_is ∙ ap (λ (z : NodeRecord). node_slot_address z word) at
-    ∙ sym (ap (λ (b : Bool). cond b (node_slot_address (node_after s node.number k) word) (slot_address_after s node (previous_place began s node k))) (eq-eqb (previous_place began s node k) k (sym is ∙ here)))
+    ∙ sym (ap (λ (b : Bool). cond b (node_slot_address (node_after_steps s node.number k) word) (slot_address_after s node (previous_step_place began s node k))) (eq-eqb (previous_step_place began s node k) k (sym is ∙ here)))
 
-pub stood_back : (began : ℕ) (s : State) (node : NodeId) (k before : ℕ) (word : Option ℕ) (found : Option SlotAddress) → before ≡ previous_place began s node k → before ≢ k → found ≡ slot_address_after s node before
+pub stood_back : (began : ℕ) (s : State) (node : NodeId) (k before : ℕ) (word : Option ℕ) (found : Option SlotAddress) → before ≡ previous_step_place began s node k → before ≢ k → found ≡ slot_address_after s node before
     → found ≡ spot_before began s node k word
 stood_back began s node k before word found is other found_is =
     found_is ∙ ap (slot_address_after s node) is
-    ∙ sym (ap (λ (b : Bool). cond b (node_slot_address (node_after s node.number k) word) (slot_address_after s node (previous_place began s node k))) (ne_eqb (previous_place began s node k) k (λ h. other (is ∙ h))))
+    ∙ sym (ap (λ (b : Bool). cond b (node_slot_address (node_after_steps s node.number k) word) (slot_address_after s node (previous_step_place began s node k))) (ne_eqb (previous_step_place began s node k) k (λ h. other (is ∙ h))))
 
 pub begun_by : (began : ℕ) (notes : DebugInfo) (s : State) (node : NodeId) (k : ℕ) (before behind : Option ℕ) (there spot : Option SlotAddress) (stands : NodeRecord) (op : Option Op) (begins : Bool) → there ≡ spot_before began s node k before
-    → spot ≡ node_slot_address stands behind → stands ≡ node_after s node.number (k + 1) → op ≡ op_of_step s node k → begins ≡ enters_line notes node there spot op (line_of_slot_address notes node spot)
+    → spot ≡ node_slot_address stands behind → stands ≡ node_after_steps s node.number (k + 1) → op ≡ op_of_step s node k → begins ≡ enters_line notes node there spot op (line_of_slot_address notes node spot)
     → begins ≡ begins_by began notes s node k before behind
 begun_by began notes s node k before behind there spot stands op begins there_is spot_is at op_is comes =
     comes
     ∙ ap (λ (z : Option SlotAddress). enters_line notes node z spot op (line_of_slot_address notes node spot)) there_is
     ∙ ap (λ (z : Option SlotAddress). enters_line notes node (spot_before began s node k before) z op (line_of_slot_address notes node z)) (spot_is ∙ ap (λ (z : NodeRecord). node_slot_address z behind) at)
-    ∙ ap (λ (z : Option Op). enters_line notes node (spot_before began s node k before) (node_slot_address (node_after s node.number (k + 1)) behind) z (line_of_slot_address notes node (node_slot_address (node_after s node.number (k + 1)) behind))) op_is
+    ∙ ap (λ (z : Option Op). enters_line notes node (spot_before began s node k before) (node_slot_address (node_after_steps s node.number (k + 1)) behind) z (line_of_slot_address notes node (node_slot_address (node_after_steps s node.number (k + 1)) behind))) op_is
 
 -- ---- a machine with one event more: what its nodes did before stays
 
@@ -179,7 +179,7 @@ place_stays (x ∷ es) e n (suc k) l = go (touches x n) (λ j m. place_stays es 
 abbrev node_by : List NodeRecord → List Event → ℕ → ℕ → NodeRecord
 node_by load es n k = record_at (unwrap_or (replay load (take (place_after_steps es n k) es)) []) n
 
-pub node_stays : (s t : State) (more : More s t) (n k : ℕ) → k ≤ count_steps n s.kept → node_after t n k ≡ node_after s n k
+pub node_stays : (s t : State) (more : More s t) (n k : ℕ) → k ≤ count_steps n s.kept → node_after_steps t n k ≡ node_after_steps s n k
 node_stays s t more n k l =
     let stays = place_stays s.kept more.event n k l in
     ap (λ (z : List NodeRecord). node_by z t.kept n k) more.load
@@ -196,10 +196,10 @@ told_stays (x ∷ xs) ys (suc k) l = told_stays xs ys k (omega (arith, l))
 abbrev pub IsCounted : State → ℕ → Type 0
 IsCounted s n = count_steps n s.kept ≡ length (history_of s n)
 
-flow_stays : (s t : State) (more : More s t) (n k : ℕ) (at : NodePart) → IsCounted s n → k < count_steps n s.kept → flow_at t n k at ≡ flow_at s n k at
+flow_stays : (s t : State) (more : More s t) (n k : ℕ) (at : NodePart) → IsCounted s n → k < count_steps n s.kept → value_flow_at_step t n k at ≡ value_flow_at_step s n k at
 flow_stays s t more n k at counted l =
     ap (λ (z : NodeRecord). optional_event_flow (slice_get (history_of t n) k) z n at) (node_stays s t more n k (omega (arith, l)))
-    ∙ ap (λ (o : Option Made). optional_event_flow o (node_after s n k) n at)
+    ∙ ap (λ (o : Option Made). optional_event_flow o (node_after_steps s n k) n at)
     (ap (λ (z : List Made). slice_get z k) (more.told n) ∙ told_stays (history_of s n) (cond (touches more.event n) (made_next_event s more.event ∷ []) []) k (omega (arith, l, counted)))
 
 same_moved : (f g : NodePart → Value) (o : Option NodePart) → ((at : NodePart) → f at ≡ g at) → option_map f o ≡ option_map g o
@@ -210,7 +210,7 @@ origin_stays : (s t : State) (more : More s t) (node : NodeId) → IsCounted s n
 origin_stays s t more node counted zero l at = refl
 origin_stays s t more node counted (suc k) l at =
     ap (λ (z : Flow). unwrap_or (option_map (origin_after_steps t node k) (moved_source_part z at)) (value_of_step node (suc k) (listed_part z at))) (flow_stays s t more node.number k at counted (omega (arith, l)))
-    ∙ ap (λ (o : Option Value). unwrap_or o (value_of_step node (suc k) (listed_part (flow_at s node.number k at) at)))
+    ∙ ap (λ (o : Option Value). unwrap_or o (value_of_step node (suc k) (listed_part (value_flow_at_step s node.number k at) at)))
     (same_moved (origin_after_steps t node k) (origin_after_steps s node k) (moved_source_part_at s node.number k at) (origin_stays s t more node counted k (omega (arith, l))))
 
 origin_within : (s : State) (node : NodeId) (k : ℕ) (at : NodePart) → (origin_after_steps s node k at).step ≤ k
@@ -218,7 +218,7 @@ origin_within s node zero at = omega arith
 origin_within s node (suc k) at = go (moved_source_part_at s node.number k at) (origin_within s node k)
   where
     go : (o : Option NodePart) → ((from : NodePart) → (origin_after_steps s node k from).step ≤ k)
-        → (unwrap_or (option_map (origin_after_steps s node k) o) (value_of_step node (suc k) (listed_part (flow_at s node.number k at) at))).step ≤ suc k
+        → (unwrap_or (option_map (origin_after_steps s node k) o) (value_of_step node (suc k) (listed_part (value_flow_at_step s node.number k at) at))).step ≤ suc k
     go None before = omega arith
     go (Some from) before = omega (arith, before from)
 
@@ -249,7 +249,7 @@ history_with : (s : State) (e : Event) (n : ℕ) → IsSome (replay s.load s.kep
     → history_of (with_event s (Ok e)) n ≡ history_of s n ++ cond (touches e n) (made_next_event s e ∷ []) []
 history_with s e n some can =
     let x : Cause × EventOutcome = (cause_of (chip_of s) e, (after (chip_of s) e).1) in
-    ap (λ z. made_events_of z n) (told_behind s e some can)
+    ap (λ z. made_events_of_node z n) (told_behind s e some can)
     ∙ history_behind [] (outcomes_of_kept s) x n
     ∙ ap (λ (z : List Event). history_of s n ++ last_of z x n) (kept_told s some)
     ∙ ap (λ (z : Event). history_of s n ++ cond (touches z n) (option_to_list (made_event_after s.kept z (after (chip_of s) e).1)) []) (event_of (chip_of s) e)
@@ -264,7 +264,7 @@ pub record IsWell (s : State) (n : ℕ) : Type 0 where
 pub record Step (s : State) (m : NodeId) (told : Made) : Type 0 where
   pub more : More s (state_after_step s m)
   pub same : made_next_event s more.event ≡ told
-  pub touch : (n : ℕ) → touches more.event n ≡ is_step_of n told
+  pub touch : (n : ℕ) → touches more.event n ≡ is_step_of_node n told
 
 pub step_of : (s : State) (m : NodeId) (told : Made) → IsSome (replay s.load s.kept) → step_answer s m ≡ Ok told → Step s m told
 step_of s m told some h =
@@ -281,12 +281,12 @@ step_of s m told some h =
       touch = λ n. of_made s.kept i.what (after (chip_of s) i.what).1 told n (told_after s i.what ∙ ap Some i.told);
     }
 
-pub steps_more : (s : State) (m : NodeId) (told : Made) (by : Step s m told) (n : ℕ) → count_steps n (state_after_step s m).kept ≡ count_steps n s.kept + cond (is_step_of n told) 1 0
+pub steps_more : (s : State) (m : NodeId) (told : Made) (by : Step s m told) (n : ℕ) → count_steps n (state_after_step s m).kept ≡ count_steps n s.kept + cond (is_step_of_node n told) 1 0
 steps_more s m told by n =
     ap (count_steps n) by.more.kept
     ∙ sum_by-append (λ (e : Event). cond (touches e n) 1 0) s.kept (by.more.event ∷ [])
     ∙ ap (λ (b : Bool). count_steps n s.kept + (0 + cond b 1 0)) (by.touch n)
-    ∙ (let e : count_steps n s.kept + (0 + cond (is_step_of n told) 1 0) ≡ count_steps n s.kept + cond (is_step_of n told) 1 0 = omega arith in e)
+    ∙ (let e : count_steps n s.kept + (0 + cond (is_step_of_node n told) 1 0) ≡ count_steps n s.kept + cond (is_step_of_node n told) 1 0 = omega arith in e)
 
 one_told : (b : Bool) (told : Made) → length (cond b (told ∷ []) []) ≡ cond b 1 0
 one_told true told = refl
@@ -295,7 +295,7 @@ one_told false told = refl
 counted_more : (s : State) (m : NodeId) (told : Made) (by : Step s m told) (n : ℕ) → IsCounted s n → IsCounted (state_after_step s m) n
 counted_more s m told by n counted =
     steps_more s m told by n
-    ∙ ap (λ (z : ℕ). z + cond (is_step_of n told) 1 0) counted
+    ∙ ap (λ (z : ℕ). z + cond (is_step_of_node n told) 1 0) counted
     ∙ ap (λ (b : Bool). length (history_of s n) + cond b 1 0) (sym (by.touch n))
     ∙ sym (ap length (by.more.told n) ∙ length-append (history_of s n) (cond (touches by.more.event n) (made_next_event s by.more.event ∷ []) [])
     ∙ ap (λ (z : ℕ). length (history_of s n) + z) (one_told (touches by.more.event n) (made_next_event s by.more.event)))
@@ -314,7 +314,7 @@ before_more s m told by node word counted is = is ∙ sym (fetched_stays s (stat
 
 pub word_more : (s : State) (m : NodeId) (told : Made) (by : Step s m told) (node : NodeId) (word : Option ℕ) → IsCounted s node.number → IsWord s node word
     → IsWord (state_after_step s m) node (word_seen node word told (state_after_step s m))
-word_more s m told by node word counted is = go (is_step_of node.number told) (steps_more s m told by node.number)
+word_more s m told by node word counted is = go (is_step_of_node node.number told) (steps_more s m told by node.number)
   where
     go : (b : Bool) → count_steps node.number (state_after_step s m).kept ≡ count_steps node.number s.kept + cond b 1 0
         → cond b (word_after (state_after_step s m) node (count_steps node.number (state_after_step s m).kept - 1) word) word ≡ fetched_cell (state_after_step s m) node (count_steps node.number (state_after_step s m).kept)
@@ -330,9 +330,9 @@ word_more s m told by node word counted is = go (is_step_of node.number told) (s
 -- ---- a move that is watched by the cell ends where it does by looking back
 
 reach_alike : (notes : DebugInfo) (by : StepMove) (s : State) (m : NodeId) (told : Made) (step : Step s m told) (word : Option ℕ) → IsCounted s by.node.number → (by.grain ≡ Line → IsWord s by.node word)
-    → is_step_of by.node.number told ≡ true → (grain : Granularity) → by.grain ≡ grain
+    → is_step_of_node by.node.number told ≡ true → (grain : Granularity) → by.grain ≡ grain
     → reaches_by grain by.began notes by.node (state_after_step s m) (count_steps by.node.number (state_after_step s m).kept - 1) word (word_seen by.node word told (state_after_step s m))
-    ≡ reaches_end grain by.began notes by.node (state_after_step s m) (count_steps by.node.number (state_after_step s m).kept - 1)
+    ≡ reaches_move_end grain by.began notes by.node (state_after_step s m) (count_steps by.node.number (state_after_step s m).kept - 1)
 reach_alike notes by s m told step word counted right own Instruction is = refl
 reach_alike notes by s m told step word counted right own Line is =
     let n : ℕ = by.node.number in
@@ -344,12 +344,12 @@ reach_alike notes by s m told step word counted right own Line is =
 
 moved_step : (notes : DebugInfo) (by : StepMove) (s : State) (m : NodeId) (told : Made) (step : Step s m told) (word : Option ℕ) → IsCounted s by.node.number → (by.grain ≡ Line → IsWord s by.node word)
     → is_moved_by notes by word told (state_after_step s m) ≡ completes_move notes by told (state_after_step s m)
-moved_step notes by s m told step word counted right = go (is_step_of by.node.number told) refl
+moved_step notes by s m told step word counted right = go (is_step_of_node by.node.number told) refl
   where
-    go : (b : Bool) → is_step_of by.node.number told ≡ b
+    go : (b : Bool) → is_step_of_node by.node.number told ≡ b
         → (b && (is_none (pending_call_after_step (state_after_step s m) by.node by.over by.call)
         && reaches_by by.grain by.began notes by.node (state_after_step s m) (count_steps by.node.number (state_after_step s m).kept - 1) word (word_seen by.node word told (state_after_step s m))))
-        ≡ (b && (is_none (pending_call_after_step (state_after_step s m) by.node by.over by.call) && reaches_end by.grain by.began notes by.node (state_after_step s m) (count_steps by.node.number (state_after_step s m).kept - 1)))
+        ≡ (b && (is_none (pending_call_after_step (state_after_step s m) by.node by.over by.call) && reaches_move_end by.grain by.began notes by.node (state_after_step s m) (count_steps by.node.number (state_after_step s m).kept - 1)))
     go false own = refl
     go true own = ap (λ (z : Bool). is_none (pending_call_after_step (state_after_step s m) by.node by.over by.call) && z) (reach_alike notes by s m told step word counted right own by.grain refl)
 
@@ -360,7 +360,7 @@ word_told node word None s = word
 word_told node word (Some told) s = word_seen node word told s
 
 pub refused_stays : (s : State) (m : NodeId) (why : LabFault) → step_answer s m ≡ Err why → s ≡ state_after_step s m
-refused_stays s m why is = sym (ap (λ (a : Result Made LabFault). unless_refused s a (with_event s (next (chip_of s) m))) is)
+refused_stays s m why is = sym (ap (λ (a : Result Made LabFault). state_unless_refused s a (with_event s (next (chip_of s) m))) is)
 
 pub well_next : (r : Running) (o : Option NodeId) (n : ℕ) → IsWell r.state n → IsWell (run_after_step r o).state n
 well_next r None n well = well
@@ -371,7 +371,7 @@ well_next r (Some m) n well = go (step_answer r.state m) refl
     go (Err why) is = subst (λ (z : State). IsWell z n) (refused_stays r.state m why is) well
 
 pub word_next : (r : Running) (o : Option NodeId) (node : NodeId) (word : Option ℕ) → IsWell r.state node.number → IsWord r.state node word
-    → IsWord (run_after_step r o).state node (word_told node word (event_by_step r.state o) (run_after_step r o).state)
+    → IsWord (run_after_step r o).state node (word_told node word (event_of_optional_step r.state o) (run_after_step r o).state)
 word_next r None node word well is = is
 word_next r (Some m) node word well is = go (step_answer r.state m) refl
   where
@@ -382,7 +382,7 @@ word_next r (Some m) node word well is = go (step_answer r.state m) refl
     go (Err why) at =
         ap (λ (z : Option Made). word_told node word z (state_after_step r.state m)) (ap result_ok at) ∙ subst (λ (z : State). IsWord z node word) (refused_stays r.state m why at) is
 
-pub moved_alike : (notes : DebugInfo) (by : StepMove) (word : Option ℕ) (r : Running) (o : Option NodeId) (told : Made) → event_by_step r.state o ≡ Some told → IsWell r.state by.node.number
+pub moved_alike : (notes : DebugInfo) (by : StepMove) (word : Option ℕ) (r : Running) (o : Option NodeId) (told : Made) → event_of_optional_step r.state o ≡ Some told → IsWell r.state by.node.number
     → (by.grain ≡ Line → IsWord r.state by.node word) → is_moved_by notes by word told (run_after_step r o).state ≡ completes_move notes by told (run_after_step r o).state
 moved_alike notes by word r None told h well right = absurd (cc)
 moved_alike notes by word r (Some m) told h well right = go (step_answer r.state m) refl h

@@ -1,20 +1,20 @@
 -- The watches of the moves end a run where the moves halt.
-use Rattle.ga_scheduler.specs.declared.watched.WatchedEnd.TheVariants as the_end
+use Rattle.ga_scheduler.specs.declared.watched.WatchedRunEnd.TheVariants as the_end
 use Rattle.std.proofs.Common.{◌≡◌, ℕ, ◌+◌, Bool, true, false, ◌||◌, List, Option, Some, None, refl, sym, ◌∙◌, ap, subst, add-one, zero, suc, cond, IsSome}
 use Rattle.std.specs.Prelude.{is_some, replicate}
 use Rattle.ga_grid.specs.declared.node_id.NodeId.{NodeId}
 use Rattle.ga_event.specs.declared.made.Made.{Made}
 use Rattle.ga_lab.specs.Machine.{State}
-use Rattle.ga_scheduler.specs.declared.watched.WatchedEnd.{WatchedEnd}
+use Rattle.ga_scheduler.specs.declared.watched.WatchedRunEnd.{WatchedRunEnd}
 use Rattle.ga_scheduler.specs.Running.{Running}
-use Rattle.ga_scheduler.specs.Watched.{precedence_event, precedence_run_after_next, precedence_run_after, RunWatch, watching, watch_ends_after, HasNoWatchEnd, HasWatchedRunEnded, precedence_node, watch_after_event, watch_ends_at_event, watch_after}
+use Rattle.ga_scheduler.specs.Watched.{precedence_event, precedence_run_after_next, precedence_run_after, RunWatch, run_watch, watch_ends_after, HasNoWatchEnd, HasWatchedRunEnded, precedence_node, watch_after_event, watch_ends_at_event, watch_after}
 use Rattle.ga_dap_breakpoints.specs.declared.breakpoint.Breakpoint.{Breakpoint}
 use Rattle.ga_dap_breakpoints.specs.declared.hits.HitTally.{HitTally}
 use Rattle.ga_dap_breakpoints.specs.declared.going.HaltReason.{HaltReason}
-use Rattle.ga_dap_breakpoints.specs.Breakpoints.{tally_after_event, is_ending_stop, ends_early}
+use Rattle.ga_dap_breakpoints.specs.Breakpoints.{tally_after_event, is_ending_stop, ends_move_early}
 use Rattle.ga_dap_breakpoints.specs.Going.{MovePlan, tally_after_optional_event, tally_after_events, is_halting_event, halts_after_event, HasNoHaltBefore, IsFirstHalt, IsMoveResult, continue_plan, step_plan}
 use Rattle.ga_dap_breakpoints.specs.inner.Cells.{halt_hit, halt_of, with_hits, InstructionCells, ends_by}
-use Rattle.ga_scheduler.specs.Conditions.{is_step_of}
+use Rattle.ga_scheduler.specs.Conditions.{is_step_of_node}
 use Rattle.ga_event.specs.Apply.{replay}
 use Rattle.ga_dap_breakpoints.specs.declared.halts.HaltConditions.{HaltConditions}
 use Rattle.ga_dap_breakpoints.specs.declared.halts.HaltMonitor.{HaltMonitor}
@@ -66,11 +66,11 @@ abbrev pub IsNewestHit : MovePlan → Running → ℕ → Option ℕ → Type 0
 IsNewestHit g r n hit = (k : ℕ) (told : Made) → n ≡ k + 1 → precedence_event g.node (precedence_run_after g.node r k) ≡ Some told
     → hit ≡ (tally_after_event g.breakpoints told (precedence_run_after_next g.node (precedence_run_after g.node r k)).state (g.tally k)).hit
 
-pub went_so : {W : Type 0} (ends : W → Made → State → Bool) (seen : W → Made → State → W) (w : W) (r now : Running) (g : MovePlan) (most n : ℕ) (end : WatchedEnd) (halt : HaltReason) (hit : Option ℕ)
-    → AreAlike (watching g.node ends seen) w r g → now ≡ precedence_run_after g.node r n → HasWatchedRunEnded (watching g.node ends seen) w r most n end
+pub went_so : {W : Type 0} (ends : W → Made → State → Bool) (seen : W → Made → State → W) (w : W) (r now : Running) (g : MovePlan) (most n : ℕ) (end : WatchedRunEnd) (halt : HaltReason) (hit : Option ℕ)
+    → AreAlike (run_watch g.node ends seen) w r g → now ≡ precedence_run_after g.node r n → HasWatchedRunEnded (run_watch g.node ends seen) w r most n end
     → IsNewestHit g r n hit → halt ≡ halt_of hit g.stops g.node end → IsMoveResult g r most n halt
 went_so ends seen w r now g most n (the_end.Seen told) halt hit alike at h counted is =
-    let by = watching g.node ends seen in
+    let by = run_watch g.node ends seen in
     let k : ℕ = h.0 in
     let next : Running = precedence_run_after_next g.node (precedence_run_after g.node r k) in
     let here : now ≡ next = at ∙ after_more g.node r n k h.1 in
@@ -83,11 +83,11 @@ went_so ends seen w r now g most n (the_end.Seen told) halt hit alike at h count
     (hit_so g r most n k told now.state tallied (is_ending_stop g.stops g.node told) (ap (λ (z : Running). z.state) here)
     (record { last = h.1; before = never_so by w r g k alike h.2; made = h.3 }) refl refl ends_so)
 went_so ends seen w r now g most n the_end.Made halt hit alike at h counted is =
-    subst (IsMoveResult g r most n) (sym is) (h.0, never_so (watching g.node ends seen) w r g n alike h.1)
+    subst (IsMoveResult g r most n) (sym is) (h.0, never_so (run_watch g.node ends seen) w r g n alike h.1)
 went_so ends seen w r now g most n the_end.Quiet halt hit alike at h counted is =
-    subst (IsMoveResult g r most n) (sym is) (h.0, never_so (watching g.node ends seen) w r g n alike h.1, h.2)
+    subst (IsMoveResult g r most n) (sym is) (h.0, never_so (run_watch g.node ends seen) w r g n alike h.1, h.2)
 went_so ends seen w r now g most n (the_end.Refused why) halt hit alike at h counted is =
-    subst (IsMoveResult g r most n) (sym is) (h.0, never_so (watching g.node ends seen) w r g n alike h.1, h.2)
+    subst (IsMoveResult g r most n) (sym is) (h.0, never_so (run_watch g.node ends seen) w r g n alike h.1, h.2)
 
 abbrev pub Replays : State → Type 0
 Replays s = IsSome (replay s.load s.kept)
@@ -132,7 +132,7 @@ halting_by halts = record { halts = halts; cells = replicate 144 None }
 
 abbrev pub by_halts : RunWatch HaltMonitor
 by_halts =
-    watching None (λ (w : HaltMonitor) (told : Made) (s : State). ends_by w.halts.breakpoints.now w.cells w.halts.tally w.halts.stops None told s)
+    run_watch None (λ (w : HaltMonitor) (told : Made) (s : State). ends_by w.halts.breakpoints.now w.cells w.halts.tally w.halts.stops None told s)
     (λ (w : HaltMonitor) (told : Made) (s : State). with_hits w told s)
 
 abbrev pub with_found : HaltMonitor → HitTally → InstructionCells → HaltMonitor
@@ -173,7 +173,7 @@ told_alike w r k begins (Some told) is =
     let breakpoints : List Breakpoint = w.halts.breakpoints.now in
     let tally : HitTally = tally_after_events None breakpoints w.halts.tally r k in
     ap (λ (z : HitTally). is_some z.hit || is_ending_stop w.halts.stops None told) (tally_alike None breakpoints w.cells tally r k (Some told) begins.0 begins.1 is)
-    ∙ or_false (ends_early breakpoints tally w.halts.stops None told s)
+    ∙ or_false (ends_move_early breakpoints tally w.halts.stops None told s)
 
 pub go_alike : (w : HaltMonitor) (r : Running) → BeginsKnown w r → AreAlike by_halts w r (continue_plan w.halts.breakpoints.now w.halts.tally w.halts.stops r)
 go_alike w r begins k =
@@ -185,7 +185,7 @@ go_alike w r begins k =
 
 abbrev pub by_steps : NodeId → RunWatch Steps
 by_steps node =
-    watching (Some node)
+    run_watch (Some node)
     (λ (w : Steps) (told : Made) (s : State). ends_by w.halting.halts.breakpoints.now w.halting.cells w.halting.halts.tally w.halting.halts.stops (Some w.stepping.node) told s || is_moved_by w.notes.now w.stepping w.word told s)
     (λ (w : Steps) (told : Made) (s : State). record w { halting = with_hits w.halting told s; stepping = move_after_event w.stepping told s; word = word_seen w.stepping.node w.word told s })
 
@@ -208,11 +208,11 @@ chosen_grain false by call = refl
 
 told_node : (by : StepMove) (o : Option Made) (s : State) → (move_after_optional_event by o s).node ≡ by.node
 told_node by None s = refl
-told_node by (Some told) s = chosen_node (is_step_of by.node.number told) by (pending_call_after_step s by.node by.over by.call)
+told_node by (Some told) s = chosen_node (is_step_of_node by.node.number told) by (pending_call_after_step s by.node by.over by.call)
 
 told_grain : (by : StepMove) (o : Option Made) (s : State) → (move_after_optional_event by o s).grain ≡ by.grain
 told_grain by None s = refl
-told_grain by (Some told) s = chosen_grain (is_step_of by.node.number told) by (pending_call_after_step s by.node by.over by.call)
+told_grain by (Some told) s = chosen_grain (is_step_of_node by.node.number told) by (pending_call_after_step s by.node by.over by.call)
 
 same_node : (by : StepMove) (r : Running) (k : ℕ) → (move_after_events by r k).node ≡ by.node
 same_node by r zero = refl
@@ -285,7 +285,7 @@ step_alike_told w r k begins (Some told) is =
     ap (λ (z : NodeId). ends_by breakpoints cells tally stops (Some z) told s || is_moved_by w.notes.now by word told s) (same_node w.stepping r k)
     ∙ ap (λ (z : HitTally). (is_some z.hit || is_ending_stop stops (Some node) told) || is_moved_by w.notes.now by word told s)
     (tally_alike (Some node) breakpoints w.halting.cells tally r k (Some told) begins.0.0 begins.0.1 is)
-    ∙ ap (λ (z : Bool). ends_early breakpoints tally stops (Some node) told s || z)
+    ∙ ap (λ (z : Bool). ends_move_early breakpoints tally stops (Some node) told s || z)
     (moved_alike w.notes.now by word at (precedence_node (Some node) at) told is (subst (λ (z : NodeId). IsWell at.state z.number) same (well_on node r k well))
     (λ line. subst (λ (z : NodeId). IsWord at.state z word) same (right_on node w.word r k well (begins.1 (sym (same_grain w.stepping r k) ∙ line)))))
 

@@ -12,7 +12,7 @@ use Rattle.ga_debug_info.specs.declared.wording.SlotWord.{SlotWord}
 use Rattle.ga_debug_info.specs.Notes.{displayed_slot, nearest_word}
 use Rattle.ga_debug_info.specs.Source.{cell_of_address}
 use Rattle.ga_scheduler.specs.declared.condition.Condition.TheVariants as condition
-use Rattle.ga_scheduler.specs.Conditions.{is_step_of, is_stop_kind, is_own_of_kind, is_node_own_of_kind, holds}
+use Rattle.ga_scheduler.specs.Conditions.{is_step_of_node, is_stop_event_kind, is_own_event_of_kind, is_node_own_event_of_kind, holds_after_made_event}
 use Rattle.ga_dap_breakpoints.specs.declared.back.Watched.{Watched}
 use Rattle.ga_dap_breakpoints.specs.declared.back.Watched.TheVariants.{ArrivesAtSlot, Writes}
 use Rattle.ga_dap_breakpoints.specs.Back.{reaches_slot}
@@ -21,7 +21,7 @@ use Rattle.ga_dap_breakpoints.specs.declared.breakpoint.Breakpoint.{Breakpoint}
 use Rattle.ga_dap_breakpoints.specs.declared.breakpoint.LineBreakpoint.{LineBreakpoint}
 use Rattle.ga_dap_breakpoints.specs.declared.condition.HitCondition.{HitCondition}
 use Rattle.ga_dap_breakpoints.specs.declared.hits.HitTally.{HitTally}
-use Rattle.ga_dap_breakpoints.specs.Conditions.{meets_test, meets_hit_condition}
+use Rattle.ga_dap_breakpoints.specs.Conditions.{meets_optional_test, meets_hit_condition}
 
 -- ---- where a breakpoint is
 
@@ -46,21 +46,21 @@ breakpoint_of_address node address = option_map (λ cell. slot_breakpoint node c
 -- After this event, on the machine that it left: the node arrived at the slot by this step, or stored in the cell of RAM. Each
 -- cell of RAM has two addresses.
 abbrev pub is_watched_event : Watched → NodeId → Made → State → Bool
-is_watched_event (ArrivesAtSlot at) node told s = is_step_of node.number told && reaches_slot s node at (count_steps node.number s.kept - 1)
-is_watched_event (Writes address) node told s = holds (condition.Writes node (address % 64) None) told s
+is_watched_event (ArrivesAtSlot at) node told s = is_step_of_node node.number told && reaches_slot s node at (count_steps node.number s.kept - 1)
+is_watched_event (Writes address) node told s = holds_after_made_event (condition.Writes node (address % 64) None) told s
 
 -- after this event, a node did what the breakpoint watches for, and meets its condition
-abbrev pub is_hit : Made → State → Breakpoint → Bool
-is_hit told s one =
-    is_watched_event one.watched one.node told s && meets_test one.condition (record_at (chip_of s) one.node.number) (count_steps one.node.number s.kept)
+abbrev pub is_breakpoint_hit : Made → State → Breakpoint → Bool
+is_breakpoint_hit told s one =
+    is_watched_event one.watched one.node told s && meets_optional_test one.condition (record_at (chip_of s) one.node.number) (count_steps one.node.number s.kept)
 
 -- ---- how often each was hit, and which of those that the newest event hit asks for its number: the first
 
-abbrev pub counts_at : List ℕ → ℕ → ℕ
-counts_at counts place = slice_index_or counts place 0
+abbrev pub hit_count_at : List ℕ → ℕ → ℕ
+hit_count_at counts place = slice_index_or counts place 0
 
 abbrev pub incremented_hit_counts : ℕ → List ℕ → List ℕ
-incremented_hit_counts place counts = if nat_lt place 64 then slice_set counts place ((counts_at counts place + 1) % 2 ^ 32) else counts
+incremented_hit_counts place counts = if nat_lt place 64 then slice_set counts place ((hit_count_at counts place + 1) % 2 ^ 32) else counts
 
 -- the place of a breakpoint, if this hit satisfies its hit condition
 abbrev pub place_if_condition_met : Option HitCondition → ℕ → ℕ → Option ℕ
@@ -70,10 +70,10 @@ place_if_condition_met hits place number = if meets_hit_condition hits number th
 abbrev pub tally_with_hit : Breakpoint → ℕ → HitTally → HitTally
 tally_with_hit one place tally =
     let counts = incremented_hit_counts place tally.counts in
-    record { counts = counts; hit = option_or tally.hit (place_if_condition_met one.hits place (counts_at counts place)) }
+    record { counts = counts; hit = option_or tally.hit (place_if_condition_met one.hits place (hit_count_at counts place)) }
 
 abbrev pub tally_after_breakpoint : Made → State → Breakpoint → ℕ → HitTally → HitTally
-tally_after_breakpoint told s one place tally = if is_hit told s one then tally_with_hit one place tally else tally
+tally_after_breakpoint told s one place tally = if is_breakpoint_hit told s one then tally_with_hit one place tally else tally
 
 -- the breakpoints of the list from a place on are counted, where what was made hits them
 abbrev pub tally_after_breakpoints : Made → State → ℕ → List Breakpoint → HitTally → HitTally
@@ -87,13 +87,13 @@ tally_after_event breakpoints told s tally = tally_after_breakpoints told s 0 br
 -- ---- what ends a move early
 
 -- the event is a stop: of any node if all stops are watched, and of the node that is moved
-abbrev pub is_stop_at : Option NodeId → Made → Bool
-is_stop_at None told = false
-is_stop_at (Some node) told = is_node_own_of_kind node.number is_stop_kind told
+abbrev pub is_stop_event_of_node : Option NodeId → Made → Bool
+is_stop_event_of_node None told = false
+is_stop_event_of_node (Some node) told = is_node_own_event_of_kind node.number is_stop_event_kind told
 
 abbrev pub is_ending_stop : Bool → Option NodeId → Made → Bool
-is_ending_stop stops node told = stops && is_own_of_kind is_stop_kind told || is_stop_at node told
+is_ending_stop stops node told = stops && is_own_event_of_kind is_stop_event_kind told || is_stop_event_of_node node told
 
 -- what was made ends a move early: it hits a breakpoint, with the hits so far, or is a stop that ends the move
-abbrev pub ends_early : List Breakpoint → HitTally → Bool → Option NodeId → Made → State → Bool
-ends_early breakpoints tally stops node told s = is_some (tally_after_event breakpoints told s tally).hit || is_ending_stop stops node told
+abbrev pub ends_move_early : List Breakpoint → HitTally → Bool → Option NodeId → Made → State → Bool
+ends_move_early breakpoints tally stops node told s = is_some (tally_after_event breakpoints told s tally).hit || is_ending_stop stops node told

@@ -6,7 +6,7 @@ use Rattle.ga_grid.specs.declared.node_id.NodeId.{NodeId}
 use Rattle.ga_event.specs.declared.made.Made.{Made}
 use Rattle.ga_lab.specs.Machine.{State}
 use Rattle.ga_debug_info.specs.declared.notes.DebugInfo.{DebugInfo}
-use Rattle.ga_scheduler.specs.declared.watched.WatchedEnd.TheVariants as the_end
+use Rattle.ga_scheduler.specs.declared.watched.WatchedRunEnd.TheVariants as the_end
 use Rattle.ga_scheduler.specs.Running.{Running}
 use Rattle.ga_scheduler.specs.Watched.{precedence_event, precedence_run_after_next, precedence_run_after, IsPrecedenceRunHalted}
 use Rattle.ga_dap_breakpoints.specs.declared.breakpoint.Breakpoint.{Breakpoint}
@@ -14,7 +14,7 @@ use Rattle.ga_dap_breakpoints.specs.declared.hits.HitTally.{HitTally}
 use Rattle.ga_dap_breakpoints.specs.declared.stepping.StepMove.{StepMove}
 use Rattle.ga_dap_breakpoints.specs.declared.going.HaltReason.{HaltReason}
 use Rattle.ga_dap_breakpoints.specs.declared.going.HaltReason.TheVariants as the_halt
-use Rattle.ga_dap_breakpoints.specs.Breakpoints.{tally_after_event, is_ending_stop, ends_early}
+use Rattle.ga_dap_breakpoints.specs.Breakpoints.{tally_after_event, is_ending_stop, ends_move_early}
 use Rattle.ga_dap_breakpoints.specs.Stepping.{completes_move, move_after_events}
 
 -- the number of hits of each breakpoint after `n` events
@@ -41,7 +41,7 @@ pub record MovePlan : Type 0 where
 -- a move ends after the event that follows `n` events
 abbrev pub is_halting_event : MovePlan → ℕ → Option Made → State → Bool
 is_halting_event by k None s = false
-is_halting_event by k (Some told) s = ends_early by.breakpoints (by.tally k) by.stops by.node told s || by.ends k told s
+is_halting_event by k (Some told) s = ends_move_early by.breakpoints (by.tally k) by.stops by.node told s || by.ends k told s
 
 abbrev pub halts_after_event : MovePlan → Running → ℕ → Bool
 halts_after_event by r k = is_halting_event by k (precedence_event by.node (precedence_run_after by.node r k)) (precedence_run_after_next by.node (precedence_run_after by.node r k)).state

@@ -3,7 +3,7 @@ use Rattle.std.specs.Prelude.{ℕ, zero, suc, ◌+◌, ◌-◌, ◌%◌, ◌==�
 use Rattle.std.specs.List.{slice_get}
 use Rattle.ga_slots.specs.declared.op.Op.{Op}
 use Rattle.ga_slots.specs.declared.op.Op.TheVariants.{Return, Execute, Jump, Call, Next, If, MinusIf}
-use Rattle.ga_slots.specs.Codes.{op_of}
+use Rattle.ga_slots.specs.Codes.{op_of_code}
 use Rattle.ga_node.specs.declared.kind.OwnEventKind.TheVariants as kind
 use Rattle.ga_grid.specs.declared.node_id.NodeId.{NodeId}
 use Rattle.ga_event.specs.declared.made.Made.{Made}
@@ -14,7 +14,7 @@ use Rattle.ga_debug_info.specs.declared.notes.DebugInfo.{DebugInfo}
 use Rattle.ga_debug_info.specs.declared.wording.SlotWord.{SlotWord}
 use Rattle.ga_dap_views.specs.declared.spots.SlotAddress.{SlotAddress}
 use Rattle.ga_dap_views.specs.Calls.{pushed_by_step, is_call_step}
-use Rattle.ga_dap_views.specs.Labels.{source_line_of_slot, line_start}
+use Rattle.ga_dap_views.specs.Labels.{source_line_of_slot, line_start_word}
 use Rattle.ga_dap_breakpoints.specs.Back.{rolled_back_past}
 use Rattle.ga_dap_views.specs.Spots.{slot_address_after}
 
@@ -22,7 +22,7 @@ use Rattle.ga_dap_views.specs.Spots.{slot_address_after}
 
 -- the opcode that the step with this number executed, by its event
 abbrev pub executed_op : Option Made → Option Op
-executed_op (Some (made.Own node step (kind.Run code))) = Some (op_of (code % 32))
+executed_op (Some (made.Own node step (kind.Run code))) = Some (op_of_code (code % 32))
 executed_op _ = None
 
 abbrev pub is_return_op : Option Op → Bool
@@ -30,15 +30,15 @@ is_return_op (Some Return) = true
 is_return_op _ = false
 
 -- A jump. (`unext` stays in its cell.)
-abbrev pub is_jump : Option Op → Bool
-is_jump (Some Return) = true
-is_jump (Some Execute) = true
-is_jump (Some Jump) = true
-is_jump (Some Call) = true
-is_jump (Some Next) = true
-is_jump (Some If) = true
-is_jump (Some MinusIf) = true
-is_jump _ = false
+abbrev pub is_jump_op : Option Op → Bool
+is_jump_op (Some Return) = true
+is_jump_op (Some Execute) = true
+is_jump_op (Some Jump) = true
+is_jump_op (Some Call) = true
+is_jump_op (Some Next) = true
+is_jump_op (Some If) = true
+is_jump_op (Some MinusIf) = true
+is_jump_op _ = false
 
 abbrev pub op_of_step : State → NodeId → ℕ → Option Op
 op_of_step s node k = executed_op (slice_get (history_of s node.number) k)
@@ -48,8 +48,8 @@ op_of_step s node k = executed_op (slice_get (history_of s node.number) k)
 abbrev pub place_over_call : ℕ → State → NodeId → ℕ → ℕ → ℕ
 place_over_call began s node k call = if nat_lt began call && is_call_step s node call then call - 1 else k
 
-abbrev pub previous_place : ℕ → State → NodeId → ℕ → ℕ
-previous_place began s node k = if is_return_op (op_of_step s node k) then place_over_call began s node k (pushed_by_step s node k 0) else k
+abbrev pub previous_step_place : ℕ → State → NodeId → ℕ → ℕ
+previous_step_place began s node k = if is_return_op (op_of_step s node k) then place_over_call began s node k (pushed_by_step s node k 0) else k
 
 -- ---- where a line begins
 
@@ -62,7 +62,7 @@ is_line_start_slot spot None = false
 is_line_start_slot spot (Some word) = word.cell == spot.cell && word.first == spot.slot
 
 abbrev pub starts_line_at : DebugInfo → NodeId → ℕ → SlotAddress → Bool
-starts_line_at notes node line spot = is_line_start_slot spot (line_start notes node line)
+starts_line_at notes node line spot = is_line_start_slot spot (line_start_word notes node line)
 
 abbrev pub starts_line_if_known : DebugInfo → NodeId → ℕ → Option SlotAddress → Bool
 starts_line_if_known notes node line None = false
@@ -75,25 +75,25 @@ is_other_line line (Some other) = not (other == line)
 -- the node came to the line from another, or by a jump to its first slot
 abbrev pub enters_line : DebugInfo → NodeId → Option SlotAddress → Option SlotAddress → Option Op → Option ℕ → Bool
 enters_line notes node before spot op None = false
-enters_line notes node before spot op (Some line) = is_other_line line (line_of_slot_address notes node before) || is_jump op && starts_line_if_known notes node line spot
+enters_line notes node before spot op (Some line) = is_other_line line (line_of_slot_address notes node before) || is_jump_op op && starts_line_if_known notes node line spot
 
 -- a line begins after the step with this number; calls that the node made after its first `n` steps are stepped over
 abbrev pub line_begins_after : ℕ → DebugInfo → State → NodeId → ℕ → Bool
 line_begins_after began notes s node k =
-    enters_line notes node (slot_address_after s node (previous_place began s node k)) (slot_address_after s node (k + 1)) (op_of_step s node k) (line_of_slot_address notes node (slot_address_after s node (k + 1)))
+    enters_line notes node (slot_address_after s node (previous_step_place began s node k)) (slot_address_after s node (k + 1)) (op_of_step s node k) (line_of_slot_address notes node (slot_address_after s node (k + 1)))
 
 -- the nearest beginning of a line at a place or before it, among at most `n` places; the load is one
 unfoldable pub nearest_line_start : DebugInfo → State → NodeId → ℕ → ℕ → ℕ
 nearest_line_start notes s node zero left = 0
 nearest_line_start notes s node (suc k) zero = 0
 nearest_line_start notes s node (suc k) (suc left) =
-    if line_begins_after 0 notes s node k then suc k else nearest_line_start notes s node (previous_place 0 s node k) left
+    if line_begins_after 0 notes s node k then suc k else nearest_line_start notes s node (previous_step_place 0 s node k) left
 
 -- `stepBack` by a line: the node returns to the beginning of its line, or, if it is at the beginning of one, to that of the
 -- line before
 abbrev pub steps_at_line_start : DebugInfo → State → NodeId → ℕ → ℕ
 steps_at_line_start notes s node zero = 0
-steps_at_line_start notes s node (suc k) = nearest_line_start notes s node (previous_place 0 s node k) (suc k)
+steps_at_line_start notes s node (suc k) = nearest_line_start notes s node (previous_step_place 0 s node k) (suc k)
 
 abbrev pub state_after_line_back : DebugInfo → State → NodeId → State
 state_after_line_back notes s node = rolled_back_past s node (steps_at_line_start notes s node (count_steps node.number s.kept))

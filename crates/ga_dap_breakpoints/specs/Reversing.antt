@@ -9,15 +9,15 @@ use Rattle.ga_event.specs.declared.made.Made.{Made}
 use Rattle.ga_event.specs.declared.made.Made.TheVariants as made
 use Rattle.ga_event.specs.Told.{count_steps}
 use Rattle.ga_lab.specs.Machine.{State, history_of}
-use Rattle.ga_provenance.specs.Origins.{node_after}
-use Rattle.ga_scheduler.specs.Conditions.{stores_in_cell, is_step_of}
+use Rattle.ga_provenance.specs.Origins.{node_after_steps}
+use Rattle.ga_scheduler.specs.Conditions.{stores_in_cell, is_step_of_node}
 use Rattle.ga_dap_breakpoints.specs.declared.back.Watched.{Watched}
 use Rattle.ga_dap_breakpoints.specs.declared.back.Watched.TheVariants.{ArrivesAtSlot, Writes}
 use Rattle.ga_dap_breakpoints.specs.Back.{reaches_slot, rolled_back_past}
 use Rattle.ga_dap_breakpoints.specs.declared.breakpoint.Breakpoint.{Breakpoint}
 use Rattle.ga_dap_breakpoints.specs.declared.hits.HitTally.{HitTally}
 use Rattle.ga_dap_breakpoints.specs.declared.condition.HitCondition.{HitCondition}
-use Rattle.ga_dap_breakpoints.specs.Conditions.{meets_test, meets_hit_condition}
+use Rattle.ga_dap_breakpoints.specs.Conditions.{meets_optional_test, meets_hit_condition}
 
 -- ---- hits among the kept steps of a node
 
@@ -30,22 +30,22 @@ is_store_event cell before (Some (made.Pass writer i reader j word)) = false
 -- the step after the first `n` arrived at the slot, or stored in the cell of RAM, which has two addresses
 abbrev pub is_watched_step : State → NodeId → Watched → ℕ → Bool
 is_watched_step s node (ArrivesAtSlot at) k = reaches_slot s node at k
-is_watched_step s node (Writes address) k = is_store_event (address % 64) (node_after s node.number k) (slice_get (history_of s node.number) k)
+is_watched_step s node (Writes address) k = is_store_event (address % 64) (node_after_steps s node.number k) (slice_get (history_of s node.number) k)
 
 -- the step after the first `n` hit the breakpoint: it did what is watched, and the node met the condition after it
 abbrev pub is_hit_step : State → NodeId → Breakpoint → ℕ → Bool
-is_hit_step s node one k = meets_test one.condition (node_after s node.number (k + 1)) (k + 1) && is_watched_step s node one.watched k
+is_hit_step s node one k = meets_optional_test one.condition (node_after_steps s node.number (k + 1)) (k + 1) && is_watched_step s node one.watched k
 
 -- how many of the first `n` steps hit the breakpoint
-abbrev pub hits_among : State → NodeId → Breakpoint → ℕ → ℕ
-hits_among s node one zero = 0
-hits_among s node one (suc k) = hits_among s node one k + from_bool (is_hit_step s node one k)
+abbrev pub hit_count_among_steps : State → NodeId → Breakpoint → ℕ → ℕ
+hit_count_among_steps s node one zero = 0
+hit_count_among_steps s node one (suc k) = hit_count_among_steps s node one k + from_bool (is_hit_step s node one k)
 
 -- ---- the number of hits of each breakpoint with a hit condition
 
 abbrev pub counted_by : Option HitCondition → State → Breakpoint → ℕ
 counted_by None s one = 0
-counted_by (Some hits) s one = hits_among s one.node one (count_steps one.node.number s.kept)
+counted_by (Some hits) s one = hit_count_among_steps s one.node one (count_steps one.node.number s.kept)
 
 abbrev pub kept_hit_count : State → Breakpoint → ℕ
 kept_hit_count s one = counted_by one.hits s one
@@ -57,8 +57,8 @@ abbrev pub hit_counts_from : State → ℕ → List Breakpoint → List ℕ → 
 hit_counts_from s place [] counts = counts
 hit_counts_from s place (one ∷ rest) counts = hit_counts_from s (place + 1) rest (with_hit_count place (kept_hit_count s one) counts)
 
-abbrev pub kept_tally : State → List Breakpoint → HitTally
-kept_tally s breakpoints = record { counts = hit_counts_from s 0 breakpoints (replicate 64 0); hit = None }
+abbrev pub kept_hit_tally : State → List Breakpoint → HitTally
+kept_hit_tally s breakpoints = record { counts = hit_counts_from s 0 breakpoints (replicate 64 0); hit = None }
 
 -- ---- what the newest event hit
 
@@ -72,7 +72,7 @@ is_newest_hit s one = nat_lt 0 (count_steps one.node.number s.kept) && is_matchi
 
 -- the newest event hit the breakpoint and satisfied its hit condition
 abbrev pub is_hit_by_newest_event : Made → State → Breakpoint → Bool
-is_hit_by_newest_event told s one = is_step_of one.node.number told && is_newest_hit s one
+is_hit_by_newest_event told s one = is_step_of_node one.node.number told && is_newest_hit s one
 
 -- ---- `reverseContinue`
 
@@ -80,7 +80,7 @@ is_hit_by_newest_event told s one = is_step_of one.node.number told && is_newest
 abbrev pub newest_matching_hit : State → NodeId → Breakpoint → ℕ → Option ℕ
 newest_matching_hit s node one zero = None
 newest_matching_hit s node one (suc k) =
-    if is_hit_step s node one k && meets_hit_condition one.hits (hits_among s node one (k + 1)) then Some (k + 1) else newest_matching_hit s node one k
+    if is_hit_step s node one k && meets_hit_condition one.hits (hit_count_among_steps s node one (k + 1)) then Some (k + 1) else newest_matching_hit s node one k
 
 -- How many steps remain if the node returns to the newest hit, by at least one step. A node is then after the step by which it
 -- arrived at a slot, and before the one by which it wrote a cell.
@@ -92,15 +92,15 @@ steps_left_by_watch (Writes address) s node one = option_map (λ step. step - 1)
 abbrev pub steps_left_by_breakpoint : State → NodeId → Breakpoint → Option ℕ
 steps_left_by_breakpoint s node one = if one.node.number == node.number then steps_left_by_watch one.watched s node one else None
 
-abbrev pub later_step : Option ℕ → Option ℕ → Option ℕ
-later_step None other = other
-later_step (Some a) None = Some a
-later_step (Some a) (Some b) = if nat_lt a b then Some b else Some a
+abbrev pub later_optional_step : Option ℕ → Option ℕ → Option ℕ
+later_optional_step None other = other
+later_optional_step (Some a) None = Some a
+later_optional_step (Some a) (Some b) = if nat_lt a b then Some b else Some a
 
 -- the most steps that stay, of this number and of those by the breakpoints
 abbrev pub most_steps_left : State → NodeId → Option ℕ → List Breakpoint → Option ℕ
 most_steps_left s node best [] = best
-most_steps_left s node best (one ∷ rest) = most_steps_left s node (later_step best (steps_left_by_breakpoint s node one)) rest
+most_steps_left s node best (one ∷ rest) = most_steps_left s node (later_optional_step best (steps_left_by_breakpoint s node one)) rest
 
 -- the node is gone back to the newest hit of one of its breakpoints, and else to the load
 abbrev pub state_after_reverse : State → NodeId → List Breakpoint → State

@@ -7,11 +7,11 @@ use Rattle.ga_dap_breakpoints.specs.declared.condition.HitCondition.TheVariants.
 
 -- ---- hit conditions: N, >= N or % N, with N from 1 on
 
-abbrev pub positive_number : ℕ → Option ℕ
-positive_number number = if number == 0 then None else Some number
+abbrev pub number_if_positive : ℕ → Option ℕ
+number_if_positive number = if number == 0 then None else Some number
 
 abbrev pub hit_number : Text → Option ℕ
-hit_number text = option_and_then positive_number (parse_number text)
+hit_number text = option_and_then number_if_positive (parse_number text)
 
 abbrev pub hit_condition_by_operator : Text → ℕ → Option HitCondition
 hit_condition_by_operator sign number = if bytes_eq sign (codes ">=") then Some (From number) else if bytes_eq sign (codes "%") then Some (Each number) else None

@@ -7,7 +7,7 @@ use Rattle.ga_event.specs.declared.made.Made.{Made}
 use Rattle.ga_event.specs.Told.{count_steps}
 use Rattle.ga_lab.specs.Machine.{State}
 use Rattle.ga_debug_info.specs.declared.notes.DebugInfo.{DebugInfo}
-use Rattle.ga_scheduler.specs.Conditions.{is_step_of}
+use Rattle.ga_scheduler.specs.Conditions.{is_step_of_node}
 use Rattle.ga_scheduler.specs.Running.{Running}
 use Rattle.ga_scheduler.specs.Watched.{precedence_event, precedence_run_after_next, precedence_run_after}
 use Rattle.ga_dap_views.specs.Calls.{pushed_by_step, is_call_step, return_entry_sources}
@@ -55,19 +55,19 @@ step_out s node = option_map (step_out_from s node) (newest_open_call_place s no
 
 -- the move after this event, on the machine that it left
 abbrev pub move_after_event : StepMove → Made → State → StepMove
-move_after_event by told s = if is_step_of by.node.number told then record by { call = pending_call_after_step s by.node by.over by.call } else by
+move_after_event by told s = if is_step_of_node by.node.number told then record by { call = pending_call_after_step s by.node by.over by.call } else by
 
 -- The newest step of the node is one by which a move of this granularity, begun after `n` steps, can end. By lines, a call that
 -- the node made since then is stepped over; a return from another call brings the node to the rest of the calling line.
-abbrev pub reaches_end : Granularity → ℕ → DebugInfo → NodeId → State → ℕ → Bool
-reaches_end Instruction began notes node s k = true
-reaches_end Line began notes node s k = line_begins_after began notes s node k
+abbrev pub reaches_move_end : Granularity → ℕ → DebugInfo → NodeId → State → ℕ → Bool
+reaches_move_end Instruction began notes node s k = true
+reaches_move_end Line began notes node s k = line_begins_after began notes s node k
 
 -- the move came to its end: the node made a step, and no call is to come back
 abbrev pub completes_move : DebugInfo → StepMove → Made → State → Bool
 completes_move notes by told s =
-    is_step_of by.node.number told
-    && (is_none (pending_call_after_step s by.node by.over by.call) && reaches_end by.grain by.began notes by.node s (count_steps by.node.number s.kept - 1))
+    is_step_of_node by.node.number told
+    && (is_none (pending_call_after_step s by.node by.over by.call) && reaches_move_end by.grain by.began notes by.node s (count_steps by.node.number s.kept - 1))
 
 -- ---- the node's events, and others while it has none
 

@@ -9,7 +9,7 @@ use crate::halts::{HaltConditions, HaltMonitor, is_ending_stop};
 use crate::hits::HitTally;
 use ga_grid::{CHIP_NODES, NodeId};
 use ga_lab::{Lab, LabFault, Made};
-use ga_scheduler::{Schedule, WatchedEnd, WatchedRun, run_watched};
+use ga_scheduler::{Schedule, WatchedRun, WatchedRunEnd, run_watched};
 
 /// Why a move ended, or a slice of it.
 #[derive(Clone, Copy, PartialEq, Eq, Debug)]
@@ -56,14 +56,14 @@ fn halt_by(halts: &HaltConditions<'_>, node: Option<NodeId>, made: Made) -> Halt
 }
 
 /// Why a move ended, by how its run did.
-fn halt_of(halts: &HaltConditions<'_>, node: Option<NodeId>, end: WatchedEnd) -> HaltReason
+fn halt_of(halts: &HaltConditions<'_>, node: Option<NodeId>, end: WatchedRunEnd) -> HaltReason
     ensures { result ≡ halt_of halts.now.tally.hit halts.now.stops node end }
 {
     match end {
-        WatchedEnd::Seen(made) => halt_by(halts, node, made),
-        WatchedEnd::Made => HaltReason::Cut,
-        WatchedEnd::Quiet => HaltReason::Quiet,
-        WatchedEnd::Refused(why) => HaltReason::Refused(why),
+        WatchedRunEnd::Seen(made) => halt_by(halts, node, made),
+        WatchedRunEnd::Made => HaltReason::Cut,
+        WatchedRunEnd::Quiet => HaltReason::Quiet,
+        WatchedRunEnd::Refused(why) => HaltReason::Refused(why),
     }
 }
 

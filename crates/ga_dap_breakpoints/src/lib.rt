@@ -24,5 +24,5 @@ pub use hits::{HitTally, MAX_COUNTED_BREAKPOINTS};
 pub use lines::step_back_line;
 pub use moves::continue_step;
 pub use parsing::parse_hit_condition;
-pub use reversing::{is_hit_by_newest_event, kept_hits, reverse_to};
+pub use reversing::{count_kept_hits, is_hit_by_newest_event, reverse_to_breakpoint};
 pub use stepping::{Granularity, StepMove};

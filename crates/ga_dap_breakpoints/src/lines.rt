@@ -4,12 +4,13 @@ ghost use Rattle.std.specs.Prelude.{◌≡◌, ◌<◌, ◌≤◌};
 ghost use Rattle.ga_event.specs.Told.{count_steps};
 ghost use Rattle.ga_lab.specs.Machine.{node_at_step};
 ghost use Rattle.ga_dap_breakpoints.specs.inner.Words.{spot_before, begins_by};
-ghost use Rattle.ga_dap_breakpoints.specs.Lines.{executed_op, is_return_op, is_jump, previous_place, line_of_slot_address, starts_line_at, enters_line, nearest_line_start, state_after_line_back};
+ghost use Rattle.ga_dap_breakpoints.specs.Lines.{executed_op, is_return_op, is_jump_op, previous_step_place, line_of_slot_address, starts_line_at, enters_line, nearest_line_start, state_after_line_back};
 
 use crate::back::roll_back_past;
 use crate::words::node_slot_address;
 use ga_dap_views::{
-    SlotAddress, is_call_step, line_start, pushed_by_step, slot_address_at, source_line_of_slot,
+    SlotAddress, is_call_step, line_start_word, pushed_by_step, slot_address_at,
+    source_line_of_slot,
 };
 use ga_debug_info::DebugInfo;
 use ga_grid::NodeId;
@@ -42,8 +43,8 @@ fn is_return_op(op: Option<Op>) -> bool
 }
 
 /// Whether an opcode is a jump; `unext` stays in its cell.
-fn is_jump(op: Option<Op>) -> bool
-    ensures { result ≡ is_jump op }
+fn is_jump_op(op: Option<Op>) -> bool
+    ensures { result ≡ is_jump_op op }
 {
     match op {
         Some(Op::Return | Op::Execute | Op::Jump | Op::Call) => true,
@@ -54,9 +55,9 @@ fn is_jump(op: Option<Op>) -> bool
 
 /// Of the step at a place, the place before it; if it returned from a call that the node made after its first `began` steps,
 /// the place of that call.
-fn previous_place(lab: &Lab, node: NodeId, place: u32, began: u32) -> u32
+fn previous_step_place(lab: &Lab, node: NodeId, place: u32, began: u32) -> u32
     requires { place ≤ count_steps node.number lab.now.kept }
-    ensures value { result ≡ previous_place began lab.now node place }
+    ensures value { result ≡ previous_step_place began lab.now node place }
     ensures within { result ≤ place }
 {
     if !is_return_op(executed_op(&lab.made_event_of_step(node, place))) {
@@ -81,7 +82,7 @@ fn line_of_slot_address(notes: &DebugInfo, node: NodeId, spot: Option<SlotAddres
 fn starts_line_at(notes: &DebugInfo, node: NodeId, line: u32, spot: SlotAddress) -> bool
     ensures { result ≡ starts_line_at notes.now node line spot }
 {
-    match line_start(notes, node, line) {
+    match line_start_word(notes, node, line) {
         Some(word) => word.cell == spot.cell && word.first == usize::from(spot.slot),
         None => false,
     }
@@ -104,7 +105,7 @@ fn enters_line(
         return false;
     };
     match line_of_slot_address(notes, node, before) {
-        Some(other) => other != line || is_jump(op) && starts_line_at(notes, node, line, at),
+        Some(other) => other != line || is_jump_op(op) && starts_line_at(notes, node, line, at),
         None => true,
     }
 }
@@ -124,7 +125,7 @@ fn spot_before(
     requires within { place ≤ count_steps node.number lab.now.kept }
     ensures { result ≡ spot_before began lab.now node place word }
 {
-    let before = previous_place(lab, node, place, began);
+    let before = previous_step_place(lab, node, place, began);
     if before == place {
         walk.walk_back_to(place);
         node_slot_address(walk.node(), word)
@@ -172,7 +173,7 @@ fn nearest_line_start(lab: &Lab, notes: &DebugInfo, node: NodeId, from: u32, mos
         if place == 0 {
             return 0;
         }
-        let before = previous_place(lab, node, place - 1, 0);
+        let before = previous_step_place(lab, node, place - 1, 0);
         let there = slot_address_at(lab, &mut walk, node, before);
         let told = lab.made_event_of_step(node, place - 1);
         let op = executed_op(&told);
@@ -196,7 +197,7 @@ pub fn step_back_line(lab: &mut Lab, notes: &DebugInfo, node: NodeId) -> u32
     if steps == 0 {
         return 0;
     }
-    let from = previous_place(lab, node, steps - 1, 0);
+    let from = previous_step_place(lab, node, steps - 1, 0);
     let keeps = nearest_line_start(lab, notes, node, from, steps);
     roll_back_past(lab, node, keeps)
 }

@@ -2,9 +2,9 @@
 
 ghost use Rattle.std.specs.Prelude.{◌≡◌, ◌-◌, ◌<◌, ◌≤◌, ◌&&◌, Some, true, position};
 ghost use Rattle.ga_event.specs.Told.{count_steps};
-ghost use Rattle.ga_scheduler.specs.Conditions.{is_step_of};
+ghost use Rattle.ga_scheduler.specs.Conditions.{is_step_of_node};
 ghost use Rattle.ga_scheduler.specs.Running.{running};
-ghost use Rattle.ga_scheduler.specs.Watched.{IsNewestReport, precedence_run_after};
+ghost use Rattle.ga_scheduler.specs.Watched.{IsReportOfNewestEvent, precedence_run_after};
 ghost use Rattle.ga_dap_views.specs.Calls.{is_call_step, return_entry_sources};
 ghost use Rattle.ga_provenance.specs.Fetched.{fetched_cell};
 ghost use Rattle.ga_dap_breakpoints.specs.declared.stepping.Granularity.TheVariants.{Line};
@@ -21,7 +21,7 @@ use ga_dap_views::{is_call_step, return_entry_sources};
 use ga_debug_info::DebugInfo;
 use ga_grid::{CHIP_NODES, NodeId};
 use ga_lab::{Lab, Made};
-use ga_scheduler::{Schedule, StopCondition, is_step_of, run_watched};
+use ga_scheduler::{Schedule, StopCondition, is_step_of_node, run_watched};
 
 /// What watches a move.
 #[derive(Clone, Copy)]
@@ -84,8 +84,8 @@ fn pending_call_after_step(
 
 /// By how many steps of a node its newest one was preceded, where the newest event is one.
 fn newest_step(lab: &Lab, made: &Made, node: NodeId) -> u32
-    requires newest { IsNewestReport lab.now made.now }
-    requires own { is_step_of node.number made.now ≡ true }
+    requires newest { IsReportOfNewestEvent lab.now made.now }
+    requires own { is_step_of_node node.number made.now ≡ true }
     ensures step { result ≡ count_steps node.number lab.now.kept - 1 }
     ensures within { result < count_steps node.number lab.now.kept }
 {
@@ -98,7 +98,7 @@ fn newest_step(lab: &Lab, made: &Made, node: NodeId) -> u32
 fn move_after_event(lab: &Lab, by: StepMove, made: &Made) -> StepMove
     ensures { result ≡ move_after_event by made.now lab.now }
 {
-    if !is_step_of(made, by.node) {
+    if !is_step_of_node(made, by.node) {
         return by;
     }
     let call = pending_call_after_step(lab, by.node, by.over, by.call);
@@ -107,10 +107,10 @@ fn move_after_event(lab: &Lab, by: StepMove, made: &Made) -> StepMove
 
 /// The cell from which a node's word came, after the newest event, if the word before it came from `word`.
 fn word_seen(lab: &Lab, node: NodeId, word: Option<u8>, made: &Made) -> Option<u8>
-    requires { IsNewestReport lab.now made.now }
+    requires { IsReportOfNewestEvent lab.now made.now }
     ensures { result ≡ word_seen node word made.now lab.now }
 {
-    if !is_step_of(made, node) {
+    if !is_step_of_node(made, node) {
         return word;
     }
     let step = newest_step(lab, made, node);
@@ -149,12 +149,12 @@ fn is_moved_by(
     behind: Option<u8>,
     made: &Made,
 ) -> bool
-    requires newest { IsNewestReport lab.now made.now }
-    requires call { is_step_of by.now.node.number made.now ≡ true → call ≡ pending_call_after_step lab.now by.now.node by.now.over by.now.call }
+    requires newest { IsReportOfNewestEvent lab.now made.now }
+    requires call { is_step_of_node by.now.node.number made.now ≡ true → call ≡ pending_call_after_step lab.now by.now.node by.now.over by.now.call }
     requires behind { behind ≡ word_seen by.now.node before made.now lab.now }
     ensures { result ≡ is_moved_by notes.now by.now before made.now lab.now }
 {
-    if !is_step_of(made, by.node) {
+    if !is_step_of_node(made, by.node) {
         return false;
     }
     if call.is_some() {

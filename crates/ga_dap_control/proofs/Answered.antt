@@ -14,7 +14,7 @@ use Rattle.ga_dap_protocol.specs.Sent.{SentMessages}
 use Rattle.ga_dap_protocol.specs.declared.request.ClientRequest.{ClientRequest}
 use Rattle.ga_dap_breakpoints.specs.declared.stepping.StepMove.{StepMove}
 use Rattle.ga_dap_queries.specs.Events.{thread_change_messages, thread_changes_below}
-use Rattle.ga_dap_queries.specs.Sending.{Message, Messages, Sends, SendsAll, refused_response}
+use Rattle.ga_dap_queries.specs.Sending.{Message, Messages, SendsMessage, SendsMessages, refused_response}
 use Rattle.ga_dap_queries.specs.declared.request_name.RequestName.{RequestName}
 use Rattle.ga_dap_queries.specs.declared.debuggee.Debuggee.{Debuggee}
 use Rattle.ga_dap_queries.proofs.Sent.{sent_one}
@@ -24,29 +24,29 @@ use Rattle.ga_dap_control.specs.declared.launched.LaunchedProgram.{LaunchedProgr
 use Rattle.ga_dap_control.specs.declared.moving.DapStepKind.{DapStepKind}
 use Rattle.ga_dap_control.specs.Breakpoints.{SetsLineBreakpointsIfOwnFile}
 use Rattle.ga_dap_control.specs.Moving.{BeginsStep, BeginsStepMove, BeginsStepUnlessStopped}
-use Rattle.ga_dap_control.specs.Requests.{SendsOneResponse, ChangesExecution, AnswersStep, ChangesConfiguration, AnswersAtOnce}
+use Rattle.ga_dap_control.specs.Requests.{SendsOneResponse, ChangesExecution, AnswersStep, ChangesConfiguration, AnswersImmediateRequest}
 
 pub only_answers : {T E : Type 0} → (Answers : Message → Type 0) (r : Result T E) (l new : LaunchedProgram) (old out : SentMessages)
-    → OnOk r ((message : Message) × Answers message × Sends old message out) → new ≡ l → OnOk r ((messages : Messages) × SendsOneResponse Answers l messages new × SendsAll old messages out)
+    → OnOk r ((message : Message) × Answers message × SendsMessage old message out) → new ≡ l → OnOk r ((messages : Messages) × SendsOneResponse Answers l messages new × SendsMessages old messages out)
 only_answers Answers (Ok x) l new old out p same = (p.0 ∷ [], (p.0, p.1, refl, same), sent_one old p.0 out p.2)
 only_answers Answers (Err e) l new old out p same = tt
 
 pub moves_so : {T E : Type 0} → (Begins : Messages → Execution → Type 0) (r : Result T E) (l new : LaunchedProgram) (execution : Execution) (old out : SentMessages)
-    → OnOk r ((messages : Messages) × Begins messages execution × SendsAll old messages out) → new ≡ record l { execution = execution }
-    → OnOk r ((messages : Messages) × ChangesExecution Begins l messages new × SendsAll old messages out)
+    → OnOk r ((messages : Messages) × Begins messages execution × SendsMessages old messages out) → new ≡ record l { execution = execution }
+    → OnOk r ((messages : Messages) × ChangesExecution Begins l messages new × SendsMessages old messages out)
 moves_so Begins (Ok x) l new execution old out p same = (p.0, (execution, p.1, same), p.2)
 moves_so Begins (Err e) l new execution old out p same = tt
 
 pub steps_so : {T E : Type 0} → (kind : DapStepKind) (r : Result T E) (l new : LaunchedProgram) (request : ClientRequest) (execution : Execution) (old out : SentMessages)
-    → OnOk r ((message : Message) × BeginsStep l.program kind l.execution request message execution × Sends old message out) → new ≡ record l { execution = execution }
-    → OnOk r ((messages : Messages) × AnswersStep kind l request messages new × SendsAll old messages out)
+    → OnOk r ((message : Message) × BeginsStep l.program kind l.execution request message execution × SendsMessage old message out) → new ≡ record l { execution = execution }
+    → OnOk r ((messages : Messages) × AnswersStep kind l request messages new × SendsMessages old messages out)
 steps_so kind (Ok x) l new request execution old out p same = (p.0 ∷ [], (p.0, execution, p.1, refl, same), sent_one old p.0 out p.2)
 steps_so kind (Err e) l new request execution old out p same = tt
 
 -- a request that is answered nowhere is refused, and what was launched stays
 pub unknown_refused : {T E : Type 0} → (r : Result T E) (l : LaunchedProgram) (request : ClientRequest) (old out : SentMessages)
-    → OnOk r (Sends old (refused_response request (codes "no such request")) out)
-    → OnOk r ((messages : Messages) × ((messages ≡ refused_response request (codes "no such request") ∷ []) × (l ≡ l)) × SendsAll old messages out)
+    → OnOk r (SendsMessage old (refused_response request (codes "no such request")) out)
+    → OnOk r ((messages : Messages) × ((messages ≡ refused_response request (codes "no such request") ∷ []) × (l ≡ l)) × SendsMessages old messages out)
 unknown_refused (Ok x) l request old out sent = (refused_response request (codes "no such request") ∷ [], (refl, refl), sent_one old (refused_response request (codes "no such request")) out sent)
 unknown_refused (Err e) l request old out sent = tt
 
@@ -55,15 +55,15 @@ abbrev set_anew : LaunchedProgram → Configuration → LaunchedProgram
 set_anew l settings = record l { settings = settings; execution = record l.execution { tally = None } }
 
 pub sets_so : (Becomes : Message → Configuration → Type 0) (l : LaunchedProgram) (settings : Configuration) (old out : SentMessages)
-    → ((message : Message) × Becomes message settings × Sends old message out)
-    → (messages : Messages) × ChangesConfiguration Becomes l messages (set_anew l settings) × SendsAll old messages out
+    → ((message : Message) × Becomes message settings × SendsMessage old message out)
+    → (messages : Messages) × ChangesConfiguration Becomes l messages (set_anew l settings) × SendsMessages old messages out
 sets_so Becomes l settings old out p = (p.0 ∷ [], (p.0, settings, p.1, refl, refl), sent_one old p.0 out p.2)
 
 pub with_command : {T E : Type 0} → (r : Result T E) (a b : RequestName) (l : LaunchedProgram) (request : ClientRequest) (new : LaunchedProgram) (old out : SentMessages) → b ≡ a
-    → OnOk r ((messages : Messages) × AnswersAtOnce a l request messages new × SendsAll old messages out)
-    → OnOk r ((messages : Messages) × AnswersAtOnce b l request messages new × SendsAll old messages out)
+    → OnOk r ((messages : Messages) × AnswersImmediateRequest a l request messages new × SendsMessages old messages out)
+    → OnOk r ((messages : Messages) × AnswersImmediateRequest b l request messages new × SendsMessages old messages out)
 with_command r a b l request new old out e p =
-    subst (λ (z : RequestName). OnOk r ((messages : Messages) × AnswersAtOnce z l request messages new × SendsAll old messages out)) (sym e) p
+    subst (λ (z : RequestName). OnOk r ((messages : Messages) × AnswersImmediateRequest z l request messages new × SendsMessages old messages out)) (sym e) p
 
 pub begins_unless : (b can : Bool) (kind : DapStepKind) (r : Execution) (request : ClientRequest) (stepping : Option StepMove) (message : Message) (new : Execution) → can ≡ b
     → can ≡ true → BeginsStepMove r request stepping message new → BeginsStepUnlessStopped b kind r request stepping message new

@@ -44,8 +44,8 @@ program_after_reverse p node points = record p { lab = state_after_reverse p.lab
 -- removed
 
 -- how many steps of each node were kept
-abbrev pub AreStepCounts : State → List ℕ → Type 0
-AreStepCounts s steps = (n : ℕ) → n < 144 → slice_index_or steps n 0 ≡ count_steps n s.kept
+abbrev pub AreKeptStepCounts : State → List ℕ → Type 0
+AreKeptStepCounts s steps = (n : ℕ) → n < 144 → slice_index_or steps n 0 ≡ count_steps n s.kept
 
 abbrev pub removed_steps_line : ℕ → ℕ → ℕ → Text
 removed_steps_line n first before = codes "  with it " ++ decimal3_of (yxx_of n) ++ codes " " ++ decimal first ++ codes " to " ++ decimal before ++ codes "\n"
@@ -72,5 +72,5 @@ rollback_summary_text node before removed s = rollback_head_text node removed s 
 
 -- what went where a node was gone back: between these two machines
 pub record IsRollbackSummary (old new : State) (before : List ℕ) (removed : ℕ) : Type 0 where
-  pub steps : AreStepCounts old before
+  pub steps : AreKeptStepCounts old before
   pub count : removed ≡ length old.kept - length new.kept

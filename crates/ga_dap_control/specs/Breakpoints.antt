@@ -6,7 +6,7 @@ use Rattle.serde_json.specs.Data.{Data, boolean, string, object, array, no_membe
 use Rattle.serde_json.specs.View.{view, items_of}
 use Rattle.serde_json.specs.Find.{get, as_str}
 use Rattle.ga_text.specs.Lines.{Text}
-use Rattle.ga_dap_views.specs.Json.{object_of}
+use Rattle.ga_dap_views.specs.Json.{json_object_of_member}
 use Rattle.ga_dap_breakpoints.specs.declared.breakpoint.Breakpoint.{Breakpoint}
 use Rattle.ga_dap_protocol.specs.Messages.{member_text}
 use Rattle.ga_dap_protocol.specs.declared.request.ClientRequest.{ClientRequest}
@@ -15,7 +15,7 @@ use Rattle.ga_dap_control.specs.declared.configuration.Configuration.{Configurat
 use Rattle.ga_dap_control.specs.declared.configuration.BreakpointKind.{BreakpointKind}
 use Rattle.ga_dap_control.specs.declared.configuration.BreakpointKind.TheVariants as family
 use Rattle.ga_dap_control.specs.declared.configuration.PlacedBreakpoint.{PlacedBreakpoint}
-use Rattle.ga_dap_control.specs.Placing.{Placement, PlacesBreakpoints}
+use Rattle.ga_dap_control.specs.Placing.{BreakpointPlacement, PlacesBreakpoints}
 use Rattle.ga_dap_queries.specs.Arguments.{member_values}
 use Rattle.ga_dap_queries.specs.Sending.{Message, success_response, bare_success_response, refused_response}
 
@@ -32,35 +32,35 @@ abbrev pub is_other_breakpoint_kind : BreakpointKind → PlacedBreakpoint → Bo
 is_other_breakpoint_kind kind one = not (breakpoint_kind_number one.family == breakpoint_kind_number kind)
 
 -- the breakpoints that other requests set remain, and the requested ones follow them
-abbrev pub without_breakpoint_kind : BreakpointKind → Configuration → Placement
+abbrev pub without_breakpoint_kind : BreakpointKind → Configuration → BreakpointPlacement
 without_breakpoint_kind kind set = record { told = []; placed = filter (is_other_breakpoint_kind kind) set.points.placed.items; next = set.points.next_id }
 
 -- these breakpoints are set now, and what else the client set stays
-pub record AreBreakpointsSet (placement : Placement) (set new : Configuration) : Type 0 where
+pub record AreBreakpointsSet (placement : BreakpointPlacement) (set new : Configuration) : Type 0 where
   pub placed : new.points.placed.items ≡ placement.placed
   pub points : new.points.points.items ≡ map (λ (one : PlacedBreakpoint). one.breakpoint) placement.placed
   pub next : new.points.next_id ≡ placement.next
   pub others : new ≡ record set { points = new.points }
 
 abbrev pub breakpoints_body : List Data → Data
-breakpoints_body told = object_of (codes "breakpoints") (array (items_of told))
+breakpoints_body told = json_object_of_member (codes "breakpoints") (array (items_of told))
 
 abbrev pub ReplacesBreakpoints : Debuggee → BreakpointKind → Configuration → ClientRequest → Message → Configuration → Type 0
 ReplacesBreakpoints p kind set request message new =
-    (placement : Placement) × PlacesBreakpoints p kind (member_values (codes "breakpoints") (view request.arguments)) (without_breakpoint_kind kind set) placement
+    (placement : BreakpointPlacement) × PlacesBreakpoints p kind (member_values (codes "breakpoints") (view request.arguments)) (without_breakpoint_kind kind set) placement
     × (message ≡ success_response request (breakpoints_body placement.told)) × AreBreakpointsSet placement set new
 
 -- `setBreakpoints`, for the program's own file; in another no breakpoint can stand
-abbrev pub equals_text : Text → Option Text → Bool
-equals_text name None = false
-equals_text name (Some text) = bytes_eq text name
+abbrev pub equals_optional_text : Text → Option Text → Bool
+equals_optional_text name None = false
+equals_optional_text name (Some text) = bytes_eq text name
 
-abbrev pub is_own_path : Text → Option Data → Bool
-is_own_path path None = false
-is_own_path path (Some source) = equals_text path (member_text (codes "path") source)
+abbrev pub is_program_path : Text → Option Data → Bool
+is_program_path path None = false
+is_program_path path (Some source) = equals_optional_text path (member_text (codes "path") source)
 
-abbrev pub is_own_file : Debuggee → Data → Bool
-is_own_file p d = is_own_path (string_bytes p.path) (get (codes "source") d)
+abbrev pub is_program_file : Debuggee → Data → Bool
+is_program_file p d = is_program_path (string_bytes p.path) (get (codes "source") d)
 
 unfoldable pub other_file_object : Data
 other_file_object = object (member (codes "message") (string (codes "the program is another file")) (member (codes "verified") (boolean false) no_members))
@@ -71,16 +71,16 @@ SetsLineBreakpointsIfOwnFile false p set request message new =
     (message ≡ success_response request (breakpoints_body (replicate (length (member_values (codes "breakpoints") (view request.arguments))) other_file_object))) × (new ≡ set)
 
 abbrev pub SetsLineBreakpoints : Debuggee → Configuration → ClientRequest → Message → Configuration → Type 0
-SetsLineBreakpoints p set request message new = SetsLineBreakpointsIfOwnFile (is_own_file p (view request.arguments)) p set request message new
+SetsLineBreakpoints p set request message new = SetsLineBreakpointsIfOwnFile (is_program_file p (view request.arguments)) p set request message new
 
 -- ---- filters
 
 abbrev pub is_text_value : Text → Data → Bool
-is_text_value name d = equals_text name (as_str d)
+is_text_value name d = equals_optional_text name (as_str d)
 
 -- a filter: a node that stops, or that can never go on, ends a run
-abbrev pub is_filter : Data → Bool
-is_filter d = is_text_value (codes "stop") d || is_text_value (codes "stuck") d
+abbrev pub is_exception_filter_name : Data → Bool
+is_exception_filter_name d = is_text_value (codes "stop") d || is_text_value (codes "stuck") d
 
 -- the requested filters are set, if each is one
 abbrev pub SetsFiltersIfKnown : Bool → List Data → Configuration → ClientRequest → Message → Configuration → Type 0
@@ -91,4 +91,4 @@ SetsFiltersIfKnown false names set request message new =
 
 abbrev pub SetsExceptionFilters : Configuration → ClientRequest → Message → Configuration → Type 0
 SetsExceptionFilters set request message new =
-    let names = member_values (codes "filters") (view request.arguments) in SetsFiltersIfKnown (list_all is_filter names) names set request message new
+    let names = member_values (codes "filters") (view request.arguments) in SetsFiltersIfKnown (list_all is_exception_filter_name names) names set request message new

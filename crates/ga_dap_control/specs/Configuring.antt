@@ -5,7 +5,7 @@ use Rattle.ga_dap_views.specs.Threads.{has_thread}
 use Rattle.ga_dap_protocol.specs.declared.request.ClientRequest.{ClientRequest}
 use Rattle.ga_dap_queries.specs.declared.debuggee.Debuggee.{Debuggee}
 use Rattle.ga_dap_control.specs.declared.execution.Execution.{Execution}
-use Rattle.ga_dap_control.specs.declared.execution.Goal.TheVariants.{Continue}
+use Rattle.ga_dap_control.specs.declared.execution.RunGoal.TheVariants.{Continue}
 use Rattle.ga_dap_queries.specs.Events.{thread_changes_below, IsFirstThreadNode}
 use Rattle.ga_dap_control.specs.Stopping.{stopped_message}
 use Rattle.ga_dap_queries.specs.Sending.{Messages, bare_success_response, refused_response}

@@ -12,8 +12,8 @@ use Rattle.ga_dap_breakpoints.specs.Stepping.{step_in, step_over, step_out}
 use Rattle.ga_dap_protocol.specs.declared.request.ClientRequest.{ClientRequest}
 use Rattle.ga_dap_queries.specs.declared.debuggee.Debuggee.{Debuggee}
 use Rattle.ga_dap_control.specs.declared.execution.Execution.{Execution}
-use Rattle.ga_dap_control.specs.declared.execution.Goal.{Goal}
-use Rattle.ga_dap_control.specs.declared.execution.Goal.TheVariants.{Continue, Step}
+use Rattle.ga_dap_control.specs.declared.execution.RunGoal.{RunGoal}
+use Rattle.ga_dap_control.specs.declared.execution.RunGoal.TheVariants.{Continue, Step}
 use Rattle.ga_dap_control.specs.declared.moving.DapStepKind.{DapStepKind}
 use Rattle.ga_dap_control.specs.declared.moving.DapStepKind.TheVariants.{Over, In, Out}
 use Rattle.ga_dap_queries.specs.Arguments.{IsThreadArgument}
@@ -23,7 +23,7 @@ use Rattle.ga_dap_control.specs.Stopping.{stopped_message}
 use Rattle.ga_dap_queries.specs.Sending.{Message, Messages, success_response, bare_success_response, refused_response}
 
 -- a run for this goal is in progress, which first counts the hits in the history; or none is, and the chip is stopped
-abbrev pub execution_with_goal : Execution → Goal → Execution
+abbrev pub execution_with_goal : Execution → RunGoal → Execution
 execution_with_goal r goal = record r { goal = Some goal; tally = None }
 
 abbrev pub execution_without_goal : Execution → Execution
@@ -46,26 +46,26 @@ abbrev pub BeginsStepMove : Execution → ClientRequest → Option StepMove → 
 BeginsStepMove r request None message new = (message ≡ refused_response request (codes "stepOut: the node is in no call that is kept")) × (new ≡ r)
 BeginsStepMove r request (Some stepping) message new = (message ≡ bare_success_response request) × (new ≡ execution_with_goal r (Step stepping))
 
-abbrev pub no_thread_words : DapStepKind → Text
-no_thread_words Over = codes "next: no such thread"
-no_thread_words In = codes "stepIn: no such thread"
-no_thread_words Out = codes "stepOut: no such thread"
+abbrev pub no_such_thread_text : DapStepKind → Text
+no_such_thread_text Over = codes "next: no such thread"
+no_such_thread_text In = codes "stepIn: no such thread"
+no_such_thread_text Out = codes "stepOut: no such thread"
 
-abbrev pub node_stopped_words : DapStepKind → Text
-node_stopped_words Over = codes "next: the node is stopped"
-node_stopped_words In = codes "stepIn: the node is stopped"
-node_stopped_words Out = codes "stepOut: the node is stopped"
+abbrev pub node_stopped_text : DapStepKind → Text
+node_stopped_text Over = codes "next: the node is stopped"
+node_stopped_text In = codes "stepIn: the node is stopped"
+node_stopped_text Out = codes "stepOut: the node is stopped"
 
 abbrev pub BeginsStepUnlessStopped : Bool → DapStepKind → Execution → ClientRequest → Option StepMove → Message → Execution → Type 0
 BeginsStepUnlessStopped true kind r request stepping message new = BeginsStepMove r request stepping message new
-BeginsStepUnlessStopped false kind r request stepping message new = (message ≡ refused_response request (node_stopped_words kind)) × (new ≡ r)
+BeginsStepUnlessStopped false kind r request stepping message new = (message ≡ refused_response request (node_stopped_text kind)) × (new ≡ r)
 
 abbrev pub BeginsStepOfNode : Debuggee → DapStepKind → Execution → ClientRequest → NodeId → Message → Execution → Type 0
 BeginsStepOfNode p kind r request node message new =
     BeginsStepUnlessStopped ((record_at (chip_of p.lab) node.number).stop == 0) kind r request (requested_step_move p kind node (view request.arguments)) message new
 
 abbrev pub BeginsStepOfThread : Debuggee → DapStepKind → Execution → ClientRequest → Option NodeId → Message → Execution → Type 0
-BeginsStepOfThread p kind r request None message new = (message ≡ refused_response request (no_thread_words kind)) × (new ≡ r)
+BeginsStepOfThread p kind r request None message new = (message ≡ refused_response request (no_such_thread_text kind)) × (new ≡ r)
 BeginsStepOfThread p kind r request (Some node) message new = BeginsStepOfNode p kind r request node message new
 
 -- `next`, `stepIn` and `stepOut`
@@ -79,7 +79,7 @@ ArePauseMessages p request messages = (first : NodeId) × (asked : Option NodeId
     × IsThreadArgument (view request.arguments) asked
     × (messages ≡ bare_success_response request ∷ stopped_message (codes "pause") (codes "pause") (unwrap_or asked first).number ∷ [])
 
-abbrev pub PausesIfRunning : Debuggee → ClientRequest → Option Goal → Messages → Type 0
+abbrev pub PausesIfRunning : Debuggee → ClientRequest → Option RunGoal → Messages → Type 0
 PausesIfRunning p request None messages = messages ≡ bare_success_response request ∷ []
 PausesIfRunning p request (Some goal) messages = ArePauseMessages p request messages
 

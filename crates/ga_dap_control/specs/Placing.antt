@@ -9,20 +9,20 @@ use Rattle.ga_grid.specs.declared.node_id.NodeId.{NodeId}
 use Rattle.ga_debug_info.specs.declared.notes.LabelAddress.{LabelAddress}
 use Rattle.ga_debug_info.specs.declared.notes.DebugInfo.{DebugInfo}
 use Rattle.ga_debug_info.specs.Notes.{label_address_of}
-use Rattle.ga_dap_views.specs.Json.{whole_number}
+use Rattle.ga_dap_views.specs.Json.{json_whole_number}
 use Rattle.ga_dap_breakpoints.specs.declared.back.Watched.TheVariants.{Writes}
 use Rattle.ga_dap_breakpoints.specs.declared.breakpoint.Breakpoint.{Breakpoint}
 use Rattle.ga_dap_breakpoints.specs.declared.breakpoint.LineBreakpoint.{LineBreakpoint}
-use Rattle.ga_scheduler.specs.Values.{is_possible}
+use Rattle.ga_scheduler.specs.Values.{can_be_passed}
 use Rattle.ga_scheduler.specs.declared.value_test.ValueTest.{ValueTest}
-use Rattle.ga_conditions.specs.Tests.{test_in}
+use Rattle.ga_conditions.specs.Tests.{parsed_value_test}
 use Rattle.serde_json.specs.Find.{get, as_str, as_null}
 use Rattle.ga_dap_breakpoints.specs.declared.condition.HitCondition.{HitCondition}
 use Rattle.ga_dap_breakpoints.specs.Saying.{parse_hit_condition}
 use Rattle.ga_dap_breakpoints.specs.Breakpoints.{breakpoint_of_line, breakpoint_of_address}
 use Rattle.ga_dap_protocol.specs.Messages.{member_text, member_number}
 use Rattle.ga_dap_queries.specs.declared.debuggee.Debuggee.{Debuggee}
-use Rattle.ga_dap_queries.specs.Disassembling.{IsMemoryReference, offset_given, wrapped_address_offset, program_debug_info}
+use Rattle.ga_dap_queries.specs.Disassembling.{IsMemoryReference, signed_member_or_zero, wrapped_address_offset, program_debug_info}
 use Rattle.ga_dap_control.specs.declared.configuration.BreakpointKind.{BreakpointKind}
 use Rattle.ga_dap_control.specs.declared.configuration.BreakpointKind.TheVariants as family
 use Rattle.ga_dap_control.specs.declared.configuration.PlacedBreakpoint.{PlacedBreakpoint}
@@ -91,7 +91,7 @@ IsBreakpointLocation p family.Source d found = found ≡ source_breakpoint_locat
 IsBreakpointLocation p family.Function d found =
     found ≡ option_map location_without_line (option_and_then (function_breakpoint (program_debug_info p).names.items) (member_text (codes "name") d))
 IsBreakpointLocation p family.Instruction d found =
-    (point : Option Breakpoint) × IsBreakpointOfReference (instruction_breakpoint_at (wrapped_address_offset (offset_given (codes "offset") d))) (member_text (codes "instructionReference") d) point
+    (point : Option Breakpoint) × IsBreakpointOfReference (instruction_breakpoint_at (wrapped_address_offset (signed_member_or_zero (codes "offset") d))) (member_text (codes "instructionReference") d) point
     × (found ≡ option_map location_without_line point)
 IsBreakpointLocation p family.Data d found =
     (point : Option Breakpoint) × IsBreakpointOfReference data_breakpoint_at (member_text (codes "dataId") d) point × (found ≡ option_map location_without_line point)
@@ -109,13 +109,13 @@ is_member_not_text name d = is_neither_text_nor_null (get name d)
 abbrev pub with_parsed_condition : BreakpointLocation → Option ValueTest → Result BreakpointLocation PlacementError
 with_parsed_condition place None = Err Condition
 with_parsed_condition place (Some test) =
-    if is_possible test then Ok (record place { breakpoint = record place.breakpoint { condition = Some test } }) else Err Range
+    if can_be_passed test then Ok (record place { breakpoint = record place.breakpoint { condition = Some test } }) else Err Range
 
 -- the condition may name a label of the breakpoint's node
 abbrev pub with_condition : List LabelAddress → BreakpointLocation → Bool → Option Text → Result BreakpointLocation PlacementError
 with_condition names place true text = Err Condition
 with_condition names place false None = Ok place
-with_condition names place false (Some text) = with_parsed_condition place (test_in names place.breakpoint.node text)
+with_condition names place false (Some text) = with_parsed_condition place (parsed_value_test names place.breakpoint.node text)
 
 -- hits are counted of the first 64 breakpoints
 abbrev pub with_parsed_hit_condition : BreakpointLocation → ℕ → Option HitCondition → Result BreakpointLocation PlacementError
@@ -155,31 +155,31 @@ placement_error_text kind Range = codes "condition: the number is past 0x3ffff, 
 placement_error_text kind Hits = codes "hitCondition: N, >= N or % N, from 1 on"
 placement_error_text kind Uncounted = codes "hitCondition: hits are counted of 64 breakpoints at most"
 
-unfoldable pub unverified_object : ℕ → Text → Data
-unverified_object id why =
-    object (member (codes "id") (whole_number id) (member (codes "message") (string why) (member (codes "verified") (boolean false) no_members)))
+unfoldable pub unverified_breakpoint_object : ℕ → Text → Data
+unverified_breakpoint_object id why =
+    object (member (codes "id") (json_whole_number id) (member (codes "message") (string why) (member (codes "verified") (boolean false) no_members)))
 
-unfoldable pub verified_object : ℕ → Data
-verified_object id = object (member (codes "id") (whole_number id) (member (codes "verified") (boolean true) no_members))
+unfoldable pub verified_breakpoint_object : ℕ → Data
+verified_breakpoint_object id = object (member (codes "id") (json_whole_number id) (member (codes "verified") (boolean true) no_members))
 
-unfoldable pub verified_line_object : Text → Text → ℕ → ℕ → Data
-verified_line_object name path id line =
-    object (member (codes "id") (whole_number id) (member (codes "line") (whole_number line)
+unfoldable pub verified_line_breakpoint_object : Text → Text → ℕ → ℕ → Data
+verified_line_breakpoint_object name path id line =
+    object (member (codes "id") (json_whole_number id) (member (codes "line") (json_whole_number line)
     (member (codes "source") (object (member (codes "name") (string name) (member (codes "path") (string path) no_members)))
     (member (codes "verified") (boolean true) no_members))))
 
 abbrev pub verified_breakpoint : Debuggee → ℕ → Option ℕ → Data
-verified_breakpoint p id None = verified_object id
-verified_breakpoint p id (Some line) = verified_line_object (string_bytes p.name) (string_bytes p.path) id line
+verified_breakpoint p id None = verified_breakpoint_object id
+verified_breakpoint p id (Some line) = verified_line_breakpoint_object (string_bytes p.name) (string_bytes p.path) id line
 
 abbrev pub breakpoint_object : Debuggee → BreakpointKind → ℕ → Result BreakpointLocation PlacementError → Data
-breakpoint_object p kind id (Err why) = unverified_object id (placement_error_text kind why)
+breakpoint_object p kind id (Err why) = unverified_breakpoint_object id (placement_error_text kind why)
 breakpoint_object p kind id (Ok found) = verified_breakpoint p id found.line
 
 -- ---- those of a request, one after another: what was sent for them, the breakpoints that are set, and the number of the next
 -- one
 
-pub record Placement : Type 0 where
+pub record BreakpointPlacement : Type 0 where
   pub told : List Data
   pub placed : List PlacedBreakpoint
   pub next : ℕ
@@ -188,13 +188,13 @@ abbrev pub placed_breakpoints : BreakpointKind → ℕ → Result BreakpointLoca
 placed_breakpoints kind id (Err why) = []
 placed_breakpoints kind id (Ok found) = record { breakpoint = found.breakpoint; family = kind; id = id } ∷ []
 
-abbrev pub next_placement : Debuggee → BreakpointKind → Result BreakpointLocation PlacementError → Placement → Placement
+abbrev pub next_placement : Debuggee → BreakpointKind → Result BreakpointLocation PlacementError → BreakpointPlacement → BreakpointPlacement
 next_placement p kind found old =
     record { told = old.told ++ breakpoint_object p kind old.next found ∷ []; placed = old.placed ++ placed_breakpoints kind old.next found; next = (old.next + 1) % 2 ^ 64 }
 
-abbrev pub PlacesBreakpoint : Debuggee → BreakpointKind → Data → Placement → Placement → Type 0
+abbrev pub PlacesBreakpoint : Debuggee → BreakpointKind → Data → BreakpointPlacement → BreakpointPlacement → Type 0
 PlacesBreakpoint p kind d old new = (found : Option BreakpointLocation) × IsBreakpointLocation p kind d found × (new ≡ next_placement p kind (requested_breakpoint (program_debug_info p).names.items found (length old.placed) d) old)
 
-abbrev pub PlacesBreakpoints : Debuggee → BreakpointKind → List Data → Placement → Placement → Type 0
+abbrev pub PlacesBreakpoints : Debuggee → BreakpointKind → List Data → BreakpointPlacement → BreakpointPlacement → Type 0
 PlacesBreakpoints p kind [] old new = new ≡ old
-PlacesBreakpoints p kind (d ∷ rest) old new = (between : Placement) × PlacesBreakpoint p kind d old between × PlacesBreakpoints p kind rest between new
+PlacesBreakpoints p kind (d ∷ rest) old new = (between : BreakpointPlacement) × PlacesBreakpoint p kind d old between × PlacesBreakpoints p kind rest between new

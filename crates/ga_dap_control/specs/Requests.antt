@@ -35,23 +35,23 @@ abbrev pub ChangesConfiguration : (Message → Configuration → Type 0) → Lau
 ChangesConfiguration Becomes l messages new = (message : Message) × (settings : Configuration) × Becomes message settings × (messages ≡ message ∷ [])
     × (new ≡ record l { settings = settings; execution = record l.execution { tally = None } })
 
-abbrev pub AnswersAtOnce : RequestName → LaunchedProgram → ClientRequest → Messages → LaunchedProgram → Type 0
-AnswersAtOnce the.Threads l request messages new = SendsOneResponse (AnswersThreads l.program request) l messages new
-AnswersAtOnce the.StackTrace l request messages new = SendsOneResponse (AnswersStackTrace l.program request) l messages new
-AnswersAtOnce the.Scopes l request messages new = SendsOneResponse (AnswersScopes request) l messages new
-AnswersAtOnce the.Variables l request messages new = SendsOneResponse (AnswersVariables l.program request) l messages new
-AnswersAtOnce the.ExceptionInfo l request messages new = SendsOneResponse (AnswersExceptionInfo l.program request) l messages new
-AnswersAtOnce the.ConfigurationDone l request messages new = ChangesExecution (AnswersConfigurationDone l.program l.execution request) l messages new
-AnswersAtOnce the.Continue l request messages new = ChangesExecution (AnswersContinue l.execution request) l messages new
-AnswersAtOnce the.Pause l request messages new = ChangesExecution (AnswersPause l.program l.execution request) l messages new
-AnswersAtOnce the.Next l request messages new = AnswersStep Over l request messages new
-AnswersAtOnce the.StepIn l request messages new = AnswersStep In l request messages new
-AnswersAtOnce the.StepOut l request messages new = AnswersStep Out l request messages new
-AnswersAtOnce the.SetBreakpoints l request messages new = ChangesConfiguration (SetsLineBreakpoints l.program l.settings request) l messages new
-AnswersAtOnce the.SetFunctionBreakpoints l request messages new = ChangesConfiguration (ReplacesBreakpoints l.program family.Function l.settings request) l messages new
-AnswersAtOnce the.SetInstructionBreakpoints l request messages new = ChangesConfiguration (ReplacesBreakpoints l.program family.Instruction l.settings request) l messages new
-AnswersAtOnce the.SetDataBreakpoints l request messages new = ChangesConfiguration (ReplacesBreakpoints l.program family.Data l.settings request) l messages new
-AnswersAtOnce the.DataBreakpointInfo l request messages new = SendsOneResponse (AnswersDataBreakpointInfo request) l messages new
-AnswersAtOnce the.SetExceptionBreakpoints l request messages new = ChangesConfiguration (SetsExceptionFilters l.settings request) l messages new
-AnswersAtOnce the.Disassemble l request messages new = SendsOneResponse (AnswersDisassemble l.program request) l messages new
-AnswersAtOnce other l request messages new = (messages ≡ refused_response request (codes "no such request") ∷ []) × (new ≡ l)
+abbrev pub AnswersImmediateRequest : RequestName → LaunchedProgram → ClientRequest → Messages → LaunchedProgram → Type 0
+AnswersImmediateRequest the.Threads l request messages new = SendsOneResponse (AnswersThreads l.program request) l messages new
+AnswersImmediateRequest the.StackTrace l request messages new = SendsOneResponse (AnswersStackTrace l.program request) l messages new
+AnswersImmediateRequest the.Scopes l request messages new = SendsOneResponse (AnswersScopes request) l messages new
+AnswersImmediateRequest the.Variables l request messages new = SendsOneResponse (AnswersVariables l.program request) l messages new
+AnswersImmediateRequest the.ExceptionInfo l request messages new = SendsOneResponse (AnswersExceptionInfo l.program request) l messages new
+AnswersImmediateRequest the.ConfigurationDone l request messages new = ChangesExecution (AnswersConfigurationDone l.program l.execution request) l messages new
+AnswersImmediateRequest the.Continue l request messages new = ChangesExecution (AnswersContinue l.execution request) l messages new
+AnswersImmediateRequest the.Pause l request messages new = ChangesExecution (AnswersPause l.program l.execution request) l messages new
+AnswersImmediateRequest the.Next l request messages new = AnswersStep Over l request messages new
+AnswersImmediateRequest the.StepIn l request messages new = AnswersStep In l request messages new
+AnswersImmediateRequest the.StepOut l request messages new = AnswersStep Out l request messages new
+AnswersImmediateRequest the.SetBreakpoints l request messages new = ChangesConfiguration (SetsLineBreakpoints l.program l.settings request) l messages new
+AnswersImmediateRequest the.SetFunctionBreakpoints l request messages new = ChangesConfiguration (ReplacesBreakpoints l.program family.Function l.settings request) l messages new
+AnswersImmediateRequest the.SetInstructionBreakpoints l request messages new = ChangesConfiguration (ReplacesBreakpoints l.program family.Instruction l.settings request) l messages new
+AnswersImmediateRequest the.SetDataBreakpoints l request messages new = ChangesConfiguration (ReplacesBreakpoints l.program family.Data l.settings request) l messages new
+AnswersImmediateRequest the.DataBreakpointInfo l request messages new = SendsOneResponse (AnswersDataBreakpointInfo request) l messages new
+AnswersImmediateRequest the.SetExceptionBreakpoints l request messages new = ChangesConfiguration (SetsExceptionFilters l.settings request) l messages new
+AnswersImmediateRequest the.Disassemble l request messages new = SendsOneResponse (AnswersDisassemble l.program request) l messages new
+AnswersImmediateRequest other l request messages new = (messages ≡ refused_response request (codes "no such request") ∷ []) × (new ≡ l)

@@ -24,10 +24,10 @@ use Rattle.ga_dap_breakpoints.specs.declared.stepping.StepMove.{StepMove}
 use Rattle.ga_dap_breakpoints.specs.Going.{IsMoveResult, tally_after_events, continue_plan, step_plan}
 use Rattle.ga_dap_breakpoints.specs.Stepping.{move_after_events}
 use Rattle.ga_dap_breakpoints.specs.declared.hits.HitTally.{HitTally}
-use Rattle.ga_dap_breakpoints.specs.Reversing.{kept_tally}
+use Rattle.ga_dap_breakpoints.specs.Reversing.{kept_hit_tally}
 use Rattle.ga_dap_control.specs.declared.execution.Execution.{Execution}
-use Rattle.ga_dap_control.specs.declared.execution.Goal.{Goal}
-use Rattle.ga_dap_control.specs.declared.execution.Goal.TheVariants.{Continue, Step}
+use Rattle.ga_dap_control.specs.declared.execution.RunGoal.{RunGoal}
+use Rattle.ga_dap_control.specs.declared.execution.RunGoal.TheVariants.{Continue, Step}
 use Rattle.ga_dap_control.specs.declared.stop_reason.StopReason.{StopReason}
 use Rattle.ga_dap_control.specs.declared.stop_reason.StopReason.TheVariants as stop
 use Rattle.ga_dap_queries.specs.declared.debuggee.Debuggee.{Debuggee}
@@ -42,7 +42,7 @@ slice_limit = 4096
 
 -- how often each breakpoint was hit before a slice: as the slice before left it, or as the kept events say
 abbrev pub tally_before_slice : State → Configuration → Option HitTally → HitTally
-tally_before_slice s set None = kept_tally s set.points.points.items
+tally_before_slice s set None = kept_hit_tally s set.points.points.items
 tally_before_slice s set (Some tally) = tally
 
 -- a slice of the events of `continue`
@@ -62,7 +62,7 @@ StepsForSlice by p set r new next went =
     × (new ≡ record p { lab = new.lab })
     × (next ≡ record r { schedule = went.schedule; tally = Some went.tally; goal = Some (Step (move_after_events by (running p.lab r.schedule) went.events)) })
 
-abbrev pub AdvancesByGoal : Goal → Debuggee → Configuration → Execution → Debuggee → Execution → MoveResult → Type 0
+abbrev pub AdvancesByGoal : RunGoal → Debuggee → Configuration → Execution → Debuggee → Execution → MoveResult → Type 0
 AdvancesByGoal Continue p set r new next went = ContinuesForSlice p set r new next went
 AdvancesByGoal (Step by) p set r new next went = StepsForSlice by p set r new next went
 
@@ -86,19 +86,19 @@ abbrev pub stop_reason_at_place : Configuration → Made → ℕ → StopReason
 stop_reason_at_place set told place = breakpoint_stop_reason (slice_get set.points.points.items place) told
 
 -- why a run ends where its move came to its end
-abbrev pub end_of_move : Goal → Made → StopReason
-end_of_move Continue told = stop.Step (event_node told)
-end_of_move (Step by) told = stop.Step by.node
+abbrev pub stop_reason_of_move_end : RunGoal → Made → StopReason
+stop_reason_of_move_end Continue told = stop.Step (event_node told)
+stop_reason_of_move_end (Step by) told = stop.Step by.node
 
 -- why a run ends: a node came to be stuck by its events, where the filter says so; else another reason
 abbrev pub deadlock_stop_reason : Bool → Option NodeId → Option StopReason → Option StopReason
 deadlock_stop_reason true (Some node) other = Some (stop.Stuck node)
 deadlock_stop_reason asked stuck other = other
 
-abbrev pub slice_stop_reason : Configuration → Goal → Option NodeId → HaltReason → Option StopReason
+abbrev pub slice_stop_reason : Configuration → RunGoal → Option NodeId → HaltReason → Option StopReason
 slice_stop_reason set goal stuck (halt.Hit told which) = Some (stop_reason_at_place set told which)
 slice_stop_reason set goal stuck (halt.Stopped told) = Some (stop.Stopped (event_node told))
-slice_stop_reason set goal stuck (halt.Moved told) = deadlock_stop_reason set.stuck stuck (Some (end_of_move goal told))
+slice_stop_reason set goal stuck (halt.Moved told) = deadlock_stop_reason set.stuck stuck (Some (stop_reason_of_move_end goal told))
 slice_stop_reason set goal stuck (halt.Refused why) = Some (stop.Refused why)
 slice_stop_reason set goal stuck halt.Cut = deadlock_stop_reason set.stuck stuck None
 slice_stop_reason set goal stuck halt.Quiet = deadlock_stop_reason set.stuck stuck (Some stop.Quiet)
@@ -122,20 +122,20 @@ IsFirstNewlyDeadlocked known now p None = (n : ℕ) → n < 144 → is_newly_dea
 IsFirstNewlyDeadlocked known now p (Some node) = (is_newly_deadlocked known now p node.number ≡ true) × ((n : ℕ) → n < node.number → is_newly_deadlocked known now p n ≡ false)
 
 -- a message is sent only if the filter is on
-abbrev pub filtered_deadlock : Bool → Option NodeId → Option NodeId
-filtered_deadlock true stuck = stuck
-filtered_deadlock false stuck = None
+abbrev pub deadlock_if_filter_is_set : Bool → Option NodeId → Option NodeId
+deadlock_if_filter_is_set true stuck = stuck
+deadlock_if_filter_is_set false stuck = None
 
 -- a run ended since a node is stuck
-abbrev pub is_stuck_stop : Option StopReason → Bool
-is_stuck_stop (Some (stop.Stuck node)) = true
-is_stuck_stop _ = false
+abbrev pub is_deadlock_stop : Option StopReason → Bool
+is_deadlock_stop (Some (stop.Stuck node)) = true
+is_deadlock_stop _ = false
 
 -- The deadlocked nodes that were reported to the client, after a slice, by those that were deadlocked before it and are after
 -- it: if one is reported, all are. A node that became deadlocked and wasn't reported, since the run ended for another reason,
 -- is not among them; nor is any if the filter is off.
 abbrev pub reported_deadlocks : Bool → Option StopReason → List Bool → List Bool → List Bool
-reported_deadlocks asked result before now = if asked then (if is_stuck_stop result then now else before) else replicate 144 false
+reported_deadlocks asked result before now = if asked then (if is_deadlock_stop result then now else before) else replicate 144 false
 
 -- ---- a slice
 
@@ -144,7 +144,7 @@ execution_after_stop r None = r
 execution_after_stop r (Some why) = record r { goal = None }
 
 -- the events of a slice, before which these nodes are stuck
-abbrev pub MakesSliceEvents : Goal → List Bool → Debuggee → Configuration → Execution → Debuggee → Execution → Option StopReason → Type 0
+abbrev pub MakesSliceEvents : RunGoal → List Bool → Debuggee → Configuration → Execution → Debuggee → Execution → Option StopReason → Type 0
 MakesSliceEvents goal before p set r new next result =
     (went : MoveResult) × (between : Execution) × (now : List Bool) × (stuck : Option NodeId) × AdvancesByGoal goal p set r new between went
     × IsGreatestDeadlock (chip_of new.lab) (is_marked now) × IsFirstNewlyDeadlocked (is_marked before) (is_marked now) new stuck
@@ -152,16 +152,16 @@ MakesSliceEvents goal before p set r new next result =
     × (next ≡ execution_after_stop (record between { reported = reported_deadlocks set.stuck result before now }) result)
 
 -- a slice that begins with an unreported deadlocked node makes no event: it reports the node
-abbrev pub MakesEventsUnlessDeadlocked : Option NodeId → Goal → List Bool → Debuggee → Configuration → Execution → Debuggee → Execution → Option StopReason → Type 0
+abbrev pub MakesEventsUnlessDeadlocked : Option NodeId → RunGoal → List Bool → Debuggee → Configuration → Execution → Debuggee → Execution → Option StopReason → Type 0
 MakesEventsUnlessDeadlocked (Some node) goal before p set r new next result =
     (new ≡ p) × (next ≡ record r { goal = None; reported = before }) × (result ≡ Some (stop.Stuck node))
 MakesEventsUnlessDeadlocked None goal before p set r new next result = MakesSliceEvents goal before p set r new next result
 
-abbrev pub MakesSliceOfGoal : Option Goal → Debuggee → Configuration → Execution → Debuggee → Execution → Option StopReason → Type 0
+abbrev pub MakesSliceOfGoal : Option RunGoal → Debuggee → Configuration → Execution → Debuggee → Execution → Option StopReason → Type 0
 MakesSliceOfGoal None p set r new next result = (new ≡ p) × (next ≡ r) × (result ≡ None)
 MakesSliceOfGoal (Some goal) p set r new next result =
     (before : List Bool) × (stuck : Option NodeId) × IsGreatestDeadlock (chip_of p.lab) (is_marked before)
-    × IsFirstNewlyDeadlocked (is_marked r.reported) (is_marked before) p stuck × MakesEventsUnlessDeadlocked (filtered_deadlock set.stuck stuck) goal before p set r new next result
+    × IsFirstNewlyDeadlocked (is_marked r.reported) (is_marked before) p stuck × MakesEventsUnlessDeadlocked (deadlock_if_filter_is_set set.stuck stuck) goal before p set r new next result
 
-abbrev pub MakesSlice : Debuggee → Configuration → Execution → Debuggee → Execution → Option StopReason → Type 0
-MakesSlice p set r new next result = MakesSliceOfGoal r.goal p set r new next result
+abbrev pub MakesEventSlice : Debuggee → Configuration → Execution → Debuggee → Execution → Option StopReason → Type 0
+MakesEventSlice p set r new next result = MakesSliceOfGoal r.goal p set r new next result

@@ -5,7 +5,7 @@ use Rattle.ga_event.specs.declared.made.Made.{Made}
 use Rattle.ga_lab.specs.Machine.{State, chip_of}
 use Rattle.ga_lab.specs.declared.fault.LabFault.{LabFault}
 use Rattle.ga_lab.specs.declared.fault.LabFault.TheVariants as fault
-use Rattle.ga_dap_views.specs.Activity.{named_activity}
+use Rattle.ga_dap_views.specs.Activity.{node_name_and_activity_text}
 use Rattle.ga_dap_breakpoints.specs.Reversing.{is_hit_by_newest_event}
 use Rattle.ga_dap_queries.specs.declared.debuggee.Debuggee.{Debuggee}
 use Rattle.ga_dap_control.specs.declared.configuration.Configuration.{Configuration}
@@ -28,25 +28,25 @@ lab_fault_text fault.NoStep = codes "there is no such step"
 abbrev pub stopped_message : Text → Text → ℕ → Message
 stopped_message reason description n = event_message (codes "stopped") (stopped_body reason description n)
 
-abbrev pub hit : Text → Text → ℕ → List ℕ → Message
-hit reason description n ids = event_message (codes "stopped") (breakpoint_stopped_body reason description n ids)
+abbrev pub breakpoint_hit_message : Text → Text → ℕ → List ℕ → Message
+breakpoint_hit_message reason description n ids = event_message (codes "stopped") (breakpoint_stopped_body reason description n ids)
 
 -- the numbers of the breakpoints that the made event hits, by their hit conditions
-unfoldable pub is_one_hit : Made → State → PlacedBreakpoint → Bool
-is_one_hit told s one = is_hit_by_newest_event told s one.breakpoint
+unfoldable pub is_placed_breakpoint_hit : Made → State → PlacedBreakpoint → Bool
+is_placed_breakpoint_hit told s one = is_hit_by_newest_event told s one.breakpoint
 
 abbrev pub hit_breakpoint_ids : Made → State → List PlacedBreakpoint → List ℕ
-hit_breakpoint_ids told s placed = map (λ (one : PlacedBreakpoint). one.id) (filter (is_one_hit told s) placed)
+hit_breakpoint_ids told s placed = map (λ (one : PlacedBreakpoint). one.id) (filter (is_placed_breakpoint_hit told s) placed)
 
 -- a node that can't go on, and why
 abbrev pub exception_stop_message : Debuggee → ℕ → Text → Message
-exception_stop_message p n behind = stopped_message (codes "exception") (codes "node " ++ named_activity (chip_of p.lab) n ++ behind) n
+exception_stop_message p n behind = stopped_message (codes "exception") (codes "node " ++ node_name_and_activity_text (chip_of p.lab) n ++ behind) n
 
 -- `stopped_message` if a run ended for this reason; if it ended at no node, the message names the first node that has something to show
 abbrev pub stop_message : Debuggee → List PlacedBreakpoint → ℕ → StopReason → Message
 stop_message p placed first (stop.Step node) = stopped_message (codes "step") (codes "step") node.number
-stop_message p placed first (stop.Breakpoint node told) = hit (codes "breakpoint") (codes "breakpoint") node.number (hit_breakpoint_ids told p.lab placed)
-stop_message p placed first (stop.Write node told) = hit (codes "data breakpoint") (codes "a watched cell was written") node.number (hit_breakpoint_ids told p.lab placed)
+stop_message p placed first (stop.Breakpoint node told) = breakpoint_hit_message (codes "breakpoint") (codes "breakpoint") node.number (hit_breakpoint_ids told p.lab placed)
+stop_message p placed first (stop.Write node told) = breakpoint_hit_message (codes "data breakpoint") (codes "a watched cell was written") node.number (hit_breakpoint_ids told p.lab placed)
 stop_message p placed first (stop.Stopped node) = exception_stop_message p node.number []
 stop_message p placed first (stop.Stuck node) = exception_stop_message p node.number (codes ", and can never go on")
 stop_message p placed first stop.Quiet = stopped_message (codes "pause") (codes "quiet: no node has an event") first

@@ -2,7 +2,7 @@
 use Rattle.std.specs.Prelude.{map}
 use Rattle.serde_json.specs.View.{view}
 use Rattle.ga_dap_control.specs.declared.placing.Placing.{Placing}
-use Rattle.ga_dap_control.specs.Placing.{Placement}
+use Rattle.ga_dap_control.specs.Placing.{BreakpointPlacement}
 
-abbrev pub placement_of : Placing → Placement
+abbrev pub placement_of : Placing → BreakpointPlacement
 placement_of p = record { told = map view p.told.items; placed = p.placed.items; next = p.next }

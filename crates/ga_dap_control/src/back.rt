@@ -3,11 +3,13 @@
 ghost use Rattle.std.specs.Prelude.{◌≡◌, ◌++◌, length, string_bytes, slice_index_or, IfOk, OnOk};
 ghost use Rattle.serde_json.specs.View.{view};
 ghost use Rattle.ga_event.specs.Told.{count_steps};
-ghost use Rattle.ga_dap_control.specs.Back.{requested_granularity, program_after_step_back, program_after_reverse, AreStepCounts, IsRollbackSummary, removed_steps_line, removed_steps_text, removed_steps_of_node, removed_steps_below, rollback_head_text, rollback_summary_text};
+ghost use Rattle.ga_dap_control.specs.Back.{requested_granularity, program_after_step_back, program_after_reverse, AreKeptStepCounts, IsRollbackSummary, removed_steps_line, removed_steps_text, removed_steps_of_node, removed_steps_below, rollback_head_text, rollback_summary_text};
 
 use crate::moving::requested_granularity;
-use ga_dap_breakpoints::{Breakpoint, Granularity, reverse_to, step_back, step_back_line};
-use ga_dap_queries::{Debuggee, add_name};
+use ga_dap_breakpoints::{
+    Breakpoint, Granularity, reverse_to_breakpoint, step_back, step_back_line,
+};
+use ga_dap_queries::{Debuggee, push_node_name};
 use ga_grid::NodeId;
 use ga_lab::Lab;
 use serde_json::Value;
@@ -23,7 +25,7 @@ pub struct RollbackSummary {
 
 /// How many steps of each node are kept.
 fn steps_kept(lab: &Lab) -> [u32; 144]
-    ensures steps { AreStepCounts lab.now result }
+    ensures steps { AreKeptStepCounts lab.now result }
     ensures size { length result ≡ 144 }
 {
     let mut steps = [0u32; 144];
@@ -90,7 +92,7 @@ pub fn reverse_continue_node(
 {
     let before = steps_kept(&program.lab);
     let kept = program.lab.counts().kept;
-    reverse_to(&mut program.lab, node, points);
+    reverse_to_breakpoint(&mut program.lab, node, points);
     let removed = kept.saturating_sub(program.lab.counts().kept);
     RollbackSummary {
         node,
@@ -111,7 +113,7 @@ fn rollback_head_text(
     let step = u64::from(lab.steps(gone.node)) + 1;
     let removed = gone.removed;
     let mut text = String::from_str(alloc, "rewind ")?;
-    add_name(&mut text, gone.node)?;
+    push_node_name(&mut text, gone.node)?;
     write!(text, " {step}: removed {removed} kept {kept}\n")?;
     Ok(text)
 }
@@ -177,7 +179,7 @@ fn removed_steps_line(
     ensures { IfOk result (λ text. string_bytes text ≡ removed_steps_line node.number first before) }
 {
     let mut text = String::from_str(alloc, "  with it ")?;
-    add_name(&mut text, node)?;
+    push_node_name(&mut text, node)?;
     write!(text, " {first} to {before}\n")?;
     Ok(text)
 }

@@ -5,10 +5,10 @@ ghost use Rattle.std.specs.List.{list_all, list_any};
 ghost use Rattle.serde_json.specs.View.{view};
 ghost use Rattle.serde_json.specs.declared.value.Value.{Value as AValue};
 ghost use Rattle.ga_dap_control.specs.Placing.{PlacesBreakpoints};
-ghost use Rattle.ga_dap_control.specs.Breakpoints.{without_breakpoint_kind, breakpoints_body, other_file_object, is_own_file, is_text_value, is_filter, AreBreakpointsSet, SetsFiltersIfKnown, SetsExceptionFilters, SetsLineBreakpoints, ReplacesBreakpoints};
+ghost use Rattle.ga_dap_control.specs.Breakpoints.{without_breakpoint_kind, breakpoints_body, other_file_object, is_program_file, is_text_value, is_exception_filter_name, AreBreakpointsSet, SetsFiltersIfKnown, SetsExceptionFilters, SetsLineBreakpoints, ReplacesBreakpoints};
 ghost use Rattle.ga_dap_control.specs.inner.{placement_of};
 ghost use Rattle.ga_dap_queries.specs.Arguments.{member_values};
-ghost use Rattle.ga_dap_queries.specs.Sending.{Sends, Message, success_response};
+ghost use Rattle.ga_dap_queries.specs.Sending.{SendsMessage, Message, success_response};
 
 use crate::configuration::{
     BreakpointKind, BreakpointSet, Configuration, PlacedBreakpoint, breakpoints_of,
@@ -20,8 +20,8 @@ use serde_json::{Map, Value, json, push, put};
 use std::alloc::{AllocError, Global};
 
 /// Whether a request speaks of the program's own file.
-fn is_own_file(program: &Debuggee, arguments: &Value) -> bool
-    ensures { result ≡ is_own_file program.now (view arguments.now) }
+fn is_program_file(program: &Debuggee, arguments: &Value) -> bool
+    ensures { result ≡ is_program_file program.now (view arguments.now) }
 {
     let Some(source) = arguments.get("source") else {
         return false;
@@ -69,10 +69,10 @@ pub fn set_line_breakpoints(
     request: &ClientRequest,
     out: &mut Outbox,
 ) -> Result<(), AllocError>
-    ensures sent { OnOk result ((message : Message) × SetsLineBreakpoints program.now settings.old request.now message settings.new × Sends out.old message out.new) }
+    ensures sent { OnOk result ((message : Message) × SetsLineBreakpoints program.now settings.old request.now message settings.new × SendsMessage out.old message out.new) }
     ensures kept { OnErr result (settings.new ≡ settings.old) }
 {
-    if is_own_file(program, &request.arguments) {
+    if is_program_file(program, &request.arguments) {
         replace_breakpoints(
             alloc,
             program,
@@ -96,7 +96,7 @@ fn count_asked(arguments: &Value) -> usize
 
 /// Reports that no breakpoint can be in another file.
 fn tell_nowhere(alloc: Global, request: &ClientRequest, out: &mut Outbox) -> Result<(), AllocError>
-    ensures sent { OnOk result (Sends out.old (success_response request.now (breakpoints_body (replicate (length (member_values (codes "breakpoints") (view request.now.arguments))) other_file_object))) out.new) }
+    ensures sent { OnOk result (SendsMessage out.old (success_response request.now (breakpoints_body (replicate (length (member_values (codes "breakpoints") (view request.now.arguments))) other_file_object))) out.new) }
     ensures err { OnErr result (out.new ≡ out.old) }
 {
     let count = count_asked(&request.arguments);
@@ -142,7 +142,7 @@ fn set_placing(
     request: &ClientRequest,
     out: &mut Outbox,
 ) -> Result<(), AllocError>
-    ensures sent { OnOk result ((message : Message) × (message ≡ success_response request.now (breakpoints_body (placement_of placing).told)) × AreBreakpointsSet (placement_of placing) settings.old settings.new × Sends out.old message out.new) }
+    ensures sent { OnOk result ((message : Message) × (message ≡ success_response request.now (breakpoints_body (placement_of placing).told)) × AreBreakpointsSet (placement_of placing) settings.old settings.new × SendsMessage out.old message out.new) }
     ensures kept { OnErr result (settings.new ≡ settings.old) }
 {
     let points = breakpoints_of(alloc, placing.placed.as_slice())?;
@@ -167,7 +167,7 @@ pub fn replace_breakpoints(
     request: &ClientRequest,
     out: &mut Outbox,
 ) -> Result<(), AllocError>
-    ensures sent { OnOk result ((message : Message) × ReplacesBreakpoints program.now family settings.old request.now message settings.new × Sends out.old message out.new) }
+    ensures sent { OnOk result ((message : Message) × ReplacesBreakpoints program.now family settings.old request.now message settings.new × SendsMessage out.old message out.new) }
     ensures kept { OnErr result (settings.new ≡ settings.old) }
 {
     let placing = placing_of(alloc, program, settings, family, request)?;
@@ -185,21 +185,21 @@ fn is_text_value(item: &Value, name: &str) -> bool
 }
 
 /// Whether an item is the name of a filter.
-fn is_filter(item: &Value) -> bool
-    ensures { result ≡ is_filter (view item.now) }
+fn is_exception_filter_name(item: &Value) -> bool
+    ensures { result ≡ is_exception_filter_name (view item.now) }
 {
     is_text_value(item, "stop") || is_text_value(item, "stuck")
 }
 
 fn each_is_filter(items: &[Value]) -> bool
-    ensures { result ≡ list_all (λ (item : AValue). is_filter (view item)) items.now }
+    ensures { result ≡ list_all (λ (item : AValue). is_exception_filter_name (view item)) items.now }
 {
-    items.iter().all(|item| is_filter(item))
+    items.iter().all(|item| is_exception_filter_name(item))
 }
 
 /// Whether each item is the name of a filter.
 fn are_filters(items: &[Value]) -> bool
-    ensures { result ≡ list_all is_filter (map view items.now) }
+    ensures { result ≡ list_all is_exception_filter_name (map view items.now) }
 {
     each_is_filter(items)
 }
@@ -224,7 +224,7 @@ fn set_filters_if(
     request: &ClientRequest,
     out: &mut Outbox,
 ) -> Result<(), AllocError>
-    ensures sent { OnOk result ((message : Message) × SetsFiltersIfKnown known (map view filters.now) settings.old request.now message settings.new × Sends out.old message out.new) }
+    ensures sent { OnOk result ((message : Message) × SetsFiltersIfKnown known (map view filters.now) settings.old request.now message settings.new × SendsMessage out.old message out.new) }
     ensures kept { OnErr result (settings.new ≡ settings.old) }
 {
     if known {
@@ -249,7 +249,7 @@ pub fn set_exception_filters(
     request: &ClientRequest,
     out: &mut Outbox,
 ) -> Result<(), AllocError>
-    ensures sent { OnOk result ((message : Message) × SetsExceptionFilters settings.old request.now message settings.new × Sends out.old message out.new) }
+    ensures sent { OnOk result ((message : Message) × SetsExceptionFilters settings.old request.now message settings.new × SendsMessage out.old message out.new) }
     ensures kept { OnErr result (settings.new ≡ settings.old) }
 {
     let filters = member_values(&request.arguments, "filters");

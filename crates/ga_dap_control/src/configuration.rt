@@ -3,7 +3,7 @@
 ghost use Rattle.std.specs.Prelude.{◌≡◌, map, IfOk};
 ghost use Rattle.ga_dap_control.specs.declared.configuration.PlacedBreakpoint.{PlacedBreakpoint as ASetBy};
 ghost use Rattle.ga_dap_control.specs.Breakpoints.{breakpoint_kind_number, is_other_breakpoint_kind};
-ghost use Rattle.ga_dap_control.specs.Stopping.{is_one_hit};
+ghost use Rattle.ga_dap_control.specs.Stopping.{is_placed_breakpoint_hit};
 
 use ga_dap_breakpoints::{Breakpoint, HaltConditions, HitTally, is_hit_by_newest_event};
 use ga_lab::{Lab, Made};
@@ -84,9 +84,9 @@ pub(crate) fn breakpoints_of(
 }
 
 /// Whether this event, the newest, hit a breakpoint and satisfied its hit condition.
-#[tactic(auto, unfolding(crate::specs::Stopping::is_one_hit))]
-fn is_one_hit(lab: &Lab, made: &Made, one: PlacedBreakpoint) -> bool
-    ensures { result ≡ is_one_hit made.now lab.now one }
+#[tactic(auto, unfolding(crate::specs::Stopping::is_placed_breakpoint_hit))]
+fn is_placed_breakpoint_hit(lab: &Lab, made: &Made, one: PlacedBreakpoint) -> bool
+    ensures { result ≡ is_placed_breakpoint_hit made.now lab.now one }
 {
     is_hit_by_newest_event(lab, made, &one.breakpoint)
 }
@@ -106,7 +106,7 @@ impl BreakpointSet {
     ghost use Rattle.std.specs.Prelude.{◌≡◌, [], filter, IfOk};
     ghost use Rattle.std.specs.List.{slice_get};
     ghost use Rattle.ga_dap_control.specs.Breakpoints.{is_other_breakpoint_kind};
-    ghost use Rattle.ga_dap_control.specs.Stopping.{is_one_hit, hit_breakpoint_ids};
+    ghost use Rattle.ga_dap_control.specs.Stopping.{is_placed_breakpoint_hit, hit_breakpoint_ids};
 
     /// No breakpoints.
     pub fn none(alloc: Global) -> Self
@@ -145,11 +145,11 @@ impl BreakpointSet {
         lab: &Lab,
         made: &Made,
     ) -> Result<Vec<PlacedBreakpoint>, AllocError>
-        ensures { IfOk result (λ list. list.items ≡ filter (is_one_hit made.now lab.now) self.now.placed.items) }
+        ensures { IfOk result (λ list. list.items ≡ filter (is_placed_breakpoint_hit made.now lab.now) self.now.placed.items) }
     {
         let mut list = Vec::new(alloc);
         'placed: for one in &self.placed {
-            if is_one_hit(lab, made, *one) {
+            if is_placed_breakpoint_hit(lab, made, *one) {
                 list.push(*one)?;
             }
         }

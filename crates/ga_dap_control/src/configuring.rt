@@ -1,15 +1,15 @@
 //! `configurationDone`.
 
 ghost use Rattle.std.specs.Prelude.{◌≡◌, OnOk, OnErr};
-ghost use Rattle.ga_dap_queries.specs.Sending.{SendsAll, Messages};
+ghost use Rattle.ga_dap_queries.specs.Sending.{SendsMessages, Messages};
 ghost use Rattle.ga_causal.specs.Dependence.{is_marked};
 ghost use Rattle.ga_dap_queries.specs.Events.{IsFirstThreadNode};
 ghost use Rattle.ga_dap_control.specs.Configuring.{AreThreadMarks, thread_start_messages, StopsOnEntryOrRuns, AnswersConfigurationDone, ConfiguresUnlessDone, CompletesConfiguration};
 
-use crate::execution::{Execution, Goal};
+use crate::execution::{Execution, RunGoal};
 use ga_dap_protocol::{ClientRequest, Outbox};
 use ga_dap_queries::{
-    Debuggee, emit_stopped, emit_thread_changes, first_thread_node, thread_marks,
+    Debuggee, emit_stopped, emit_thread_changes, first_thread_node, has_thread_by_node,
 };
 use ga_grid::NodeId;
 use std::alloc::{AllocError, Global};
@@ -25,7 +25,7 @@ pub(crate) fn first_of(program: &Debuggee) -> NodeId
 fn shown_of(program: &Debuggee) -> [bool; 144]
     ensures { AreThreadMarks program.now (is_marked result) }
 {
-    thread_marks(&program.lab, program.nodes.as_slice())
+    has_thread_by_node(&program.lab, program.nodes.as_slice())
 }
 
 /// `configurationDone`: sends the threads; the chip is then stopped at load or runs.
@@ -36,7 +36,7 @@ pub fn configure(
     request: &ClientRequest,
     out: &mut Outbox,
 ) -> Result<(), AllocError>
-    ensures sent { OnOk result ((messages : Messages) × AnswersConfigurationDone program.now execution.old request.now messages execution.new × SendsAll out.old messages out.new) }
+    ensures sent { OnOk result ((messages : Messages) × AnswersConfigurationDone program.now execution.old request.now messages execution.new × SendsMessages out.old messages out.new) }
     ensures kept { OnErr result (execution.new ≡ execution.old) }
 {
     let done = execution.is_configured;
@@ -52,7 +52,7 @@ fn configure_if(
     done: bool,
     out: &mut Outbox,
 ) -> Result<(), AllocError>
-    ensures sent { OnOk result ((messages : Messages) × ConfiguresUnlessDone done program.now execution.old request.now messages execution.new × SendsAll out.old messages out.new) }
+    ensures sent { OnOk result ((messages : Messages) × ConfiguresUnlessDone done program.now execution.old request.now messages execution.new × SendsMessages out.old messages out.new) }
     ensures kept { OnErr result (execution.new ≡ execution.old) }
 {
     if done {
@@ -69,7 +69,7 @@ fn tell_threads_started(
     now: &[bool; 144],
     out: &mut Outbox,
 ) -> Result<(), AllocError>
-    ensures { OnOk result (SendsAll out.old (thread_start_messages request.now (is_marked now.now)) out.new) }
+    ensures { OnOk result (SendsMessages out.old (thread_start_messages request.now (is_marked now.now)) out.new) }
 {
     out.acknowledge(request)?;
     emit_thread_changes(alloc, &[false; 144], now, out)
@@ -83,7 +83,7 @@ fn configure_once(
     request: &ClientRequest,
     out: &mut Outbox,
 ) -> Result<(), AllocError>
-    ensures sent { OnOk result ((messages : Messages) × CompletesConfiguration program.now execution.old request.now messages execution.new × SendsAll out.old messages out.new) }
+    ensures sent { OnOk result ((messages : Messages) × CompletesConfiguration program.now execution.old request.now messages execution.new × SendsMessages out.old messages out.new) }
     ensures kept { OnErr result (execution.new ≡ execution.old) }
 {
     let now = shown_of(program);
@@ -100,7 +100,7 @@ fn begin_so(
     stops: bool,
     out: &mut Outbox,
 ) -> Result<(), AllocError>
-    ensures sent { OnOk result ((messages : Messages) × StopsOnEntryOrRuns stops program.now execution.old messages execution.new × SendsAll out.old messages out.new) }
+    ensures sent { OnOk result ((messages : Messages) × StopsOnEntryOrRuns stops program.now execution.old messages execution.new × SendsMessages out.old messages out.new) }
     ensures kept { OnErr result (execution.new ≡ execution.old) }
 {
     if stops {
@@ -109,7 +109,7 @@ fn begin_so(
         execution.is_configured = true;
         Ok(())
     } else {
-        execution.goal = Some(Goal::Continue);
+        execution.goal = Some(RunGoal::Continue);
         execution.tally = None;
         execution.is_configured = true;
         Ok(())

@@ -4,11 +4,11 @@ ghost use Rattle.std.specs.Prelude.{◌≡◌, Option};
 ghost use Rattle.ga_lab.specs.Machine.{chip_of};
 ghost use Rattle.ga_grid.specs.declared.node_id.NodeId.{NodeId as ANode};
 ghost use Rattle.ga_causal.specs.Dependence.{is_marked};
-ghost use Rattle.ga_dap_control.specs.Slices.{IsGreatestDeadlock, IsFirstNewlyDeadlocked, is_newly_deadlocked_by, is_newly_deadlocked, filtered_deadlock, reported_deadlocks};
+ghost use Rattle.ga_dap_control.specs.Slices.{IsGreatestDeadlock, IsFirstNewlyDeadlocked, is_newly_deadlocked_by, is_newly_deadlocked, deadlock_if_filter_is_set, reported_deadlocks};
 
 use crate::configuration::Configuration;
 use crate::execution::Execution;
-use crate::stop_reason::{StopReason, is_stuck_stop};
+use crate::stop_reason::{StopReason, is_deadlock_stop};
 use ga_dap_queries::Debuggee;
 use ga_dap_views::has_thread;
 use ga_grid::NodeId;
@@ -60,7 +60,7 @@ pub(crate) fn unreported(
     execution: &Execution,
     now: &[bool; 144],
 ) -> Option<NodeId>
-    ensures { (stuck : Option ANode) × IsFirstNewlyDeadlocked (is_marked execution.now.reported) (is_marked now.now) program.now stuck × (result ≡ filtered_deadlock settings.now.stuck stuck) }
+    ensures { (stuck : Option ANode) × IsFirstNewlyDeadlocked (is_marked execution.now.reported) (is_marked now.now) program.now stuck × (result ≡ deadlock_if_filter_is_set settings.now.stuck stuck) }
 {
     let stuck = newly_stuck(program, &execution.reported, now);
     if settings.stuck { stuck } else { None }
@@ -79,7 +79,7 @@ pub(crate) fn keep_reported(
 {
     if !asked {
         execution.reported = [false; 144];
-    } else if is_stuck_stop(stop) {
+    } else if is_deadlock_stop(stop) {
         execution.reported = *now;
     } else {
         execution.reported = *before;

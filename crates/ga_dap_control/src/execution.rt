@@ -5,12 +5,14 @@ ghost use Rattle.ga_scheduler.specs.Running.{running};
 ghost use Rattle.ga_scheduler.specs.Watched.{precedence_run_after};
 ghost use Rattle.ga_dap_breakpoints.specs.Going.{IsMoveResult, tally_after_events, step_plan};
 ghost use Rattle.ga_dap_breakpoints.specs.Stepping.{move_after_events};
-ghost use Rattle.ga_dap_control.specs.Slices.{slice_limit, tally_before_slice, ContinuesForSlice, StepsForSlice, AdvancesByGoal, MakesSliceOfGoal, MakesSlice, MakesSliceEvents, execution_after_stop};
+ghost use Rattle.ga_dap_control.specs.Slices.{slice_limit, tally_before_slice, ContinuesForSlice, StepsForSlice, AdvancesByGoal, MakesSliceOfGoal, MakesEventSlice, MakesSliceEvents, execution_after_stop};
 
 use crate::configuration::Configuration;
 use crate::deadlocks::{keep_reported, newly_stuck, stuck_of, unreported};
 use crate::stop_reason::{StopReason, slice_stop_reason};
-use ga_dap_breakpoints::{HitTally, MoveResult, StepMove, continue_run, continue_step, kept_hits};
+use ga_dap_breakpoints::{
+    HitTally, MoveResult, StepMove, continue_run, continue_step, count_kept_hits,
+};
 use ga_dap_queries::Debuggee;
 use ga_debug_info::DebugInfo;
 use ga_grid::NodeId;
@@ -22,7 +24,7 @@ pub const MAX_SLICE_EVENTS: u64 = 4096;
 
 /// What a run is for.
 #[derive(Clone, Copy, PartialEq, Eq, Debug)]
-pub enum Goal {
+pub enum RunGoal {
     /// `continue`.
     Continue,
     /// `next`, `stepIn`, `stepOut`.
@@ -35,7 +37,7 @@ pub struct Execution {
     /// The next schedule.
     pub schedule: Schedule,
     /// The goal of the run in progress; none if the chip is stopped.
-    pub goal: Option<Goal>,
+    pub goal: Option<RunGoal>,
     /// How often each breakpoint was hit, while a run is under way and none was set since.
     pub tally: Option<HitTally>,
     /// Whether the client ended the configuration.
@@ -52,7 +54,7 @@ fn tally_before_slice(lab: &Lab, settings: &Configuration, tally: Option<HitTall
 {
     match tally {
         Some(tally) => tally,
-        None => kept_hits(lab, settings.points.points.as_slice()),
+        None => count_kept_hits(lab, settings.points.points.as_slice()),
     }
 }
 
@@ -89,7 +91,7 @@ fn step_by(
     ensures most { result.events ≤ slice_limit }
     ensures hits { result.tally ≡ tally_after_events (Some stepping.node) settings.now.points.points.items (tally_before_slice lab.old settings.now execution.old.tally) (running lab.old execution.old.schedule) result.events }
     ensures end { IsMoveResult (step_plan notes.now settings.now.points.points.items (tally_before_slice lab.old settings.now execution.old.tally) settings.now.stops stepping (running lab.old execution.old.schedule)) (running lab.old execution.old.schedule) slice_limit result.events result.halt }
-    ensures next { execution.new ≡ record execution.old { schedule = result.schedule; tally = Some result.tally; goal = Some (Goal.Step (move_after_events stepping (running lab.old execution.old.schedule) result.events)) } }
+    ensures next { execution.new ≡ record execution.old { schedule = result.schedule; tally = Some result.tally; goal = Some (RunGoal.Step (move_after_events stepping (running lab.old execution.old.schedule) result.events)) } }
 {
     let mut by = stepping;
     let tally = tally_before_slice(lab, settings, execution.tally);
@@ -104,7 +106,7 @@ fn step_by(
     );
     execution.schedule = went.schedule;
     execution.tally = Some(went.tally);
-    execution.goal = Some(Goal::Step(by));
+    execution.goal = Some(RunGoal::Step(by));
     went
 }
 
@@ -134,23 +136,23 @@ fn advance(
     program: &mut Debuggee,
     settings: &Configuration,
     execution: &mut Execution,
-    goal: Goal,
+    goal: RunGoal,
 ) -> MoveResult
     ensures { AdvancesByGoal goal program.old settings.now execution.old program.new execution.new result }
 {
     match goal {
-        Goal::Continue => go_on_slice(program, settings, execution),
-        Goal::Step(stepping) => step_slice(program, settings, execution, stepping),
+        RunGoal::Continue => go_on_slice(program, settings, execution),
+        RunGoal::Step(stepping) => step_slice(program, settings, execution, stepping),
     }
 }
 
 /// Makes a slice of the events of the run under way, and says why it ended, where it did.
-pub fn make_slice(
+pub fn make_event_slice(
     program: &mut Debuggee,
     settings: &Configuration,
     execution: &mut Execution,
 ) -> Option<StopReason>
-    ensures { MakesSlice program.old settings.now execution.old program.new execution.new result }
+    ensures { MakesEventSlice program.old settings.now execution.old program.new execution.new result }
 {
     let goal = execution.goal;
     make_slice_for(program, settings, execution, goal)
@@ -161,7 +163,7 @@ fn make_slice_for(
     program: &mut Debuggee,
     settings: &Configuration,
     execution: &mut Execution,
-    goal: Option<Goal>,
+    goal: Option<RunGoal>,
 ) -> Option<StopReason>
     ensures { MakesSliceOfGoal goal program.old settings.now execution.old program.new execution.new result }
 {
@@ -176,7 +178,7 @@ fn make_slice_of(
     program: &mut Debuggee,
     settings: &Configuration,
     execution: &mut Execution,
-    goal: Goal,
+    goal: RunGoal,
 ) -> Option<StopReason>
     ensures { MakesSliceOfGoal (Some goal) program.old settings.now execution.old program.new execution.new result }
 {
@@ -202,7 +204,7 @@ fn make_events(
     program: &mut Debuggee,
     settings: &Configuration,
     execution: &mut Execution,
-    goal: Goal,
+    goal: RunGoal,
     before: &[bool; 144],
 ) -> Option<StopReason>
     ensures { MakesSliceEvents goal before.now program.old settings.now execution.old program.new execution.new result }

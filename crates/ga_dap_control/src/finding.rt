@@ -3,13 +3,15 @@
 ghost use Rattle.std.specs.Prelude.{◌≡◌, ◌<◌, length, position, codes, option_map, option_and_then, Some, IfSome};
 ghost use Rattle.serde_json.specs.View.{view};
 ghost use Rattle.ga_dap_protocol.specs.Messages.{member_text};
-ghost use Rattle.ga_dap_queries.specs.Disassembling.{offset_given, wrapped_address_offset};
+ghost use Rattle.ga_dap_queries.specs.Disassembling.{signed_member_or_zero, wrapped_address_offset};
 ghost use Rattle.ga_dap_control.specs.Placing.{requested_line, source_breakpoint_location, has_label_text, breakpoint_of_any_label, breakpoint_of_node_label, has_node_prefix, node_prefix, function_breakpoint, instruction_breakpoint_at, data_breakpoint_at, location_without_line, IsBreakpointOfReference, IsBreakpointLocation};
 
 use crate::configuration::BreakpointKind;
 use ga_dap_breakpoints::{Breakpoint, Watched, breakpoint_of_address, breakpoint_of_line};
 use ga_dap_protocol::{member_number, member_text};
-use ga_dap_queries::{Debuggee, offset_at, resolve_memory_reference, wrapped_address_offset};
+use ga_dap_queries::{
+    Debuggee, parse_signed_member, resolve_memory_reference, wrapped_address_offset,
+};
 use ga_debug_info::{DebugInfo, LabelAddress};
 use ga_grid::NodeId;
 use ga_text::parse_node;
@@ -179,10 +181,10 @@ fn behind_text(text: &str, on: u32) -> Option<Breakpoint>
 
 /// How many addresses after the reference the requested breakpoint is.
 fn cells_given(asked: &Value) -> u32
-    ensures value { result ≡ wrapped_address_offset (offset_given (codes "offset") (view asked.now)) }
+    ensures value { result ≡ wrapped_address_offset (signed_member_or_zero (codes "offset") (view asked.now)) }
     ensures most { result < 4096 }
 {
-    wrapped_address_offset(offset_at(asked, "offset"))
+    wrapped_address_offset(parse_signed_member(asked, "offset"))
 }
 
 #[tactic(auto, using(crate::proofs::Referred::referred_so, crate::proofs::Referred::referred_on))]

@@ -2,8 +2,8 @@
 
 ghost use Rattle.std.specs.Prelude.{◌≡◌, codes, OnOk, OnErr};
 ghost use Rattle.ga_dap_control.specs.Breakpoints.{SetsExceptionFilters, SetsLineBreakpoints, ReplacesBreakpoints};
-ghost use Rattle.ga_dap_control.specs.Requests.{ChangesConfiguration, AnswersAtOnce};
-ghost use Rattle.ga_dap_queries.specs.Sending.{Sends, SendsAll, Messages, refused_response};
+ghost use Rattle.ga_dap_control.specs.Requests.{ChangesConfiguration, AnswersImmediateRequest};
+ghost use Rattle.ga_dap_queries.specs.Sending.{SendsMessage, SendsMessages, Messages, refused_response};
 
 use crate::breakpoints::{replace_breakpoints, set_exception_filters, set_line_breakpoints};
 use crate::configuration::{BreakpointKind, Configuration};
@@ -34,7 +34,7 @@ fn set_lines_of(
     request: &ClientRequest,
     out: &mut Outbox,
 ) -> Result<(), AllocError>
-    ensures sent { OnOk result ((messages : Messages) × ChangesConfiguration (SetsLineBreakpoints launched.old.program launched.old.settings request.now) launched.old messages launched.new × SendsAll out.old messages out.new) }
+    ensures sent { OnOk result ((messages : Messages) × ChangesConfiguration (SetsLineBreakpoints launched.old.program launched.old.settings request.now) launched.old messages launched.new × SendsMessages out.old messages out.new) }
     ensures kept { OnErr result (launched.new ≡ launched.old) }
 {
     let settings = &mut launched.settings;
@@ -51,7 +51,7 @@ fn set_points_of(
     request: &ClientRequest,
     out: &mut Outbox,
 ) -> Result<(), AllocError>
-    ensures sent { OnOk result ((messages : Messages) × ChangesConfiguration (ReplacesBreakpoints launched.old.program family launched.old.settings request.now) launched.old messages launched.new × SendsAll out.old messages out.new) }
+    ensures sent { OnOk result ((messages : Messages) × ChangesConfiguration (ReplacesBreakpoints launched.old.program family launched.old.settings request.now) launched.old messages launched.new × SendsMessages out.old messages out.new) }
     ensures kept { OnErr result (launched.new ≡ launched.old) }
 {
     let settings = &mut launched.settings;
@@ -67,7 +67,7 @@ fn set_filters_of(
     request: &ClientRequest,
     out: &mut Outbox,
 ) -> Result<(), AllocError>
-    ensures sent { OnOk result ((messages : Messages) × ChangesConfiguration (SetsExceptionFilters launched.old.settings request.now) launched.old messages launched.new × SendsAll out.old messages out.new) }
+    ensures sent { OnOk result ((messages : Messages) × ChangesConfiguration (SetsExceptionFilters launched.old.settings request.now) launched.old messages launched.new × SendsMessages out.old messages out.new) }
     ensures kept { OnErr result (launched.new ≡ launched.old) }
 {
     set_exception_filters(&mut launched.settings, request, out)?;
@@ -76,14 +76,14 @@ fn set_filters_of(
 }
 
 /// Answers a request that makes no event and takes none back.
-pub fn answer_at_once(
+pub fn answer_immediate_request(
     alloc: Global,
     launched: &mut LaunchedProgram,
     command: RequestName,
     request: &ClientRequest,
     out: &mut Outbox,
 ) -> Result<(), AllocError>
-    ensures sent { OnOk result ((messages : Messages) × AnswersAtOnce command launched.old request.now messages launched.new × SendsAll out.old messages out.new) }
+    ensures sent { OnOk result ((messages : Messages) × AnswersImmediateRequest command launched.old request.now messages launched.new × SendsMessages out.old messages out.new) }
     ensures kept { OnErr result (launched.new ≡ launched.old) }
 {
     match command {
@@ -158,7 +158,7 @@ pub fn answer_at_once(
 
 /// Refuses a request that is answered nowhere.
 fn refuse_unknown(request: &ClientRequest, out: &mut Outbox) -> Result<(), AllocError>
-    ensures sent { OnOk result (Sends out.old (refused_response request.now (codes "no such request")) out.new) }
+    ensures sent { OnOk result (SendsMessage out.old (refused_response request.now (codes "no such request")) out.new) }
     ensures err { OnErr result (out.new ≡ out.old) }
 {
     out.refuse(request, "no such request")

@@ -7,11 +7,11 @@ ghost use Rattle.ga_grid.specs.declared.node_id.NodeId.{NodeId as ANode};
 ghost use Rattle.ga_lab.specs.Machine.{chip_of};
 ghost use Rattle.ga_dap_queries.specs.Arguments.{IsThreadArgument};
 ghost use Rattle.ga_dap_control.specs.Back.{requested_granularity};
-ghost use Rattle.ga_dap_queries.specs.Sending.{Sends, SendsAll, Message, Messages, bare_success_response};
-ghost use Rattle.ga_dap_control.specs.Moving.{continue_body, execution_with_goal, no_thread_words, node_stopped_words, requested_step_move, BeginsStep, BeginsStepOfNode, BeginsStepMove, ArePauseMessages, PausesIfRunning, AnswersPause, AnswersContinue};
+ghost use Rattle.ga_dap_queries.specs.Sending.{SendsMessage, SendsMessages, Message, Messages, bare_success_response};
+ghost use Rattle.ga_dap_control.specs.Moving.{continue_body, execution_with_goal, no_such_thread_text, node_stopped_text, requested_step_move, BeginsStep, BeginsStepOfNode, BeginsStepMove, ArePauseMessages, PausesIfRunning, AnswersPause, AnswersContinue};
 
 use crate::configuring::first_of;
-use crate::execution::{Execution, Goal};
+use crate::execution::{Execution, RunGoal};
 use ga_dap_breakpoints::{Granularity, StepMove};
 use ga_dap_protocol::{ClientRequest, Outbox, member_text};
 use ga_dap_queries::{Debuggee, emit_stopped, thread_argument};
@@ -35,12 +35,12 @@ pub fn begin_continue(
     request: &ClientRequest,
     out: &mut Outbox,
 ) -> Result<(), AllocError>
-    ensures sent { OnOk result ((messages : Messages) × AnswersContinue execution.old request.now messages execution.new × SendsAll out.old messages out.new) }
+    ensures sent { OnOk result ((messages : Messages) × AnswersContinue execution.old request.now messages execution.new × SendsMessages out.old messages out.new) }
     ensures kept { OnErr result (execution.new ≡ execution.old) }
 {
     let body = continue_body(alloc)?;
     out.respond(request, body)?;
-    execution.goal = Some(Goal::Continue);
+    execution.goal = Some(RunGoal::Continue);
     execution.tally = None;
     Ok(())
 }
@@ -77,7 +77,7 @@ pub enum DapStepKind {
 
 /// The message if the request names no such thread.
 fn no_thread(kind: DapStepKind) -> &'static str
-    ensures { result.now ≡ no_thread_words kind }
+    ensures { result.now ≡ no_such_thread_text kind }
 {
     match kind {
         DapStepKind::Over => "next: no such thread",
@@ -88,7 +88,7 @@ fn no_thread(kind: DapStepKind) -> &'static str
 
 /// The message if the node is stopped.
 fn node_stopped(kind: DapStepKind) -> &'static str
-    ensures { result.now ≡ node_stopped_words kind }
+    ensures { result.now ≡ node_stopped_text kind }
 {
     match kind {
         DapStepKind::Over => "next: the node is stopped",
@@ -129,7 +129,7 @@ pub fn begin_step(
     kind: DapStepKind,
     out: &mut Outbox,
 ) -> Result<(), AllocError>
-    ensures sent { OnOk result ((message : Message) × BeginsStep program.now kind execution.old request.now message execution.new × Sends out.old message out.new) }
+    ensures sent { OnOk result ((message : Message) × BeginsStep program.now kind execution.old request.now message execution.new × SendsMessage out.old message out.new) }
     ensures kept { OnErr result (execution.new ≡ execution.old) }
 {
     match thread_argument(&request.arguments) {
@@ -154,7 +154,7 @@ fn begin_step_of(
     node: NodeId,
     out: &mut Outbox,
 ) -> Result<(), AllocError>
-    ensures sent { OnOk result ((message : Message) × BeginsStepOfNode program.now kind execution.old request.now node message execution.new × Sends out.old message out.new) }
+    ensures sent { OnOk result ((message : Message) × BeginsStepOfNode program.now kind execution.old request.now node message execution.new × SendsMessage out.old message out.new) }
     ensures kept { OnErr result (execution.new ≡ execution.old) }
 {
     if can_step(&program.lab, node) {
@@ -172,7 +172,7 @@ fn begin_stepping(
     stepping: Option<StepMove>,
     out: &mut Outbox,
 ) -> Result<(), AllocError>
-    ensures sent { OnOk result ((message : Message) × BeginsStepMove execution.old request.now stepping message execution.new × Sends out.old message out.new) }
+    ensures sent { OnOk result ((message : Message) × BeginsStepMove execution.old request.now stepping message execution.new × SendsMessage out.old message out.new) }
     ensures kept { OnErr result (execution.new ≡ execution.old) }
 {
     match stepping {
@@ -188,11 +188,11 @@ fn begin(
     stepping: StepMove,
     out: &mut Outbox,
 ) -> Result<(), AllocError>
-    ensures sent { OnOk result (Sends out.old (bare_success_response request.now) out.new × (execution.new ≡ execution_with_goal execution.old (Goal.Step stepping))) }
+    ensures sent { OnOk result (SendsMessage out.old (bare_success_response request.now) out.new × (execution.new ≡ execution_with_goal execution.old (RunGoal.Step stepping))) }
     ensures kept { OnErr result (execution.new ≡ execution.old) }
 {
     out.acknowledge(request)?;
-    execution.goal = Some(Goal::Step(stepping));
+    execution.goal = Some(RunGoal::Step(stepping));
     execution.tally = None;
     Ok(())
 }
@@ -214,7 +214,7 @@ fn tell_paused(
     request: &ClientRequest,
     out: &mut Outbox,
 ) -> Result<(), AllocError>
-    ensures { OnOk result ((messages : Messages) × ArePauseMessages program.now request.now messages × SendsAll out.old messages out.new) }
+    ensures { OnOk result ((messages : Messages) × ArePauseMessages program.now request.now messages × SendsMessages out.old messages out.new) }
 {
     out.acknowledge(request)?;
     let first = first_of(program);
@@ -226,11 +226,11 @@ fn tell_paused(
 fn tell_pause(
     alloc: Global,
     program: &Debuggee,
-    goal: Option<Goal>,
+    goal: Option<RunGoal>,
     request: &ClientRequest,
     out: &mut Outbox,
 ) -> Result<(), AllocError>
-    ensures { OnOk result ((messages : Messages) × PausesIfRunning program.now request.now goal messages × SendsAll out.old messages out.new) }
+    ensures { OnOk result ((messages : Messages) × PausesIfRunning program.now request.now goal messages × SendsMessages out.old messages out.new) }
 {
     match goal {
         None => out.acknowledge(request),
@@ -246,7 +246,7 @@ pub fn pause(
     request: &ClientRequest,
     out: &mut Outbox,
 ) -> Result<(), AllocError>
-    ensures sent { OnOk result ((messages : Messages) × AnswersPause program.now execution.old request.now messages execution.new × SendsAll out.old messages out.new) }
+    ensures sent { OnOk result ((messages : Messages) × AnswersPause program.now execution.old request.now messages execution.new × SendsMessages out.old messages out.new) }
     ensures kept { OnErr result (execution.new ≡ execution.old) }
 {
     tell_pause(alloc, program, execution.goal, request, out)?;

@@ -3,7 +3,7 @@
 ghost use Rattle.std.specs.Prelude.{◌≡◌, ◌+◌, ◌%◌, ◌^◌, ◌++◌, ◌∷◌, [], map, string_bytes, Option, Some, IfOk, OnOk};
 ghost use Rattle.serde_json.specs.View.{view};
 ghost use Rattle.ga_dap_control.specs.declared.finding.BreakpointLocation.{BreakpointLocation as APlace};
-ghost use Rattle.ga_dap_control.specs.Placing.{Placement, IsBreakpointLocation, unverified_object, verified_object, verified_line_object, verified_breakpoint, breakpoint_object, placed_breakpoints, next_placement, PlacesBreakpoint, PlacesBreakpoints};
+ghost use Rattle.ga_dap_control.specs.Placing.{BreakpointPlacement, IsBreakpointLocation, unverified_breakpoint_object, verified_breakpoint_object, verified_line_breakpoint_object, verified_breakpoint, breakpoint_object, placed_breakpoints, next_placement, PlacesBreakpoint, PlacesBreakpoints};
 ghost use Rattle.ga_dap_control.specs.inner.{placement_of};
 
 use crate::configuration::{BreakpointKind, PlacedBreakpoint};
@@ -25,21 +25,21 @@ pub struct Placing {
     pub next: u64,
 }
 
-#[tactic(auto, unfolding(crate::specs::Placing::unverified_object))]
+#[tactic(auto, unfolding(crate::specs::Placing::unverified_breakpoint_object))]
 fn unverified(alloc: Global, id: u64, why: &str) -> Result<Value, AllocError>
-    ensures { IfOk result (λ v. view v ≡ unverified_object id why.now) }
+    ensures { IfOk result (λ v. view v ≡ unverified_breakpoint_object id why.now) }
 {
     json!(in alloc; {"id": id, "message": why, "verified": false})
 }
 
-#[tactic(auto, unfolding(crate::specs::Placing::verified_object))]
+#[tactic(auto, unfolding(crate::specs::Placing::verified_breakpoint_object))]
 fn verified(alloc: Global, id: u64) -> Result<Value, AllocError>
-    ensures { IfOk result (λ v. view v ≡ verified_object id) }
+    ensures { IfOk result (λ v. view v ≡ verified_breakpoint_object id) }
 {
     json!(in alloc; {"id": id, "verified": true})
 }
 
-#[tactic(auto, unfolding(crate::specs::Placing::verified_line_object))]
+#[tactic(auto, unfolding(crate::specs::Placing::verified_line_breakpoint_object))]
 fn verified_on_line(
     alloc: Global,
     name: &str,
@@ -47,7 +47,7 @@ fn verified_on_line(
     id: u64,
     line: u32,
 ) -> Result<Value, AllocError>
-    ensures { IfOk result (λ v. view v ≡ verified_line_object name.now path.now id line) }
+    ensures { IfOk result (λ v. view v ≡ verified_line_breakpoint_object name.now path.now id line) }
 {
     json!(in alloc; {"id": id, "line": line, "source": {"name": name, "path": path}, "verified": true})
 }

@@ -4,12 +4,12 @@ ghost use Rattle.std.specs.Prelude.{◌≡◌, codes, Some};
 ghost use Rattle.serde_json.specs.View.{view};
 ghost use Rattle.ga_dap_protocol.specs.Messages.{member_text};
 ghost use Rattle.ga_dap_breakpoints.specs.Saying.{parse_hit_condition};
-ghost use Rattle.ga_conditions.specs.Tests.{test_in};
+ghost use Rattle.ga_conditions.specs.Tests.{parsed_value_test};
 ghost use Rattle.ga_dap_control.specs.Placing.{is_member_not_text, with_parsed_condition, with_condition, with_parsed_hit_condition, with_hit_condition, location_with_conditions, requested_breakpoint, no_location_text, placement_error_text};
 
 use crate::configuration::BreakpointKind;
 use crate::finding::BreakpointLocation;
-use ga_conditions::parse_test;
+use ga_conditions::parse_value_test;
 use ga_dap_breakpoints::{Breakpoint, MAX_COUNTED_BREAKPOINTS, parse_hit_condition};
 use ga_dap_protocol::member_text;
 use ga_debug_info::LabelAddress;
@@ -86,11 +86,11 @@ fn with_parsed_condition(
     place: BreakpointLocation,
     text: &[u8],
 ) -> Result<BreakpointLocation, PlacementError>
-    ensures { result ≡ with_parsed_condition place (test_in names.now place.breakpoint.node text.now) }
+    ensures { result ≡ with_parsed_condition place (parsed_value_test names.now place.breakpoint.node text.now) }
 {
-    match parse_test(names, place.breakpoint.node, text) {
+    match parse_value_test(names, place.breakpoint.node, text) {
         Some(test) => {
-            if test.is_possible() {
+            if test.can_be_passed() {
                 Ok(with_test(place, test))
             } else {
                 Err(PlacementError::Range)

@@ -1,10 +1,10 @@
 //! Why a run ended.
 
 ghost use Rattle.std.specs.Prelude.{◌≡◌};
-ghost use Rattle.ga_dap_control.specs.Slices.{is_stuck_stop, stop_reason_at_place, breakpoint_stop_reason, end_of_move, event_node, slice_stop_reason, deadlock_stop_reason};
+ghost use Rattle.ga_dap_control.specs.Slices.{is_deadlock_stop, stop_reason_at_place, breakpoint_stop_reason, stop_reason_of_move_end, event_node, slice_stop_reason, deadlock_stop_reason};
 
 use crate::configuration::Configuration;
-use crate::execution::Goal;
+use crate::execution::RunGoal;
 use ga_dap_breakpoints::{Breakpoint, HaltReason, Watched};
 use ga_grid::NodeId;
 use ga_lab::{LabFault, Made};
@@ -64,12 +64,12 @@ fn stop_reason_at_place(settings: &Configuration, made: Made, place: usize) -> S
     breakpoint_stop_reason(settings.points.breakpoint_at(place), made)
 }
 
-fn end_of_move(goal: Goal, made: Made) -> StopReason
-    ensures { result ≡ end_of_move goal made }
+fn stop_reason_of_move_end(goal: RunGoal, made: Made) -> StopReason
+    ensures { result ≡ stop_reason_of_move_end goal made }
 {
     match goal {
-        Goal::Step(stepping) => StopReason::Step(stepping.node),
-        Goal::Continue => StopReason::Step(node_of(made)),
+        RunGoal::Step(stepping) => StopReason::Step(stepping.node),
+        RunGoal::Continue => StopReason::Step(node_of(made)),
     }
 }
 
@@ -93,7 +93,7 @@ fn deadlock_stop_reason(
 /// Why a run ended after a slice with this result; none if it continues.
 pub(crate) fn slice_stop_reason(
     settings: &Configuration,
-    goal: Goal,
+    goal: RunGoal,
     stuck: Option<NodeId>,
     halt: HaltReason,
 ) -> Option<StopReason>
@@ -105,7 +105,7 @@ pub(crate) fn slice_stop_reason(
         HaltReason::Moved(made) => deadlock_stop_reason(
             settings.stuck,
             stuck,
-            Some(end_of_move(goal, made)),
+            Some(stop_reason_of_move_end(goal, made)),
         ),
         HaltReason::Refused(why) => Some(StopReason::Refused(why)),
         HaltReason::Cut => deadlock_stop_reason(settings.stuck, stuck, None),
@@ -114,8 +114,8 @@ pub(crate) fn slice_stop_reason(
 }
 
 /// Whether a run ended since a node is stuck.
-pub(crate) fn is_stuck_stop(stop: &Option<StopReason>) -> bool
-    ensures { result ≡ is_stuck_stop stop.now }
+pub(crate) fn is_deadlock_stop(stop: &Option<StopReason>) -> bool
+    ensures { result ≡ is_deadlock_stop stop.now }
 {
     match stop {
         None => false,

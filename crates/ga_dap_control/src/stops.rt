@@ -4,8 +4,8 @@ ghost use Rattle.std.specs.Prelude.{◌≡◌, ◌++◌, Some, codes, string_byt
 ghost use Rattle.serde_json.specs.View.{view};
 ghost use Rattle.ga_text.specs.Lines.{Text};
 ghost use Rattle.ga_dap_protocol.specs.Messages.{member_text};
-ghost use Rattle.ga_dap_queries.specs.Sending.{Sends, Message};
-ghost use Rattle.ga_dap_control.specs.Stopping.{hit, hit_breakpoint_ids, lab_fault_text, exception_stop_message, stop_message, IsStopMessage};
+ghost use Rattle.ga_dap_queries.specs.Sending.{SendsMessage, Message};
+ghost use Rattle.ga_dap_control.specs.Stopping.{breakpoint_hit_message, hit_breakpoint_ids, lab_fault_text, exception_stop_message, stop_message, IsStopMessage};
 
 use crate::configuration::Configuration;
 use crate::configuring::first_of;
@@ -51,7 +51,7 @@ fn tell_fault(
     behind: &str,
     out: &mut Outbox,
 ) -> Result<(), AllocError>
-    ensures sent { OnOk result (Sends out.old (exception_stop_message program.now node.number behind.now) out.new) }
+    ensures sent { OnOk result (SendsMessage out.old (exception_stop_message program.now node.number behind.now) out.new) }
     ensures err { OnErr result (out.new ≡ out.old) }
 {
     let info = exception_info(alloc, &program.lab, false, node)?;
@@ -70,7 +70,7 @@ fn tell_hits(
     made: &Made,
     out: &mut Outbox,
 ) -> Result<(), AllocError>
-    ensures sent { OnOk result (Sends out.old (hit reason.now description.now node.number (hit_breakpoint_ids made.now program.now.lab settings.now.points.placed.items)) out.new) }
+    ensures sent { OnOk result (SendsMessage out.old (breakpoint_hit_message reason.now description.now node.number (hit_breakpoint_ids made.now program.now.lab settings.now.points.placed.items)) out.new) }
     ensures err { OnErr result (out.new ≡ out.old) }
 {
     let ids = settings
@@ -88,7 +88,7 @@ pub fn emit_run_end(
     stop: StopReason,
     out: &mut Outbox,
 ) -> Result<(), AllocError>
-    ensures sent { OnOk result ((message : Message) × IsStopMessage program.now settings.now stop message × Sends out.old message out.new) }
+    ensures sent { OnOk result ((message : Message) × IsStopMessage program.now settings.now stop message × SendsMessage out.old message out.new) }
     ensures err { OnErr result (out.new ≡ out.old) }
 {
     let first = first_of(program);
@@ -104,7 +104,7 @@ fn tell_stop_at(
     first: NodeId,
     out: &mut Outbox,
 ) -> Result<(), AllocError>
-    ensures sent { OnOk result (Sends out.old (stop_message program.now settings.now.points.placed.items first.number stop) out.new) }
+    ensures sent { OnOk result (SendsMessage out.old (stop_message program.now settings.now.points.placed.items first.number stop) out.new) }
     ensures err { OnErr result (out.new ≡ out.old) }
 {
     match stop {

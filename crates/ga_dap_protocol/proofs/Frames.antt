@@ -8,7 +8,7 @@ use Rattle.std.proofs.Math.Seq.{take-add}
 use Rattle.std.specs.List.{All}
 use Rattle.ga_dap_protocol.specs.declared.framing.FramePrefix.TheVariants.{Message, Part, Wrong}
 use Rattle.ga_dap_protocol.specs.declared.broken.FrameError.TheVariants.{NoDigit, TooLong, ManyDigits, HeaderEnd}
-use Rattle.ga_dap_protocol.specs.Framing.{content_limit, digit_limit, field, header_end, header_part, IsDigit, decimal_value_from, IsContentLength, IsMessagePrefix, CanBeginNoMessage, IsEitherPrefix, IsFramePrefix}
+use Rattle.ga_dap_protocol.specs.Framing.{content_limit, content_length_digit_limit, content_length_field, header_end, header_part, IsDigit, decimal_value_from, IsContentLength, IsMessagePrefix, CanBeginNoMessage, IsEitherPrefix, IsFramePrefix}
 use Rattle.ga_dap_protocol.proofs.Unique.{right_of, no_digit_first, run, grows, value_more}
 
 -- ---- what a test of a length implies
@@ -51,18 +51,18 @@ parts f d r g b c m s e = append_cancel_left f (d ++ (r ++ m)) (g ++ (b ++ (c ++
 
 -- if digits were read, those of a message continue with them
 continued : (digits rest content text more after gs : List ℕ) → All IsDigit digits → All IsDigit gs → text ≡ header_part gs ++ content →
-    (field ++ digits ++ rest) ++ more ≡ text ++ after →
+    (content_length_field ++ digits ++ rest) ++ more ≡ text ++ after →
     (es : List ℕ) × (gs ≡ digits ++ es) × (rest ++ more ≡ es ++ (header_end ++ (content ++ after)))
 continued digits rest content text more after gs all every is e =
     run digits gs (rest ++ more) (10 ∷ (13 ∷ (10 ∷ (content ++ after)))) all every
-    (parts field digits rest gs header_end content more after (e ∙ ap (λ z. z ++ after) is))
+    (parts content_length_field digits rest gs header_end content more after (e ∙ ap (λ z. z ++ after) is))
 
-pub no_field : (bytes : List ℕ) → (IsEitherPrefix bytes field → ⊥) → CanBeginNoMessage bytes
+pub no_field : (bytes : List ℕ) → (IsEitherPrefix bytes content_length_field → ⊥) → CanBeginNoMessage bytes
 no_field bytes differ = λ content text more after m e.
-    differ (agrees bytes field more (m.0 ++ header_end ++ content ++ after)
+    differ (agrees bytes content_length_field more (m.0 ++ header_end ++ content ++ after)
     (e ∙ ap (λ z. z ++ after) m.2 ∙ simp append_assoc))
 
-pub too_long : (digits rest : List ℕ) → All IsDigit digits → content_limit < decimal_value_from 0 digits → CanBeginNoMessage (field ++ digits ++ rest)
+pub too_long : (digits rest : List ℕ) → All IsDigit digits → content_limit < decimal_value_from 0 digits → CanBeginNoMessage (content_length_field ++ digits ++ rest)
 too_long digits rest all past = λ content text more after m e.
     let r = continued digits rest content text more after m.0 all m.1.2 m.2 e in
     let v : decimal_value_from 0 m.0 ≡ decimal_value_from (decimal_value_from 0 digits) r.0 = ap (decimal_value_from 0) r.1 ∙ value_more 0 digits r.0 in
@@ -71,16 +71,16 @@ too_long digits rest all past = λ content text more after m e.
     let within : length content ≤ content_limit = m.1.4 in
     omega arith
 
-pub many_digits : (digits rest : List ℕ) → All IsDigit digits → digit_limit < length digits → CanBeginNoMessage (field ++ digits ++ rest)
+pub many_digits : (digits rest : List ℕ) → All IsDigit digits → content_length_digit_limit < length digits → CanBeginNoMessage (content_length_field ++ digits ++ rest)
 many_digits digits rest all past = λ content text more after m e.
     let r = continued digits rest content text more after m.0 all m.1.2 m.2 e in
     let l : length m.0 ≡ length digits + length r.0 = ap length r.1 ∙ length-append digits r.0 in
-    let most : length m.0 ≤ digit_limit = m.1.1 in
+    let most : length m.0 ≤ content_length_digit_limit = m.1.1 in
     omega arith
 
 -- if another byte follows digits, a message has no further ones
 no_more : (digits : List ℕ) (byte : ℕ) (rest content text more after gs : List ℕ) → All IsDigit digits → (IsDigit byte → ⊥) → All IsDigit gs →
-    text ≡ header_part gs ++ content → (field ++ digits ++ (byte ∷ rest)) ++ more ≡ text ++ after →
+    text ≡ header_part gs ++ content → (content_length_field ++ digits ++ (byte ∷ rest)) ++ more ≡ text ++ after →
     (gs ≡ digits) × ((byte ∷ rest) ++ more ≡ header_end ++ (content ++ after))
 no_more digits byte rest content text more after gs all not_one every is e =
     let r = continued digits (byte ∷ rest) content text more after gs all every is e in
@@ -88,7 +88,7 @@ no_more digits byte rest content text more after gs all not_one every is e =
     (right_of IsDigit digits r.0 (subst (All IsDigit) r.1 every)) r.2 in
     (r.1 ∙ ap (λ z. digits ++ z) none ∙ append-nil digits, r.2 ∙ ap (λ z. z ++ (header_end ++ (content ++ after))) none)
 
-pub no_digit : (byte : ℕ) (rest : List ℕ) → (IsDigit byte → ⊥) → CanBeginNoMessage (field ++ (byte ∷ rest))
+pub no_digit : (byte : ℕ) (rest : List ℕ) → (IsDigit byte → ⊥) → CanBeginNoMessage (content_length_field ++ (byte ∷ rest))
 no_digit byte rest not_one = λ content text more after m e.
     let r = no_more [] byte rest content text more after m.0 (λ k d lt. absurd (omega arith)) not_one m.1.2 m.2 e in
     let l : length m.0 ≡ 0 = ap length r.0 in
@@ -96,7 +96,7 @@ no_digit byte rest not_one = λ content text more after m e.
     omega arith
 
 pub no_end : (digits : List ℕ) (byte : ℕ) (rest : List ℕ) → All IsDigit digits → (IsDigit byte → ⊥) → (IsEitherPrefix (byte ∷ rest) header_end → ⊥) →
-    CanBeginNoMessage (field ++ digits ++ (byte ∷ rest))
+    CanBeginNoMessage (content_length_field ++ digits ++ (byte ∷ rest))
 no_end digits byte rest all not_one differ = λ content text more after m e.
     let r = no_more digits byte rest content text more after m.0 all not_one m.1.2 m.2 e in
     differ (agrees (byte ∷ rest) header_end more (content ++ after) r.1)
@@ -122,15 +122,15 @@ empty bytes more some is = (
     elim_one zero d lt = (omega arith, omega arith)
     elim_one (suc k) d lt = absurd (omega arith)
 
-pub part_of_field : (bytes : List ℕ) → length bytes < 16 → IsEitherPrefix bytes field → IsMessagePrefix bytes
+pub part_of_field : (bytes : List ℕ) → length bytes < 16 → IsEitherPrefix bytes content_length_field → IsMessagePrefix bytes
 part_of_field bytes short h =
-    let is : bytes ++ drop (length bytes) field ≡ field = front_is bytes field (omega arith) h in
-    let long : length (drop (length bytes) field ++ (48 ∷ header_end)) ≡ 16 - length bytes + 5 = length-append (drop (length bytes) field) (48 ∷ header_end) ∙ ap (λ n. n + 5) (length-drop (length bytes) field) in
-    empty bytes (drop (length bytes) field ++ (48 ∷ header_end)) (omega arith)
-    (sym (append_assoc bytes (drop (length bytes) field) (48 ∷ header_end)) ∙ ap (λ z. z ++ (48 ∷ header_end)) is)
+    let is : bytes ++ drop (length bytes) content_length_field ≡ content_length_field = front_is bytes content_length_field (omega arith) h in
+    let long : length (drop (length bytes) content_length_field ++ (48 ∷ header_end)) ≡ 16 - length bytes + 5 = length-append (drop (length bytes) content_length_field) (48 ∷ header_end) ∙ ap (λ n. n + 5) (length-drop (length bytes) content_length_field) in
+    empty bytes (drop (length bytes) content_length_field ++ (48 ∷ header_end)) (omega arith)
+    (sym (append_assoc bytes (drop (length bytes) content_length_field) (48 ∷ header_end)) ∙ ap (λ z. z ++ (48 ∷ header_end)) is)
 
-pub part_of_value : IsMessagePrefix field
-part_of_value = empty field (48 ∷ header_end) (omega arith) refl
+pub part_of_value : IsMessagePrefix content_length_field
+part_of_value = empty content_length_field (48 ∷ header_end) (omega arith) refl
 
 -- the bytes of a message's header so far, and of its content part so far
 begun : (bytes digits content more : List ℕ) (n : ℕ) → IsContentLength digits n → length content + length more ≡ n → (rest : List ℕ) → 1 ≤ length (rest ++ more) →
@@ -148,13 +148,13 @@ begun bytes digits content more n is l rest some e =
     )
 
 -- digits, and less than the end of the header
-pub part_of_end : (digits rest : List ℕ) (n : ℕ) → IsContentLength digits n → length rest < 4 → IsEitherPrefix rest header_end → IsMessagePrefix (field ++ digits ++ rest)
+pub part_of_end : (digits rest : List ℕ) (n : ℕ) → IsContentLength digits n → length rest < 4 → IsEitherPrefix rest header_end → IsMessagePrefix (content_length_field ++ digits ++ rest)
 part_of_end digits rest n is short h =
     let e : rest ++ drop (length rest) header_end ≡ header_end = front_is rest header_end (omega arith) h in
     let long : length (drop (length rest) header_end ++ replicate n 0) ≡ 4 - length rest + n =
     length-append (drop (length rest) header_end) (replicate n 0) ∙ ap (λ z. z + length (replicate {A = ℕ} n 0)) (length-drop (length rest) header_end) ∙ ap (λ z. 4 - length rest + z) (zeros n) in
-    begun (field ++ digits ++ rest) digits [] (replicate n 0) n is (omega (arith, zeros n)) (drop (length rest) header_end) (omega arith)
-    (append_assoc (field ++ digits) rest (drop (length rest) header_end) ∙ ap (λ z. (field ++ digits) ++ z) e ∙ sym (append-nil (header_part digits)))
+    begun (content_length_field ++ digits ++ rest) digits [] (replicate n 0) n is (omega (arith, zeros n)) (drop (length rest) header_end) (omega arith)
+    (append_assoc (content_length_field ++ digits) rest (drop (length rest) header_end) ∙ ap (λ z. (content_length_field ++ digits) ++ z) e ∙ sym (append-nil (header_part digits)))
 
 -- a header part, and less than the content part
 pub part_of_content : (digits content : List ℕ) (n : ℕ) → IsContentLength digits n → length content < n → IsMessagePrefix (header_part digits ++ content)
@@ -170,12 +170,12 @@ ended rest long h =
     let t : take 4 rest ≡ header_end = subst (λ n. take n rest ≡ take n header_end) m h in
     sym (take-append-drop 4 rest) ∙ ap (λ z. z ++ drop 4 rest) t
 
-in_header : (digits rest : List ℕ) → 4 ≤ length rest → IsEitherPrefix rest header_end → header_part digits ++ drop 4 rest ≡ field ++ digits ++ rest
-in_header digits rest long h = append_assoc (field ++ digits) header_end (drop 4 rest) ∙ ap (λ z. (field ++ digits) ++ z) (sym (ended rest long h))
+in_header : (digits rest : List ℕ) → 4 ≤ length rest → IsEitherPrefix rest header_end → header_part digits ++ drop 4 rest ≡ content_length_field ++ digits ++ rest
+in_header digits rest long h = append_assoc (content_length_field ++ digits) header_end (drop 4 rest) ∙ ap (λ z. (content_length_field ++ digits) ++ z) (sym (ended rest long h))
 
 -- digits, and what does not reach the end of the message
-pub part_behind : (digits rest : List ℕ) (n : ℕ) → IsContentLength digits n → length rest < 4 + n → IsEitherPrefix rest header_end → IsMessagePrefix (field ++ digits ++ rest)
-part_behind digits rest n is short h = elim (cases_lt (length rest) 4) as (λ w. IsMessagePrefix (field ++ digits ++ rest)) [
+pub part_behind : (digits rest : List ℕ) (n : ℕ) → IsContentLength digits n → length rest < 4 + n → IsEitherPrefix rest header_end → IsMessagePrefix (content_length_field ++ digits ++ rest)
+part_behind digits rest n is short h = elim (cases_lt (length rest) 4) as (λ w. IsMessagePrefix (content_length_field ++ digits ++ rest)) [
   | inl before ↦ part_of_end digits rest n is before h
   | inr behind ↦
       subst IsMessagePrefix (in_header digits rest behind h)
@@ -184,12 +184,12 @@ part_behind digits rest n is short h = elim (cases_lt (length rest) 4) as (λ w.
 
 -- ---- a message
 
-pub whole : (bytes digits rest : List ℕ) (n : ℕ) → bytes ≡ field ++ digits ++ rest → IsContentLength digits n → 4 + n ≤ length rest → IsEitherPrefix rest header_end →
+pub whole : (bytes digits rest : List ℕ) (n : ℕ) → bytes ≡ content_length_field ++ digits ++ rest → IsContentLength digits n → 4 + n ≤ length rest → IsEitherPrefix rest header_end →
     IsFramePrefix bytes (Message (16 + length digits + 4) (16 + length digits + 4 + n))
 whole bytes digits rest n e is long h =
     let all : bytes ≡ header_part digits ++ drop 4 rest = e ∙ sym (in_header digits rest (omega arith) h) in
-    let front : length (header_part digits) ≡ 16 + length digits + 4 = length-append (field ++ digits) header_end ∙ ap (λ n. n + 4) (length-append field digits) in
-    let l : length bytes ≡ 16 + length digits + length rest = ap length e ∙ length-append (field ++ digits) rest ∙ ap (λ n. n + length rest) (length-append field digits) in
+    let front : length (header_part digits) ≡ 16 + length digits + 4 = length-append (content_length_field ++ digits) header_end ∙ ap (λ n. n + 4) (length-append content_length_field digits) in
+    let l : length bytes ≡ 16 + length digits + length rest = ap length e ∙ length-append (content_length_field ++ digits) rest ∙ ap (λ n. n + length rest) (length-append content_length_field digits) in
     let start : take (16 + length digits + 4) bytes ≡ header_part digits = ap (take (16 + length digits + 4)) all ∙ take_at (header_part digits) (drop 4 rest) (16 + length digits + 4) front in
     let behind : drop (16 + length digits + 4) bytes ≡ drop 4 rest = ap (drop (16 + length digits + 4)) all ∙ drop_at (header_part digits) (drop 4 rest) (16 + length digits + 4) front in
     let content : drop (16 + length digits + 4) (take (16 + length digits + 4 + n) bytes) ≡ take n (drop 4 rest) = drop-take (16 + length digits + 4) n bytes ∙ ap (take n) behind in
@@ -201,43 +201,43 @@ whole bytes digits rest n e is long h =
 
 -- ---- the front of bytes that begin with the field's name
 
-pub three : (bytes : List ℕ) (n : ℕ) → take 16 bytes ≡ field → bytes ≡ field ++ take n (drop 16 bytes) ++ drop n (drop 16 bytes)
+pub three : (bytes : List ℕ) (n : ℕ) → take 16 bytes ≡ content_length_field → bytes ≡ content_length_field ++ take n (drop 16 bytes) ++ drop n (drop 16 bytes)
 three bytes n name =
-    sym (take-append-drop 16 bytes) ∙ ap (λ z. z ++ drop 16 bytes) name ∙ ap (λ z. field ++ z) (sym (take-append-drop n (drop 16 bytes)))
-    ∙ sym (append_assoc field (take n (drop 16 bytes)) (drop n (drop 16 bytes)))
+    sym (take-append-drop 16 bytes) ∙ ap (λ z. z ++ drop 16 bytes) name ∙ ap (λ z. content_length_field ++ z) (sym (take-append-drop n (drop 16 bytes)))
+    ∙ sym (append_assoc content_length_field (take n (drop 16 bytes)) (drop n (drop 16 bytes)))
 
-pub is_too_long : (bytes digits rest : List ℕ) → bytes ≡ field ++ digits ++ rest → All IsDigit digits → length digits ≤ 8 → content_limit < decimal_value_from 0 digits → IsFramePrefix bytes (Wrong TooLong)
+pub is_too_long : (bytes digits rest : List ℕ) → bytes ≡ content_length_field ++ digits ++ rest → All IsDigit digits → length digits ≤ 8 → content_limit < decimal_value_from 0 digits → IsFramePrefix bytes (Wrong TooLong)
 is_too_long bytes digits rest e all most past = (subst CanBeginNoMessage (sym e) (too_long digits rest all past), (digits, rest, (e, all), most, past))
 
-pub is_many : (bytes digits rest : List ℕ) → bytes ≡ field ++ digits ++ rest → All IsDigit digits → length digits ≡ 8 → decimal_value_from 0 digits ≤ content_limit → IsFramePrefix bytes (Wrong ManyDigits)
+pub is_many : (bytes digits rest : List ℕ) → bytes ≡ content_length_field ++ digits ++ rest → All IsDigit digits → length digits ≡ 8 → decimal_value_from 0 digits ≤ content_limit → IsFramePrefix bytes (Wrong ManyDigits)
 is_many bytes digits rest e all most within = (subst CanBeginNoMessage (sym e) (many_digits digits rest all (omega arith)), (digits, rest, (e, all), most, within))
 
-pub is_no_digit : (rest : List ℕ) → 0 < length rest → (0 < length rest → IsDigit (get_or rest 0 0) → ⊥) → IsFramePrefix (field ++ rest) (Wrong NoDigit)
+pub is_no_digit : (rest : List ℕ) → 0 < length rest → (0 < length rest → IsDigit (get_or rest 0 0) → ⊥) → IsFramePrefix (content_length_field ++ rest) (Wrong NoDigit)
 is_no_digit [] some not_one = absurd (omega arith)
 is_no_digit (byte ∷ rest) some not_one = (no_digit byte rest (not_one some), (byte, rest, (refl, λ k d lt. absurd (omega arith)), not_one some))
 
-pub is_no_end : (bytes digits rest : List ℕ) → bytes ≡ field ++ digits ++ rest → IsContentLength digits (decimal_value_from 0 digits) → (0 < length rest → IsDigit (get_or rest 0 0) → ⊥) →
+pub is_no_end : (bytes digits rest : List ℕ) → bytes ≡ content_length_field ++ digits ++ rest → IsContentLength digits (decimal_value_from 0 digits) → (0 < length rest → IsDigit (get_or rest 0 0) → ⊥) →
     (IsEitherPrefix rest header_end → ⊥) → IsFramePrefix bytes (Wrong HeaderEnd)
 is_no_end bytes digits [] e is not_one differ = absurd (differ refl)
 is_no_end bytes digits (byte ∷ rest) e is not_one differ =
     (subst CanBeginNoMessage (sym e) (no_end digits byte rest is.2 (not_one (omega arith)) differ), (digits, byte, rest, (e, is.2), is, not_one (omega arith), differ))
 
-pub is_part : (bytes digits rest : List ℕ) (n : ℕ) → bytes ≡ field ++ digits ++ rest → IsContentLength digits n → length rest < 4 + n → IsEitherPrefix rest header_end → IsFramePrefix bytes Part
+pub is_part : (bytes digits rest : List ℕ) (n : ℕ) → bytes ≡ content_length_field ++ digits ++ rest → IsContentLength digits n → length rest < 4 + n → IsEitherPrefix rest header_end → IsFramePrefix bytes Part
 is_part bytes digits rest n e is short h = subst IsMessagePrefix (sym e) (part_behind digits rest n is short h)
 
-pub is_name : (rest : List ℕ) → length rest ≡ 0 → IsFramePrefix (field ++ rest) Part
+pub is_name : (rest : List ℕ) → length rest ≡ 0 → IsFramePrefix (content_length_field ++ rest) Part
 is_name [] none = part_of_value
 is_name (r ∷ rest) none = absurd (omega arith)
 
 -- if there is no digit, the rest comes directly after the name
-pub no_digits : (bytes digits rest : List ℕ) → length digits ≡ 0 → bytes ≡ field ++ digits ++ rest → field ++ rest ≡ bytes
+pub no_digits : (bytes digits rest : List ℕ) → length digits ≡ 0 → bytes ≡ content_length_field ++ digits ++ rest → content_length_field ++ rest ≡ bytes
 no_digits bytes [] rest none e = sym e
 no_digits bytes (d ∷ digits) rest none e = absurd (omega arith)
 
-pub read_is : (bytes behind digits rest : List ℕ) (n : ℕ) → take 16 bytes ≡ field → behind ≡ drop 16 bytes → digits ≡ take n behind → rest ≡ drop n behind →
-    bytes ≡ field ++ digits ++ rest
+pub read_is : (bytes behind digits rest : List ℕ) (n : ℕ) → take 16 bytes ≡ content_length_field → behind ≡ drop 16 bytes → digits ≡ take n behind → rest ≡ drop n behind →
+    bytes ≡ content_length_field ++ digits ++ rest
 read_is bytes behind digits rest n name b d r =
-    three bytes n name ∙ sym (ap (λ z. field ++ z ++ drop n (drop 16 bytes)) (d ∙ ap (take n) b)) ∙ sym (ap (λ z. field ++ digits ++ z) (r ∙ ap (drop n) b))
+    three bytes n name ∙ sym (ap (λ z. content_length_field ++ z ++ drop n (drop 16 bytes)) (d ∙ ap (take n) b)) ∙ sym (ap (λ z. content_length_field ++ digits ++ z) (r ∙ ap (drop n) b))
 
 pub ends_there : (behind rest : List ℕ) (n : ℕ) → rest ≡ drop n behind → n ≤ length behind → (n < 8 → n < length behind → IsDigit (get_or behind n 0) → ⊥) →
     n < 8 → 0 < length rest → IsDigit (get_or rest 0 0) → ⊥

@@ -1,7 +1,7 @@
 -- The laws of framing.
 use Rattle.std.proofs.Common.{◌≡◌, ◌≤◌, ◌+◌, ◌*◌, ◌-◌, ◌++◌, ℕ, suc, List, [], ◌∷◌, refl, subst, arith, ◌<◌, ◌/◌, ◌%◌, ◌^◌, ◌∙◌, zero, length, take, drop, get_or, decimal, sym, ap, append_assoc, length-append}
 use Rattle.std.specs.List.{All}
-use Rattle.ga_dap_protocol.specs.Framing.{IsDigit, decimal_value_from, content_limit, field, header_end, header_part, IsContentLength, IsMessage, IsMessagePrefix, CanBeginNoMessage, IsFramePrefix, framed_message}
+use Rattle.ga_dap_protocol.specs.Framing.{IsDigit, decimal_value_from, content_limit, content_length_field, header_end, header_part, IsContentLength, IsMessage, IsMessagePrefix, CanBeginNoMessage, IsFramePrefix, framed_message}
 use Rattle.std.proofs.lemmas.List.{append_cancel_left, append-nil, take_at, drop_at, take-append-drop}
 use Rattle.std.proofs.lemmas.List.Elements.{All-append}
 use Rattle.std.proofs.lemmas.Fmt.{decimal_by_steps, length-decimal-le, decimal_nonempty}
@@ -67,7 +67,7 @@ pub both : (text other content inner after behind : List ℕ) → IsMessage cont
     text ++ after ≡ other ++ behind → (content ≡ inner) × (text ≡ other) × (after ≡ behind)
 both text other content inner after behind m k e =
     let whole : (header_part m.0 ++ content) ++ after ≡ (header_part k.0 ++ inner) ++ behind = sym (ap (λ z. z ++ after) m.2) ∙ e ∙ ap (λ z. z ++ behind) k.2 in
-    let cut : m.0 ++ (header_end ++ (content ++ after)) ≡ k.0 ++ (header_end ++ (inner ++ behind)) = parts field m.0 header_end content after k.0 inner behind whole in
+    let cut : m.0 ++ (header_end ++ (content ++ after)) ≡ k.0 ++ (header_end ++ (inner ++ behind)) = parts content_length_field m.0 header_end content after k.0 inner behind whole in
     let r = run m.0 k.0 (header_end ++ (content ++ after)) (10 ∷ (13 ∷ (10 ∷ (inner ++ behind)))) m.1.2 k.1.2 cut in
     let none : r.0 ≡ [] = no_digit_first 13 r.0 (header_end ++ (inner ++ behind)) (10 ∷ (13 ∷ (10 ∷ (content ++ after)))) no_digit_return
     (right_of IsDigit m.0 r.0 (subst (All IsDigit) r.1 k.1.2)) r.2 in
@@ -125,6 +125,6 @@ is_length n within =
     let h = spelled n small in
     (decimal_nonempty n small, length-decimal-le 7 n (omega arith) (omega arith) small, h.0, h.1, within)
 
-pub written : (content : List ℕ) → length content ≤ content_limit → IsMessage content (framed_message content)
+pub framed_content_is_message : (content : List ℕ) → length content ≤ content_limit → IsMessage content (framed_message content)
 unfolding framed_message
-written content within = (decimal (length content), is_length (length content) within, refl)
+framed_content_is_message content within = (decimal (length content), is_length (length content) within, refl)

@@ -4,9 +4,9 @@ use Rattle.std.proofs.lemmas.List.{take-append-le, take-append-drop, take-take, 
 use Rattle.ga_dap_protocol.specs.declared.broken.FrameError.{FrameError}
 use Rattle.ga_dap_protocol.specs.declared.broken.FrameError.TheVariants.{Field, NoDigit, TooLong, ManyDigits, HeaderEnd, Cut}
 use Rattle.ga_dap_protocol.specs.declared.framing.FramePrefix.TheVariants.{Message, Wrong}
-use Rattle.ga_dap_protocol.specs.Framing.{field, header_end, IsMessage, CanBeginNoMessage, IsEitherPrefix, HasHeaderDigits, IsFrameErrorOf, IsFramePrefix}
+use Rattle.ga_dap_protocol.specs.Framing.{content_length_field, header_end, IsMessage, CanBeginNoMessage, IsEitherPrefix, HasHeaderDigits, IsFrameErrorOf, IsFramePrefix}
 use Rattle.ga_dap_protocol.specs.Inbox.{IsNextMessage, IsInputError}
-use Rattle.ga_dap_protocol.specs.declared.inbox.Next.{Next}
+use Rattle.ga_dap_protocol.specs.declared.inbox.NextMessage.{NextMessage}
 
 begins_none : (bytes left : List ℕ) → CanBeginNoMessage bytes → CanBeginNoMessage (bytes ++ left)
 begins_none bytes left h = λ content text more after m e. h content text (left ++ more) after m (sym (append_assoc bytes left more) ∙ e)
@@ -21,10 +21,10 @@ shorter xs left ys h =
     sym (take-append-le n xs left (omega arith)) ∙ sym (take-take n m (xs ++ left) within) ∙ ap (take n) h ∙ take-take n m ys within
 
 reads_on : (bytes digits rest left : List ℕ) → HasHeaderDigits bytes digits rest → HasHeaderDigits (bytes ++ left) digits (rest ++ left)
-reads_on bytes digits rest left r = (ap (λ z. z ++ left) r.0 ∙ append_assoc (field ++ digits) rest left, r.1)
+reads_on bytes digits rest left r = (ap (λ z. z ++ left) r.0 ∙ append_assoc (content_length_field ++ digits) rest left, r.1)
 
 shows_on : (why : FrameError) (bytes left : List ℕ) → IsFrameErrorOf why bytes → IsFrameErrorOf why (bytes ++ left)
-shows_on Field bytes left h = λ agree. h (shorter bytes left field agree)
+shows_on Field bytes left h = λ agree. h (shorter bytes left content_length_field agree)
 shows_on NoDigit bytes left h = (h.0, h.1 ++ left, reads_on bytes [] (h.0 ∷ h.1) left h.2, h.3)
 shows_on TooLong bytes left h = (h.0, h.1 ++ left, reads_on bytes h.0 h.1 left h.2, h.3, h.4)
 shows_on ManyDigits bytes left h = (h.0, h.1 ++ left, reads_on bytes h.0 h.1 left h.2, h.3, h.4)
@@ -53,7 +53,7 @@ refused why all held rest bytes b a found =
     (a, subst (IsInputError why) (ap (λ z. z ++ rest) b ∙ sym a) (is_broken why bytes rest found.0 found.1))
 
 -- what comes where the reader has nothing left
-pub closed : (all held rest new left : List ℕ) (next : Next) → all ≡ held ++ rest → rest ≡ [] → new ≡ held → held ++ rest ≡ new ++ left → IsNextMessage new next new → IsNextMessage all next (new ++ left)
+pub closed : (all held rest new left : List ℕ) (next : NextMessage) → all ≡ held ++ rest → rest ≡ [] → new ≡ held → held ++ rest ≡ new ++ left → IsNextMessage new next new → IsNextMessage all next (new ++ left)
 closed all held rest new left next a none same e given =
     let held_is : held ++ rest ≡ held = ap (λ z. held ++ z) none ∙ append-nil held in
     let l : length new + length left ≡ length held = sym (length-append new left) ∙ sym (ap length e) ∙ ap length held_is in

@@ -12,12 +12,12 @@ abbrev pub content_limit : ℕ
 content_limit = 131072
 
 -- the most digits that the length of a content part is written with
-abbrev pub digit_limit : ℕ
-digit_limit = 7
+abbrev pub content_length_digit_limit : ℕ
+content_length_digit_limit = 7
 
 -- the field's name, and the separator before its value
-abbrev pub field : List ℕ
-field = codes "Content-Length: "
+abbrev pub content_length_field : List ℕ
+content_length_field = codes "Content-Length: "
 
 -- the end of the field, and that of the header part
 abbrev pub header_end : List ℕ
@@ -25,7 +25,7 @@ header_end = codes "\r\n\r\n"
 
 -- a header part whose field has this value
 abbrev pub header_part : List ℕ → List ℕ
-header_part digits = field ++ digits ++ header_end
+header_part digits = content_length_field ++ digits ++ header_end
 
 abbrev pub IsDigit : ℕ → Type 0
 IsDigit byte = (48 ≤ byte) × (byte ≤ 57)
@@ -37,7 +37,7 @@ decimal_value_from n (byte ∷ rest) = decimal_value_from (10 * n + (byte - 48))
 
 -- whether the digits are those of the length of a content part
 abbrev pub IsContentLength : List ℕ → ℕ → Type 0
-IsContentLength digits n = (1 ≤ length digits) × (length digits ≤ digit_limit) × All IsDigit digits × (decimal_value_from 0 digits ≡ n) × (n ≤ content_limit)
+IsContentLength digits n = (1 ≤ length digits) × (length digits ≤ content_length_digit_limit) × All IsDigit digits × (decimal_value_from 0 digits ≡ n) × (n ≤ content_limit)
 
 -- a text is the message with this content part
 abbrev pub IsMessage : List ℕ → List ℕ → Type 0
@@ -61,14 +61,14 @@ IsEitherPrefix xs ys = take (min (length xs) (length ys)) xs ≡ take (min (leng
 
 -- whether bytes are the field's name, digits, and the rest after them
 abbrev pub HasHeaderDigits : List ℕ → List ℕ → List ℕ → Type 0
-HasHeaderDigits bytes digits rest = (bytes ≡ field ++ digits ++ rest) × All IsDigit digits
+HasHeaderDigits bytes digits rest = (bytes ≡ content_length_field ++ digits ++ rest) × All IsDigit digits
 
 -- why the bytes begin with no message
 abbrev pub IsFrameErrorOf : FrameError → List ℕ → Type 0
-IsFrameErrorOf Field bytes = IsEitherPrefix bytes field → ⊥
+IsFrameErrorOf Field bytes = IsEitherPrefix bytes content_length_field → ⊥
 IsFrameErrorOf NoDigit bytes = (byte : ℕ) × (rest : List ℕ) × HasHeaderDigits bytes [] (byte ∷ rest) × (IsDigit byte → ⊥)
-IsFrameErrorOf TooLong bytes = (digits rest : List ℕ) × HasHeaderDigits bytes digits rest × (length digits ≤ digit_limit + 1) × (content_limit < decimal_value_from 0 digits)
-IsFrameErrorOf ManyDigits bytes = (digits rest : List ℕ) × HasHeaderDigits bytes digits rest × (length digits ≡ digit_limit + 1) × (decimal_value_from 0 digits ≤ content_limit)
+IsFrameErrorOf TooLong bytes = (digits rest : List ℕ) × HasHeaderDigits bytes digits rest × (length digits ≤ content_length_digit_limit + 1) × (content_limit < decimal_value_from 0 digits)
+IsFrameErrorOf ManyDigits bytes = (digits rest : List ℕ) × HasHeaderDigits bytes digits rest × (length digits ≡ content_length_digit_limit + 1) × (decimal_value_from 0 digits ≤ content_limit)
 IsFrameErrorOf HeaderEnd bytes = (digits : List ℕ) × (byte : ℕ) × (rest : List ℕ) × HasHeaderDigits bytes digits (byte ∷ rest) × IsContentLength digits (decimal_value_from 0 digits) × (IsDigit byte → ⊥) × (IsEitherPrefix (byte ∷ rest) header_end → ⊥)
 IsFrameErrorOf Cut bytes = ⊥
 

@@ -15,7 +15,7 @@ abbrev pub next_seq : ℕ → ℕ
 next_seq seq = (seq + 1) % 2 ^ 64
 
 -- a message is added: its text is that of the value, without a space where it has no float, and is read back as the value
-pub record IsSent (old : SentMessages) (seq : ℕ) (message : Data) (new : SentMessages) : Type 0 where
+pub record AddsMessage (old : SentMessages) (seq : ℕ) (message : Data) (new : SentMessages) : Type 0 where
   pub text : List ℕ
   pub bytes : new.bytes ≡ old.bytes ++ framed_message text
   pub compact : has_float message ≡ false → text ≡ compact_text message

@@ -2,7 +2,7 @@
 
 ghost use Rattle.std.specs.Prelude.{◌≡◌, ◌≢◌, ◌≤◌, ◌<◌, ◌+◌, ◌++◌, ◌↔◌, [], length, take, drop, min, slice_index, IsTrue, IfSome, IfNone, OnOk, OnErr};
 ghost use Rattle.std.specs.List.{All};
-ghost use Rattle.ga_dap_protocol.specs.Framing.{IsEitherPrefix, IsDigit, IsFramePrefix, HasHeaderDigits, content_limit, digit_limit, field, framed_message, decimal_value_from};
+ghost use Rattle.ga_dap_protocol.specs.Framing.{IsEitherPrefix, IsDigit, IsFramePrefix, HasHeaderDigits, content_limit, content_length_digit_limit, content_length_field, framed_message, decimal_value_from};
 
 use crate::broken::FrameError;
 use std::alloc::{AllocError, Global};
@@ -41,9 +41,9 @@ fn agree(bytes: &[u8], text: &[u8]) -> bool
 /// The number of digits at the front, at most one more than a length may have.
 fn digits_in(bytes: &[u8]) -> usize
     ensures within { result ≤ length bytes.now }
-    ensures most { result ≤ digit_limit + 1 }
+    ensures most { result ≤ content_length_digit_limit + 1 }
     ensures digits { All IsDigit (take result bytes.now) }
-    ensures all { result < digit_limit + 1 → result < length bytes.now → IsDigit (slice_index bytes.now result) → ⊥ }
+    ensures all { result < content_length_digit_limit + 1 → result < length bytes.now → IsDigit (slice_index bytes.now result) → ⊥ }
 {
     let mut count = 0;
     for byte in bytes {
@@ -88,10 +88,10 @@ pub fn parse_frame_prefix(bytes: &[u8]) -> FramePrefix
 /// The digits after the field's name, at most one more than a length may have, and the rest after them.
 fn value_behind(bytes: &[u8]) -> (&[u8], &[u8])
     requires long { 16 ≤ length bytes.now }
-    requires name { take 16 bytes.now ≡ field }
+    requires name { take 16 bytes.now ≡ content_length_field }
     ensures reads { HasHeaderDigits bytes.now result.0.now result.1.now }
-    ensures most { length result.0.now ≤ digit_limit + 1 }
-    ensures all { length result.0.now < digit_limit + 1 → 0 < length result.1.now → IsDigit (slice_index result.1.now 0) → ⊥ }
+    ensures most { length result.0.now ≤ content_length_digit_limit + 1 }
+    ensures all { length result.0.now < content_length_digit_limit + 1 → 0 < length result.1.now → IsDigit (slice_index result.1.now 0) → ⊥ }
 {
     let (_, behind) = bytes.split_at(16);
     let count = digits_in(behind);
@@ -101,7 +101,7 @@ fn value_behind(bytes: &[u8]) -> (&[u8], &[u8])
 /// The front of bytes that begin with the field's name.
 fn front_behind(bytes: &[u8]) -> FramePrefix
     requires long { 16 ≤ length bytes.now }
-    requires name { take 16 bytes.now ≡ field }
+    requires name { take 16 bytes.now ≡ content_length_field }
     ensures { IsFramePrefix bytes.now result }
 {
     let (digits, rest) = value_behind(bytes);
@@ -130,7 +130,7 @@ fn front_behind(bytes: &[u8]) -> FramePrefix
 /// The front of bytes in which no digit follows the field's name.
 fn without_digit(rest: &[u8]) -> FramePrefix
     requires { 0 < length rest.now → IsDigit (slice_index rest.now 0) → ⊥ }
-    ensures { IsFramePrefix (field ++ rest.now) result }
+    ensures { IsFramePrefix (content_length_field ++ rest.now) result }
 {
     if rest.is_empty() {
         FramePrefix::Part

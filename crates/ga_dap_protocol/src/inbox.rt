@@ -11,7 +11,7 @@ const BLOCK: usize = 65536;
 
 /// What comes next of an input.
 #[derive(Drop)]
-pub enum Next {
+pub enum NextMessage {
     /// The content part of a message.
     Message(Vec<u8>),
     /// The input ended between messages.
@@ -108,14 +108,14 @@ impl Inbox {
     }
 
     /// What comes where the input ended.
-    fn ended(&self) -> Next
+    fn ended(&self) -> NextMessage
         requires { IsMessagePrefix self.now }
         ensures { IsNextMessage self.now result self.now }
     {
         if self.bytes.is_empty() {
-            Next::End
+            NextMessage::End
         } else {
-            Next::Wrong(FrameError::Cut)
+            NextMessage::Wrong(FrameError::Cut)
         }
     }
 
@@ -124,7 +124,7 @@ impl Inbox {
     ///
     /// # Errors
     /// An allocation failed. Nothing is lost: a further call continues.
-    pub fn next<R: Read>(&mut self, reader: &mut R) -> Result<Next, AllocError>
+    pub fn next<R: Read>(&mut self, reader: &mut R) -> Result<NextMessage, AllocError>
         ensures next { (left : List ℕ) → R.remaining reader.old ≡ Some left → IfOk result (λ next.
             (rest : List ℕ) × (R.remaining reader.new ≡ Some rest) × IsNextMessage (self.old ++ left) next (self.new ++ rest)) }
         ensures refused { (left : List ℕ) → R.remaining reader.old ≡ Some left → OnErr result
@@ -134,16 +134,16 @@ impl Inbox {
             match parse_frame_prefix(self.bytes.as_slice()) {
                 FramePrefix::Message { start, end } => {
                     let content = self.take(start, end)?;
-                    return Ok(Next::Message(content));
+                    return Ok(NextMessage::Message(content));
                 }
-                FramePrefix::Wrong(why) => return Ok(Next::Wrong(why)),
+                FramePrefix::Wrong(why) => return Ok(NextMessage::Wrong(why)),
                 FramePrefix::Part => match self.fill(reader)? {
                     Fill::More => {}
-                    Fill::Failed => return Ok(Next::Failed),
+                    Fill::Failed => return Ok(NextMessage::Failed),
                     Fill::End => return Ok(self.ended()),
                 },
             }
         }
-        Ok(Next::Failed)
+        Ok(NextMessage::Failed)
     }
 }

@@ -4,7 +4,7 @@ ghost use Rattle.std.specs.Prelude.{◌≡◌, ◌≤◌, ◌++◌, ℕ, List, l
 ghost use Rattle.ga_dap_protocol.specs.Framing.{content_limit, framed_message, IsMessage, IsMessagePrefix, CanBeginNoMessage};
 
 /// What is written for a content part within the limit is its message.
-pub fn written()
+pub fn framed_content_is_message()
     ensures { (content : List ℕ) → length content ≤ content_limit → IsMessage content (framed_message content) }
 {}
 

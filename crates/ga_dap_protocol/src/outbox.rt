@@ -30,7 +30,7 @@ impl Outbox {
     ghost use Rattle.std.specs.Prelude.{◌≡◌, [], string_bytes, OnOk, OnErr};
     ghost use Rattle.serde_json.specs.View.{view};
     ghost use Rattle.ga_dap_protocol.specs.Messages.{response, bare_response, error_response, event as event_with, bare_event};
-    ghost use Rattle.ga_dap_protocol.specs.Sent.{next_seq, IsSent};
+    ghost use Rattle.ga_dap_protocol.specs.Sent.{next_seq, AddsMessage};
 
     /// An outbox with nothing to be written.
     pub fn new(alloc: Global) -> Self
@@ -81,7 +81,7 @@ impl Outbox {
 
     /// Adds a message with this number.
     fn push(&mut self, seq: u64, message: Value) -> Result<(), AllocError>
-        ensures sent { OnOk result (IsSent self.old seq (view message) self.new) }
+        ensures sent { OnOk result (AddsMessage self.old seq (view message) self.new) }
         ensures err { OnErr result (self.new ≡ self.old) }
     {
         let text = message.to_string(self.alloc)?;
@@ -95,7 +95,7 @@ impl Outbox {
     /// # Errors
     /// An allocation failed; nothing is added.
     pub fn respond(&mut self, request: &ClientRequest, body: Value) -> Result<(), AllocError>
-        ensures sent { OnOk result (IsSent self.old (next_seq self.old.seq)
+        ensures sent { OnOk result (AddsMessage self.old (next_seq self.old.seq)
             (response (next_seq self.old.seq) request.now.seq (string_bytes request.now.command) (view body)) self.new) }
         ensures err { OnErr result (self.new ≡ self.old) }
     {
@@ -109,7 +109,7 @@ impl Outbox {
     /// # Errors
     /// An allocation failed; nothing is added.
     pub fn acknowledge(&mut self, request: &ClientRequest) -> Result<(), AllocError>
-        ensures sent { OnOk result (IsSent self.old (next_seq self.old.seq)
+        ensures sent { OnOk result (AddsMessage self.old (next_seq self.old.seq)
             (bare_response (next_seq self.old.seq) request.now.seq (string_bytes request.now.command)) self.new) }
         ensures err { OnErr result (self.new ≡ self.old) }
     {
@@ -123,7 +123,7 @@ impl Outbox {
     /// # Errors
     /// An allocation failed; nothing is added.
     pub fn refuse(&mut self, request: &ClientRequest, why: &str) -> Result<(), AllocError>
-        ensures sent { OnOk result (IsSent self.old (next_seq self.old.seq)
+        ensures sent { OnOk result (AddsMessage self.old (next_seq self.old.seq)
             (error_response (next_seq self.old.seq) request.now.seq (string_bytes request.now.command) why.now) self.new) }
         ensures err { OnErr result (self.new ≡ self.old) }
     {
@@ -137,7 +137,7 @@ impl Outbox {
     /// # Errors
     /// An allocation failed; nothing is added.
     pub fn add_event(&mut self, event: &str, body: Value) -> Result<(), AllocError>
-        ensures sent { OnOk result (IsSent self.old (next_seq self.old.seq)
+        ensures sent { OnOk result (AddsMessage self.old (next_seq self.old.seq)
             (event_with (next_seq self.old.seq) event.now (view body)) self.new) }
         ensures err { OnErr result (self.new ≡ self.old) }
     {
@@ -151,7 +151,7 @@ impl Outbox {
     /// # Errors
     /// An allocation failed; nothing is added.
     pub fn add_bare_event(&mut self, event: &str) -> Result<(), AllocError>
-        ensures sent { OnOk result (IsSent self.old (next_seq self.old.seq)
+        ensures sent { OnOk result (AddsMessage self.old (next_seq self.old.seq)
             (bare_event (next_seq self.old.seq) event.now) self.new) }
         ensures err { OnErr result (self.new ≡ self.old) }
     {

@@ -5,7 +5,7 @@ use Rattle.ga_grid.specs.declared.node_id.NodeId.{NodeId}
 use Rattle.ga_dap_protocol.specs.declared.request.ClientRequest.{ClientRequest}
 use Rattle.ga_dap_queries.specs.declared.debuggee.Debuggee.{Debuggee}
 use Rattle.ga_dap_queries.specs.Disassembling.{DisassemblesWithinLimit, DisassemblesRequestedCount, DisassemblesReference}
-use Rattle.ga_dap_queries.specs.Sending.{Message, Sends, SendsAll, success_response}
+use Rattle.ga_dap_queries.specs.Sending.{Message, SendsMessage, SendsMessages, success_response}
 use Rattle.std.specs.Prelude.{OnOk}
 use Rattle.serde_json.specs.Data.{Data}
 use Rattle.ga_dap_protocol.specs.Sent.{SentMessages}
@@ -32,16 +32,16 @@ pub with_within : (p : Debuggee) (request : ClientRequest) (at : NodeId × ℕ) 
     → DisassemblesWithinLimit p request at b message
 with_within p request at a b message e told = subst (λ (z : Option ℕ). DisassemblesWithinLimit p request at z message) e told
 
-pub sent_one : (old : SentMessages) (message : Message) (new : SentMessages) → Sends old message new → SendsAll old (message ∷ []) new
+pub sent_one : (old : SentMessages) (message : Message) (new : SentMessages) → SendsMessage old message new → SendsMessages old (message ∷ []) new
 sent_one old message new one = (new, one, refl)
 
-pub sent_both : (old : SentMessages) (xs : List Message) (between : SentMessages) (ys : List Message) (new : SentMessages) → SendsAll old xs between → SendsAll between ys new
-    → SendsAll old (xs ++ ys) new
-sent_both old [] between ys new first rest = subst (λ (z : SentMessages). SendsAll z ys new) first rest
+pub sent_both : (old : SentMessages) (xs : List Message) (between : SentMessages) (ys : List Message) (new : SentMessages) → SendsMessages old xs between → SendsMessages between ys new
+    → SendsMessages old (xs ++ ys) new
+sent_both old [] between ys new first rest = subst (λ (z : SentMessages). SendsMessages z ys new) first rest
 sent_both old (x ∷ xs) between ys new first rest = (first.0, first.1, sent_both first.0 xs between ys new first.2 rest)
 
-pub sent_next : (old : SentMessages) (xs : List Message) (between : SentMessages) (message : Message) (new : SentMessages) → SendsAll old xs between → Sends between message new
-    → SendsAll old (xs ++ (message ∷ [])) new
+pub sent_next : (old : SentMessages) (xs : List Message) (between : SentMessages) (message : Message) (new : SentMessages) → SendsMessages old xs between → SendsMessage between message new
+    → SendsMessages old (xs ++ (message ∷ [])) new
 sent_next old xs between message new first one = sent_both old xs between (message ∷ []) new first (sent_one between message new one)
 
 -- what holds if a call succeeded, in other words
@@ -50,8 +50,8 @@ ok_then (Ok x) p f = f p
 ok_then (Err e) p f = tt
 
 -- a response whose body is what it is to be
-pub answers_so : (request : ClientRequest) (body wanted : Data) (old new : SentMessages) → body ≡ wanted → Sends old (success_response request body) new
-    → (message : Message) × (message ≡ success_response request wanted) × Sends old message new
+pub answers_so : (request : ClientRequest) (body wanted : Data) (old new : SentMessages) → body ≡ wanted → SendsMessage old (success_response request body) new
+    → (message : Message) × (message ≡ success_response request wanted) × SendsMessage old message new
 answers_so request body wanted old new e sent = (success_response request body, ap (success_response request) e, sent)
 
 -- ---- digits of names and of references to memory
@@ -86,15 +86,15 @@ marked_more flags k b f within old e n lt = elim (cases_eq n k) as (λ w. is_mar
   | inr ne ↦ (let here : is_marked (set flags k b) n ≡ is_marked flags n = get_or-set_other flags k n b false ne in here ∙ old n (omega (arith, lt, ne)))
 ]
 
-pub none_changed : (before now : ℕ → Bool) (old : SentMessages) → SendsAll old (thread_changes_below before now 0) old
+pub none_changed : (before now : ℕ → Bool) (old : SentMessages) → SendsMessages old (thread_changes_below before now 0) old
 unfolding thread_changes_below
 none_changed before now old = refl
 
 pub next_changed : (before now : ℕ → Bool) (n m : ℕ) (b c : Bool) (old between new : SentMessages) → m ≡ n → b ≡ before m → c ≡ now m
-    → SendsAll old (thread_changes_below before now n) between → SendsAll between (thread_change_messages b c m) new → SendsAll old (thread_changes_below before now (n + 1)) new
+    → SendsMessages old (thread_changes_below before now n) between → SendsMessages between (thread_change_messages b c m) new → SendsMessages old (thread_changes_below before now (n + 1)) new
 unfolding thread_changes_below
 next_changed before now n m b c old between new e was is first rest =
-    let same : SendsAll between (thread_change_messages (before n) (now n) n) new =
-    subst (λ (k : ℕ). SendsAll between (thread_change_messages (before k) (now k) k) new) e
-    (subst (λ (x : Bool). SendsAll between (thread_change_messages x (now m) m) new) was (subst (λ (y : Bool). SendsAll between (thread_change_messages b y m) new) is rest)) in
+    let same : SendsMessages between (thread_change_messages (before n) (now n) n) new =
+    subst (λ (k : ℕ). SendsMessages between (thread_change_messages (before k) (now k) k) new) e
+    (subst (λ (x : Bool). SendsMessages between (thread_change_messages x (now m) m) new) was (subst (λ (y : Bool). SendsMessages between (thread_change_messages b y m) new) is rest)) in
     rw add-one (sent_both old (thread_changes_below before now n) between (thread_change_messages (before n) (now n) n) new first same)

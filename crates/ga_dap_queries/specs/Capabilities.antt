@@ -17,16 +17,16 @@ abbrev pub is_path_format : Option Text → Bool
 is_path_format None = true
 is_path_format (Some format) = bytes_eq format (codes "path")
 
-abbrev pub names_paths : Data → Bool
-names_paths d = is_path_format (member_text (codes "pathFormat") d)
+abbrev pub names_files_by_path : Data → Bool
+names_files_by_path d = is_path_format (member_text (codes "pathFormat") d)
 
 -- a fault that can end a run; it does until the client says otherwise
-unfoldable pub filter_object : Text → Text → Data
-filter_object filter label =
+unfoldable pub exception_filter_object : Text → Text → Data
+exception_filter_object filter label =
     object (member (codes "default") (boolean true) (member (codes "filter") (string filter) (member (codes "label") (string label) no_members)))
 
 abbrev pub exception_breakpoint_filters : Data
-exception_breakpoint_filters = array (item (filter_object (codes "stop") (codes "A node stops")) (item (filter_object (codes "stuck") (codes "A node can never go on")) no_items))
+exception_breakpoint_filters = array (item (exception_filter_object (codes "stop") (codes "A node stops")) (item (exception_filter_object (codes "stuck") (codes "A node can never go on")) no_items))
 
 -- something that can be asked for
 abbrev pub supported_capability : Text → Members → Members
@@ -45,7 +45,7 @@ abbrev pub unsupported_client_option : Data → Option Text
 unsupported_client_option d =
     if not (counts_from_one (codes "linesStartAt1") d) then Some (codes "initialize: lines are counted from 1 on")
     else if not (counts_from_one (codes "columnsStartAt1") d) then Some (codes "initialize: columns are counted from 1 on")
-    else if not (names_paths d) then Some (codes "initialize: files are named by paths")
+    else if not (names_files_by_path d) then Some (codes "initialize: files are named by paths")
     else None
 
 abbrev pub initialize_message : ClientRequest → Option Text → Message

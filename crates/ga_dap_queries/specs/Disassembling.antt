@@ -43,15 +43,15 @@ IsMemoryReference text (Some at) = SpellsReference text (chip_address at.0.numbe
 IsMemoryReference text None = (n cell : ℕ) → n < 144 → cell < 256 → SpellsReference text (chip_address n cell) → ⊥
 
 -- the number of a member, which may be less than 0; 0 where it has none
-abbrev pub offset_given : Text → Data → ℤ
-offset_given name d = unwrap_or (option_and_then as_i64 (option_and_then as_number (get name d))) (pos 0)
+abbrev pub signed_member_or_zero : Text → Data → ℤ
+signed_member_or_zero name d = unwrap_or (option_and_then as_i64 (option_and_then as_number (get name d))) (pos 0)
 
 -- how many addresses further an offset leads, among the 4096 of a node, of which the first follows the last
 abbrev pub wrapped_address_offset : ℤ → ℕ
 wrapped_address_offset offset = unsigned_abs (int_rem_euclid offset (pos 4096))
 
 abbrev pub first_instruction_address : Data → ℕ → ℕ
-first_instruction_address d cell = (cell + (wrapped_address_offset (offset_given (codes "offset") d) + wrapped_address_offset (offset_given (codes "instructionOffset") d))) % 4096
+first_instruction_address d cell = (cell + (wrapped_address_offset (signed_member_or_zero (codes "offset") d) + wrapped_address_offset (signed_member_or_zero (codes "instructionOffset") d))) % 4096
 
 -- exactly as many instructions are sent as are requested; more than 4096 are refused
 abbrev pub instruction_count_in_limit : ℕ → Option ℕ

@@ -5,7 +5,7 @@ use Rattle.serde_json.specs.Data.{Data, string, object, no_members, member}
 use Rattle.ga_text.specs.Digits.{hex_byte_value}
 use Rattle.ga_text.specs.Lines.{Text}
 use Rattle.ga_lab.specs.Machine.{State}
-use Rattle.ga_dap_views.specs.Json.{whole_number}
+use Rattle.ga_dap_views.specs.Json.{json_whole_number}
 use Rattle.ga_dap_views.specs.Shown.{variable_at, variable_count, variable_name}
 use Rattle.ga_dap_views.specs.Variables.{variable_value}
 use Rattle.ga_dap_views.specs.declared.scope.Scope.TheVariants.{Registers}
@@ -25,8 +25,8 @@ DenotesVariable text one = (variable_name one ≡ text) ⊎ (cell_in_brackets te
 abbrev pub DenotesNoVariable : Text → Type 0
 DenotesNoVariable text = ((k : ℕ) → k < variable_count Registers → variable_name (variable_at Registers k) ≢ text) × (cell_in_brackets text ≡ None)
 
-unfoldable pub result_object : Text → Data
-result_object value = object (member (codes "result") (string value) (member (codes "variablesReference") (whole_number 0) no_members))
+unfoldable pub evaluate_result_object : Text → Data
+evaluate_result_object value = object (member (codes "result") (string value) (member (codes "variablesReference") (json_whole_number 0) no_members))
 
 abbrev pub evaluate_body : State → Bool → ℕ → Variable → Data
-evaluate_body s stuck n one = result_object (variable_value s stuck n one)
+evaluate_body s stuck n one = evaluate_result_object (variable_value s stuck n one)

@@ -2,7 +2,7 @@
 use Rattle.std.specs.Prelude.{◌≡◌, ◌<◌, ◌⊎◌, ◌++◌, ℕ, zero, suc, Bool, true, false, List, [], ◌∷◌, codes}
 use Rattle.serde_json.specs.Data.{Data, string, boolean, object, array, no_members, member, item, no_items}
 use Rattle.ga_text.specs.Lines.{Text}
-use Rattle.ga_dap_views.specs.Json.{whole_number, array_of}
+use Rattle.ga_dap_views.specs.Json.{json_whole_number, json_array_of}
 use Rattle.ga_grid.specs.declared.node_id.NodeId.{NodeId}
 use Rattle.ga_lab.specs.Machine.{State}
 use Rattle.ga_dap_views.specs.Numbers.{thread_id}
@@ -18,7 +18,7 @@ thread_reason true = codes "started"
 thread_reason false = codes "exited"
 
 unfoldable pub thread_body : Text → ℕ → Data
-thread_body reason n = object (member (codes "reason") (string reason) (member (codes "threadId") (whole_number (thread_id n)) no_members))
+thread_body reason n = object (member (codes "reason") (string reason) (member (codes "threadId") (json_whole_number (thread_id n)) no_members))
 
 abbrev pub thread_message : Bool → ℕ → Message
 thread_message started n = event_message (codes "thread") (thread_body (thread_reason started) n)
@@ -44,14 +44,14 @@ IsFirstThreadNode s programs n =
 unfoldable pub stopped_body : Text → Text → ℕ → Data
 stopped_body reason description n =
     object (member (codes "allThreadsStopped") (boolean true) (member (codes "description") (string description) (member (codes "reason") (string reason)
-    (member (codes "text") (string description) (member (codes "threadId") (whole_number (thread_id n)) no_members)))))
+    (member (codes "text") (string description) (member (codes "threadId") (json_whole_number (thread_id n)) no_members)))))
 
 -- the chip is stopped at breakpoints with these numbers: all nodes are
 unfoldable pub breakpoint_stopped_object : Text → Text → ℕ → Data → Data
 breakpoint_stopped_object reason description n ids =
     object (member (codes "allThreadsStopped") (boolean true) (member (codes "description") (string description)
     (member (codes "hitBreakpointIds") ids (member (codes "reason") (string reason)
-    (member (codes "text") (string description) (member (codes "threadId") (whole_number (thread_id n)) no_members))))))
+    (member (codes "text") (string description) (member (codes "threadId") (json_whole_number (thread_id n)) no_members))))))
 
 abbrev pub breakpoint_stopped_body : Text → Text → ℕ → List ℕ → Data
-breakpoint_stopped_body reason description n ids = breakpoint_stopped_object reason description n (array_of whole_number ids)
+breakpoint_stopped_body reason description n ids = breakpoint_stopped_object reason description n (json_array_of json_whole_number ids)

@@ -5,7 +5,7 @@ use Rattle.serde_json.specs.Data.{Data, string, object, array, no_items, no_memb
 use Rattle.ga_grid.specs.Chip.{record_at}
 use Rattle.ga_text.specs.Lines.{Text}
 use Rattle.ga_lab.specs.Machine.{State, chip_of}
-use Rattle.ga_dap_views.specs.Activity.{named_activity}
+use Rattle.ga_dap_views.specs.Activity.{node_name_and_activity_text}
 use Rattle.serde_json.specs.View.{view}
 use Rattle.ga_races.specs.Acts.{IsSubset, AreDeadlocked}
 use Rattle.ga_node.specs.Record.{NodeRecord}
@@ -34,7 +34,7 @@ exception_object id description =
 
 abbrev pub exception_info_body : State → Bool → ℕ → Data
 exception_info_body s stuck n =
-    exception_object (exception_filter (record_at (chip_of s) n).stop stuck) (codes "node " ++ named_activity (chip_of s) n)
+    exception_object (exception_filter (record_at (chip_of s) n).stop stuck) (codes "node " ++ node_name_and_activity_text (chip_of s) n)
 
 -- whether a node can never go on: it is in the greatest set of such nodes
 abbrev pub IsDeadlockStatus : List NodeRecord → ℕ → Bool → Type 0

@@ -3,7 +3,7 @@ use Rattle.std.specs.Prelude.{◌≡◌, ℕ, List, [], ◌∷◌, string_bytes}
 use Rattle.serde_json.specs.Data.{Data}
 use Rattle.ga_text.specs.Lines.{Text}
 use Rattle.ga_dap_protocol.specs.Messages.{response, bare_response, error_response, event}
-use Rattle.ga_dap_protocol.specs.Sent.{SentMessages, next_seq, IsSent}
+use Rattle.ga_dap_protocol.specs.Sent.{SentMessages, next_seq, AddsMessage}
 use Rattle.ga_dap_protocol.specs.declared.request.ClientRequest.{ClientRequest}
 
 -- a message but for its number
@@ -28,10 +28,10 @@ abbrev pub event_message : Text → Data → Message
 event_message name body seq = event seq name body
 
 -- a message is added with the next number
-abbrev pub Sends : SentMessages → Message → SentMessages → Type 0
-Sends old message new = IsSent old (next_seq old.seq) (message (next_seq old.seq)) new
+abbrev pub SendsMessage : SentMessages → Message → SentMessages → Type 0
+SendsMessage old message new = AddsMessage old (next_seq old.seq) (message (next_seq old.seq)) new
 
 -- some messages are added, in order, each with the next number
-abbrev pub SendsAll : SentMessages → List Message → SentMessages → Type 0
-SendsAll old [] new = new ≡ old
-SendsAll old (message ∷ rest) new = (between : SentMessages) × Sends old message between × SendsAll between rest new
+abbrev pub SendsMessages : SentMessages → List Message → SentMessages → Type 0
+SendsMessages old [] new = new ≡ old
+SendsMessages old (message ∷ rest) new = (between : SentMessages) × SendsMessage old message between × SendsMessages between rest new

@@ -17,13 +17,13 @@ use Rattle.ga_dap_protocol.specs.declared.request.ClientRequest.{ClientRequest}
 use Rattle.ga_dap_queries.specs.Arguments.{IsScopeArgument}
 use Rattle.ga_dap_queries.specs.Sending.{Message, success_response}
 
-unfoldable pub watched_object : Text → Text → Data
-watched_object id description =
+unfoldable pub data_breakpoint_info_object : Text → Text → Data
+data_breakpoint_info_object id description =
     object (member (codes "accessTypes") (array (item (string (codes "write")) no_items)) (member (codes "canPersist") (boolean true)
     (member (codes "dataId") (string id) (member (codes "description") (string description) no_members))))
 
-unfoldable pub unwatched_object : Data
-unwatched_object = object (member (codes "dataId") null (member (codes "description") (string (codes "only cells of RAM are watched")) no_members))
+unfoldable pub no_data_breakpoint_info_object : Data
+no_data_breakpoint_info_object = object (member (codes "dataId") null (member (codes "description") (string (codes "only cells of RAM are watched")) no_members))
 
 -- a cell of a node, by its address on the chip
 abbrev pub cell_description : NodeId → ℕ → Text
@@ -38,15 +38,15 @@ abbrev pub ram_cell_of_name : Text → Option ℕ
 ram_cell_of_name name = option_and_then ram_cell (cell_in_brackets name)
 
 abbrev pub data_info_of_cell : NodeId → Option ℕ → Data
-data_info_of_cell node None = unwatched_object
-data_info_of_cell node (Some cell) = watched_object (memory_reference (chip_address node.number cell)) (cell_description node cell)
+data_info_of_cell node None = no_data_breakpoint_info_object
+data_info_of_cell node (Some cell) = data_breakpoint_info_object (memory_reference (chip_address node.number cell)) (cell_description node cell)
 
 abbrev pub data_info_in_scope : Scope → NodeId → Option Text → Data
 data_info_in_scope Ram node name = data_info_of_cell node (option_and_then ram_cell_of_name name)
-data_info_in_scope other node name = unwatched_object
+data_info_in_scope other node name = no_data_breakpoint_info_object
 
 abbrev pub data_info_body : Option (NodeId × Scope) → Option Text → Data
-data_info_body None name = unwatched_object
+data_info_body None name = no_data_breakpoint_info_object
 data_info_body (Some at) name = data_info_in_scope at.1 at.0 name
 
 abbrev pub AnswersDataBreakpointInfo : ClientRequest → Message → Type 0

@@ -2,17 +2,17 @@
 
 ghost use Rattle.std.specs.Prelude.{◌≡◌, option_map, IfOk, OnOk, OnErr};
 ghost use Rattle.serde_json.specs.View.{view};
-ghost use Rattle.ga_dap_queries.specs.Sending.{Sends, Message, success_response};
-ghost use Rattle.ga_dap_queries.specs.Capabilities.{AnswersInitialize, capabilities, filter_object, exception_breakpoint_filters, counts_from_one, names_paths, unsupported_client_option};
+ghost use Rattle.ga_dap_queries.specs.Sending.{SendsMessage, Message, success_response};
+ghost use Rattle.ga_dap_queries.specs.Capabilities.{AnswersInitialize, capabilities, exception_filter_object, exception_breakpoint_filters, counts_from_one, names_files_by_path, unsupported_client_option};
 
 use crate::arguments::member_flag;
 use ga_dap_protocol::{ClientRequest, Outbox, member_text};
 use serde_json::{Value, json};
 use std::alloc::{AllocError, Global};
 
-#[tactic(auto, unfolding(crate::specs::Capabilities::filter_object))]
-fn filter_object(alloc: Global, filter: &str, label: &str) -> Result<Value, AllocError>
-    ensures { IfOk result (λ v. view v ≡ filter_object filter.now label.now) }
+#[tactic(auto, unfolding(crate::specs::Capabilities::exception_filter_object))]
+fn exception_filter_object(alloc: Global, filter: &str, label: &str) -> Result<Value, AllocError>
+    ensures { IfOk result (λ v. view v ≡ exception_filter_object filter.now label.now) }
 {
     json!(in alloc; {"default": true, "filter": filter, "label": label})
 }
@@ -21,8 +21,8 @@ fn filter_object(alloc: Global, filter: &str, label: &str) -> Result<Value, Allo
 fn exception_breakpoint_filters(alloc: Global) -> Result<Value, AllocError>
     ensures { IfOk result (λ v. view v ≡ exception_breakpoint_filters) }
 {
-    let stop = filter_object(alloc, "stop", "A node stops")?;
-    let stuck = filter_object(alloc, "stuck", "A node can never go on")?;
+    let stop = exception_filter_object(alloc, "stop", "A node stops")?;
+    let stuck = exception_filter_object(alloc, "stuck", "A node can never go on")?;
     json!(in alloc; [stop, stuck])
 }
 
@@ -56,8 +56,8 @@ fn counts_from_one(arguments: &Value, name: &str) -> bool
 }
 
 /// Whether files are named by their paths.
-fn names_paths(arguments: &Value) -> bool
-    ensures { result ≡ names_paths (view arguments.now) }
+fn names_files_by_path(arguments: &Value) -> bool
+    ensures { result ≡ names_files_by_path (view arguments.now) }
 {
     match member_text(arguments, "pathFormat") {
         Some(format) => format == "path",
@@ -75,7 +75,7 @@ fn unsupported_client_option(arguments: &Value) -> Option<&'static str>
     if !counts_from_one(arguments, "columnsStartAt1") {
         return Some("initialize: columns are counted from 1 on");
     }
-    if !names_paths(arguments) {
+    if !names_files_by_path(arguments) {
         return Some("initialize: files are named by paths");
     }
     None
@@ -87,7 +87,7 @@ fn tell_capabilities(
     request: &ClientRequest,
     out: &mut Outbox,
 ) -> Result<(), AllocError>
-    ensures sent { OnOk result (Sends out.old (success_response request.now (capabilities exception_breakpoint_filters)) out.new) }
+    ensures sent { OnOk result (SendsMessage out.old (success_response request.now (capabilities exception_breakpoint_filters)) out.new) }
     ensures err { OnErr result (out.new ≡ out.old) }
 {
     let exception_breakpoint_filters = exception_breakpoint_filters(alloc)?;
@@ -101,7 +101,7 @@ pub fn initialize(
     request: &ClientRequest,
     out: &mut Outbox,
 ) -> Result<(), AllocError>
-    ensures sent { OnOk result ((message : Message) × AnswersInitialize request.now message × Sends out.old message out.new) }
+    ensures sent { OnOk result ((message : Message) × AnswersInitialize request.now message × SendsMessage out.old message out.new) }
     ensures err { OnErr result (out.new ≡ out.old) }
 {
     match unsupported_client_option(&request.arguments) {

@@ -2,8 +2,8 @@
 
 ghost use Rattle.std.specs.Prelude.{◌≡◌, ◌≢◌, ◌<◌, ◌≤◌, ◌^◌, ℕ, Some, IfSome, IfNone, OnOk, OnErr};
 ghost use Rattle.serde_json.specs.View.{view};
-ghost use Rattle.ga_dap_queries.specs.Sending.{Sends, Message};
-ghost use Rattle.ga_dap_queries.specs.Disassembling.{SpellsHexadecimal, SpellsReference, IsMemoryReference, offset_given, wrapped_address_offset, first_instruction_address, instruction_count_in_limit, DisassemblesWithinLimit, DisassemblesRequestedCount, DisassemblesMemory, DisassemblesReference, AnswersDisassemble};
+ghost use Rattle.ga_dap_queries.specs.Sending.{SendsMessage, Message};
+ghost use Rattle.ga_dap_queries.specs.Disassembling.{SpellsHexadecimal, SpellsReference, IsMemoryReference, signed_member_or_zero, wrapped_address_offset, first_instruction_address, instruction_count_in_limit, DisassemblesWithinLimit, DisassemblesRequestedCount, DisassemblesMemory, DisassemblesReference, AnswersDisassemble};
 
 use crate::debuggee::Debuggee;
 use ga_dap_protocol::{ClientRequest, Outbox, member_number, member_text};
@@ -16,8 +16,8 @@ use std::alloc::{AllocError, Global};
 const MOST_INSTRUCTIONS: u64 = 4096;
 
 /// The whole number of a member; 0 where it has none.
-pub fn offset_at(value: &Value, name: &str) -> i64
-    ensures { result ≡ offset_given name.now (view value.now) }
+pub fn parse_signed_member(value: &Value, name: &str) -> i64
+    ensures { result ≡ signed_member_or_zero name.now (view value.now) }
 {
     value.get(name).and_then(Value::as_i64).unwrap_or(0)
 }
@@ -57,8 +57,8 @@ fn first_instruction_address(arguments: &Value, cell: u8) -> u32
     ensures value { result ≡ first_instruction_address (view arguments.now) cell }
     ensures most { result < 4096 }
 {
-    let behind = wrapped_address_offset(offset_at(arguments, "offset"))
-        + wrapped_address_offset(offset_at(arguments, "instructionOffset"));
+    let behind = wrapped_address_offset(parse_signed_member(arguments, "offset"))
+        + wrapped_address_offset(parse_signed_member(arguments, "instructionOffset"));
     (u32::from(cell) + behind) % 4096
 }
 
@@ -79,7 +79,7 @@ pub fn respond_disassemble(
     request: &ClientRequest,
     out: &mut Outbox,
 ) -> Result<(), AllocError>
-    ensures sent { OnOk result ((message : Message) × AnswersDisassemble program.now request.now message × Sends out.old message out.new) }
+    ensures sent { OnOk result ((message : Message) × AnswersDisassemble program.now request.now message × SendsMessage out.old message out.new) }
     ensures err { OnErr result (out.new ≡ out.old) }
 {
     match member_text(&request.arguments, "memoryReference") {
@@ -96,7 +96,7 @@ fn tell_referred(
     reference: &str,
     out: &mut Outbox,
 ) -> Result<(), AllocError>
-    ensures sent { OnOk result ((message : Message) × DisassemblesReference program.now request.now (Some reference.now) message × Sends out.old message out.new) }
+    ensures sent { OnOk result ((message : Message) × DisassemblesReference program.now request.now (Some reference.now) message × SendsMessage out.old message out.new) }
     ensures err { OnErr result (out.new ≡ out.old) }
 {
     match resolve_memory_reference(reference) {
@@ -113,7 +113,7 @@ fn tell_instructions_at(
     at: (NodeId, u8),
     out: &mut Outbox,
 ) -> Result<(), AllocError>
-    ensures sent { OnOk result ((message : Message) × DisassemblesMemory program.now request.now (Some at) message × Sends out.old message out.new) }
+    ensures sent { OnOk result ((message : Message) × DisassemblesMemory program.now request.now (Some at) message × SendsMessage out.old message out.new) }
     ensures err { OnErr result (out.new ≡ out.old) }
 {
     match member_number(&request.arguments, "instructionCount") {
@@ -142,7 +142,7 @@ fn tell_counted(
     count: u64,
     out: &mut Outbox,
 ) -> Result<(), AllocError>
-    ensures sent { OnOk result ((message : Message) × DisassemblesRequestedCount program.now request.now at (Some count) message × Sends out.old message out.new) }
+    ensures sent { OnOk result ((message : Message) × DisassemblesRequestedCount program.now request.now at (Some count) message × SendsMessage out.old message out.new) }
     ensures err { OnErr result (out.new ≡ out.old) }
 {
     match instruction_count_in_limit(count) {
@@ -161,7 +161,7 @@ fn tell_some(
     out: &mut Outbox,
 ) -> Result<(), AllocError>
     requires { count ≤ 4096 }
-    ensures sent { OnOk result ((message : Message) × DisassemblesWithinLimit program.now request.now at (Some count) message × Sends out.old message out.new) }
+    ensures sent { OnOk result ((message : Message) × DisassemblesWithinLimit program.now request.now at (Some count) message × SendsMessage out.old message out.new) }
     ensures err { OnErr result (out.new ≡ out.old) }
 {
     let first = first_instruction_address(&request.arguments, at.1);

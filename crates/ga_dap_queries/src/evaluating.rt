@@ -4,9 +4,11 @@ ghost use Rattle.std.specs.Prelude.{◌≡◌, ◌≢◌, ◌<◌, ◌↔◌, �
 ghost use Rattle.serde_json.specs.View.{view};
 ghost use Rattle.ga_dap_views.specs.declared.scope.Scope.TheVariants.{Registers};
 ghost use Rattle.ga_dap_views.specs.Shown.{IsVariable, variable_at, variable_count, variable_name};
-ghost use Rattle.ga_dap_queries.specs.Evaluating.{cell_in_brackets, DenotesVariable, DenotesNoVariable, result_object, evaluate_body};
+ghost use Rattle.ga_dap_queries.specs.Evaluating.{cell_in_brackets, DenotesVariable, DenotesNoVariable, evaluate_result_object, evaluate_body};
 
-use ga_dap_views::{Scope, Variable, count_variables, value_of, variable_name, variable_of};
+use ga_dap_views::{
+    Scope, Variable, count_variables, json_value_of_variable, variable_name, variable_of,
+};
 use ga_grid::NodeId;
 use ga_lab::Lab;
 use ga_text::parse_hex_byte;
@@ -68,9 +70,9 @@ pub fn parse_variable(alloc: Global, expression: &str) -> Result<Option<Variable
     }
 }
 
-#[tactic(auto, unfolding(crate::specs::Evaluating::result_object))]
+#[tactic(auto, unfolding(crate::specs::Evaluating::evaluate_result_object))]
 fn answer(alloc: Global, value: &str) -> Result<Value, AllocError>
-    ensures { IfOk result (λ v. view v ≡ result_object value.now) }
+    ensures { IfOk result (λ v. view v ≡ evaluate_result_object value.now) }
 {
     json!(in alloc; {"result": value, "variablesReference": 0u64})
 }
@@ -90,6 +92,6 @@ pub fn evaluate(
     requires { IsVariable variable }
     ensures { IfOk result (λ v. view v ≡ evaluate_body lab.now stuck node.number variable) }
 {
-    let value = value_of(alloc, lab, stuck, node, variable)?;
+    let value = json_value_of_variable(alloc, lab, stuck, node, variable)?;
     answer(alloc, value.as_str())
 }

@@ -19,12 +19,12 @@ pub use arguments::{frame_argument, member_values, thread_argument};
 pub use capabilities::initialize;
 pub use debuggee::Debuggee;
 pub use disassembling::{
-    offset_at, resolve_memory_reference, respond_disassemble, wrapped_address_offset,
+    parse_signed_member, resolve_memory_reference, respond_disassemble, wrapped_address_offset,
 };
 pub use evaluating::{evaluate, parse_variable};
 pub use exceptions::exception_info;
 pub use launch::{parse_limit, parse_schedule, stops_on_entry};
-pub use naming::add_name;
+pub use naming::push_node_name;
 pub use readings::{
     respond_exception_info, respond_scopes, respond_stack_trace, respond_threads, respond_variables,
 };
@@ -32,6 +32,6 @@ pub use request_name::{RequestName, parse_request_name};
 pub use stuck::is_deadlocked;
 pub use telling::{
     emit_breakpoint_hit, emit_output, emit_stopped, emit_thread_changes, first_thread_node,
-    thread_marks,
+    has_thread_by_node,
 };
 pub use watching::respond_data_breakpoint_info;

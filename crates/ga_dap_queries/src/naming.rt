@@ -25,7 +25,7 @@ fn add_digits(text: &mut String, row: u32, tens: u32, ones: u32) -> Result<(), A
 }
 
 /// Adds the name of a node.
-pub fn add_name(text: &mut String, node: NodeId) -> Result<(), AllocError>
+pub fn push_node_name(text: &mut String, node: NodeId) -> Result<(), AllocError>
     ensures { OnOk result (string_bytes text.new ≡ string_bytes text.old ++ name_of_node node) }
 {
     let yxx = node.yxx();

@@ -2,7 +2,7 @@
 
 ghost use Rattle.std.specs.Prelude.{◌≡◌, if◌then◌else◌, codes, option_map, IfOk, OnOk, OnErr};
 ghost use Rattle.serde_json.specs.View.{view};
-ghost use Rattle.ga_dap_queries.specs.Sending.{Sends, Message};
+ghost use Rattle.ga_dap_queries.specs.Sending.{SendsMessage, Message};
 ghost use Rattle.ga_dap_views.specs.Variables.{is_memory_scope};
 ghost use Rattle.ga_dap_queries.specs.Readings.{matches_variables_filter, no_variables, filtered_variables, IsVariablesResponse, AnswersThreads, AnswersStackTrace, AnswersScopes, AnswersVariables, AnswersExceptionInfo};
 
@@ -25,7 +25,7 @@ pub fn respond_threads(
     request: &ClientRequest,
     out: &mut Outbox,
 ) -> Result<(), AllocError>
-    ensures sent { OnOk result ((message : Message) × AnswersThreads program.now request.now message × Sends out.old message out.new) }
+    ensures sent { OnOk result ((message : Message) × AnswersThreads program.now request.now message × SendsMessage out.old message out.new) }
     ensures err { OnErr result (out.new ≡ out.old) }
 {
     let body = threads(alloc, &program.lab, program.nodes.as_slice())?;
@@ -39,7 +39,7 @@ pub fn respond_stack_trace(
     request: &ClientRequest,
     out: &mut Outbox,
 ) -> Result<(), AllocError>
-    ensures sent { OnOk result ((message : Message) × AnswersStackTrace program.now request.now message × Sends out.old message out.new) }
+    ensures sent { OnOk result ((message : Message) × AnswersStackTrace program.now request.now message × SendsMessage out.old message out.new) }
     ensures err { OnErr result (out.new ≡ out.old) }
 {
     match thread_argument(&request.arguments) {
@@ -60,7 +60,7 @@ pub fn respond_scopes(
     request: &ClientRequest,
     out: &mut Outbox,
 ) -> Result<(), AllocError>
-    ensures sent { OnOk result ((message : Message) × AnswersScopes request.now message × Sends out.old message out.new) }
+    ensures sent { OnOk result ((message : Message) × AnswersScopes request.now message × SendsMessage out.old message out.new) }
     ensures err { OnErr result (out.new ≡ out.old) }
 {
     match frame_argument(&request.arguments) {
@@ -79,7 +79,7 @@ pub fn respond_variables(
     request: &ClientRequest,
     out: &mut Outbox,
 ) -> Result<(), AllocError>
-    ensures sent { OnOk result ((message : Message) × AnswersVariables program.now request.now message × Sends out.old message out.new) }
+    ensures sent { OnOk result ((message : Message) × AnswersVariables program.now request.now message × SendsMessage out.old message out.new) }
     ensures err { OnErr result (out.new ≡ out.old) }
 {
     match scope_argument(&request.arguments) {
@@ -146,7 +146,7 @@ fn tell_variables_at(
     at: (NodeId, Scope),
     out: &mut Outbox,
 ) -> Result<(), AllocError>
-    ensures sent { OnOk result ((message : Message) × IsVariablesResponse program.now request.now at message × Sends out.old message out.new) }
+    ensures sent { OnOk result ((message : Message) × IsVariablesResponse program.now request.now at message × SendsMessage out.old message out.new) }
     ensures err { OnErr result (out.new ≡ out.old) }
 {
     let start = number_or_default(&request.arguments, "start", 0);
@@ -164,7 +164,7 @@ pub fn respond_exception_info(
     request: &ClientRequest,
     out: &mut Outbox,
 ) -> Result<(), AllocError>
-    ensures sent { OnOk result ((message : Message) × AnswersExceptionInfo program.now request.now message × Sends out.old message out.new) }
+    ensures sent { OnOk result ((message : Message) × AnswersExceptionInfo program.now request.now message × SendsMessage out.old message out.new) }
     ensures err { OnErr result (out.new ≡ out.old) }
 {
     match thread_argument(&request.arguments) {

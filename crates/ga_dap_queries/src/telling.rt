@@ -3,9 +3,9 @@
 ghost use Rattle.std.specs.Prelude.{◌≡◌, ◌<◌, ℕ, codes, length, map, IfOk, OnOk, OnErr};
 ghost use Rattle.serde_json.specs.View.{view};
 ghost use Rattle.ga_causal.specs.Dependence.{is_marked};
-ghost use Rattle.ga_dap_views.specs.Json.{whole_number};
+ghost use Rattle.ga_dap_views.specs.Json.{json_whole_number};
 ghost use Rattle.ga_dap_views.specs.Threads.{has_thread};
-ghost use Rattle.ga_dap_queries.specs.Sending.{Sends, SendsAll, event_message};
+ghost use Rattle.ga_dap_queries.specs.Sending.{SendsMessage, SendsMessages, event_message};
 ghost use Rattle.ga_dap_queries.specs.Events.{output_body, thread_body, thread_reason, stopped_body, breakpoint_stopped_object, breakpoint_stopped_body, thread_change_messages, thread_changes_below, IsFirstThreadNode};
 
 use ga_dap_protocol::Outbox;
@@ -29,7 +29,7 @@ pub fn emit_output(
     text: &str,
     out: &mut Outbox,
 ) -> Result<(), AllocError>
-    ensures sent { OnOk result (Sends out.old (event_message (codes "output") (output_body category.now text.now)) out.new) }
+    ensures sent { OnOk result (SendsMessage out.old (event_message (codes "output") (output_body category.now text.now)) out.new) }
     ensures err { OnErr result (out.new ≡ out.old) }
 {
     let body = output_body(alloc, category, text)?;
@@ -56,7 +56,7 @@ pub fn emit_thread(
     node: NodeId,
     out: &mut Outbox,
 ) -> Result<(), AllocError>
-    ensures sent { OnOk result (Sends out.old (event_message (codes "thread") (thread_body (thread_reason started) node.number)) out.new) }
+    ensures sent { OnOk result (SendsMessage out.old (event_message (codes "thread") (thread_body (thread_reason started) node.number)) out.new) }
     ensures err { OnErr result (out.new ≡ out.old) }
 {
     let body = thread_body(alloc, thread_reason(started), node)?;
@@ -64,7 +64,7 @@ pub fn emit_thread(
 }
 
 /// The nodes that have something to show.
-pub fn thread_marks(lab: &Lab, programs: &[NodeId]) -> [bool; 144]
+pub fn has_thread_by_node(lab: &Lab, programs: &[NodeId]) -> [bool; 144]
     ensures marks { (n : ℕ) → n < 144 → is_marked result n ≡ has_thread lab.now programs.now n }
     ensures size { length result ≡ 144 }
 {
@@ -84,7 +84,7 @@ pub fn emit_thread_changes(
     now: &[bool; 144],
     out: &mut Outbox,
 ) -> Result<(), AllocError>
-    ensures { OnOk result (SendsAll out.old (thread_changes_below (is_marked before.now) (is_marked now.now) 144) out.new) }
+    ensures { OnOk result (SendsMessages out.old (thread_changes_below (is_marked before.now) (is_marked now.now) 144) out.new) }
 {
     'nodes: for number in 0..144u8 {
         let node = NodeId::new(number);
@@ -109,7 +109,7 @@ fn tell_if_changed(
     node: NodeId,
     out: &mut Outbox,
 ) -> Result<(), AllocError>
-    ensures sent { OnOk result (SendsAll out.old (thread_change_messages before now node.number) out.new) }
+    ensures sent { OnOk result (SendsMessages out.old (thread_change_messages before now node.number) out.new) }
 {
     match (before, now) {
         (false, true) => emit_thread(alloc, true, node, out),
@@ -158,7 +158,7 @@ pub fn emit_stopped(
     node: NodeId,
     out: &mut Outbox,
 ) -> Result<(), AllocError>
-    ensures sent { OnOk result (Sends out.old (event_message (codes "stopped") (stopped_body reason.now description.now node.number)) out.new) }
+    ensures sent { OnOk result (SendsMessage out.old (event_message (codes "stopped") (stopped_body reason.now description.now node.number)) out.new) }
     ensures err { OnErr result (out.new ≡ out.old) }
 {
     let body = stopped_body(alloc, reason, description, node)?;
@@ -168,7 +168,7 @@ pub fn emit_stopped(
 /// The numbers of some breakpoints.
 #[tactic(auto, using(std::proofs::lemmas::List::map_push))]
 fn numbers_of(alloc: Global, ids: &[u64]) -> Result<Vec<Value>, AllocError>
-    ensures { IfOk result (λ list. map view list.items ≡ map whole_number ids.now) }
+    ensures { IfOk result (λ list. map view list.items ≡ map json_whole_number ids.now) }
 {
     let mut list = Vec::new(alloc);
     'ids: for id in ids {
@@ -219,7 +219,7 @@ pub fn emit_breakpoint_hit(
     ids: &[u64],
     out: &mut Outbox,
 ) -> Result<(), AllocError>
-    ensures sent { OnOk result (Sends out.old (event_message (codes "stopped") (breakpoint_stopped_body reason.now description.now node.number ids.now)) out.new) }
+    ensures sent { OnOk result (SendsMessage out.old (event_message (codes "stopped") (breakpoint_stopped_body reason.now description.now node.number ids.now)) out.new) }
     ensures err { OnErr result (out.new ≡ out.old) }
 {
     let body = breakpoint_stopped_body(alloc, reason, description, node, ids)?;

@@ -9,11 +9,11 @@ ghost use Rattle.ga_dap_queries.specs.Evaluating.{cell_in_brackets};
 ghost use Rattle.ga_dap_views.specs.Variables.{memory_reference};
 ghost use Rattle.ga_dap_views.specs.declared.scope.Scope.TheVariants.{Ram};
 ghost use Rattle.ga_dap_views.specs.declared.variable.Variable.TheVariants.{Cell};
-ghost use Rattle.ga_dap_queries.specs.Sending.{Sends, Message};
-ghost use Rattle.ga_dap_queries.specs.Watching.{watched_object, unwatched_object, cell_description, ram_cell_of_name, data_info_of_cell, data_info_in_scope, data_info_body, AnswersDataBreakpointInfo};
+ghost use Rattle.ga_dap_queries.specs.Sending.{SendsMessage, Message};
+ghost use Rattle.ga_dap_queries.specs.Watching.{data_breakpoint_info_object, no_data_breakpoint_info_object, cell_description, ram_cell_of_name, data_info_of_cell, data_info_in_scope, data_info_body, AnswersDataBreakpointInfo};
 
 use crate::arguments::scope_argument;
-use crate::naming::add_name;
+use crate::naming::push_node_name;
 use ga_dap_protocol::{ClientRequest, Outbox, member_text};
 use ga_dap_views::{Scope, chip_address};
 use ga_grid::NodeId;
@@ -21,16 +21,20 @@ use ga_text::parse_hex_byte;
 use serde_json::{Value, json};
 use std::alloc::{AllocError, Global};
 
-#[tactic(auto, unfolding(crate::specs::Watching::watched_object))]
-fn watched_object(alloc: Global, id: &str, description: &str) -> Result<Value, AllocError>
-    ensures { IfOk result (λ v. view v ≡ watched_object id.now description.now) }
+#[tactic(auto, unfolding(crate::specs::Watching::data_breakpoint_info_object))]
+fn data_breakpoint_info_object(
+    alloc: Global,
+    id: &str,
+    description: &str,
+) -> Result<Value, AllocError>
+    ensures { IfOk result (λ v. view v ≡ data_breakpoint_info_object id.now description.now) }
 {
     json!(in alloc; {"accessTypes": ["write"], "canPersist": true, "dataId": id, "description": description})
 }
 
-#[tactic(auto, unfolding(crate::specs::Watching::unwatched_object))]
-fn unwatched_object(alloc: Global) -> Result<Value, AllocError>
-    ensures { IfOk result (λ v. view v ≡ unwatched_object) }
+#[tactic(auto, unfolding(crate::specs::Watching::no_data_breakpoint_info_object))]
+fn no_data_breakpoint_info_object(alloc: Global) -> Result<Value, AllocError>
+    ensures { IfOk result (λ v. view v ≡ no_data_breakpoint_info_object) }
 {
     json!(in alloc; {"dataId": null, "description": "only cells of RAM are watched"})
 }
@@ -83,7 +87,7 @@ fn cell_description(alloc: Global, node: NodeId, cell: u8) -> Result<String, All
 {
     let digits = two_digits(alloc, cell)?;
     let mut text = String::from_str(alloc, "node ")?;
-    add_name(&mut text, node)?;
+    push_node_name(&mut text, node)?;
     text.push_str(", cell ")?;
     text.push_str(digits.as_str())?;
     Ok(text)
@@ -116,7 +120,7 @@ fn data_info_of_cell(alloc: Global, node: NodeId, cell: Option<u8>) -> Result<Va
 {
     match cell {
         Some(cell) => watched_named(alloc, node, cell),
-        None => unwatched_object(alloc),
+        None => no_data_breakpoint_info_object(alloc),
     }
 }
 
@@ -125,7 +129,7 @@ fn watched_named(alloc: Global, node: NodeId, cell: u8) -> Result<Value, AllocEr
 {
     let id = reference_text(alloc, chip_address(node, cell))?;
     let description = cell_description(alloc, node, cell)?;
-    watched_object(alloc, id.as_str(), description.as_str())
+    data_breakpoint_info_object(alloc, id.as_str(), description.as_str())
 }
 
 /// What is sent about the variable of a name in the RAM of a node.
@@ -134,7 +138,7 @@ fn watched_in_ram(alloc: Global, node: NodeId, name: Option<&str>) -> Result<Val
 {
     match name {
         Some(text) => data_info_of_cell(alloc, node, ram_cell_of_name(text.as_bytes())),
-        None => unwatched_object(alloc),
+        None => no_data_breakpoint_info_object(alloc),
     }
 }
 
@@ -149,11 +153,11 @@ fn data_info_in_scope(
 {
     match scope {
         Scope::Ram => watched_in_ram(alloc, node, name),
-        Scope::Registers => unwatched_object(alloc),
-        Scope::Data => unwatched_object(alloc),
-        Scope::Returns => unwatched_object(alloc),
-        Scope::Links => unwatched_object(alloc),
-        Scope::Rom => unwatched_object(alloc),
+        Scope::Registers => no_data_breakpoint_info_object(alloc),
+        Scope::Data => no_data_breakpoint_info_object(alloc),
+        Scope::Returns => no_data_breakpoint_info_object(alloc),
+        Scope::Links => no_data_breakpoint_info_object(alloc),
+        Scope::Rom => no_data_breakpoint_info_object(alloc),
     }
 }
 
@@ -166,7 +170,7 @@ fn data_info_body(
 {
     match at {
         Some(at) => data_info_in_scope(alloc, at.1, at.0, name),
-        None => unwatched_object(alloc),
+        None => no_data_breakpoint_info_object(alloc),
     }
 }
 
@@ -176,7 +180,7 @@ pub fn respond_data_breakpoint_info(
     request: &ClientRequest,
     out: &mut Outbox,
 ) -> Result<(), AllocError>
-    ensures sent { OnOk result ((message : Message) × AnswersDataBreakpointInfo request.now message × Sends out.old message out.new) }
+    ensures sent { OnOk result ((message : Message) × AnswersDataBreakpointInfo request.now message × SendsMessage out.old message out.new) }
     ensures err { OnErr result (out.new ≡ out.old) }
 {
     let at = scope_argument(&request.arguments);

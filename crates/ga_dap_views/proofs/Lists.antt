@@ -9,12 +9,12 @@ use Rattle.serde_json.specs.View.{view, items_of}
 use Rattle.serde_json.specs.declared.value.Value.{Value}
 use Rattle.ga_grid.specs.declared.node_id.NodeId.{NodeId}
 use Rattle.ga_lab.specs.Machine.{State}
-use Rattle.ga_dap_views.specs.Threads.{has_thread, thread_in, nodes_with_threads}
+use Rattle.ga_dap_views.specs.Threads.{has_thread, node_thread_object, nodes_with_threads}
 use Rattle.ga_debug_info.specs.declared.notes.DebugInfo.{DebugInfo}
 use Rattle.ga_dap_views.specs.declared.frames.SourceFile.{SourceFile}
 use Rattle.ga_dap_views.specs.Calls.{open_calls}
-use Rattle.ga_dap_views.specs.Frames.{frame, frame_slot_address, stack_object, stack_trace}
-use Rattle.ga_dap_views.specs.Json.{array_of}
+use Rattle.ga_dap_views.specs.Frames.{frame_object, frame_slot_address, stack_object, stack_trace}
+use Rattle.ga_dap_views.specs.Json.{json_array_of}
 use Rattle.ga_dap_views.specs.Variables.{requested_range}
 
 range_more : (n : ℕ) → range_with_len 0 (n + 1) ≡ range_with_len 0 n ++ n ∷ []
@@ -31,14 +31,14 @@ unfolding nodes_with_threads
 no_threads s programs = refl
 
 -- the thread of one more node, where it has one
-pub thread_step : (s : State) (programs : List NodeId) (n at : ℕ) (old new : List Data) → at ≡ n → old ≡ map (thread_in s) (nodes_with_threads s programs n)
-    → new ≡ old ++ map (thread_in s) (filter (has_thread s programs) (at ∷ [])) → new ≡ map (thread_in s) (nodes_with_threads s programs (n + 1))
+pub thread_step : (s : State) (programs : List NodeId) (n at : ℕ) (old new : List Data) → at ≡ n → old ≡ map (node_thread_object s) (nodes_with_threads s programs n)
+    → new ≡ old ++ map (node_thread_object s) (filter (has_thread s programs) (at ∷ [])) → new ≡ map (node_thread_object s) (nodes_with_threads s programs (n + 1))
 thread_step s programs n at old new same before grown =
     grown
-    ∙ ap (λ (z : List Data). z ++ map (thread_in s) (filter (has_thread s programs) (at ∷ []))) before
-    ∙ ap (λ (z : ℕ). map (thread_in s) (nodes_with_threads s programs n) ++ map (thread_in s) (filter (has_thread s programs) (z ∷ []))) same
-    ∙ sym (map-append (thread_in s) (nodes_with_threads s programs n) (filter (has_thread s programs) (n ∷ [])))
-    ∙ sym (ap (λ (z : List ℕ). map (thread_in s) z) (chosen_more s programs n))
+    ∙ ap (λ (z : List Data). z ++ map (node_thread_object s) (filter (has_thread s programs) (at ∷ []))) before
+    ∙ ap (λ (z : ℕ). map (node_thread_object s) (nodes_with_threads s programs n) ++ map (node_thread_object s) (filter (has_thread s programs) (z ∷ []))) same
+    ∙ sym (map-append (node_thread_object s) (nodes_with_threads s programs n) (filter (has_thread s programs) (n ∷ [])))
+    ∙ sym (ap (λ (z : List ℕ). map (node_thread_object s) z) (chosen_more s programs n))
 
 -- one more value after those of a range
 pub range_step : (f : ℕ → Data) (first n : ℕ) (old new : List Value) (value : Value) → first ≤ n → new ≡ old ++ value ∷ [] → view value ≡ f n
@@ -83,9 +83,9 @@ places_so first end total start count at size =
     ∙ from_min total start many few
 
 pub stack_so : (file : SourceFile) (notes : DebugInfo) (s : State) (node : NodeId) (start count total : ℕ) (list : List Data) (range : List ℕ) → total ≡ length (open_calls s node) + 1
-    → list ≡ map (λ (k : ℕ). frame file notes node k (frame_slot_address s node k)) range → range ≡ requested_range total start count
+    → list ≡ map (λ (k : ℕ). frame_object file notes node k (frame_slot_address s node k)) range → range ≡ requested_range total start count
     → stack_object (array (items_of list)) total ≡ stack_trace file notes s node start count
 stack_so file notes s node start count total list range many are places =
-    let of : ℕ → Data = λ k. frame file notes node k (frame_slot_address s node k) in
+    let of : ℕ → Data = λ k. frame_object file notes node k (frame_slot_address s node k) in
     ap (λ (z : List Data). stack_object (array (items_of z)) total) (are ∙ ap (λ (z : List ℕ). map of z) places)
-    ∙ ap (λ (z : ℕ). stack_object (array_of of (requested_range z start count)) z) many
+    ∙ ap (λ (z : ℕ). stack_object (json_array_of of (requested_range z start count)) z) many

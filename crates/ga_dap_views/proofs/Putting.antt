@@ -5,7 +5,7 @@ use Rattle.std.specs.List.{range_with_len}
 use Rattle.ga_grid.specs.declared.node_id.NodeId.{NodeId}
 use Rattle.ga_lab.specs.Machine.{State}
 use Rattle.ga_event.specs.declared.flow.part.NodePart.TheVariants as part
-use Rattle.ga_provenance.specs.Origins.{flow_at}
+use Rattle.ga_provenance.specs.Origins.{value_flow_at_step}
 use Rattle.ga_dap_views.specs.declared.calls.ReturnStackEffect.{ReturnStackEffect}
 use Rattle.ga_dap_views.specs.Calls.{pushed_by_step, return_entry_source, return_entry_sources}
 use Rattle.ga_dap_views.specs.inner.{shift_at, entry_before}
@@ -18,7 +18,7 @@ same_map {A} {B} f g same (x ∷ xs) = ap (λ (z : B). z ∷ map f xs) (same x) 
 pub entries_so : (s : State) (node : NodeId) (k : ℕ) (by : ReturnStackEffect) → by ≡ shift_at s node.number k → map (entry_before by) (range_with_len 0 9) ≡ return_entry_sources s node k
 entries_so s node k by is =
     ap (λ (z : ReturnStackEffect). map (entry_before z) (range_with_len 0 9)) is
-    ∙ same_map (entry_before (shift_at s node.number k)) (λ p. return_entry_source (flow_at s node.number k (part.Return p)) p) (λ p. sym (shifted s node.number k p)) (range_with_len 0 9)
+    ∙ same_map (entry_before (shift_at s node.number k)) (λ p. return_entry_source (value_flow_at_step s node.number k (part.Return p)) p) (λ p. sym (shifted s node.number k p)) (range_with_len 0 9)
 
 put_so : (s : State) (node : NodeId) (left place : ℕ) (by : ReturnStackEffect) (came : Option ℕ) → 0 < left → by ≡ shift_at s node.number (left - 1) → came ≡ entry_before by place
     → pushed_by_step s node left place ≡ unwrap_or (option_map (pushed_by_step s node (left - 1)) came) left

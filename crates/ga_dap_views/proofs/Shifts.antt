@@ -2,18 +2,18 @@
 use Rattle.std.proofs.Common.{◌≡◌, ◌+◌, ◌-◌, ◌==◌, ◌%◌, ◌/◌, ◌^◌, ◌++◌, ℕ, suc, Bool, true, false, ◌&&◌, cond, List, [], ◌∷◌, Option, Some, None, refl, sym, ap, ◌∙◌, arith}
 use Rattle.std.specs.List.{slice_get}
 use Rattle.std.proofs.lemmas.Bool.{eqb-true}
-use Rattle.ga_slots.specs.Codes.{code_of, op_of}
+use Rattle.ga_slots.specs.Codes.{code_of, op_of_code}
 use Rattle.ga_slots.specs.declared.op.Op.{Op}
 use Rattle.ga_slots.specs.declared.op.Op.TheVariants as op
-use Rattle.ga_ports.specs.Address.{address_target, is_single_side, side_of}
-use Rattle.ga_ports.specs.declared.address.Target.{Target}
-use Rattle.ga_ports.specs.declared.address.Target.TheVariants as target
+use Rattle.ga_ports.specs.Address.{address_target, is_single_side, side_of_single_set}
+use Rattle.ga_ports.specs.declared.address.AddressTarget.{AddressTarget}
+use Rattle.ga_ports.specs.declared.address.AddressTarget.TheVariants as target
 use Rattle.ga_node.specs.Record.{NodeRecord}
 use Rattle.ga_node.specs.Changes.{Change}
-use Rattle.ga_node.specs.Table.{Access, Plain, Reads, Writes, t, r, is_extended, found, stored, followed, access_result, opcode_effect, fetch_access, next_action_of, wait_effect, stop_effect, with_kind, action_result, own_event, own}
+use Rattle.ga_node.specs.Table.{AddressAccess, Plain, Reads, Writes, t, r, is_extended, target_read_result, target_write_result, with_following_changes, access_result, opcode_effect, fetch_access, next_action_of, wait_effect, stop_effect, event_with_kind, action_result, own_event, own}
 use Rattle.ga_node.specs.declared.kind.OwnEventKind.{OwnEventKind}
 use Rattle.ga_node.specs.declared.kind.OwnEventKind.TheVariants as kind
-use Rattle.ga_node.specs.declared.seen.Seen.{Seen}
+use Rattle.ga_node.specs.declared.seen.SeenNeighbours.{SeenNeighbours}
 use Rattle.ga_node.specs.declared.due.NextAction.{NextAction}
 use Rattle.ga_node.specs.declared.due.NextAction.TheVariants as due
 use Rattle.ga_node.specs.declared.wait.Wait.{Wait}
@@ -25,8 +25,8 @@ use Rattle.ga_event.specs.declared.made.Made.{Made}
 use Rattle.ga_event.specs.declared.made.Made.TheVariants as made
 use Rattle.ga_lab.specs.Machine.{State, history_of}
 use Rattle.ga_event.specs.declared.flow.part.NodePart.TheVariants.{Return, Ram, Rom, A, P, Outside}
-use Rattle.ga_event.specs.Flow.{Flow, PartFlows, Same, Move, PushData, PopData, PushReturn, PopReturn, SetTopReturn, SetP, SetA, SetI, SetWait, SetStop, GoOn, Skip, StartAgain, top, top_return, from, jump_moves, add_moves, read_moves, write_moves, moves, action_moves, flows_after_move, flows_after_moves, send_moves, take_moves, own_flow, send_flow, take_flow}
-use Rattle.ga_provenance.specs.Origins.{node_after, optional_event_flow, flow_at}
+use Rattle.ga_event.specs.Flow.{Flow, PartFlows, Same, FlowMove, PushData, PopData, PushReturn, PopReturn, SetTopReturn, SetP, SetA, SetI, SetWait, SetStop, GoOn, Skip, StartAgain, top, top_return, from, jump_moves, add_moves, read_moves, write_moves, opcode_moves, action_moves, flows_after_move, flows_after_moves, send_moves, take_moves, flow_of_own_event, send_flow, take_flow}
+use Rattle.ga_provenance.specs.Origins.{node_after_steps, optional_event_flow, value_flow_at_step}
 use Rattle.ga_provenance.proofs.Ran.{WasNext, ran_so}
 use Rattle.ga_dap_views.specs.Calls.{return_entry_source, is_call_op, is_call_event, is_call_step}
 use Rattle.ga_dap_views.specs.declared.calls.ReturnStackEffect.{ReturnStackEffect}
@@ -72,17 +72,17 @@ replaced flow p new = go (p == 0)
 
 -- ---- moves that leave the return stack
 
-keeps : Move → Bool
+keeps : FlowMove → Bool
 keeps (PushReturn word) = false
 keeps PopReturn = false
 keeps (SetTopReturn word) = false
 keeps _ = true
 
-all_keep : List Move → Bool
+all_keep : List FlowMove → Bool
 all_keep [] = true
 all_keep (move ∷ rest) = cond (keeps move) (all_keep rest) false
 
-stays_over : (some : List Move) (f : PartFlows) (p : ℕ) → all_keep some ≡ true → flows_after_moves some f (Return p) ≡ f (Return p)
+stays_over : (some : List FlowMove) (f : PartFlows) (p : ℕ) → all_keep some ≡ true → flows_after_moves some f (Return p) ≡ f (Return p)
 unfolding keeps all_keep
 stays_over [] f p keep = refl
 stays_over (PushReturn word ∷ rest) f p keep = absurd (cc)
@@ -90,11 +90,11 @@ stays_over (PopReturn ∷ rest) f p keep = absurd (cc)
 stays_over (SetTopReturn word ∷ rest) f p keep = absurd (cc)
 stays_over (move ∷ rest) f p keep = stays_over rest (flows_after_move move f) p keep
 
-keep_test : (test : Bool) (some others : List Move) → all_keep some ≡ true → all_keep others ≡ true → all_keep (cond test some others) ≡ true
+keep_test : (test : Bool) (some others : List FlowMove) → all_keep some ≡ true → all_keep others ≡ true → all_keep (cond test some others) ≡ true
 keep_test true some others first second = first
 keep_test false some others first second = second
 
-keep_read : (at : Target) (more : Flow → List Move) → ((word : Flow) → all_keep (more word) ≡ true) → all_keep (read_moves at more) ≡ true
+keep_read : (at : AddressTarget) (more : Flow → List FlowMove) → ((word : Flow) → all_keep (more word) ≡ true) → all_keep (read_moves at more) ≡ true
 unfolding keeps all_keep
 keep_read (target.Ram c) more keep = keep (Same (Ram c))
 keep_read (target.Rom c) more keep = keep (Same (Rom c))
@@ -102,7 +102,7 @@ keep_read target.Io more keep = keep (Same Outside)
 keep_read (target.Ports sides) more keep = refl
 keep_read target.Bad more keep = refl
 
-keep_write : (at : Target) (rest : List Move) → all_keep rest ≡ true → all_keep (write_moves at rest) ≡ true
+keep_write : (at : AddressTarget) (rest : List FlowMove) → all_keep rest ≡ true → all_keep (write_moves at rest) ≡ true
 unfolding keeps all_keep
 keep_write (target.Ram c) rest keep = keep
 keep_write (target.Rom c) rest keep = keep
@@ -122,51 +122,51 @@ keep_add false = refl
 
 -- ---- the kind of an access that leaves the return stack alone
 
-read_told : (ran : OwnEventKind) (at : Target) (reader : ReadKind) (seen : Seen) (n : NodeRecord) (more : ℕ → List Change) (last : Bool) → shift_kind ran last ≡ shift.Stays
-    → shift_kind (with_kind ran (followed (found at reader seen n) more)).0 last ≡ shift.Stays
-unfolding found followed
+read_told : (ran : OwnEventKind) (at : AddressTarget) (reader : ReadKind) (seen : SeenNeighbours) (n : NodeRecord) (more : ℕ → List Change) (last : Bool) → shift_kind ran last ≡ shift.Stays
+    → shift_kind (event_with_kind ran (with_following_changes (target_read_result at reader seen n) more)).0 last ≡ shift.Stays
+unfolding target_read_result with_following_changes
 read_told ran (target.Ram c) reader seen n more last is = is
 read_told ran (target.Rom c) reader seen n more last is = is
 read_told ran target.Io reader seen n more last is = is
 read_told ran (target.Ports sides) reader seen n more last is = refl
 read_told ran target.Bad reader seen n more last is = refl
 
-write_told : (ran : OwnEventKind) (at : Target) (n : NodeRecord) (more : List Change) (last : Bool) → shift_kind ran last ≡ shift.Stays
-    → shift_kind (with_kind ran (followed (stored at n) (λ changes. changes ++ more))).0 last ≡ shift.Stays
-unfolding stored followed
+write_told : (ran : OwnEventKind) (at : AddressTarget) (n : NodeRecord) (more : List Change) (last : Bool) → shift_kind ran last ≡ shift.Stays
+    → shift_kind (event_with_kind ran (with_following_changes (target_write_result at n) (λ changes. changes ++ more))).0 last ≡ shift.Stays
+unfolding target_write_result with_following_changes
 write_told ran (target.Ram c) n more last is = is
 write_told ran (target.Rom c) n more last is = is
 write_told ran target.Io n more last is = is
 write_told ran (target.Ports sides) n more last is = at_port (is_single_side sides)
   where
-    at_port : (single : Bool) → shift_kind (cond single (wait_effect (wait.Write (side_of sides))) (stop_effect 1)).0 last ≡ shift.Stays
+    at_port : (single : Bool) → shift_kind (cond single (wait_effect (wait.Write (side_of_single_set sides))) (stop_effect 1)).0 last ≡ shift.Stays
     at_port true = refl
     at_port false = refl
 write_told ran target.Bad n more last is = refl
 
-all_told : (ran : OwnEventKind) (reader : ReadKind) (access : Access) (seen : Seen) (n : NodeRecord) (last : Bool) → shift_kind ran last ≡ shift.Stays
-    → shift_kind (with_kind ran (access_result reader access seen n)).0 last ≡ shift.Stays
+all_told : (ran : OwnEventKind) (reader : ReadKind) (access : AddressAccess) (seen : SeenNeighbours) (n : NodeRecord) (last : Bool) → shift_kind ran last ≡ shift.Stays
+    → shift_kind (event_with_kind ran (access_result reader access seen n)).0 last ≡ shift.Stays
 all_told ran reader (Plain changes) seen n last is = is
 all_told ran reader (Reads address more) seen n last is = read_told ran (address_target address) reader seen n more last is
 all_told ran reader (Writes address more) seen n last is = write_told ran (address_target address) n more last is
 
 -- ---- each opcode
 
-abbrev Shifts : NextAction → Seen → NodeRecord → ℕ → Type 0
+abbrev Shifts : NextAction → SeenNeighbours → NodeRecord → ℕ → Type 0
 Shifts what seen n p = return_entry_source (flows_after_moves (action_moves what n) Same (Return p)) p ≡ entry_before (shift_kind (action_result what seen n).0 (r n == 0)) p
 
-rests : (o : Op) (seen : Seen) (n : NodeRecord) (p : ℕ) → all_keep (moves o n) ≡ true → shift_kind (kind.Run (code_of o)) (r n == 0) ≡ shift.Stays → Shifts (due.Run o) seen n p
+rests : (o : Op) (seen : SeenNeighbours) (n : NodeRecord) (p : ℕ) → all_keep (opcode_moves o n) ≡ true → shift_kind (kind.Run (code_of o)) (r n == 0) ≡ shift.Stays → Shifts (due.Run o) seen n p
 rests o seen n p keep is =
-    ap (λ (f : Flow). return_entry_source f p) (stays_over (moves o n) Same p keep) ∙ stays p
+    ap (λ (f : Flow). return_entry_source f p) (stays_over (opcode_moves o n) Same p keep) ∙ stays p
     ∙ sym (ap (λ (z : ReturnStackEffect). entry_before z p) (all_told (kind.Run (code_of o)) Stack (opcode_effect o n) seen n (r n == 0) is))
 
-counts : (last : Bool) (p : ℕ) (ends goes : List Move) → return_entry_source (flows_after_moves ends Same (Return p)) p ≡ entry_before shift.Pops p
+counts : (last : Bool) (p : ℕ) (ends goes : List FlowMove) → return_entry_source (flows_after_moves ends Same (Return p)) p ≡ entry_before shift.Pops p
     → return_entry_source (flows_after_moves goes Same (Return p)) p ≡ entry_before shift.Replaces p
     → return_entry_source (flows_after_moves (cond last ends goes) Same (Return p)) p ≡ entry_before (shift_op op.Unext last) p
 counts true p ends goes first second = first
 counts false p ends goes first second = second
 
-op_shifts : (o : Op) (seen : Seen) (n : NodeRecord) (p : ℕ) → Shifts (due.Run o) seen n p
+op_shifts : (o : Op) (seen : SeenNeighbours) (n : NodeRecord) (p : ℕ) → Shifts (due.Run o) seen n p
 unfolding keeps all_keep
 op_shifts op.Return seen n p = popped p
 op_shifts op.Execute seen n p = replaced (Same P) p refl
@@ -188,15 +188,15 @@ op_shifts op.StoreB seen n p = rests op.StoreB seen n p (keep_write (address_tar
 op_shifts op.Store seen n p = rests op.Store seen n p (keep_write (address_target n.a) (PopData ∷ GoOn ∷ []) refl) refl
 op_shifts o seen n p = rests o seen n p refl refl
 
-due_shifts : (what : NextAction) (seen : Seen) (n : NodeRecord) (p : ℕ) → Shifts what seen n p
+due_shifts : (what : NextAction) (seen : SeenNeighbours) (n : NodeRecord) (p : ℕ) → Shifts what seen n p
 unfolding keeps all_keep
 due_shifts due.Fetch seen n p =
     ap (λ (f : Flow). return_entry_source f p) (stays_over (action_moves due.Fetch n) Same p (keep_read (address_target n.p) (λ word. SetI word ∷ SetP (from P) ∷ StartAgain ∷ []) (λ word. refl))) ∙ stays p
     ∙ sym (ap (λ (z : ReturnStackEffect). entry_before z p) (all_told kind.Fetch Instruction (fetch_access n) seen n (r n == 0) refl))
 due_shifts (due.Run o) seen n p = op_shifts o seen n p
 
-own_shifts : (seen : Seen) (n : NodeRecord) (p : ℕ) → return_entry_source (own_flow n (Return p)) p ≡ entry_before (shift_kind (own seen n).0 (r n == 0)) p
-unfolding own_flow own own_event
+own_shifts : (seen : SeenNeighbours) (n : NodeRecord) (p : ℕ) → return_entry_source (flow_of_own_event n (Return p)) p ≡ entry_before (shift_kind (own seen n).0 (r n == 0)) p
+unfolding flow_of_own_event own own_event
 own_shifts seen n p = due_shifts (next_action_of n) seen n p
 
 -- ---- both ends of a pass
@@ -222,8 +222,8 @@ told_shifts (Some (made.Own m step ran)) before n p next =
     let was = next m step ran refl in own_shifts was.seen before p ∙ ap (λ (z : OwnEventKind). entry_before (shift_kind z (r before == 0)) p) was.is
 told_shifts (Some (made.Pass writer i reader j word)) before n p next = pass_shifts (n == reader.number) before.wait p
 
-pub shifted : (s : State) (n k p : ℕ) → return_entry_source (flow_at s n k (Return p)) p ≡ entry_before (shift_at s n k) p
-shifted s n k p = told_shifts (slice_get (history_of s n) k) (node_after s n k) n p (λ m step ran h. ran_so s n k step m ran h)
+pub shifted : (s : State) (n k p : ℕ) → return_entry_source (value_flow_at_step s n k (Return p)) p ≡ entry_before (shift_at s n k) p
+shifted s n k p = told_shifts (slice_get (history_of s n) k) (node_after_steps s n k) n p (λ m step ran h. ran_so s n k step m ran h)
 
 op_calls : (o : Op) (last : Bool) → is_call_op o ≡ is_calls (shift_op o last)
 op_calls op.Unext true = refl
@@ -234,9 +234,9 @@ op_calls o last = refl
 
 told_calls : (told : Option Made) (last : Bool) → is_call_event told ≡ is_calls (shift_told told last)
 told_calls None last = refl
-told_calls (Some (made.Own m step (kind.Run code))) last = op_calls (op_of (code % 32)) last
+told_calls (Some (made.Own m step (kind.Run code))) last = op_calls (op_of_code (code % 32)) last
 told_calls (Some (made.Own m step ran)) last = refl
 told_calls (Some (made.Pass writer i reader j word)) last = refl
 
 pub calls_so : (s : State) (node : NodeId) (k : ℕ) → is_call_step s node (suc k) ≡ is_calls (shift_at s node.number k)
-calls_so s node k = told_calls (slice_get (history_of s node.number) k) (r (node_after s node.number k) == 0)
+calls_so s node k = told_calls (slice_get (history_of s node.number) k) (r (node_after_steps s node.number k) == 0)

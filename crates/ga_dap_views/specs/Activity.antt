@@ -44,15 +44,15 @@ wait_activity_text (wait.Write side) stop = codes "waits to write to " ++ side_n
 wait_activity_text wait.Nothing stop = stop_text stop
 
 -- what a node of a chip does; with its name before it
-abbrev pub activity : List NodeRecord → ℕ → Text
-activity chip n = wait_activity_text (record_at chip n).wait (record_at chip n).stop
+abbrev pub thread_activity_text : List NodeRecord → ℕ → Text
+thread_activity_text chip n = wait_activity_text (record_at chip n).wait (record_at chip n).stop
 
-abbrev pub named_activity : List NodeRecord → ℕ → Text
-named_activity chip n = decimal3_of (yxx_of n) ++ codes " " ++ activity chip n
+abbrev pub node_name_and_activity_text : List NodeRecord → ℕ → Text
+node_name_and_activity_text chip n = decimal3_of (yxx_of n) ++ codes " " ++ thread_activity_text chip n
 
 -- a word: its six digits, the number, and the negative number where its highest bit is set
-abbrev pub negative_text : ℕ → Text
-negative_text word = if nat_lt word 0x20000 then [] else codes " = -" ++ decimal (0x40000 - word)
+abbrev pub negative_word_text : ℕ → Text
+negative_word_text word = if nat_lt word 0x20000 then [] else codes " = -" ++ decimal (0x40000 - word)
 
 abbrev pub word_value_text : ℕ → Text
-word_value_text word = hex6_of word ++ codes " = " ++ decimal word ++ negative_text word
+word_value_text word = hex6_of word ++ codes " = " ++ decimal word ++ negative_word_text word

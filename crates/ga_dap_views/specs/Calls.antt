@@ -4,7 +4,7 @@ use Rattle.std.specs.Prelude.{ℕ, zero, suc, ◌-◌, ◌%◌, ◌==◌, Bool, 
 use Rattle.std.specs.List.{range_with_len, slice_get}
 use Rattle.ga_slots.specs.declared.op.Op.{Op}
 use Rattle.ga_slots.specs.declared.op.Op.TheVariants.{Call}
-use Rattle.ga_slots.specs.Codes.{op_of}
+use Rattle.ga_slots.specs.Codes.{op_of_code}
 use Rattle.ga_node.specs.declared.kind.OwnEventKind.TheVariants as kind
 use Rattle.ga_grid.specs.declared.node_id.NodeId.{NodeId}
 use Rattle.ga_event.specs.declared.made.Made.{Made}
@@ -13,7 +13,7 @@ use Rattle.ga_event.specs.Told.{count_steps}
 use Rattle.ga_lab.specs.Machine.{State, history_of}
 use Rattle.ga_event.specs.declared.flow.part.NodePart.TheVariants as part
 use Rattle.ga_event.specs.Flow.{Flow, Same}
-use Rattle.ga_provenance.specs.Origins.{flow_at}
+use Rattle.ga_provenance.specs.Origins.{value_flow_at_step}
 use Rattle.ga_dap_views.specs.declared.calls.OpenCall.{OpenCall}
 use Rattle.ga_dap_views.specs.Spots.{slot_address_after}
 
@@ -25,13 +25,13 @@ return_entry_source _ place = None
 
 -- for each place of the return stack, the place that its entry after a node's step k + 1 had before the step
 abbrev pub return_entry_sources : State → NodeId → ℕ → List (Option ℕ)
-return_entry_sources s node k = map (λ place. return_entry_source (flow_at s node.number k (part.Return place)) place) (range_with_len 0 9)
+return_entry_sources s node k = map (λ place. return_entry_source (value_flow_at_step s node.number k (part.Return place)) place) (range_with_len 0 9)
 
 -- Which of a node's first steps put the entry that is at a place after them; 0 if it was there at load.
 abbrev pub pushed_by_step : State → NodeId → ℕ → ℕ → ℕ
 pushed_by_step s node zero place = 0
 pushed_by_step s node (suc k) place =
-    unwrap_or (option_map (pushed_by_step s node k) (return_entry_source (flow_at s node.number k (part.Return place)) place)) (suc k)
+    unwrap_or (option_map (pushed_by_step s node k) (return_entry_source (value_flow_at_step s node.number k (part.Return place)) place)) (suc k)
 
 -- whether a step, as made, is a call
 abbrev pub is_call_op : Op → Bool
@@ -39,7 +39,7 @@ is_call_op Call = true
 is_call_op _ = false
 
 abbrev pub is_call_event : Option Made → Bool
-is_call_event (Some (made.Own node step (kind.Run code))) = is_call_op (op_of (code % 32))
+is_call_event (Some (made.Own node step (kind.Run code))) = is_call_op (op_of_code (code % 32))
 is_call_event _ = false
 
 abbrev pub is_call_step : State → NodeId → ℕ → Bool
@@ -48,12 +48,12 @@ is_call_step s node (suc k) = is_call_event (slice_get (history_of s node.number
 
 -- A call is open while the address that it put on the return stack is there: the numbers of such steps, the newest first. The
 -- stack has nine places.
-abbrev pub open_steps : State → NodeId → ℕ → List ℕ
-open_steps s node step = filter (is_call_step s node) (map (pushed_by_step s node step) (range_with_len 0 9))
+abbrev pub open_call_steps : State → NodeId → ℕ → List ℕ
+open_call_steps s node step = filter (is_call_step s node) (map (pushed_by_step s node step) (range_with_len 0 9))
 
 -- an open call, with the node's position before its step
 abbrev pub open_call : State → NodeId → ℕ → OpenCall
 open_call s node step = record { step = step; at = slot_address_after s node (step - 1) }
 
 abbrev pub open_calls : State → NodeId → List OpenCall
-open_calls s node = map (open_call s node) (open_steps s node (count_steps node.number s.kept))
+open_calls s node = map (open_call s node) (open_call_steps s node (count_steps node.number s.kept))

@@ -20,7 +20,7 @@ use Rattle.ga_debug_info.specs.declared.notes.DebugInfo.{DebugInfo}
 use Rattle.ga_debug_info.specs.Source.{cell_of_address}
 use Rattle.ga_dap_views.specs.declared.frames.SourceFile.{SourceFile}
 use Rattle.ga_dap_views.specs.Frames.{source_object}
-use Rattle.ga_dap_views.specs.Json.{whole_number, array_of, object_of}
+use Rattle.ga_dap_views.specs.Json.{json_whole_number, json_array_of, json_object_of_member}
 use Rattle.ga_dap_views.specs.Labels.{label_of_cell, source_of_cell}
 use Rattle.ga_dap_views.specs.Numbers.{chip_address}
 use Rattle.ga_dap_views.specs.Variables.{memory_reference}
@@ -28,35 +28,35 @@ use Rattle.ga_dap_views.specs.Variables.{memory_reference}
 -- ---- opcodes
 
 -- an address in three hexadecimal digits
-abbrev pub hex3_of : ℕ → Text
-hex3_of n = hex_digit n 2 ∷ hex_digit n 1 ∷ hex_digit n 0 ∷ []
+abbrev pub three_hex_digits : ℕ → Text
+three_hex_digits n = hex_digit n 2 ∷ hex_digit n 1 ∷ hex_digit n 0 ∷ []
 
 -- where a jump leads: the label there, or the address without bit 9
 abbrev pub label_or_address : ℕ → Option LabelAddress → Text
-label_or_address address None = hex3_of (address % 512)
+label_or_address address None = three_hex_digits (address % 512)
 label_or_address address (Some name) = utf8_lossy name.text.items
 
 abbrev pub jump_target_text : DebugInfo → NodeId → ℕ → Text
 jump_target_text notes node address = label_or_address address (option_and_then (label_of_cell notes.names.items node) (cell_of_address address))
 
 -- what follows an opcode: an address, nothing that is carried out, or the next slot
-abbrev pub has_address : Op → Bool
-has_address Jump = true
-has_address Call = true
-has_address Next = true
-has_address If = true
-has_address MinusIf = true
-has_address _ = false
+abbrev pub has_address_operand : Op → Bool
+has_address_operand Jump = true
+has_address_operand Call = true
+has_address_operand Next = true
+has_address_operand If = true
+has_address_operand MinusIf = true
+has_address_operand _ = false
 
-abbrev pub ends_word : Op → Bool
-ends_word Return = true
-ends_word Execute = true
-ends_word op = has_address op
+abbrev pub ends_instruction_word : Op → Bool
+ends_instruction_word Return = true
+ends_instruction_word Execute = true
+ends_instruction_word op = has_address_operand op
 
 -- the address of a slot, where its opcode has one and it has room for it: slot 3 has none
 abbrev pub slot_target_text : DebugInfo → NodeId → ℕ → ℕ → ℕ → Text
 slot_target_text notes node p word slot =
-    if slot == 3 then [] else if has_address (opcode word slot) then codes " " ++ jump_target_text notes node (target p word slot) else []
+    if slot == 3 then [] else if has_address_operand (opcode word slot) then codes " " ++ jump_target_text notes node (target p word slot) else []
 
 -- an opcode after a blank, except for the first
 abbrev pub with_leading_blank : ℕ → Text → Text
@@ -67,7 +67,7 @@ unfoldable pub slots_text : DebugInfo → NodeId → ℕ → ℕ → ℕ → ℕ
 slots_text notes node p word slot zero = []
 slots_text notes node p word slot (suc left) =
     with_leading_blank slot (name_of (opcode word slot)) ++ slot_target_text notes node p word slot
-    ++ (if ends_word (opcode word slot) then [] else slots_text notes node p word (slot + 1) left)
+    ++ (if ends_instruction_word (opcode word slot) then [] else slots_text notes node p word (slot + 1) left)
 
 -- ---- an instruction
 
@@ -81,13 +81,13 @@ instruction_text notes node cell word =
     if is_data_in_source (source_of_cell notes node cell) then codes "word " ++ decimal word else slots_text notes node (advanced_address cell) word 0 4
 
 -- the line and the label of a cell, where the source has them
-abbrev pub with_source_line : SourceFile → Option CellSource → Members → Members
-with_source_line file None members = members
-with_source_line file (Some note) members = put (codes "location") (source_object file) (put (codes "line") (whole_number note.line) members)
+abbrev pub with_source_line_members : SourceFile → Option CellSource → Members → Members
+with_source_line_members file None members = members
+with_source_line_members file (Some note) members = put (codes "location") (source_object file) (put (codes "line") (json_whole_number note.line) members)
 
-abbrev pub with_label : Option LabelAddress → Members → Members
-with_label None members = members
-with_label (Some name) members = put (codes "symbol") (string (utf8_lossy name.text.items)) members
+abbrev pub with_label_member : Option LabelAddress → Members → Members
+with_label_member None members = members
+with_label_member (Some name) members = put (codes "symbol") (string (utf8_lossy name.text.items)) members
 
 abbrev pub instruction_members : Text → Text → Text → Members
 instruction_members address words bytes =
@@ -97,12 +97,12 @@ instruction_members address words bytes =
 abbrev pub instruction_object : SourceFile → DebugInfo → State → NodeId → ℕ → ℕ → Data
 instruction_object file notes s node address cell =
     let word = memory_word_at (record_at (chip_of s) node.number) cell in
-    object (with_label (label_of_cell notes.names.items node cell) (with_source_line file (source_of_cell notes node cell)
+    object (with_label_member (label_of_cell notes.names.items node cell) (with_source_line_members file (source_of_cell notes node cell)
     (instruction_members (memory_reference (chip_address node.number address)) (instruction_text notes node cell word) (hex6_of word))))
 
 -- the instruction of an address at which a node has no cell
-unfoldable pub no_instruction : Text → Data
-no_instruction address =
+unfoldable pub invalid_instruction_object : Text → Data
+invalid_instruction_object address =
     object (member (codes "address") (string address) (member (codes "instruction") (string (codes "no memory"))
     (member (codes "presentationHint") (string (codes "invalid")) no_members)))
 
@@ -111,7 +111,7 @@ abbrev pub cell_in_node : ℕ → Option ℕ
 cell_in_node address = if nat_lt address 256 then cell_of_address address else None
 
 abbrev pub instruction_or_invalid : SourceFile → DebugInfo → State → NodeId → ℕ → Option ℕ → Data
-instruction_or_invalid file notes s node address None = no_instruction (memory_reference (chip_address node.number address))
+instruction_or_invalid file notes s node address None = invalid_instruction_object (memory_reference (chip_address node.number address))
 instruction_or_invalid file notes s node address (Some cell) = instruction_object file notes s node address cell
 
 abbrev pub instruction_at : SourceFile → DebugInfo → State → NodeId → ℕ → Data
@@ -121,4 +121,4 @@ instruction_at file notes s node address = instruction_or_invalid file notes s n
 -- first.
 abbrev pub disassemble_body : SourceFile → DebugInfo → State → NodeId → ℕ → ℕ → Data
 disassemble_body file notes s node first count =
-    object_of (codes "instructions") (array_of (λ k. instruction_at file notes s node (k % 4096)) (range_with_len first count))
+    json_object_of_member (codes "instructions") (json_array_of (λ k. instruction_at file notes s node (k % 4096)) (range_with_len first count))

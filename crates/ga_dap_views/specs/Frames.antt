@@ -14,7 +14,7 @@ use Rattle.ga_dap_views.specs.declared.spots.SlotAddress.{SlotAddress}
 use Rattle.ga_dap_views.specs.declared.calls.OpenCall.{OpenCall}
 use Rattle.ga_dap_views.specs.declared.frames.SourceFile.{SourceFile}
 use Rattle.ga_dap_views.specs.Calls.{open_calls}
-use Rattle.ga_dap_views.specs.Json.{whole_number, array_of}
+use Rattle.ga_dap_views.specs.Json.{json_whole_number, json_array_of}
 use Rattle.ga_dap_views.specs.Labels.{cell_location_text, source_word_of_slot}
 use Rattle.ga_dap_views.specs.Numbers.{frame_id, chip_address}
 use Rattle.ga_dap_views.specs.Spots.{current_slot_address}
@@ -25,21 +25,21 @@ unfoldable pub source_object : SourceFile → Data
 source_object file = object (member (codes "name") (string file.name.now) (member (codes "path") (string file.path.now) no_members))
 
 -- a frame at a word of the source, which begins at byte `column` of its line
-unfoldable pub lined_frame : Data → ℕ → Text → Text → ℕ → ℕ → Data
-lined_frame source id name pointer line column =
-    object (member (codes "column") (whole_number column) (member (codes "id") (whole_number id) (member (codes "instructionPointerReference") (string pointer)
-    (member (codes "line") (whole_number line) (member (codes "name") (string name) (member (codes "source") source no_members))))))
+unfoldable pub frame_object_with_line : Data → ℕ → Text → Text → ℕ → ℕ → Data
+frame_object_with_line source id name pointer line column =
+    object (member (codes "column") (json_whole_number column) (member (codes "id") (json_whole_number id) (member (codes "instructionPointerReference") (string pointer)
+    (member (codes "line") (json_whole_number line) (member (codes "name") (string name) (member (codes "source") source no_members))))))
 
 -- a frame in memory without source
-unfoldable pub bare_frame : ℕ → Text → Text → Data
-bare_frame id name pointer =
-    object (member (codes "column") (whole_number 0) (member (codes "id") (whole_number id) (member (codes "instructionPointerReference") (string pointer)
-    (member (codes "line") (whole_number 0) (member (codes "name") (string name) no_members)))))
+unfoldable pub frame_object_without_source : ℕ → Text → Text → Data
+frame_object_without_source id name pointer =
+    object (member (codes "column") (json_whole_number 0) (member (codes "id") (json_whole_number id) (member (codes "instructionPointerReference") (string pointer)
+    (member (codes "line") (json_whole_number 0) (member (codes "name") (string name) no_members)))))
 
 -- a frame outside of memory: the code came over a port, or was in the node at load
-unfoldable pub outside_frame : ℕ → Text → Data
-outside_frame id name =
-    object (member (codes "column") (whole_number 0) (member (codes "id") (whole_number id) (member (codes "line") (whole_number 0) (member (codes "name") (string name)
+unfoldable pub frame_object_outside_memory : ℕ → Text → Data
+frame_object_outside_memory id name =
+    object (member (codes "column") (json_whole_number 0) (member (codes "id") (json_whole_number id) (member (codes "line") (json_whole_number 0) (member (codes "name") (string name)
     (member (codes "presentationHint") (string (codes "subtle")) no_members)))))
 
 -- the name of a frame
@@ -50,16 +50,16 @@ location_text notes node (Some spot) = cell_location_text notes node spot.cell
 abbrev pub frame_name : DebugInfo → NodeId → Option SlotAddress → Text
 frame_name notes node spot = decimal3_of (yxx_of node.number) ++ codes " " ++ location_text notes node spot
 
-abbrev pub memory_frame : SourceFile → ℕ → Text → Text → Option SlotWord → Data
-memory_frame file id name pointer None = bare_frame id name pointer
-memory_frame file id name pointer (Some word) = lined_frame (source_object file) id name pointer word.line word.column
+abbrev pub frame_object_in_memory : SourceFile → ℕ → Text → Text → Option SlotWord → Data
+frame_object_in_memory file id name pointer None = frame_object_without_source id name pointer
+frame_object_in_memory file id name pointer (Some word) = frame_object_with_line (source_object file) id name pointer word.line word.column
 
-abbrev pub located_frame : SourceFile → DebugInfo → NodeId → ℕ → Text → Option SlotAddress → Data
-located_frame file notes node id name None = outside_frame id name
-located_frame file notes node id name (Some spot) = memory_frame file id name (memory_reference (chip_address node.number spot.cell)) (source_word_of_slot notes node spot)
+abbrev pub frame_object_at_location : SourceFile → DebugInfo → NodeId → ℕ → Text → Option SlotAddress → Data
+frame_object_at_location file notes node id name None = frame_object_outside_memory id name
+frame_object_at_location file notes node id name (Some spot) = frame_object_in_memory file id name (memory_reference (chip_address node.number spot.cell)) (source_word_of_slot notes node spot)
 
-abbrev pub frame : SourceFile → DebugInfo → NodeId → ℕ → Option SlotAddress → Data
-frame file notes node level spot = located_frame file notes node (frame_id node.number level) (frame_name notes node spot) spot
+abbrev pub frame_object : SourceFile → DebugInfo → NodeId → ℕ → Option SlotAddress → Data
+frame_object file notes node level spot = frame_object_at_location file notes node (frame_id node.number level) (frame_name notes node spot) spot
 
 -- the positions of the frames: that of the node itself, then those of the calls
 abbrev pub call_slot_address : Option OpenCall → Option SlotAddress
@@ -72,9 +72,9 @@ frame_slot_address s node (suc k) = call_slot_address (slice_get (open_calls s n
 
 -- The body of the response: `count` frames from one on, or all remaining if the number is 0; and how many there are.
 unfoldable pub stack_object : Data → ℕ → Data
-stack_object frames total = object (member (codes "stackFrames") frames (member (codes "totalFrames") (whole_number total) no_members))
+stack_object frames total = object (member (codes "stackFrames") frames (member (codes "totalFrames") (json_whole_number total) no_members))
 
 abbrev pub stack_trace : SourceFile → DebugInfo → State → NodeId → ℕ → ℕ → Data
 stack_trace file notes s node start count =
     let total = length (open_calls s node) + 1 in
-    stack_object (array_of (λ k. frame file notes node k (frame_slot_address s node k)) (requested_range total start count)) total
+    stack_object (json_array_of (λ k. frame_object file notes node k (frame_slot_address s node k)) (requested_range total start count)) total

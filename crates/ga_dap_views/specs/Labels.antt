@@ -33,12 +33,12 @@ abbrev pub nearest_label : List LabelAddress → NodeId → ℕ → Option Label
 nearest_label names node cell = option_and_then (slice_get names) (nearest_result (label_place_of_cell names node) (cell / 64 * 64) (cell % 64))
 
 -- A cell by its label and its distance after that, and else by its address. (A source may have bytes that are no text.)
-abbrev pub distance_text : ℕ → Text
-distance_text behind = if behind == 0 then [] else codes "+" ++ decimal behind
+abbrev pub label_distance_text : ℕ → Text
+label_distance_text behind = if behind == 0 then [] else codes "+" ++ decimal behind
 
 abbrev pub label_and_distance_text : ℕ → Option LabelAddress → Text
 label_and_distance_text cell None = hex2_of cell
-label_and_distance_text cell (Some name) = utf8_lossy name.text.items ++ distance_text (cell - unwrap_or (cell_of_address name.address) cell)
+label_and_distance_text cell (Some name) = utf8_lossy name.text.items ++ label_distance_text (cell - unwrap_or (cell_of_address name.address) cell)
 
 abbrev pub cell_location_text : DebugInfo → NodeId → ℕ → Text
 cell_location_text notes node cell = label_and_distance_text cell (nearest_label notes.names.items node cell)
@@ -58,6 +58,6 @@ source_line_of_slot notes node spot = option_map (λ (word : SlotWord). word.lin
 abbrev pub is_code_word_on_line : NodeId → ℕ → DisplayedWord → Bool
 is_code_word_on_line node line told = told.word.is_code && told.word.node.number == node.number && told.word.line == line
 
-abbrev pub line_start : DebugInfo → NodeId → ℕ → Option SlotWord
-line_start notes node line =
+abbrev pub line_start_word : DebugInfo → NodeId → ℕ → Option SlotWord
+line_start_word notes node line =
     option_map (λ (told : DisplayedWord). told.word) (option_and_then (slice_get notes.words.items) (position (is_code_word_on_line node line) notes.words.items))

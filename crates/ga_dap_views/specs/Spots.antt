@@ -6,7 +6,7 @@ use Rattle.ga_grid.specs.declared.node_id.NodeId.{NodeId}
 use Rattle.ga_event.specs.Told.{count_steps}
 use Rattle.ga_lab.specs.Machine.{State}
 use Rattle.ga_debug_info.specs.Source.{cell_of_address}
-use Rattle.ga_provenance.specs.Origins.{node_after}
+use Rattle.ga_provenance.specs.Origins.{node_after_steps}
 use Rattle.ga_provenance.specs.Fetched.{fetched_cell}
 use Rattle.ga_dap_views.specs.declared.spots.SlotAddress.{SlotAddress}
 
@@ -20,7 +20,7 @@ node_slot_address n fetched = if n.slot == 4 then option_map (slot_address 0) (c
 
 -- the position of a node after `step` of its steps
 abbrev pub slot_address_after : State → NodeId → ℕ → Option SlotAddress
-slot_address_after s node step = node_slot_address (node_after s node.number step) (fetched_cell s node step)
+slot_address_after s node step = node_slot_address (node_after_steps s node.number step) (fetched_cell s node step)
 
 abbrev pub current_slot_address : State → NodeId → Option SlotAddress
 current_slot_address s node = slot_address_after s node (count_steps node.number s.kept)

@@ -2,19 +2,19 @@
 use Rattle.std.specs.Prelude.{ℕ, ◌==◌, nat_lt, Bool, true, false, ◌||◌, List, codes, filter}
 use Rattle.std.specs.List.{range_with_len, list_any}
 use Rattle.serde_json.specs.Data.{Data, string, object, no_members, member}
-use Rattle.ga_ports.specs.declared.address.Target.{Target}
-use Rattle.ga_ports.specs.declared.address.Target.TheVariants.{Ram, Rom}
+use Rattle.ga_ports.specs.declared.address.AddressTarget.{AddressTarget}
+use Rattle.ga_ports.specs.declared.address.AddressTarget.TheVariants.{Ram, Rom}
 use Rattle.ga_ports.specs.Address.{address_target}
 use Rattle.ga_grid.specs.Chip.{record_at}
 use Rattle.ga_grid.specs.declared.node_id.NodeId.{NodeId}
 use Rattle.ga_text.specs.Lines.{Text}
 use Rattle.ga_event.specs.Told.{count_steps}
 use Rattle.ga_lab.specs.Machine.{State, chip_of}
-use Rattle.ga_dap_views.specs.Activity.{named_activity}
-use Rattle.ga_dap_views.specs.Json.{whole_number, array_of, object_of}
+use Rattle.ga_dap_views.specs.Activity.{node_name_and_activity_text}
+use Rattle.ga_dap_views.specs.Json.{json_whole_number, json_array_of, json_object_of_member}
 use Rattle.ga_dap_views.specs.Numbers.{thread_id}
 
-abbrev pub is_in_memory : Target → Bool
+abbrev pub is_in_memory : AddressTarget → Bool
 is_in_memory (Ram cell) = true
 is_in_memory (Rom cell) = true
 is_in_memory target = false
@@ -29,15 +29,15 @@ abbrev pub has_thread : State → List NodeId → ℕ → Bool
 has_thread s programs n =
     is_among_nodes programs n || nat_lt 1 (count_steps n s.kept) || is_in_memory (address_target (record_at (chip_of s) n).p)
 
-unfoldable pub named_thread : ℕ → Text → Data
-named_thread n name = object (member (codes "id") (whole_number (thread_id n)) (member (codes "name") (string name) no_members))
+unfoldable pub named_thread_object : ℕ → Text → Data
+named_thread_object n name = object (member (codes "id") (json_whole_number (thread_id n)) (member (codes "name") (string name) no_members))
 
-abbrev pub thread_in : State → ℕ → Data
-thread_in s n = named_thread n (named_activity (chip_of s) n)
+abbrev pub node_thread_object : State → ℕ → Data
+node_thread_object s n = named_thread_object n (node_name_and_activity_text (chip_of s) n)
 
 -- the nodes below a number that have a thread
 unfoldable pub nodes_with_threads : State → List NodeId → ℕ → List ℕ
 nodes_with_threads s programs count = filter (has_thread s programs) (range_with_len 0 count)
 
 abbrev pub threads_body : State → List NodeId → Data
-threads_body s programs = object_of (codes "threads") (array_of (thread_in s) (nodes_with_threads s programs 144))
+threads_body s programs = json_object_of_member (codes "threads") (json_array_of (node_thread_object s) (nodes_with_threads s programs 144))

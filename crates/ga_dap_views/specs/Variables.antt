@@ -10,8 +10,8 @@ use Rattle.ga_grid.specs.Grid.{neighbour_of}
 use Rattle.ga_grid.specs.Chip.{record_at}
 use Rattle.ga_event.specs.Told.{count_steps}
 use Rattle.ga_lab.specs.Machine.{State, chip_of, memory_word_at}
-use Rattle.ga_dap_views.specs.Activity.{activity, named_activity, word_value_text}
-use Rattle.ga_dap_views.specs.Json.{whole_number, array_of, object_of}
+use Rattle.ga_dap_views.specs.Activity.{thread_activity_text, node_name_and_activity_text, word_value_text}
+use Rattle.ga_dap_views.specs.Json.{json_whole_number, json_array_of, json_object_of_member}
 use Rattle.ga_dap_views.specs.Numbers.{chip_address, variables_reference}
 use Rattle.ga_dap_views.specs.Shown.{variable_count, variable_at, variable_name}
 use Rattle.ga_dap_views.specs.declared.variable.Variable.{Variable}
@@ -32,11 +32,11 @@ scope_name scope.Rom = codes "ROM"
 -- a scope; of a memory, that it is long, and of how many cells a client may ask for a part
 unfoldable pub scope_object : Bool → ℕ → Text → ℕ → Data
 scope_object true cells name reference =
-    object (member (codes "expensive") (boolean true) (member (codes "indexedVariables") (whole_number cells)
-    (member (codes "name") (string name) (member (codes "variablesReference") (whole_number reference) no_members))))
+    object (member (codes "expensive") (boolean true) (member (codes "indexedVariables") (json_whole_number cells)
+    (member (codes "name") (string name) (member (codes "variablesReference") (json_whole_number reference) no_members))))
 scope_object false cells name reference =
     object (member (codes "expensive") (boolean false) (member (codes "name") (string name)
-    (member (codes "variablesReference") (whole_number reference) no_members)))
+    (member (codes "variablesReference") (json_whole_number reference) no_members)))
 
 abbrev pub is_memory_scope : Scope → Bool
 is_memory_scope scope.Ram = true
@@ -50,7 +50,7 @@ abbrev pub all_scopes : List Scope
 all_scopes = scope.Registers ∷ scope.Data ∷ scope.Returns ∷ scope.Links ∷ scope.Ram ∷ scope.Rom ∷ []
 
 abbrev pub scopes_body : ℕ → Data
-scopes_body n = object_of (codes "scopes") (array_of (node_scope_object n) all_scopes)
+scopes_body n = json_object_of_member (codes "scopes") (json_array_of (node_scope_object n) all_scopes)
 
 -- ---- `variables`
 
@@ -60,7 +60,7 @@ slot_state_text slot = if slot == 4 then codes "4, a fetch is due" else decimal 
 -- the neighbour on a side and what it does, where there is one
 abbrev pub neighbour_text : List NodeRecord → Option ℕ → Text
 neighbour_text chip None = codes "none"
-neighbour_text chip (Some m) = named_activity chip m
+neighbour_text chip (Some m) = node_name_and_activity_text chip m
 
 abbrev pub deadlock_text : Bool → Text
 deadlock_text true = codes "can never go on"
@@ -68,7 +68,7 @@ deadlock_text false = codes "no"
 
 -- The value of a variable of a node. `stuck` is whether the node is in the greatest deadlocked set (Stuck.antt of ga_races).
 abbrev pub variable_value : State → Bool → ℕ → Variable → Text
-variable_value s stuck n variable.State = activity (chip_of s) n
+variable_value s stuck n variable.State = thread_activity_text (chip_of s) n
 variable_value s stuck n variable.Step = decimal (count_steps n s.kept)
 variable_value s stuck n variable.P = word_value_text (record_at (chip_of s) n).p
 variable_value s stuck n variable.A = word_value_text (record_at (chip_of s) n).a
@@ -90,13 +90,13 @@ memory_reference address = codes "0x" ++ hex6_of address
 -- a value that has no parts
 unfoldable pub variable_object : Text → Text → Data
 variable_object name value =
-    object (member (codes "name") (string name) (member (codes "value") (string value) (member (codes "variablesReference") (whole_number 0) no_members)))
+    object (member (codes "name") (string name) (member (codes "value") (string value) (member (codes "variablesReference") (json_whole_number 0) no_members)))
 
 -- a value at an address of the chip
 unfoldable pub cell_object : ℕ → Text → Text → Data
 cell_object address name value =
     object (member (codes "memoryReference") (string (memory_reference address)) (member (codes "name") (string name)
-    (member (codes "value") (string value) (member (codes "variablesReference") (whole_number 0) no_members))))
+    (member (codes "value") (string value) (member (codes "variablesReference") (json_whole_number 0) no_members))))
 
 abbrev pub variable_or_cell_object : ℕ → Variable → Text → Text → Data
 variable_or_cell_object n (variable.Cell address) name value = cell_object (chip_address n address) name value
@@ -111,4 +111,4 @@ requested_range size start count = range_with_len start (if count == 0 then size
 
 abbrev pub variables_body : State → Bool → ℕ → Scope → ℕ → ℕ → Data
 variables_body s stuck n of start count =
-    object_of (codes "variables") (array_of (λ k. variable_value_object s stuck n (variable_at of k)) (requested_range (variable_count of) start count))
+    json_object_of_member (codes "variables") (json_array_of (λ k. variable_value_object s stuck n (variable_at of k)) (requested_range (variable_count of) start count))

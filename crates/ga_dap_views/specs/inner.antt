@@ -7,12 +7,12 @@ use Rattle.ga_dap_views.specs.declared.calls.ReturnStackEffect.TheVariants as sh
 use Rattle.std.specs.Prelude.{ℕ, ◌+◌, ◌-◌, ◌%◌, ◌==◌, Bool, true, false, ◌&&◌, if◌then◌else◌, List, [], ◌∷◌, ◌++◌, map, filter, Option, Some, None, option_map, unwrap_or, ◌≡◌}
 use Rattle.std.specs.List.{range_with_len, slice_get}
 use Rattle.ga_slots.specs.declared.op.Op.{Op}
-use Rattle.ga_slots.specs.Codes.{op_of}
+use Rattle.ga_slots.specs.Codes.{op_of_code}
 use Rattle.ga_node.specs.Table.{r}
 use Rattle.ga_node.specs.declared.kind.OwnEventKind.{OwnEventKind}
 use Rattle.ga_event.specs.declared.made.Made.{Made}
 use Rattle.ga_lab.specs.Machine.{State, history_of}
-use Rattle.ga_provenance.specs.Origins.{node_after}
+use Rattle.ga_provenance.specs.Origins.{node_after_steps}
 use Rattle.ga_dap_views.specs.declared.calls.ReturnStackEffect.{ReturnStackEffect}
 use Rattle.ga_dap_views.specs.declared.calls.Window.{Window}
 
@@ -33,7 +33,7 @@ shift_op _ last = shift.Stays
 
 -- the effect of an event of a node's own on the entries, and in `shift_told` that of a step as made
 abbrev pub shift_kind : OwnEventKind → Bool → ReturnStackEffect
-shift_kind (kind.Run code) last = shift_op (op_of (code % 32)) last
+shift_kind (kind.Run code) last = shift_op (op_of_code (code % 32)) last
 shift_kind _ last = shift.Stays
 
 abbrev pub shift_told : Option Made → Bool → ReturnStackEffect
@@ -41,7 +41,7 @@ shift_told (Some (made.Own node step kind)) last = shift_kind kind last
 shift_told _ last = shift.Stays
 
 abbrev pub shift_at : State → ℕ → ℕ → ReturnStackEffect
-shift_at s n k = shift_told (slice_get (history_of s n) k) (r (node_after s n k) == 0)
+shift_at s n k = shift_told (slice_get (history_of s n) k) (r (node_after_steps s n k) == 0)
 
 -- the place of an entry before a step, by its place after it; none if it is new, or a copy in the last place
 abbrev pub entry_before : ReturnStackEffect → ℕ → Option ℕ

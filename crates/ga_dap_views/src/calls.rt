@@ -4,7 +4,7 @@ ghost use Rattle.std.specs.Prelude.{◌≡◌, ◌<◌, ◌≤◌, ◌+◌, ◌-
 ghost use Rattle.arrayvec.specs.ArrayVec.{array_vec_len};
 ghost use Rattle.ga_node.specs.Table.{r};
 ghost use Rattle.ga_lab.specs.Machine.{node_at_step};
-ghost use Rattle.ga_provenance.specs.Origins.{node_after};
+ghost use Rattle.ga_provenance.specs.Origins.{node_after_steps};
 ghost use Rattle.ga_dap_views.specs.Calls.{open_call, open_calls};
 ghost use Rattle.ga_dap_views.specs.inner.{counted, shift_op, shift_at, is_calls, put_first, IsBefore};
 
@@ -67,7 +67,7 @@ fn shift_of(op: Op) -> Option<ReturnStackEffect>
 /// Whether R was 0 right before the step at a place. The node is walked back there.
 fn counts_out(walk: &mut NodeWalk<'_>, at: u32) -> bool
     requires order { at ≤ walk.old.step }
-    ensures value { result ≡ (r (node_after walk.old.machine walk.old.node.number at) == 0) }
+    ensures value { result ≡ (r (node_after_steps walk.old.machine walk.old.node.number at) == 0) }
     ensures walk { walk.new ≡ node_at_step walk.old.machine walk.old.node at }
 {
     // Called for its contract: the node has the walk's number of steps.

@@ -10,7 +10,7 @@ ghost use Rattle.ga_slots.specs.Codes.{name_of};
 ghost use Rattle.ga_dap_views.specs.Labels.{label_of_cell};
 ghost use Rattle.ga_dap_views.specs.Numbers.{chip_address};
 ghost use Rattle.ga_dap_views.specs.Variables.{memory_reference};
-ghost use Rattle.ga_dap_views.specs.Disassembly.{jump_target_text, has_address, ends_word, slot_target_text, with_leading_blank, slots_text, is_data_in_source, instruction_text, with_source_line, with_label, instruction_members, instruction_object, no_instruction, cell_in_node, instruction_at, disassemble_body};
+ghost use Rattle.ga_dap_views.specs.Disassembly.{jump_target_text, has_address_operand, ends_instruction_word, slot_target_text, with_leading_blank, slots_text, is_data_in_source, instruction_text, with_source_line_members, with_label_member, instruction_members, instruction_object, invalid_instruction_object, cell_in_node, instruction_at, disassemble_body};
 
 use crate::frames::{SourceFile, source_object};
 use crate::json::object_with;
@@ -28,8 +28,8 @@ use serde_json::{Map, Value, json, push, put};
 use std::alloc::{AllocError, Global};
 
 /// Whether an address follows an opcode.
-fn has_address(op: Op) -> bool
-    ensures { result ≡ has_address op }
+fn has_address_operand(op: Op) -> bool
+    ensures { result ≡ has_address_operand op }
 {
     match op {
         Op::Jump | Op::Call | Op::Next | Op::If | Op::MinusIf => true,
@@ -38,12 +38,12 @@ fn has_address(op: Op) -> bool
 }
 
 /// Whether nothing is carried out after an opcode in its word.
-fn ends_word(op: Op) -> bool
-    ensures { result ≡ ends_word op }
+fn ends_instruction_word(op: Op) -> bool
+    ensures { result ≡ ends_instruction_word op }
 {
     match op {
         Op::Return | Op::Execute => true,
-        _ => has_address(op),
+        _ => has_address_operand(op),
     }
 }
 
@@ -97,7 +97,7 @@ fn add_address(
     if slot == 3 {
         return Ok(());
     }
-    if !has_address(opcode(word, slot)) {
+    if !has_address_operand(opcode(word, slot)) {
         return Ok(());
     }
     text.push_str(" ")?;
@@ -119,7 +119,7 @@ fn add_slots(
         let op = opcode(word, slot);
         add_op(text, op, slot)?;
         add_address(alloc, text, notes, node, p, word, slot)?;
-        if ends_word(op) {
+        if ends_instruction_word(op) {
             return Ok(());
         }
     }
@@ -189,7 +189,7 @@ fn put_line(
     file: SourceFile<'_>,
     note: Option<&CellSource>,
 ) -> Result<(), AllocError>
-    ensures { OnOk result (members_view members.new.entries ≡ with_source_line file.entry (option_map (λ one. one.now) note.entry) (members_view members.old.entries)) }
+    ensures { OnOk result (members_view members.new.entries ≡ with_source_line_members file.entry (option_map (λ one. one.now) note.entry) (members_view members.old.entries)) }
 {
     let Some(note) = note else {
         return Ok(());
@@ -205,7 +205,7 @@ fn put_label(
     members: &mut Map<String, Value>,
     name: Option<&LabelAddress>,
 ) -> Result<(), AllocError>
-    ensures { OnOk result (members_view members.new.entries ≡ with_label (option_map (λ one. one.now) name.entry) (members_view members.old.entries)) }
+    ensures { OnOk result (members_view members.new.entries ≡ with_label_member (option_map (λ one. one.now) name.entry) (members_view members.old.entries)) }
 {
     let Some(name) = name else {
         return Ok(());
@@ -257,17 +257,17 @@ fn instruction_object(
     Ok(Value::Object(members))
 }
 
-#[tactic(auto, unfolding(crate::specs::Disassembly::no_instruction))]
+#[tactic(auto, unfolding(crate::specs::Disassembly::invalid_instruction_object))]
 fn invalid_instruction(alloc: Global, address: &str) -> Result<Value, AllocError>
-    ensures { IfOk result (λ v. view v ≡ no_instruction address.now) }
+    ensures { IfOk result (λ v. view v ≡ invalid_instruction_object address.now) }
 {
     json!(in alloc; {"address": address, "instruction": "no memory", "presentationHint": "invalid"})
 }
 
 /// The instruction of an address without a cell.
-fn no_instruction(alloc: Global, address: u32) -> Result<Value, AllocError>
+fn invalid_instruction_object(alloc: Global, address: u32) -> Result<Value, AllocError>
     requires { address < 2 ^ 24 }
-    ensures { IfOk result (λ v. view v ≡ no_instruction (memory_reference address)) }
+    ensures { IfOk result (λ v. view v ≡ invalid_instruction_object (memory_reference address)) }
 {
     let text = address_text(alloc, address)?;
     invalid_instruction(alloc, text.as_str())
@@ -308,7 +308,7 @@ fn instruction_at(
     let pointer = address_in_node(node, address);
     match cell_in_node(address) {
         Some(cell) => instruction_object(alloc, file, lab, notes, node, cell, pointer),
-        None => no_instruction(alloc, pointer),
+        None => invalid_instruction_object(alloc, pointer),
     }
 }
 

@@ -3,7 +3,7 @@
 ghost use Rattle.std.specs.Prelude.{◌≡◌, ◌++◌, codes, string_bytes, IfOk, OnOk};
 ghost use Rattle.ga_node.specs.Record.{record_of};
 ghost use Rattle.ga_lab.specs.Machine.{chip_of};
-ghost use Rattle.ga_dap_views.specs.Activity.{side_name, append_side_name, side_names, stop_text, wait_activity_text, named_activity};
+ghost use Rattle.ga_dap_views.specs.Activity.{side_name, append_side_name, side_names, stop_text, wait_activity_text, node_name_and_activity_text};
 
 use crate::texts::add_node;
 use ga_grid::NodeId;
@@ -90,7 +90,7 @@ pub fn thread_title(
     lab: &Lab,
     node: NodeId,
 ) -> Result<String, AllocError>
-    ensures { IfOk result (λ text. string_bytes text ≡ before.now ++ named_activity (chip_of lab.now) node.number) }
+    ensures { IfOk result (λ text. string_bytes text ≡ before.now ++ node_name_and_activity_text (chip_of lab.now) node.number) }
 {
     let does = node_activity(alloc, lab.node(node))?;
     let mut text = String::from_str(alloc, before)?;

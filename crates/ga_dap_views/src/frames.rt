@@ -5,7 +5,7 @@ ghost use Rattle.std.specs.List.{range_with_len, slice_get};
 ghost use Rattle.serde_json.specs.Data.{array};
 ghost use Rattle.serde_json.specs.View.{view, items_view};
 ghost use Rattle.ga_dap_views.specs.Calls.{open_calls};
-ghost use Rattle.ga_dap_views.specs.Frames.{source_object, lined_frame, bare_frame, outside_frame, location_text, frame_name, memory_frame, frame, call_slot_address, frame_slot_address, stack_object, stack_trace};
+ghost use Rattle.ga_dap_views.specs.Frames.{source_object, frame_object_with_line, frame_object_without_source, frame_object_outside_memory, location_text, frame_name, frame_object_in_memory, frame_object, call_slot_address, frame_slot_address, stack_object, stack_trace};
 ghost use Rattle.ga_dap_views.specs.Variables.{memory_reference, requested_range};
 
 use crate::calls::{OpenCall, open_calls};
@@ -36,8 +36,8 @@ pub(crate) fn source_object(alloc: Global, file: SourceFile<'_>) -> Result<Value
     json!(in alloc; {"name": name, "path": path})
 }
 
-#[tactic(auto, unfolding(crate::specs::Frames::lined_frame))]
-fn lined_frame(
+#[tactic(auto, unfolding(crate::specs::Frames::frame_object_with_line))]
+fn frame_object_with_line(
     alloc: Global,
     source: &Value,
     id: u64,
@@ -45,23 +45,28 @@ fn lined_frame(
     pointer: &str,
     word: SlotWord,
 ) -> Result<Value, AllocError>
-    ensures { IfOk result (λ v. view v ≡ lined_frame (view source.now) id name.now pointer.now word.line word.column) }
+    ensures { IfOk result (λ v. view v ≡ frame_object_with_line (view source.now) id name.now pointer.now word.line word.column) }
 {
     let line = word.line;
     let column = word.column;
     json!(in alloc; {"column": column, "id": id, "instructionPointerReference": pointer, "line": line, "name": name, "source": source})
 }
 
-#[tactic(auto, unfolding(crate::specs::Frames::bare_frame))]
-fn bare_frame(alloc: Global, id: u64, name: &str, pointer: &str) -> Result<Value, AllocError>
-    ensures { IfOk result (λ v. view v ≡ bare_frame id name.now pointer.now) }
+#[tactic(auto, unfolding(crate::specs::Frames::frame_object_without_source))]
+fn frame_object_without_source(
+    alloc: Global,
+    id: u64,
+    name: &str,
+    pointer: &str,
+) -> Result<Value, AllocError>
+    ensures { IfOk result (λ v. view v ≡ frame_object_without_source id name.now pointer.now) }
 {
     json!(in alloc; {"column": 0u64, "id": id, "instructionPointerReference": pointer, "line": 0u64, "name": name})
 }
 
-#[tactic(auto, unfolding(crate::specs::Frames::outside_frame))]
-fn outside_frame(alloc: Global, id: u64, name: &str) -> Result<Value, AllocError>
-    ensures { IfOk result (λ v. view v ≡ outside_frame id name.now) }
+#[tactic(auto, unfolding(crate::specs::Frames::frame_object_outside_memory))]
+fn frame_object_outside_memory(alloc: Global, id: u64, name: &str) -> Result<Value, AllocError>
+    ensures { IfOk result (λ v. view v ≡ frame_object_outside_memory id name.now) }
 {
     json!(in alloc; {"column": 0u64, "id": id, "line": 0u64, "name": name, "presentationHint": "subtle"})
 }
@@ -98,7 +103,7 @@ fn frame_name(
 }
 
 /// A frame at a cell, with the word of the source where one is.
-fn memory_frame(
+fn frame_object_in_memory(
     alloc: Global,
     file: SourceFile<'_>,
     id: u64,
@@ -107,20 +112,20 @@ fn memory_frame(
     word: Option<SlotWord>,
 ) -> Result<Value, AllocError>
     requires { address < 2 ^ 24 }
-    ensures { IfOk result (λ v. view v ≡ memory_frame file.entry id name.now (memory_reference address) word) }
+    ensures { IfOk result (λ v. view v ≡ frame_object_in_memory file.entry id name.now (memory_reference address) word) }
 {
     let pointer = address_text(alloc, address)?;
     match word {
-        None => bare_frame(alloc, id, name, pointer.as_str()),
+        None => frame_object_without_source(alloc, id, name, pointer.as_str()),
         Some(word) => {
             let source = source_object(alloc, file)?;
-            lined_frame(alloc, &source, id, name, pointer.as_str(), word)
+            frame_object_with_line(alloc, &source, id, name, pointer.as_str(), word)
         }
     }
 }
 
 /// A frame of a node.
-fn frame(
+fn frame_object(
     alloc: Global,
     file: SourceFile<'_>,
     notes: &DebugInfo,
@@ -129,15 +134,15 @@ fn frame(
     spot: Option<SlotAddress>,
 ) -> Result<Value, AllocError>
     requires { level < 16 }
-    ensures { IfOk result (λ v. view v ≡ frame file.entry notes.now node level spot) }
+    ensures { IfOk result (λ v. view v ≡ frame_object file.entry notes.now node level spot) }
 {
     let name = frame_name(alloc, notes, node, spot)?;
     let id = frame_id(node, level);
     match spot {
-        None => outside_frame(alloc, id, name.as_str()),
+        None => frame_object_outside_memory(alloc, id, name.as_str()),
         Some(spot) => {
             let word = source_word_of_slot(notes, node, spot);
-            memory_frame(
+            frame_object_in_memory(
                 alloc,
                 file,
                 id,
@@ -185,12 +190,12 @@ fn frames(
     requires order { first ≤ end }
     requires few { end ≤ 16 }
     ensures { IfOk result (λ list. map view list.items
-        ≡ map (λ k. frame file.entry notes.now node k (frame_slot_address lab.now node k)) (range_with_len first (end - first))) }
+        ≡ map (λ k. frame_object file.entry notes.now node k (frame_slot_address lab.now node k)) (range_with_len first (end - first))) }
 {
     let mut list = Vec::new(alloc);
     'levels: for level in first..end {
         let spot = frame_slot_address(lab, node, calls, level);
-        let value = frame(alloc, file, notes, node, level, spot)?;
+        let value = frame_object(alloc, file, notes, node, level, spot)?;
         push(&mut list, value)?;
     }
     Ok(list)

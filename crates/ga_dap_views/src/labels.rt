@@ -4,7 +4,7 @@ ghost use Rattle.std.specs.Prelude.{◌≡◌, ◌++◌, ◌/◌, ◌*◌, ◌%�
 ghost use Rattle.std.specs.Str.Lossy.{utf8_lossy};
 ghost use Rattle.ga_debug_info.specs.Notes.{is_source_of_cell};
 ghost use Rattle.ga_debug_info.specs.Source.{nearest_result};
-ghost use Rattle.ga_dap_views.specs.Labels.{is_label_cell, is_label_at, label_place_of_cell, label_of_cell, nearest_label, distance_text, cell_location_text, source_of_cell, source_word_of_slot, source_line_of_slot, is_code_word_on_line, line_start};
+ghost use Rattle.ga_dap_views.specs.Labels.{is_label_cell, is_label_at, label_place_of_cell, label_of_cell, nearest_label, label_distance_text, cell_location_text, source_of_cell, source_word_of_slot, source_line_of_slot, is_code_word_on_line, line_start_word};
 
 use crate::spots::{SlotAddress, memory_cell};
 use crate::texts::add_hex2;
@@ -67,7 +67,7 @@ fn nearest_label(notes: &DebugInfo, node: NodeId, cell: u8) -> Option<&LabelAddr
 
 /// Adds the distance of a cell after its label.
 fn add_behind(text: &mut String, behind: u8) -> Result<(), AllocError>
-    ensures { OnOk result (string_bytes text.new ≡ string_bytes text.old ++ distance_text behind) }
+    ensures { OnOk result (string_bytes text.new ≡ string_bytes text.old ++ label_distance_text behind) }
 {
     if behind == 0 {
         return Ok(());
@@ -147,8 +147,8 @@ pub fn source_line_of_slot(notes: &DebugInfo, node: NodeId, spot: SlotAddress) -
 }
 
 /// The first word of a line from which a slot of an instruction word of the node comes.
-pub fn line_start(notes: &DebugInfo, node: NodeId, line: u32) -> Option<SlotWord>
-    ensures { result ≡ line_start notes.now node line }
+pub fn line_start_word(notes: &DebugInfo, node: NodeId, line: u32) -> Option<SlotWord>
+    ensures { result ≡ line_start_word notes.now node line }
 {
     let place = place_on_line(notes.words.as_slice(), node, line)?;
     match notes.words.get(place) {

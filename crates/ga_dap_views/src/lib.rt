@@ -22,7 +22,7 @@ pub use disassembly::disassemble_body;
 pub use doing::thread_title;
 pub use entries::{is_call_step, pushed_by_step, return_entry_sources};
 pub use frames::{SourceFile, stack_trace};
-pub use labels::{line_start, source_line_of_slot};
+pub use labels::{line_start_word, source_line_of_slot};
 pub use listing::{scopes, variables};
 pub use numbers::{
     cell_at_chip_address, chip_address, frame_id, node_of_frame, node_of_thread, resolve_reference,
@@ -31,5 +31,5 @@ pub use numbers::{
 pub use scope::Scope;
 pub use spots::{SlotAddress, memory_cell, slot_address_after, slot_address_at, slot_and_p};
 pub use thread::{has_thread, threads};
-pub use values::value_of;
+pub use values::json_value_of_variable;
 pub use variable::{Variable, count_variables, variable_name, variable_of};

@@ -10,7 +10,7 @@ use crate::json::object_with;
 use crate::numbers::{chip_address, variables_reference};
 use crate::scope::Scope;
 use crate::texts::address_text;
-use crate::values::value_of;
+use crate::values::json_value_of_variable;
 use crate::variable::{Variable, count_variables, variable_name, variable_of};
 use ga_grid::NodeId;
 use ga_lab::Lab;
@@ -124,7 +124,7 @@ fn variable(
     ensures { IfOk result (λ v. view v ≡ variable_value_object lab.now stuck node.number variable) }
 {
     let name = variable_name(alloc, variable)?;
-    let value = value_of(alloc, lab, stuck, node, variable)?;
+    let value = json_value_of_variable(alloc, lab, stuck, node, variable)?;
     match variable {
         Variable::Cell(address) => {
             cell_variable(

@@ -10,7 +10,7 @@ ghost use Rattle.ga_dap_views.specs.Spots.{slot_address, slot_address_after};
 use ga_grid::NodeId;
 use ga_lab::{Lab, NodeWalk};
 use ga_node::{Node, Place};
-use ga_ports::{Target, classify_address};
+use ga_ports::{AddressTarget, classify_address};
 use ga_provenance::fetched_cell_at;
 
 /// A slot of a cell.
@@ -27,8 +27,8 @@ pub fn memory_cell(address: u32) -> Option<u8>
     ensures { result ≡ cell_of_address address }
 {
     match classify_address(address) {
-        Target::Ram(cell) => Some(cell),
-        Target::Rom(cell) => Some(128 + cell),
+        AddressTarget::Ram(cell) => Some(cell),
+        AddressTarget::Rom(cell) => Some(128 + cell),
         _ => None,
     }
 }

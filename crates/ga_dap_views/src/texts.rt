@@ -5,9 +5,9 @@ ghost use Rattle.hex.specs.Hex.{lower_digits};
 ghost use Rattle.ga_word.specs.Word.{hex6_of};
 ghost use Rattle.ga_grid.specs.Grid.{yxx_of};
 ghost use Rattle.ga_text.specs.Digits.{decimal3_of, hex2_of};
-ghost use Rattle.ga_dap_views.specs.Activity.{negative_text, word_value_text};
+ghost use Rattle.ga_dap_views.specs.Activity.{negative_word_text, word_value_text};
 ghost use Rattle.ga_dap_views.specs.Variables.{memory_reference};
-ghost use Rattle.ga_dap_views.specs.Disassembly.{hex3_of};
+ghost use Rattle.ga_dap_views.specs.Disassembly.{three_hex_digits};
 
 use ga_grid::NodeId;
 use std::alloc::{AllocError, Global};
@@ -95,7 +95,7 @@ pub(crate) fn word_text(alloc: Global, word: u32) -> Result<String, AllocError>
 /// Adds the negative number of a word, where its highest bit is set.
 fn add_negative(text: &mut String, word: u32) -> Result<(), AllocError>
     requires { word < 2 ^ 18 }
-    ensures { OnOk result (string_bytes text.new ≡ string_bytes text.old ++ negative_text word) }
+    ensures { OnOk result (string_bytes text.new ≡ string_bytes text.old ++ negative_word_text word) }
 {
     if word < 0x20000 {
         Ok(())
@@ -133,7 +133,7 @@ pub(crate) fn cell_name(alloc: Global, address: u8) -> Result<String, AllocError
 
 /// Adds three hexadecimal digits.
 pub(crate) fn add_hex3(text: &mut String, value: u32) -> Result<(), AllocError>
-    ensures { OnOk result (string_bytes text.new ≡ string_bytes text.old ++ hex3_of value) }
+    ensures { OnOk result (string_bytes text.new ≡ string_bytes text.old ++ three_hex_digits value) }
 {
     text.push_str(digit(value / 256 % 16))?;
     text.push_str(digit(value / 16 % 16))?;

@@ -4,8 +4,8 @@ ghost use Rattle.std.specs.Prelude.{◌≡◌, ◌++◌, ◌∷◌, [], IfOk, On
 ghost use Rattle.serde_json.specs.View.{view};
 ghost use Rattle.ga_ports.specs.Address.{address_target};
 ghost use Rattle.ga_node.specs.Record.{record_of};
-ghost use Rattle.ga_dap_views.specs.Json.{array_of, object_of};
-ghost use Rattle.ga_dap_views.specs.Threads.{named_thread, thread_in, has_thread, is_in_memory, is_among_nodes, nodes_with_threads, threads_body};
+ghost use Rattle.ga_dap_views.specs.Json.{json_array_of, json_object_of_member};
+ghost use Rattle.ga_dap_views.specs.Threads.{named_thread_object, node_thread_object, has_thread, is_in_memory, is_among_nodes, nodes_with_threads, threads_body};
 
 use crate::doing::thread_title;
 use crate::json::object_with;
@@ -13,21 +13,21 @@ use crate::numbers::thread_id;
 use ga_grid::NodeId;
 use ga_lab::Lab;
 use ga_node::{Node, Place};
-use ga_ports::{Target, classify_address};
+use ga_ports::{AddressTarget, classify_address};
 use serde_json::{Value, json, push};
 use std::alloc::{AllocError, Global};
 
 /// A thread of this name.
-#[tactic(auto, unfolding(crate::specs::Threads::named_thread))]
+#[tactic(auto, unfolding(crate::specs::Threads::named_thread_object))]
 fn thread_object(alloc: Global, node: NodeId, name: &str) -> Result<Value, AllocError>
-    ensures { IfOk result (λ v. view v ≡ named_thread node.number name.now) }
+    ensures { IfOk result (λ v. view v ≡ named_thread_object node.number name.now) }
 {
     json!(in alloc; {"id": thread_id(node), "name": name})
 }
 
 /// The thread of a node.
 fn thread(alloc: Global, lab: &Lab, node: NodeId) -> Result<Value, AllocError>
-    ensures { IfOk result (λ v. view v ≡ thread_in lab.now node.number) }
+    ensures { IfOk result (λ v. view v ≡ node_thread_object lab.now node.number) }
 {
     let name = thread_title(alloc, "", lab, node)?;
     thread_object(alloc, node, name.as_str())
@@ -39,8 +39,8 @@ fn is_in_memory(node: &Node) -> bool
     ensures { result ≡ is_in_memory (address_target (record_of node.now).p) }
 {
     match classify_address(node.get(Place::P)) {
-        Target::Ram(_) => true,
-        Target::Rom(_) => true,
+        AddressTarget::Ram(_) => true,
+        AddressTarget::Rom(_) => true,
         _ => false,
     }
 }
@@ -68,7 +68,7 @@ fn add_thread(
     node: NodeId,
 ) -> Result<(), AllocError>
     ensures { OnOk result (map view list.new.items ≡ map view list.old.items
-        ++ map (thread_in lab.now) (filter (has_thread lab.now programs.now) (node.number ∷ []))) }
+        ++ map (node_thread_object lab.now) (filter (has_thread lab.now programs.now) (node.number ∷ []))) }
 {
     if !has_thread(lab, programs, node) {
         return Ok(());
@@ -79,7 +79,7 @@ fn add_thread(
 
 /// The threads of the nodes that have something to show.
 fn shown(alloc: Global, lab: &Lab, programs: &[NodeId]) -> Result<Vec<Value>, AllocError>
-    ensures { IfOk result (λ list. map view list.items ≡ map (thread_in lab.now) (nodes_with_threads lab.now programs.now 144)) }
+    ensures { IfOk result (λ list. map view list.items ≡ map (node_thread_object lab.now) (nodes_with_threads lab.now programs.now 144)) }
 {
     let mut list = Vec::new(alloc);
     'nodes: for number in 0..144u8 {

@@ -44,7 +44,7 @@ fn words_of_stuck(stuck: bool) -> &'static str
 
 /// The value of a variable of a node.
 #[tactic(auto, unfolding(ga_node::specs::Record::record_of))]
-pub fn value_of(
+pub fn json_value_of_variable(
     alloc: Global,
     lab: &Lab,
     stuck: bool,

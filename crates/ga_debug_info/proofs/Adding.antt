@@ -4,7 +4,7 @@ use Rattle.std.proofs.lemmas.Bool.{cases_lt, cases_eq, eq-eqb, ne_eqb}
 use Rattle.std.proofs.lemmas.List.{drop_more, drop_all, at_drop_more, at_drop_all}
 use Rattle.ga_grid.specs.declared.node_id.NodeId.{NodeId}
 use Rattle.ga_parser.specs.declared.labels.Label.{Label}
-use Rattle.ga_parser.specs.declared.item.Item.{Item}
+use Rattle.ga_parser.specs.declared.item.AssemblyItem.{AssemblyItem}
 use Rattle.ga_source.specs.Reading.{p_after_item}
 use Rattle.ga_parser.specs.declared.scan.Token.{Token}
 use Rattle.ga_debug_info.specs.declared.wording.Begun.{Begun}
@@ -55,29 +55,29 @@ among_all node labels addresses i past = elim (cases_lt i (length labels)) [
 
 -- ---- items with their lines
 
-module _ {X : Type 0} (tell : ℕ → Item → ℕ → List X) where
+module _ {X : Type 0} (tell : ℕ → AssemblyItem → ℕ → List X) where
   -- one item more
-  told_of_item : (p : ℕ) (items : List Item) (lines : List ℕ) (i : ℕ) (d : Item) → i < length items → i < length lines → literal_entries tell p (drop i items) (drop i lines) ≡ tell p (get_or items i d) (get_or lines i 0) ++ literal_entries tell (p_after_item p (get_or items i d)) (drop (i + 1) items) (drop (i + 1) lines)
+  told_of_item : (p : ℕ) (items : List AssemblyItem) (lines : List ℕ) (i : ℕ) (d : AssemblyItem) → i < length items → i < length lines → literal_entries tell p (drop i items) (drop i lines) ≡ tell p (get_or items i d) (get_or lines i 0) ++ literal_entries tell (p_after_item p (get_or items i d)) (drop (i + 1) items) (drop (i + 1) lines)
   unfolding literal_entries
   told_of_item p items lines i d within inside = ap₂ (literal_entries tell p) (drop_more items i d within) (drop_more lines i 0 inside)
 
   -- and its entries were added
-  pub literals_step : (items : List Item) (lines : List ℕ) (told new all : List X) (n m p q : ℕ) (item : Item) (line : ℕ) → n < length items → n < length lines → item ≡ get_or items n item → line ≡ get_or lines n 0 → m ≡ n + 1 → q ≡ p_after_item p item → new ≡ told ++ tell p item line → told ++ literal_entries tell p (drop n items) (drop n lines) ≡ all → new ++ literal_entries tell q (drop m items) (drop m lines) ≡ all
+  pub literals_step : (items : List AssemblyItem) (lines : List ℕ) (told new all : List X) (n m p q : ℕ) (item : AssemblyItem) (line : ℕ) → n < length items → n < length lines → item ≡ get_or items n item → line ≡ get_or lines n 0 → m ≡ n + 1 → q ≡ p_after_item p item → new ≡ told ++ tell p item line → told ++ literal_entries tell p (drop n items) (drop n lines) ≡ all → new ++ literal_entries tell q (drop m items) (drop m lines) ≡ all
   literals_step items lines told new all n m p q item line within inside is at next behind added before =
       let parts : literal_entries tell p (drop n items) (drop n lines) ≡ tell p item line ++ literal_entries tell q (drop m items) (drop m lines) =
       rw (behind, is, at, next) (told_of_item p items lines n item within inside) in
       told_more told (literal_entries tell p (drop n items) (drop n lines)) all new (tell p item line) (literal_entries tell q (drop m items) (drop m lines)) added parts before
 
-  no_lines : (p : ℕ) (items : List Item) → literal_entries tell p items [] ≡ []
+  no_lines : (p : ℕ) (items : List AssemblyItem) → literal_entries tell p items [] ≡ []
   unfolding literal_entries
   no_lines p [] = refl
   no_lines p (item ∷ items) = refl
 
   -- none is left
-  pub literals_all : (p : ℕ) (items : List Item) (lines : List ℕ) (i : ℕ) → min (length items) (length lines) ≤ i → literal_entries tell p (drop i items) (drop i lines) ≡ []
+  pub literals_all : (p : ℕ) (items : List AssemblyItem) (lines : List ℕ) (i : ℕ) → min (length items) (length lines) ≤ i → literal_entries tell p (drop i items) (drop i lines) ≡ []
   unfolding literal_entries
   literals_all p items lines i past = elim (cases_lt i (length items)) [
-    | inr few ↦ ap (λ (left : List Item). literal_entries tell p left (drop i lines)) (drop_all i items few)
+    | inr few ↦ ap (λ (left : List AssemblyItem). literal_entries tell p left (drop i lines)) (drop_all i items few)
     | inl more ↦ ap (literal_entries tell p (drop i items)) (drop_all i lines (omega arith)) ∙ no_lines p (drop i items)
   ]
 

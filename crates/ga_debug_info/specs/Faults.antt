@@ -20,28 +20,28 @@ use Rattle.ga_debug_info.specs.Source.{address_text}
 abbrev pub printable_byte : ℕ → Text
 printable_byte byte = if nat_le 32 byte && nat_lt byte 127 then byte ∷ [] else codes "\\x" ++ hex2_of byte
 
-abbrev pub printable : Text → Text
-printable word = flat_map printable_byte word
+abbrev pub printable_text : Text → Text
+printable_text word = flat_map printable_byte word
 
 -- the spelling or the word that is proposed in place of an unknown one
 abbrev pub hint_suffix_text : Option Text → Text
 hint_suffix_text None = []
-hint_suffix_text (Some text) = codes ": " ++ printable text
+hint_suffix_text (Some text) = codes ": " ++ printable_text text
 
 -- the numbers of a range
-abbrev pub range_text : NumberRange → Text
-range_text Word = codes "-131072 to 262143"
-range_text P = codes "0 to 0x3ff"
-range_text B = codes "0 to 0x1ff"
-range_text Cell = codes "0 to 0x3f, 0x80 to 0xbf"
+abbrev pub number_range_text : NumberRange → Text
+number_range_text Word = codes "-131072 to 262143"
+number_range_text P = codes "0 to 0x3ff"
+number_range_text B = codes "0 to 0x1ff"
+number_range_text Cell = codes "0 to 0x3f, 0x80 to 0xbf"
 
 -- the cell that a line gave before
 abbrev pub repeated_cell_text : ℕ → ℕ → Text
 repeated_cell_text cell line = codes "cell " ++ address_text cell ++ codes " given before on line " ++ decimal line
 
 -- the cell in decimal, for `org`
-abbrev pub org_text : ℕ → Text
-org_text cell = codes " (org " ++ decimal cell ++ codes " is " ++ address_text cell ++ codes ")"
+abbrev pub org_address_text : ℕ → Text
+org_address_text cell = codes " (org " ++ decimal cell ++ codes " is " ++ address_text cell ++ codes ")"
 
 -- what is wrong
 abbrev pub cause_text : SourceCause → Text
@@ -51,7 +51,7 @@ cause_text OpenComment = codes "a comment without its )"
 cause_text NoNode = codes "no node has begun"
 cause_text NoSuchNode = codes "no such node"
 cause_text NodeTwice = codes "the node has a program already"
-cause_text (Unknown word) = codes "what is " ++ printable word.now ++ hint_suffix_text (hint_for word.now)
+cause_text (Unknown word) = codes "what is " ++ printable_text word.now ++ hint_suffix_text (hint_for word.now)
 cause_text Taken = codes "the name is taken"
 cause_text Missing = codes "a name or a value is missing"
 cause_text NoNumber = codes "no number from -131072 to 262143 before constant"
@@ -59,8 +59,8 @@ cause_text LabelTwice = codes "the label stands twice"
 cause_text RegisterTwice = codes "the register is given twice"
 cause_text Unmatched = codes "nothing is open that this closes"
 cause_text Open = codes "this is never closed"
-cause_text (Number word range) = codes "number out of range: " ++ printable word.now ++ codes " (" ++ range_text range ++ codes ")"
-cause_text (CellTwice cell line) = repeated_cell_text cell line ++ org_text cell
+cause_text (Number word range) = codes "number out of range: " ++ printable_text word.now ++ codes " (" ++ number_range_text range ++ codes ")"
+cause_text (CellTwice cell line) = repeated_cell_text cell line ++ org_address_text cell
 cause_text (Past address) = address_text address ++ codes " is past the end of RAM or ROM"
 cause_text (Reach cell target) = address_text target ++ codes " is out of reach of a jump in " ++ address_text cell
 cause_text (Loop cell) = codes "the loop of unext in " ++ address_text cell ++ codes " is longer than its cell"

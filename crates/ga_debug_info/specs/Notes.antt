@@ -4,8 +4,8 @@
 use Rattle.std.specs.Prelude.{ℕ, ◌≡◌, ◌+◌, ◌-◌, ◌==◌, Bool, false, if◌then◌else◌, List, [], ◌∷◌, ◌++◌, map, length, drop, slice_get, slice_index, flat_map, codes, decimal, Option, Some, None, nat_le, nat_lt, ◌&&◌, position, option_map, option_and_then, bytes_eq}
 use Rattle.ga_ports.specs.Address.{advanced_address}
 use Rattle.ga_grid.specs.declared.node_id.NodeId.{NodeId}
-use Rattle.ga_parser.specs.declared.item.Item.{Item}
-use Rattle.ga_parser.specs.declared.item.Item.TheVariants.{Literal}
+use Rattle.ga_parser.specs.declared.item.AssemblyItem.{AssemblyItem}
+use Rattle.ga_parser.specs.declared.item.AssemblyItem.TheVariants.{Literal}
 use Rattle.ga_source.specs.declared.group.CellGroup.{CellGroup}
 use Rattle.ga_source.specs.declared.program.Program.{Program}
 use Rattle.ga_source.specs.declared.program.AssembledChip.{AssembledChip}
@@ -13,11 +13,11 @@ use Rattle.ga_parser.specs.declared.scan.Token.{Token}
 use Rattle.ga_parser.specs.Saying.{token_contents, token_columns}
 use Rattle.ga_parser.specs.Words.{source_tokens, source_columns}
 use Rattle.ga_parser.specs.Expectations.{expectation_content, expectation_lines}
-use Rattle.ga_source.specs.Recovery.{with_numbers, IsAssemblyOfWords}
+use Rattle.ga_source.specs.Recovery.{tokens_with_numbers, IsAssemblyOfWords}
 use Rattle.ga_debug_info.specs.declared.wording.SlotWord.{SlotWord}
 use Rattle.ga_debug_info.specs.declared.wording.DisplayedWord.{DisplayedWord}
 use Rattle.ga_debug_info.specs.declared.wording.Begun.{Begun}
-use Rattle.ga_debug_info.specs.Source.{cell_of_address, unmarked_source_line, trimmed_text, trimmed_source_line, is_long_line, is_code, literal_entries, label_address_content, all_label_names, cell_source_content, debug_info_of}
+use Rattle.ga_debug_info.specs.Source.{cell_of_address, unmarked_source_line, trimmed_text, trimmed_source_line, is_long_line, is_code, literal_entries, label_address_content, all_label_addresses, cell_source_content, debug_info_of}
 use Rattle.ga_debug_info.specs.declared.notes.CellSource.{CellSource}
 use Rattle.ga_debug_info.specs.declared.notes.LabelAddress.{LabelAddress}
 use Rattle.ga_debug_info.specs.declared.notes.DebugInfo.{DebugInfo}
@@ -102,7 +102,7 @@ abbrev pub displayed_address_words : List ℕ → List Token → NodeId → Bool
 displayed_address_words source words node is_code address numbers = displayed_cell_words source words node is_code (cell_of_address address) numbers
 
 -- the word in the cell of an item's literal, from P on
-abbrev pub displayed_literal_words : List ℕ → List Token → NodeId → ℕ → Item → ℕ → List DisplayedWordContent
+abbrev pub displayed_literal_words : List ℕ → List Token → NodeId → ℕ → AssemblyItem → ℕ → List DisplayedWordContent
 displayed_literal_words source words node p (Literal _) number = displayed_address_words source words node false p (number ∷ [])
 displayed_literal_words source words node p _ number = []
 
@@ -125,7 +125,7 @@ pub record AreSlotWords (source : List ℕ) (told : List DisplayedWord) : Type 0
   pub all : AssembledChip
   pub said : token_contents words ≡ source_tokens source
   pub columns : token_columns words ≡ source_columns source
-  pub assembled : IsAssemblyOfWords (with_numbers 1 words) all
+  pub assembled : IsAssemblyOfWords (tokens_with_numbers 1 words) all
   pub told_words : map displayed_word_content told ≡ displayed_words source words all.programs.items
 
 -- ---- what a source says of the cells of its chip
@@ -135,8 +135,8 @@ abbrev pub is_source_of_cell : NodeId → ℕ → CellSource → Bool
 is_source_of_cell node cell note = note.node.number == node.number && note.cell == cell
 
 -- the note is of an instruction word of the node that this line begins
-abbrev pub begins_on_line : NodeId → ℕ → CellSource → Bool
-begins_on_line node line note = note.is_code && note.node.number == node.number && note.line == line
+abbrev pub cell_begins_on_line : NodeId → ℕ → CellSource → Bool
+cell_begins_on_line node line note = note.is_code && note.node.number == node.number && note.line == line
 
 -- the name is one that the node has
 abbrev pub is_label_of_node : NodeId → List ℕ → LabelAddress → Bool
@@ -203,7 +203,7 @@ nearest_word line best (told ∷ rest) = nearest_word line (nearer_word line bes
 -- the address of the first instruction word that a line begins
 abbrev pub line_address : List CellSource → NodeId → ℕ → Option ℕ
 line_address notes node line =
-    option_map (λ (note : CellSource). note.address) (option_and_then (slice_get notes) (position (begins_on_line node line) notes))
+    option_map (λ (note : CellSource). note.address) (option_and_then (slice_get notes) (position (cell_begins_on_line node line) notes))
 
 abbrev pub optional_label_address : Option LabelAddress → Option ℕ
 optional_label_address found = option_map (λ (name : LabelAddress). name.address) found
@@ -217,7 +217,7 @@ label_address_of names node text = optional_label_address (option_and_then (slic
 -- The notes are those that the source and its programs give: the names of the labels, of each cell what the source says of it, of
 -- each slot its word, and the expectations.
 pub record IsDebugInfoOfSource (source : List ℕ) (programs : List Program) (notes : DebugInfo) : Type 0 where
-  pub labels : map label_address_content notes.names.items ≡ all_label_names programs
+  pub labels : map label_address_content notes.names.items ≡ all_label_addresses programs
   pub cells : map cell_source_content notes.notes.items ≡ debug_info_of source programs
   pub slots : AreSlotWords source notes.words.items
   pub expected : map expectation_content notes.expectations.items ≡ expectation_lines source

@@ -5,13 +5,13 @@ use Rattle.std.specs.List.{prefix_len, suffix_len}
 use Rattle.std.specs.Option.{option_or}
 use Rattle.std.specs.Char.{is_ascii_whitespace}
 use Rattle.ga_word.specs.Word.{hex_digit}
-use Rattle.ga_ports.specs.declared.address.Target.{Target}
-use Rattle.ga_ports.specs.declared.address.Target.TheVariants.{Ram, Rom}
+use Rattle.ga_ports.specs.declared.address.AddressTarget.{AddressTarget}
+use Rattle.ga_ports.specs.declared.address.AddressTarget.TheVariants.{Ram, Rom}
 use Rattle.ga_ports.specs.Address.{address_target, advanced_address}
 use Rattle.ga_grid.specs.declared.node_id.NodeId.{NodeId}
 use Rattle.ga_parser.specs.declared.labels.Label.{Label}
-use Rattle.ga_parser.specs.declared.item.Item.{Item}
-use Rattle.ga_parser.specs.declared.item.Item.TheVariants.{Literal, Cell}
+use Rattle.ga_parser.specs.declared.item.AssemblyItem.{AssemblyItem}
+use Rattle.ga_parser.specs.declared.item.AssemblyItem.TheVariants.{Literal, Cell}
 use Rattle.ga_parser.specs.declared.item.AssemblyRequest.{AssemblyRequest}
 use Rattle.ga_parser.specs.declared.item.AssemblyRequest.TheVariants.{Mark}
 use Rattle.ga_parser.specs.declared.item.LocatedRequest.{LocatedRequest}
@@ -48,13 +48,13 @@ named_labels node (label ∷ labels) (address ∷ addresses) = named_label node 
 abbrev pub program_label_names : Program → List LabelAddressContent
 program_label_names program = named_labels program.node program.names.items program.labels.items
 
-abbrev pub all_label_names : List Program → List LabelAddressContent
-all_label_names programs = flat_map program_label_names programs
+abbrev pub all_label_addresses : List Program → List LabelAddressContent
+all_label_addresses programs = flat_map program_label_names programs
 
 -- ---- the label of a cell
 
 -- the cell that a target is, and that an address names
-abbrev pub memory_cell_of_target : Target → Option ℕ
+abbrev pub memory_cell_of_target : AddressTarget → Option ℕ
 memory_cell_of_target (Ram k) = Some k
 memory_cell_of_target (Rom k) = Some (128 + k)
 memory_cell_of_target _ = None
@@ -173,17 +173,17 @@ abbrev pub cell_sources_at_address : List ℕ → Program → Bool → ℕ → �
 cell_sources_at_address source program is_code address line = optional_cell_source source program is_code line address (cell_of_address address)
 
 -- the items are those of an instruction word, and no cell of data
-abbrev pub is_code : List Item → Bool
+abbrev pub is_code : List AssemblyItem → Bool
 is_code (Cell _ ∷ []) = false
 is_code _ = true
 
 -- the note of an item's literal, from P on
-abbrev pub literal_cell_sources : List ℕ → Program → ℕ → Item → ℕ → List CellSourceContent
+abbrev pub literal_cell_sources : List ℕ → Program → ℕ → AssemblyItem → ℕ → List CellSourceContent
 literal_cell_sources source program p (Literal _) line = cell_sources_at_address source program false p line
 literal_cell_sources source program p _ line = []
 
 -- the entries of each item with its line, P after the literals before it, in order
-unfoldable pub literal_entries : {X : Type 0} → (ℕ → Item → ℕ → List X) → ℕ → List Item → List ℕ → List X
+unfoldable pub literal_entries : {X : Type 0} → (ℕ → AssemblyItem → ℕ → List X) → ℕ → List AssemblyItem → List ℕ → List X
 literal_entries tell p [] lines = []
 literal_entries tell p (item ∷ items) [] = []
 literal_entries tell p (item ∷ items) (line ∷ lines) = tell p item line ++ literal_entries tell (p_after_item p item) items lines

@@ -11,8 +11,8 @@ use Rattle.ga_text.specs.Lines.{Text}
 use Rattle.ga_debug_info.specs.Faults.{prefixed_line, error_prefix}
 
 -- the name of a field, unless it is as at load
-abbrev pub field_name_unless : Bool → Text → Text
-field_name_unless is_at_load name = if is_at_load then [] else name
+abbrev pub field_name_unless_default : Bool → Text → Text
+field_name_unless_default is_at_load name = if is_at_load then [] else name
 
 abbrev pub is_fresh_word : ℕ → Bool
 is_fresh_word word = word == fresh_word
@@ -20,10 +20,10 @@ is_fresh_word word = word == fresh_word
 -- the fields beside the memories, P, A and B that aren't as at load, in their order in an image
 abbrev pub unrepresented_fields : NodeState → Text
 unrepresented_fields node =
-    field_name_unless (node.i == 0) (codes " i") ++ field_name_unless (node.io == fresh_word) (codes " io")
-    ++ field_name_unless (from_bool node.carry == 0) (codes " carry") ++ field_name_unless (node.slot == 4) (codes " slot")
-    ++ field_name_unless (list_all is_fresh_word (record_of node).d) (codes " d") ++ field_name_unless (list_all is_fresh_word (record_of node).r) (codes " r")
-    ++ field_name_unless (wait_code node.wait == 0) (codes " wait") ++ field_name_unless (node.stop == 0) (codes " stop")
+    field_name_unless_default (node.i == 0) (codes " i") ++ field_name_unless_default (node.io == fresh_word) (codes " io")
+    ++ field_name_unless_default (from_bool node.carry == 0) (codes " carry") ++ field_name_unless_default (node.slot == 4) (codes " slot")
+    ++ field_name_unless_default (list_all is_fresh_word (record_of node).d) (codes " d") ++ field_name_unless_default (list_all is_fresh_word (record_of node).r) (codes " r")
+    ++ field_name_unless_default (wait_code node.wait == 0) (codes " wait") ++ field_name_unless_default (node.stop == 0) (codes " stop")
 
 -- the line of a node with these fields
 abbrev pub node_line : ℕ → Text → Text
@@ -34,10 +34,10 @@ abbrev pub unrepresented_line : ℕ → Text → Text
 unrepresented_line n fields = if length fields == 0 then [] else node_line n fields
 
 -- the lines of nodes, the first of which has this number
-unfoldable pub unrepresented_from : ℕ → List NodeState → Text
-unrepresented_from n [] = []
-unrepresented_from n (node ∷ nodes) = unrepresented_line n (unrepresented_fields node) ++ unrepresented_from (n + 1) nodes
+unfoldable pub unrepresented_lines_from : ℕ → List NodeState → Text
+unrepresented_lines_from n [] = []
+unrepresented_lines_from n (node ∷ nodes) = unrepresented_line n (unrepresented_fields node) ++ unrepresented_lines_from (n + 1) nodes
 
 -- the lines of a chip
 abbrev pub unrepresented_text : List NodeState → Text
-unrepresented_text chip = unrepresented_from 0 chip
+unrepresented_text chip = unrepresented_lines_from 0 chip

@@ -15,7 +15,7 @@ use crate::wording::slot_words;
 use ga_grid::NodeId;
 use ga_image::GivenWords;
 use ga_ports::advance_p;
-use ga_source::{CellGroup, Item, Label, Program, expectation_lines};
+use ga_source::{AssemblyItem, CellGroup, Label, Program, expectation_lines};
 use ga_word::Word18;
 use std::alloc::{AllocError, Global};
 
@@ -149,7 +149,7 @@ pub(crate) fn is_code(group: &CellGroup) -> bool
     ensures { result ≡ is_code group.now.items.items }
 {
     match group.items.as_slice() {
-        [Item::Cell(_)] => false,
+        [AssemblyItem::Cell(_)] => false,
         _ => true,
     }
 }
@@ -161,7 +161,7 @@ fn add_literal(
     program: &Program<'_>,
     marked: &LastLabels,
     p: u32,
-    item: Item,
+    item: AssemblyItem,
     line: u32,
     lines: &mut Lines<'_>,
 ) -> Result<u32, AllocError>
@@ -170,7 +170,7 @@ fn add_literal(
     ensures notes { OnOk result (map cell_source_content notes.new.items ≡ map cell_source_content notes.old.items ++ literal_cell_sources lines.old program.now p item line) }
     ensures same { lines.new ≡ lines.old }
 {
-    let Item::Literal(_) = item else {
+    let AssemblyItem::Literal(_) = item else {
         return Ok(p);
     };
     let literal = CellAt {

@@ -3,7 +3,7 @@
 ghost use Rattle.std.specs.Prelude.{◌≡◌, ◌++◌, OnOk, codes, decimal};
 ghost use Rattle.std.specs.List.{flat_map};
 ghost use Rattle.ga_parser.specs.Hints.{hint_for, hint_text};
-ghost use Rattle.ga_debug_info.specs.Faults.{printable_byte, printable, hint_suffix_text, range_text, repeated_cell_text, org_text, cause_text, fault_text, prefixed_line, more_faults_text, faults_text};
+ghost use Rattle.ga_debug_info.specs.Faults.{printable_byte, printable_text, hint_suffix_text, number_range_text, repeated_cell_text, org_address_text, cause_text, fault_text, prefixed_line, more_faults_text, faults_text};
 
 use crate::building::{push_number, three_digits};
 use ga_source::{Hint, NumberRange, SourceCause, SourceFault, hint_for};
@@ -27,7 +27,7 @@ fn push_printable_byte(text: &mut Vec<u8>, byte: u8) -> Result<(), AllocError>
 
 /// Adds a word as it is printed.
 fn push_printable(text: &mut Vec<u8>, word: &[u8]) -> Result<(), AllocError>
-    ensures { OnOk result (text.new.items ≡ text.old.items ++ printable word.now) }
+    ensures { OnOk result (text.new.items ≡ text.old.items ++ printable_text word.now) }
 {
     for byte in word {
         push_printable_byte(text, *byte)?;
@@ -38,7 +38,7 @@ fn push_printable(text: &mut Vec<u8>, word: &[u8]) -> Result<(), AllocError>
 /// Adds the three parts of a hint.
 #[tactic(auto, using(crate::proofs::Hinted::parts_shown))]
 fn push_hint(text: &mut Vec<u8>, hint: Hint<'_>) -> Result<(), AllocError>
-    ensures { OnOk result (text.new.items ≡ text.old.items ++ (codes ": " ++ printable (hint_text hint.entry))) }
+    ensures { OnOk result (text.new.items ≡ text.old.items ++ (codes ": " ++ printable_text (hint_text hint.entry))) }
 {
     text.extend_from_slice(b": ")?;
     push_printable(text, hint.before)?;
@@ -58,7 +58,7 @@ fn push_proposal(text: &mut Vec<u8>, word: &[u8]) -> Result<(), AllocError>
 
 /// Adds an unknown word, and what is proposed in its place.
 fn push_unknown(text: &mut Vec<u8>, word: &[u8]) -> Result<(), AllocError>
-    ensures { OnOk result (text.new.items ≡ text.old.items ++ (codes "what is " ++ printable word.now ++ hint_suffix_text (hint_for word.now))) }
+    ensures { OnOk result (text.new.items ≡ text.old.items ++ (codes "what is " ++ printable_text word.now ++ hint_suffix_text (hint_for word.now))) }
 {
     text.extend_from_slice(b"what is ")?;
     push_printable(text, word)?;
@@ -66,8 +66,8 @@ fn push_unknown(text: &mut Vec<u8>, word: &[u8]) -> Result<(), AllocError>
 }
 
 /// The numbers of a range.
-fn range_text(range: NumberRange) -> &'static [u8]
-    ensures { result.now ≡ range_text range }
+fn number_range_text(range: NumberRange) -> &'static [u8]
+    ensures { result.now ≡ number_range_text range }
 {
     match range {
         NumberRange::Word => b"-131072 to 262143",
@@ -79,12 +79,12 @@ fn range_text(range: NumberRange) -> &'static [u8]
 
 /// Adds a number that its place doesn't accept, and the accepted ones.
 fn push_out_of_range(text: &mut Vec<u8>, word: &[u8], range: NumberRange) -> Result<(), AllocError>
-    ensures { OnOk result (text.new.items ≡ text.old.items ++ (codes "number out of range: " ++ printable word.now ++ codes " (" ++ range_text range ++ codes ")")) }
+    ensures { OnOk result (text.new.items ≡ text.old.items ++ (codes "number out of range: " ++ printable_text word.now ++ codes " (" ++ number_range_text range ++ codes ")")) }
 {
     text.extend_from_slice(b"number out of range: ")?;
     push_printable(text, word)?;
     text.extend_from_slice(b" (")?;
-    text.extend_from_slice(range_text(range))?;
+    text.extend_from_slice(number_range_text(range))?;
     text.extend_from_slice(b")")
 }
 
@@ -108,7 +108,7 @@ fn push_given_before(text: &mut Vec<u8>, cell: u32, line: u32) -> Result<(), All
 
 /// Adds a cell in decimal, as `org` has it.
 fn push_org(text: &mut Vec<u8>, cell: u32) -> Result<(), AllocError>
-    ensures { OnOk result (text.new.items ≡ text.old.items ++ org_text cell) }
+    ensures { OnOk result (text.new.items ≡ text.old.items ++ org_address_text cell) }
 {
     text.extend_from_slice(b" (org ")?;
     push_number(text, cell)?;

@@ -2,7 +2,7 @@
 
 ghost use Rattle.std.specs.Prelude.{◌≡◌, ◌≤◌, ◌++◌, true, false, [], length, codes, decimal};
 ghost use Rattle.ga_text.specs.Lines.{Bytes};
-ghost use Rattle.ga_text.specs.Output.{IsWrittenOrTruncated};
+ghost use Rattle.ga_text.specs.Output.{IsTextWrittenOrTruncated};
 ghost use Rattle.ga_debug_info.specs.Edited.{first_carriage_return, first_hiding_end_line, hides_lines as hides_by, image_artifact, source_artifact, byte_order_mark_text, artifact_text};
 
 use super::faults::tell;
@@ -104,7 +104,7 @@ fn line_told(line: u32, behind: &[u8]) -> TextBuffer
 
 /// Reports a byte order mark.
 fn tell_mark<E: Write>(errors: &mut E) -> WriteResult
-    ensures { (before : Bytes) → E.contents errors.old ≡ Some before → IsWrittenOrTruncated result (E.contents errors.new) before byte_order_mark_text [] }
+    ensures { (before : Bytes) → E.contents errors.old ≡ Some before → IsTextWrittenOrTruncated result (E.contents errors.new) before byte_order_mark_text [] }
 {
     tell(
         errors,
@@ -117,7 +117,7 @@ pub fn report_editor_artifact<E: Write>(
     errors: &mut E,
     edited: Option<EditorArtifact>,
 ) -> WriteResult
-    ensures { (before : Bytes) → E.contents errors.old ≡ Some before → IsWrittenOrTruncated result (E.contents errors.new) before (artifact_text edited) [] }
+    ensures { (before : Bytes) → E.contents errors.old ≡ Some before → IsTextWrittenOrTruncated result (E.contents errors.new) before (artifact_text edited) [] }
 {
     match edited {
         Some(EditorArtifact::Mark) => tell_mark(errors),

@@ -5,7 +5,7 @@ ghost use Rattle.std.specs.List.{flat_map};
 ghost use Rattle.ga_parser.specs.declared.fault.SourceFault.{SourceFault as FaultAt};
 ghost use Rattle.ga_parser.specs.declared.fault.SourceCause.TheVariants.{Memory};
 ghost use Rattle.ga_text.specs.Lines.{Bytes};
-ghost use Rattle.ga_text.specs.Output.{IsWrittenOrTruncated};
+ghost use Rattle.ga_text.specs.Output.{IsTextWrittenOrTruncated};
 ghost use Rattle.ga_source.specs.Recovery.{AreFaultsOfSource};
 ghost use Rattle.ga_debug_info.specs.Faults.{faults_text, error_prefix, out_of_memory_text, input_too_long_text, written_address_text, store_warning_text, stores_of_programs};
 
@@ -25,8 +25,8 @@ pub fn report_faults<'s, E: Write>(
     first: SourceFault<'s>,
 ) -> WriteResult
     ensures { (before : Bytes) → E.contents errors.old ≡ Some before →
-        IsWrittenOrTruncated result (E.contents errors.new) before out_of_memory_text []
-        ⊎ ((faults : List FaultAt) × AreFaultsOfSource source.now first.entry faults × IsWrittenOrTruncated result (E.contents errors.new) before (faults_text error_prefix faults) []) }
+        IsTextWrittenOrTruncated result (E.contents errors.new) before out_of_memory_text []
+        ⊎ ((faults : List FaultAt) × AreFaultsOfSource source.now first.entry faults × IsTextWrittenOrTruncated result (E.contents errors.new) before (faults_text error_prefix faults) []) }
 {
     match format_faults(alloc, b"ga144: ", source, first) {
         Ok(text) => tell(errors, text.as_slice()),
@@ -55,14 +55,14 @@ pub fn format_faults<'s>(
 
 /// Reports that memory ran out.
 pub fn report_out_of_memory<E: Write>(errors: &mut E) -> WriteResult
-    ensures { (before : Bytes) → E.contents errors.old ≡ Some before → IsWrittenOrTruncated result (E.contents errors.new) before out_of_memory_text [] }
+    ensures { (before : Bytes) → E.contents errors.old ≡ Some before → IsTextWrittenOrTruncated result (E.contents errors.new) before out_of_memory_text [] }
 {
     tell(errors, b"ga144: no memory\n")
 }
 
 /// Reports that the source extends past its bound.
 pub fn report_input_too_long<E: Write>(errors: &mut E) -> WriteResult
-    ensures { (before : Bytes) → E.contents errors.old ≡ Some before → IsWrittenOrTruncated result (E.contents errors.new) before input_too_long_text [] }
+    ensures { (before : Bytes) → E.contents errors.old ≡ Some before → IsTextWrittenOrTruncated result (E.contents errors.new) before input_too_long_text [] }
 {
     tell(errors, b"ga144: the source has more than 16777216 bytes\n")
 }
@@ -131,7 +131,7 @@ pub fn report_code_stores<E: Write>(
     assembled: &AssembledChip<'_>,
 ) -> Result<WriteResult, AllocError>
     ensures warnings { IfOk result (λ written. (before : Bytes) → E.contents errors.old ≡ Some before →
-        IsWrittenOrTruncated written (E.contents errors.new) before (flat_map store_warning_text (stores_of_programs assembled.now.programs.items)) []) }
+        IsTextWrittenOrTruncated written (E.contents errors.new) before (flat_map store_warning_text (stores_of_programs assembled.now.programs.items)) []) }
     ensures unchanged { OnErr result (errors.new ≡ errors.old) }
 {
     let text = text_of_stores(alloc, assembled.programs.as_slice())?;
@@ -140,7 +140,7 @@ pub fn report_code_stores<E: Write>(
 
 /// Writes a text.
 pub(crate) fn tell<E: Write>(errors: &mut E, text: &[u8]) -> WriteResult
-    ensures { (before : Bytes) → E.contents errors.old ≡ Some before → IsWrittenOrTruncated result (E.contents errors.new) before text.now [] }
+    ensures { (before : Bytes) → E.contents errors.old ≡ Some before → IsTextWrittenOrTruncated result (E.contents errors.new) before text.now [] }
 {
     write_all(errors, text)
 }

@@ -2,7 +2,7 @@
 
 ghost use Rattle.std.specs.Prelude.{◌≡◌, ◌++◌, IfOk, OnOk};
 ghost use Rattle.ga_source.specs.Programs.{has_cells, is_item_request};
-ghost use Rattle.ga_debug_info.specs.Given.{word_if, register_ranges, cell_place, cell_range, source_ranges};
+ghost use Rattle.ga_debug_info.specs.Given.{word_range_if, register_ranges, cell_place, cell_range, source_ranges};
 
 use crate::notes::CellSource;
 use ga_grid::NodeId;
@@ -47,13 +47,13 @@ fn add_registers(given: &mut Vec<GivenRange>, program: &Program<'_>) -> Result<(
 /// Adds a word of a node, if it is given.
 fn add_word(
     given: &mut Vec<GivenRange>,
-    is_given: bool,
+    is_word_given: bool,
     node: NodeId,
     place: Place,
 ) -> Result<(), AllocError>
-    ensures { OnOk result (given.new.items ≡ given.old.items ++ word_if is_given node place) }
+    ensures { OnOk result (given.new.items ≡ given.old.items ++ word_range_if is_word_given node place) }
 {
-    if is_given {
+    if is_word_given {
         given.push(GivenRange {
             node,
             first: place,

@@ -6,7 +6,7 @@ ghost use Rattle.ga_debug_info.specs.Source.{cell_of_address, label_name as name
 ghost use Rattle.ga_source.specs.declared.program.Program.{Program as AProgram};
 ghost use Rattle.ga_debug_info.specs.inner.{label_at, IsMarked};
 
-use ga_ports::{Target, classify_address};
+use ga_ports::{AddressTarget, classify_address};
 use ga_source::{AssemblyRequest, Program};
 
 /// One more than the greatest cell: 0 to 63 are RAM, 128 to 191 ROM.
@@ -94,8 +94,8 @@ pub(crate) fn cell_of(address: u32) -> Option<u8>
     ensures in_range { IfSome result (λ cell. cell < 192) }
 {
     match classify_address(address) {
-        Target::Ram(cell) => Some(cell),
-        Target::Rom(cell) => Some(128 + cell),
+        AddressTarget::Ram(cell) => Some(cell),
+        AddressTarget::Rom(cell) => Some(128 + cell),
         _ => None,
     }
 }

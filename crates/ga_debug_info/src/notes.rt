@@ -1,7 +1,7 @@
 //! Notes of cells, and the names of addresses.
 
 ghost use Rattle.std.specs.Prelude.{◌≡◌, position};
-ghost use Rattle.ga_debug_info.specs.Notes.{is_source_of_cell, begins_on_line, is_label_of_node, displayed_slot as slot_worded_by, is_slot_word, is_closer_word as is_nearer_word, nearer_word, label_address_of};
+ghost use Rattle.ga_debug_info.specs.Notes.{is_source_of_cell, cell_begins_on_line, is_label_of_node, displayed_slot as slot_worded_by, is_slot_word, is_closer_word as is_nearer_word, nearer_word, label_address_of};
 
 use crate::wording::{DisplayedWord, SlotWord};
 use ga_grid::NodeId;
@@ -52,7 +52,7 @@ pub struct DebugInfo {
 
 impl DebugInfo {
     ghost use Rattle.std.specs.Prelude.{◌≡◌, ◌==◌, length, [], None, Some, option_map};
-    ghost use Rattle.ga_image.specs.Given.{is_given};
+    ghost use Rattle.ga_image.specs.Given.{is_word_given};
     ghost use Rattle.ga_image.specs.declared.given.GivenWords.TheVariants.{All};
     ghost use Rattle.ga_debug_info.specs.Notes.{first_cell_source_text, is_first_cell_source_long, slot_text, slot_word_of, nearest_word, line_address, label_address_of};
 
@@ -85,8 +85,8 @@ impl DebugInfo {
     }
 
     /// Whether the text gives the word at load of a place of a node. Takes time linear in what it gives.
-    pub fn is_given(&self, node: NodeId, place: Place) -> bool
-        ensures { result ≡ is_given self.now.given node place }
+    pub fn is_word_given(&self, node: NodeId, place: Place) -> bool
+        ensures { result ≡ is_word_given self.now.given node place }
     {
         self.given.has(node, place)
     }
@@ -203,19 +203,19 @@ fn note_place(notes: &[CellSource], node: NodeId, cell: u8) -> Option<usize>
 }
 
 /// Whether a note is of an instruction word of the node that this line begins.
-fn begins_on_line(note: &CellSource, node: NodeId, line: u32) -> bool
-    ensures { result ≡ begins_on_line node line note.now }
+fn cell_begins_on_line(note: &CellSource, node: NodeId, line: u32) -> bool
+    ensures { result ≡ cell_begins_on_line node line note.now }
 {
     note.is_code && note.node == node && note.line == line
 }
 
 /// The place of the first entry of an instruction word of the node that this line begins.
 fn begun_place(notes: &[CellSource], node: NodeId, line: u32) -> Option<usize>
-    ensures { result ≡ position (begins_on_line node line) notes.now }
+    ensures { result ≡ position (cell_begins_on_line node line) notes.now }
 {
     notes
         .iter()
-        .position(|note| begins_on_line(note, node, line))
+        .position(|note| cell_begins_on_line(note, node, line))
 }
 
 /// Whether a name is this one of the node.

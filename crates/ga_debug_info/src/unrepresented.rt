@@ -6,8 +6,8 @@ ghost use Rattle.ga_node.specs.Record.{record_of};
 ghost use Rattle.ga_grid.specs.Grid.{yxx_of};
 ghost use Rattle.ga_text.specs.Digits.{decimal3_of};
 ghost use Rattle.ga_text.specs.Lines.{Bytes};
-ghost use Rattle.ga_text.specs.Output.{IsWrittenOrTruncated};
-ghost use Rattle.ga_debug_info.specs.Unrepresented.{field_name_unless, is_fresh_word, unrepresented_fields, node_line, unrepresented_line, unrepresented_text};
+ghost use Rattle.ga_text.specs.Output.{IsTextWrittenOrTruncated};
+ghost use Rattle.ga_debug_info.specs.Unrepresented.{field_name_unless_default, is_fresh_word, unrepresented_fields, node_line, unrepresented_line, unrepresented_text};
 
 use super::faults::tell;
 use ga_grid::{CHIP_NODES, Chip, NodeId};
@@ -47,7 +47,7 @@ fn has_fresh_returns(node: &Node) -> bool
 
 /// Adds the name of a field, unless it is as at load.
 fn push_unless(text: &mut Vec<u8>, is_at_load: bool, name: &[u8]) -> Result<(), AllocError>
-    ensures { OnOk result (text.new.items ≡ text.old.items ++ field_name_unless is_at_load name.now) }
+    ensures { OnOk result (text.new.items ≡ text.old.items ++ field_name_unless_default is_at_load name.now) }
 {
     if is_at_load {
         return Ok(());
@@ -134,7 +134,7 @@ pub fn report_unrepresented<E: Write>(
     chip: &Chip,
 ) -> Result<WriteResult, AllocError>
     ensures lines { IfOk result (λ written. (before : Bytes) → E.contents errors.old ≡ Some before →
-        IsWrittenOrTruncated written (E.contents errors.new) before (unrepresented_text chip.now) []) }
+        IsTextWrittenOrTruncated written (E.contents errors.new) before (unrepresented_text chip.now) []) }
     ensures unchanged { OnErr result (errors.new ≡ errors.old) }
 {
     let text = lines_of(alloc, chip)?;

@@ -11,7 +11,7 @@ use crate::label::cell_of;
 use crate::line::{Lines, is_long};
 use ga_grid::NodeId;
 use ga_ports::advance_p;
-use ga_source::{CellGroup, Item, Program, Token, assemble_by_word_number, source_words};
+use ga_source::{AssemblyItem, CellGroup, Program, Token, assemble_by_word_number, source_words};
 use std::alloc::{AllocError, Global};
 
 /// The word of the source from which slots of a cell come.
@@ -134,7 +134,7 @@ fn add_literal(
     told: &mut Vec<DisplayedWord>,
     node: NodeId,
     p: u32,
-    item: Item,
+    item: AssemblyItem,
     number: u32,
     words: &[Token<'_>],
     lines: &mut Lines<'_>,
@@ -143,7 +143,7 @@ fn add_literal(
     ensures words { OnOk result (map displayed_word_content told.new.items ≡ map displayed_word_content told.old.items ++ displayed_literal_words lines.old words.now node p item number) }
     ensures same { lines.new ≡ lines.old }
 {
-    let Item::Literal(_) = item else {
+    let AssemblyItem::Literal(_) = item else {
         return Ok(p);
     };
     add_cell(alloc, told, node, false, p, &[number], words, lines)?;

@@ -3,7 +3,7 @@ use Rattle.std.specs.Prelude.{ℕ, ◌==◌, if◌then◌else◌, List, [], ◌�
 use Rattle.std.specs.Int.{from_bool}
 use Rattle.ga_text.specs.Lines.{Text}
 use Rattle.ga_word.specs.Word.{hex6_of}
-use Rattle.ga_ports.specs.Address.{only, has_side}
+use Rattle.ga_ports.specs.Address.{single_side_set, has_side}
 use Rattle.ga_ports.specs.declared.side.Side.{Side}
 use Rattle.ga_ports.specs.declared.side.Side.TheVariants.{Right, Down, Left, Up}
 use Rattle.ga_node.specs.Record.{NodeRecord}
@@ -19,8 +19,8 @@ use Rattle.ga_event.specs.declared.made.Made.{Made}
 use Rattle.ga_event.specs.declared.made.Made.TheVariants.{Own, Pass}
 use Rattle.ga_lab.specs.declared.fault.LabFault.{LabFault}
 use Rattle.ga_lab.specs.declared.fault.LabFault.TheVariants.{Waiting, Stopped, Full, Memory, Empty, NoStep, Spent}
-use Rattle.ga_display.specs.declared.wording.Wording.{Wording}
-use Rattle.ga_display.specs.declared.wording.Wording.TheVariants.{Brief, Advised}
+use Rattle.ga_display.specs.declared.wording.RefusalWording.{RefusalWording}
+use Rattle.ga_display.specs.declared.wording.RefusalWording.TheVariants.{Brief, Advised}
 
 -- words with one space between two of them
 abbrev pub space_separated : List Text → Text
@@ -30,26 +30,26 @@ space_separated (word ∷ more) = word ++ 32 ∷ space_separated more
 
 -- ---- events
 
-abbrev pub kind_text : OwnEventKind → Text
-kind_text kind.Fetch = codes " fetch"
-kind_text (kind.Run code) = codes " run " ++ hex2_of code
-kind_text kind.Wait = codes " wait"
-kind_text (kind.Stop number) = codes " stop " ++ decimal number
+abbrev pub own_event_kind_text : OwnEventKind → Text
+own_event_kind_text kind.Fetch = codes " fetch"
+own_event_kind_text (kind.Run code) = codes " run " ++ hex2_of code
+own_event_kind_text kind.Wait = codes " wait"
+own_event_kind_text (kind.Stop number) = codes " stop " ++ decimal number
 
 -- a node's own event, or a word that was transferred from its writer to its reader
 abbrev pub event_text : Made → Text
-event_text (Own node step kind) = step_text node step ++ kind_text kind ++ codes "\n"
+event_text (Own node step kind) = step_text node step ++ own_event_kind_text kind ++ codes "\n"
 event_text (Pass writer writer_step reader reader_step word) =
     codes "pass " ++ step_text writer writer_step ++ codes " " ++ step_text reader reader_step ++ codes " " ++ hex6_of word ++ codes "\n"
 
 -- ---- the counts of the history
 
 -- how many events were removed, and how many are kept
-abbrev pub removed_text : ℕ → ℕ → Text
-removed_text removed kept = codes "removed " ++ decimal removed ++ codes " kept " ++ decimal kept ++ codes "\n"
+abbrev pub removed_events_text : ℕ → ℕ → Text
+removed_events_text removed kept = codes "removed " ++ decimal removed ++ codes " kept " ++ decimal kept ++ codes "\n"
 
-abbrev pub counts_text : ℕ → ℕ → ℕ → Text
-counts_text kept made limit = codes "kept " ++ decimal kept ++ codes " made " ++ decimal made ++ codes " limit " ++ decimal limit ++ codes "\n"
+abbrev pub event_counts_text : ℕ → ℕ → ℕ → Text
+event_counts_text kept made limit = codes "kept " ++ decimal kept ++ codes " made " ++ decimal made ++ codes " limit " ++ decimal limit ++ codes "\n"
 
 -- the line before the texts of a node's steps
 abbrev pub trace_header_text : NodeId → ℕ → Text
@@ -77,11 +77,11 @@ sides_text sides =
     ++ side_text sides Left (codes "l")
     ++ side_text sides Up (codes "u")
 
-abbrev pub state_text : Wait → ℕ → Text
-state_text (wait.Fetch sides) stop = codes "fetch " ++ sides_text sides
-state_text (wait.Read sides) stop = codes "read " ++ sides_text sides
-state_text (wait.Write side) stop = codes "write " ++ sides_text (only side)
-state_text wait.Nothing stop = if stop == 0 then codes "run" else codes "stop " ++ decimal stop
+abbrev pub wait_or_stop_text : Wait → ℕ → Text
+wait_or_stop_text (wait.Fetch sides) stop = codes "fetch " ++ sides_text sides
+wait_or_stop_text (wait.Read sides) stop = codes "read " ++ sides_text sides
+wait_or_stop_text (wait.Write side) stop = codes "write " ++ sides_text (single_side_set side)
+wait_or_stop_text wait.Nothing stop = if stop == 0 then codes "run" else codes "stop " ++ decimal stop
 
 -- a register: its name and its value
 abbrev pub register_text : Text → ℕ → Text
@@ -103,7 +103,7 @@ stacks_text node = codes " d" ++ words_text node.d ++ codes " r" ++ words_text n
 
 abbrev pub node_text : NodeId → NodeRecord → Text
 node_text node at =
-    codes "node " ++ name_of_node node ++ codes " " ++ state_text at.wait at.stop ++ registers_text at ++ flags_text at ++ stacks_text at ++ codes "\n"
+    codes "node " ++ name_of_node node ++ codes " " ++ wait_or_stop_text at.wait at.stop ++ registers_text at ++ flags_text at ++ stacks_text at ++ codes "\n"
 
 -- the word at an address of a node's memory
 abbrev pub memory_text : NodeId → ℕ → ℕ → Text
@@ -159,12 +159,12 @@ advised_step_refusal_text node count NoStep = missing_step_text node count
 advised_step_refusal_text node count Spent = advised_refusal_text Spent
 
 -- the same in a session of this kind
-abbrev pub worded_step_refusal_text : Wording → NodeId → ℕ → LabFault → Text
+abbrev pub worded_step_refusal_text : RefusalWording → NodeId → ℕ → LabFault → Text
 worded_step_refusal_text Brief node count why = refusal_text why
 worded_step_refusal_text Advised node count why = advised_step_refusal_text node count why
 
 -- a refusal in a session of this kind
-abbrev pub worded_refusal_text : Wording → LabFault → Text
+abbrev pub worded_refusal_text : RefusalWording → LabFault → Text
 worded_refusal_text Brief why = refusal_text why
 worded_refusal_text Advised why = advised_refusal_text why
 
@@ -177,7 +177,7 @@ abbrev pub long_line_refusal : Text
 long_line_refusal = codes "no 32 long\n"
 
 -- the same in a session of this kind
-abbrev pub worded_long_line_refusal : Wording → Text
+abbrev pub worded_long_line_refusal : RefusalWording → Text
 worded_long_line_refusal Brief = long_line_refusal
 worded_long_line_refusal Advised = codes "no 32 long: a command has at most 200 bytes\n"
 

@@ -2,7 +2,7 @@
 ghost use Rattle.std.specs.Prelude.{◌≡◌, ◌+◌, ◌≤◌, ◌<◌, ◌++◌, length, codes};
 ghost use Rattle.arrayvec.specs.ArrayVec.{array_vec_len};
 ghost use Rattle.ga_event.specs.declared.made.Made.TheVariants.{Own, Pass};
-ghost use Rattle.ga_display.specs.Texts.{event_text, kind_text, refusal_text};
+ghost use Rattle.ga_display.specs.Texts.{event_text, own_event_kind_text, refusal_text};
 
 use arrayvec::ArrayVec;
 use ga_grid::NodeId;
@@ -98,7 +98,7 @@ fn push_pass<const ROOM: usize>(
 #[inline(always)]
 fn push_kind<const ROOM: usize>(out: &mut ArrayVec<u8, ROOM>, kind: OwnEventKind)
     requires { array_vec_len out.old + KIND_ROOM ≤ ROOM }
-    ensures text { out.new.items ≡ out.old.items ++ (kind_text kind ++ codes "\n") }
+    ensures text { out.new.items ≡ out.old.items ++ (own_event_kind_text kind ++ codes "\n") }
 {
     match kind {
         OwnEventKind::Run(code) => {
@@ -124,7 +124,7 @@ fn fetch() -> [u8; 7]
 #[inline(never)]
 fn push_end<const ROOM: usize>(out: &mut ArrayVec<u8, ROOM>, kind: OwnEventKind)
     requires { array_vec_len out.old + KIND_ROOM ≤ ROOM }
-    ensures text { out.new.items ≡ out.old.items ++ (kind_text kind ++ codes "\n") }
+    ensures text { out.new.items ≡ out.old.items ++ (own_event_kind_text kind ++ codes "\n") }
 {
     match kind {
         OwnEventKind::Fetch => push_text(out, b" fetch\n"),

@@ -11,6 +11,8 @@ pub use event::{push_event_text, refusal_text};
 pub use fault_text::write_image_fault;
 pub use node_text::{write_memory, write_node};
 pub use wording::{
-    Wording, advice_text, advised_refusal_text, advised_step_refusal, missing_step_refusal,
+    RefusalWording, advice_text, advised_refusal_text, advised_step_refusal, missing_step_refusal,
 };
-pub use writing::{write_chain_head, write_counts, write_event, write_removed, write_trace_head};
+pub use writing::{
+    write_chain_head, write_event, write_event_counts, write_removed_events, write_trace_head,
+};

@@ -5,7 +5,7 @@ ghost use Rattle.ga_word.specs.Word.{hex6_of};
 ghost use Rattle.ga_node.specs.Record.{record_of};
 ghost use Rattle.ga_text.specs.Digits.{words_text};
 ghost use Rattle.ga_text.specs.Output.{WritesExactly};
-ghost use Rattle.ga_display.specs.Texts.{node_text, memory_text, state_text, sides_text, register_text, registers_text, flags_text, stacks_text};
+ghost use Rattle.ga_display.specs.Texts.{node_text, memory_text, wait_or_stop_text, sides_text, register_text, registers_text, flags_text, stacks_text};
 
 use arrayvec::ArrayVec;
 use ga_grid::NodeId;
@@ -97,7 +97,7 @@ pub fn write_memory<W: Write>(
 /// Adds whether the node runs, what it waits for, or how it is stopped.
 fn push_state<const ROOM: usize>(out: &mut ArrayVec<u8, ROOM>, node: &Node)
     requires { array_vec_len out.old + STATE_ROOM ≤ ROOM }
-    ensures text { out.new.items ≡ out.old.items ++ state_text (record_of node.now).wait (record_of node.now).stop }
+    ensures text { out.new.items ≡ out.old.items ++ wait_or_stop_text (record_of node.now).wait (record_of node.now).stop }
     ensures len { array_vec_len out.new ≤ array_vec_len out.old + STATE_ROOM }
 {
     match node.wait() {
@@ -119,7 +119,7 @@ fn push_state<const ROOM: usize>(out: &mut ArrayVec<u8, ROOM>, node: &Node)
 
 fn push_stop<const ROOM: usize>(out: &mut ArrayVec<u8, ROOM>, stop: u8)
     requires { array_vec_len out.old + STATE_ROOM ≤ ROOM }
-    ensures text { out.new.items ≡ out.old.items ++ state_text Wait.Nothing stop }
+    ensures text { out.new.items ≡ out.old.items ++ wait_or_stop_text Wait.Nothing stop }
     ensures len { array_vec_len out.new ≤ array_vec_len out.old + STATE_ROOM }
 {
     if stop == 0 {

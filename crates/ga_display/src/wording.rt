@@ -10,14 +10,14 @@ use ga_text::{MAX_LINE_BYTES, TextBuffer, push_node, push_number, push_text};
 
 /// How a session words its refusals.
 #[derive(Clone, Copy, PartialEq, Eq, Debug)]
-pub enum Wording {
+pub enum RefusalWording {
     /// By number and word alone, as the debugger does.
     Brief,
     /// Also with what to do, as exploring does.
     Advised,
 }
 
-impl Wording {
+impl RefusalWording {
     /// The text of a refused call.
     #[inline(always)]
     pub fn refusal(self, fault: LabFault) -> &'static [u8]
@@ -25,8 +25,8 @@ impl Wording {
         ensures len { length result.now ≤ MAX_LINE_BYTES }
     {
         match self {
-            Wording::Brief => refusal_text(fault),
-            Wording::Advised => advised_refusal_text(fault),
+            RefusalWording::Brief => refusal_text(fault),
+            RefusalWording::Advised => advised_refusal_text(fault),
         }
     }
 
@@ -36,8 +36,8 @@ impl Wording {
         ensures len { length result.now ≤ MAX_LINE_BYTES }
     {
         match self {
-            Wording::Brief => b"no 32 long\n",
-            Wording::Advised => b"no 32 long: a command has at most 200 bytes\n",
+            RefusalWording::Brief => b"no 32 long\n",
+            RefusalWording::Advised => b"no 32 long: a command has at most 200 bytes\n",
         }
     }
 
@@ -46,8 +46,8 @@ impl Wording {
         ensures { result.items ≡ worded_step_refusal_text self node count fault }
     {
         match self {
-            Wording::Brief => buffered(refusal_text(fault)),
-            Wording::Advised => advised_step_refusal(fault, node, count),
+            RefusalWording::Brief => buffered(refusal_text(fault)),
+            RefusalWording::Advised => advised_step_refusal(fault, node, count),
         }
     }
 }

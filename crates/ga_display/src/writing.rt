@@ -3,7 +3,7 @@ ghost use Rattle.std.specs.Prelude.{◌≡◌, ◌+◌, ◌≤◌, ◌++◌};
 ghost use Rattle.arrayvec.specs.ArrayVec.{array_vec_len};
 ghost use Rattle.ga_text.specs.Lines.{Bytes};
 ghost use Rattle.ga_text.specs.Output.{WritesExactly};
-ghost use Rattle.ga_display.specs.Texts.{event_text, removed_text, counts_text, trace_header_text, chain_header_text};
+ghost use Rattle.ga_display.specs.Texts.{event_text, removed_events_text, event_counts_text, trace_header_text, chain_header_text};
 
 use super::event::push_event_text;
 use arrayvec::ArrayVec;
@@ -16,8 +16,12 @@ use std::io::Write;
 ///
 /// # Errors
 /// A write failed.
-pub fn write_removed<W: Write>(writer: &mut Writer<'_, W>, removed: u32, kept: u32) -> WriteResult
-    ensures { WritesExactly result (removed_text removed kept) W.contents writer.old writer.new }
+pub fn write_removed_events<W: Write>(
+    writer: &mut Writer<'_, W>,
+    removed: u32,
+    kept: u32,
+) -> WriteResult
+    ensures { WritesExactly result (removed_events_text removed kept) W.contents writer.old writer.new }
 {
     writer.make_room(MAX_LINE_BYTES)?;
     push_removed(&mut writer.pending, removed, kept);
@@ -27,7 +31,7 @@ pub fn write_removed<W: Write>(writer: &mut Writer<'_, W>, removed: u32, kept: u
 /// Adds how many events were removed, and how many are kept.
 fn push_removed<const ROOM: usize>(out: &mut ArrayVec<u8, ROOM>, removed: u32, kept: u32)
     requires { array_vec_len out.old + MAX_LINE_BYTES ≤ ROOM }
-    ensures { out.new.items ≡ out.old.items ++ removed_text removed kept }
+    ensures { out.new.items ≡ out.old.items ++ removed_events_text removed kept }
 {
     push_text(out, b"removed ");
     push_number(out, u64::from(removed));
@@ -53,8 +57,8 @@ pub fn write_event<W: Write>(writer: &mut Writer<'_, W>, made: Made) -> WriteRes
 ///
 /// # Errors
 /// A write failed.
-pub fn write_counts<W: Write>(writer: &mut Writer<'_, W>, counts: EventCounts) -> WriteResult
-    ensures { WritesExactly result (counts_text counts.kept counts.made counts.limit) W.contents writer.old writer.new }
+pub fn write_event_counts<W: Write>(writer: &mut Writer<'_, W>, counts: EventCounts) -> WriteResult
+    ensures { WritesExactly result (event_counts_text counts.kept counts.made counts.limit) W.contents writer.old writer.new }
 {
     writer.make_room(MAX_LINE_BYTES)?;
     let out = &mut writer.pending;

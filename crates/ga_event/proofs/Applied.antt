@@ -5,7 +5,7 @@ use Rattle.ga_node.specs.Record.{NodeState, NodeRecord, record_of}
 use Rattle.ga_node.specs.State.{with_restored_values, AreValuesInRange, HasAtMostOneStatus}
 use Rattle.ga_node.specs.Table.{t, own, looks, is_look_action, next_action_of, refusal, sent, taken}
 use Rattle.ga_node.specs.declared.due.NextAction.{NextAction}
-use Rattle.ga_node.specs.declared.seen.Seen.{Seen}
+use Rattle.ga_node.specs.declared.seen.SeenNeighbours.{SeenNeighbours}
 use Rattle.ga_node.proofs.Looks.{own_blind, looks_due}
 use Rattle.ga_node.proofs.Restoring.{apart_from_ready}
 use Rattle.ga_node.specs.Saving.{IsUndoLog}
@@ -14,7 +14,7 @@ use Rattle.ga_node.specs.declared.kind.OwnEventKind.{OwnEventKind}
 use Rattle.ga_node.specs.declared.place.Place.{Place}
 use Rattle.ga_ports.specs.declared.side.Side.{Side}
 use Rattle.ga_grid.specs.declared.node_id.NodeId.{NodeId}
-use Rattle.ga_grid.specs.Chip.{nowhere, node_at, with_node, records_of, record_at}
+use Rattle.ga_grid.specs.Chip.{default_node, node_at, with_node, records_of, record_at}
 use Rattle.ga_grid.proofs.Chips.{record_at-records_of, records_of-with_node}
 use Rattle.ga_event.specs.declared.event.Cause.{Cause}
 use Rattle.ga_event.specs.declared.event.Effect.{Effect}
@@ -25,16 +25,16 @@ use Rattle.ga_node.specs.declared.wait.Wait.{Wait}
 use Rattle.std.proofs.lemmas.Bool.{and_parts, eqb-true}
 use Rattle.ga_grid.specs.Grid.{neighbour_of}
 use Rattle.ga_grid.proofs.NodeIds.{neighbour_of-other}
-use Rattle.ga_event.specs.Apply.{ExecutedOwn, PassedWord, neighbour_states, equals_some, is_transfer_ready, unmatched_unless, chip_after_own, chip_after_pass, some_if_allowed, apply, cause_of}
-use Rattle.ga_event.specs.Undo.{cause_from_effect, own_effect, with_restored_node, CanRestore, IsApplied}
+use Rattle.ga_event.specs.Apply.{ExecutedOwn, PassedWord, neighbour_states, equals_some, is_transfer_ready, refusal_unless_matched, chip_after_own, chip_after_pass, some_if_allowed, apply, cause_of}
+use Rattle.ga_event.specs.Undo.{cause_from_effect, own_effect, with_restored_node, CanRestoreNode, IsEventApplied}
 
 -- a node written back
 restored_back : (chip : List NodeState) (n : ℕ) (new : NodeState) (saved : List (Place × ℕ)) → n < length chip → with_restored_values new saved ≡ node_at chip n → with_restored_node (with_node chip n new) n saved ≡ chip
 restored_back chip n new saved l back =
-    ap (λ z. set (set chip n new) n (with_restored_values z saved)) (get_or-set_same chip n new nowhere l)
+    ap (λ z. set (set chip n new) n (with_restored_values z saved)) (get_or-set_same chip n new default_node l)
     ∙ ap (λ z. set (set chip n new) n z) back
     ∙ set-set chip n new (node_at chip n)
-    ∙ set-get_or chip n nowhere
+    ∙ set-get_or chip n default_node
 
 -- what the node does where its sides show what they showed the code
 own_done : (chip : List NodeState) (node : NodeId) (new : NodeState) (kind : OwnEventKind) → refusal (record_of (node_at chip node.number)) ≡ None
@@ -42,7 +42,7 @@ own_done : (chip : List NodeState) (node : NodeId) (new : NodeState) (kind : Own
     → apply (records_of chip) (event.Own node) ≡ Some (records_of (with_node chip node.number new), ExecutedOwn kind)
 own_done chip node new kind ready made =
     let n = node.number in
-    let seen : Seen = neighbour_states (records_of chip) n in
+    let seen : SeenNeighbours = neighbour_states (records_of chip) n in
     let read : record_at (records_of chip) n ≡ record_of (node_at chip n) = record_at-records_of chip n in
     ap (λ z. some_if_allowed (refusal z) (chip_after_own (records_of chip) n (own seen z))) read
     ∙ ap (λ z. some_if_allowed z (chip_after_own (records_of chip) n (own seen (record_of (node_at chip n))))) ready
@@ -50,22 +50,22 @@ own_done chip node new kind ready made =
     ∙ ap (λ z. Some (z, ExecutedOwn kind)) (sym (records_of-with_node chip n new))
 
 own_ready : (chip : List NodeState) (n : ℕ) (new : NodeState) (saved : List (Place × ℕ)) → n < length chip → with_restored_values new saved ≡ node_at chip n → AreValuesInRange saved → HasAtMostOneStatus (node_at chip n)
-    → CanRestore (node_at (with_node chip n new) n) saved
+    → CanRestoreNode (node_at (with_node chip n new) n) saved
 own_ready chip n new saved l back fit apart = record {
   fit = fit;
-  apart = subst (λ z. HasAtMostOneStatus (with_restored_values z saved)) (sym (get_or-set_same chip n new nowhere l)) (subst (λ z. HasAtMostOneStatus z) (sym back) apart);
+  apart = subst (λ z. HasAtMostOneStatus (with_restored_values z saved)) (sym (get_or-set_same chip n new default_node l)) (subst (λ z. HasAtMostOneStatus z) (sym back) apart);
 }
 
 -- what the code showed the node matters only where it looks
-shown_same : (chip : List NodeState) (n : ℕ) (seen : Seen) (at : NodeRecord) (look : Bool) → looks at ≡ look → (look ≡ true → seen ≡ neighbour_states (records_of chip) n) → own seen at ≡ own (neighbour_states (records_of chip) n) at
+shown_same : (chip : List NodeState) (n : ℕ) (seen : SeenNeighbours) (at : NodeRecord) (look : Bool) → looks at ≡ look → (look ≡ true → seen ≡ neighbour_states (records_of chip) n) → own seen at ≡ own (neighbour_states (records_of chip) n) at
 shown_same chip n seen at true is given = ap (λ z. own z at) (given refl)
 shown_same chip n seen at false is given = own_blind seen (neighbour_states (records_of chip) n) at is
 
-own_applied : (chip : List NodeState) (node : NodeId) (new : NodeState) (kind : OwnEventKind) (saved : List (Place × ℕ)) (seen : Seen) (look : Bool) → node.number < length chip
+own_applied : (chip : List NodeState) (node : NodeId) (new : NodeState) (kind : OwnEventKind) (saved : List (Place × ℕ)) (seen : SeenNeighbours) (look : Bool) → node.number < length chip
     → refusal (record_of (node_at chip node.number)) ≡ None → HasAtMostOneStatus (node_at chip node.number)
     → looks (record_of (node_at chip node.number)) ≡ look → (look ≡ true → seen ≡ neighbour_states (records_of chip) node.number)
     → (kind, record_of new) ≡ own seen (record_of (node_at chip node.number)) → {changes : List Change} → IsUndoLog changes (node_at chip node.number) new saved
-    → IsApplied chip (event.Own node) (own_effect (record { kind = kind; look = look }) saved) (with_node chip node.number new)
+    → IsEventApplied chip (event.Own node) (own_effect (record { kind = kind; look = look }) saved) (with_node chip node.number new)
 own_applied chip node new kind saved seen true l ready apart is given made saves = record {
   of_kind = tt;
   done = own_done chip node new kind ready (made ∙ shown_same chip node.number seen _ true is given);
@@ -82,17 +82,17 @@ own_applied chip node new kind saved seen false l ready apart is given made save
 }
 
 -- the same for a call that gets what the event carries out as an argument
-pub due_applied : (chip : List NodeState) (node : NodeId) (at new : NodeState) (kind : OwnEventKind) (saved : List (Place × ℕ)) (seen : Seen) (due : NextAction) (look : Bool) → node.number < length chip → at ≡ node_at chip node.number
+pub due_applied : (chip : List NodeState) (node : NodeId) (at new : NodeState) (kind : OwnEventKind) (saved : List (Place × ℕ)) (seen : SeenNeighbours) (due : NextAction) (look : Bool) → node.number < length chip → at ≡ node_at chip node.number
     → refusal (record_of (node_at chip node.number)) ≡ None → due ≡ next_action_of (record_of (node_at chip node.number))
     → is_look_action due (record_of (node_at chip node.number)) ≡ look → (look ≡ true → seen ≡ neighbour_states (records_of chip) node.number)
     → (kind, record_of new) ≡ own seen (record_of at) → {changes : List Change} → IsUndoLog changes at new saved
-    → IsApplied chip (event.Own node) (own_effect (record { kind = kind; look = look }) saved) (with_node chip node.number new)
-due_applied chip node at new kind saved seen due look l is ready due_is computed_from given made {changes} saves =
-    own_applied chip node new kind saved seen look l ready (apart_from_ready (node_at chip node.number) ready) (looks_due due (record_of (node_at chip node.number)) look due_is computed_from) given
+    → IsEventApplied chip (event.Own node) (own_effect (record { kind = kind; look = look }) saved) (with_node chip node.number new)
+due_applied chip node at new kind saved seen due look l is ready due_is computed_flow given made {changes} saves =
+    own_applied chip node new kind saved seen look l ready (apart_from_ready (node_at chip node.number) ready) (looks_due due (record_of (node_at chip node.number)) look due_is computed_flow) given
     (subst (λ z. (kind, record_of new) ≡ own seen (record_of z)) is made) (subst (λ z. IsUndoLog changes z new saved) is saves)
 
 -- the effect has whether the event looked
-pub applied_cause : (old new : List NodeState) (event : Event) (effect : Effect) → IsApplied old event effect new → cause_of (records_of old) event ≡ cause_from_effect event effect
+pub applied_cause : (old new : List NodeState) (event : Event) (effect : Effect) → IsEventApplied old event effect new → cause_of (records_of old) event ≡ cause_from_effect event effect
 applied_cause old new event effect made = ap (λ z. made_cause event z) made.look
   where
     made_cause : Event → Bool → Cause
@@ -104,22 +104,22 @@ pub pass_applied : (chip : List NodeState) (writer reader : NodeId) (side : Side
     → word ≡ t (record_of (node_at chip writer.number))
     → record_of new_writer ≡ sent (record_of (node_at chip writer.number)) → {gives : List Change} → IsUndoLog gives (node_at chip writer.number) new_writer gave → HasAtMostOneStatus (node_at chip writer.number)
     → record_of new_reader ≡ taken word (record_of (node_at chip reader.number)) → {takes : List Change} → IsUndoLog takes (node_at chip reader.number) new_reader took → HasAtMostOneStatus (node_at chip reader.number)
-    → IsApplied chip (event.Pass writer reader side) (effect.Pass word gave took) (with_node (with_node chip writer.number new_writer) reader.number new_reader)
+    → IsEventApplied chip (event.Pass writer reader side) (effect.Pass word gave took) (with_node (with_node chip writer.number new_writer) reader.number new_reader)
 pass_applied chip writer reader side x y word gave took lw lr other open_ told send_changes given apart_w take_changes taken_ apart_r =
     let w = writer.number in
     let r = reader.number in
     let both : List NodeState = with_node (with_node chip w x) r y in
     let read_w : record_at (records_of chip) w ≡ record_of (node_at chip w) = record_at-records_of chip w in
     let read_r : record_at (records_of chip) r ≡ record_of (node_at chip r) = record_at-records_of chip r in
-    let first : node_at both w ≡ x = get_or-set_other (set chip w x) r w y nowhere other ∙ get_or-set_same chip w x nowhere lw in
+    let first : node_at both w ≡ x = get_or-set_other (set chip w x) r w y default_node other ∙ get_or-set_same chip w x default_node lw in
     let lr2 : r < length (set chip w x) = subst (λ z. r < z) (sym (length-set chip w x)) lr in
-    let second : node_at both r ≡ y = get_or-set_same (set chip w x) r y nowhere lr2 in
+    let second : node_at both r ≡ y = get_or-set_same (set chip w x) r y default_node lr2 in
     let back_r : with_restored_node both r took ≡ with_node chip w x =
-    restored_back (set chip w x) r y took lr2 (taken_.state_after_undo ∙ sym (get_or-set_other chip w r x nowhere (λ e. other (sym e)))) in
+    restored_back (set chip w x) r y took lr2 (taken_.state_after_undo ∙ sym (get_or-set_other chip w r x default_node (λ e. other (sym e)))) in
     record {
       of_kind = other;
       done =
-          ap (λ z. some_if_allowed (unmatched_unless z) (chip_after_pass (records_of chip) w r (record_at (records_of chip) w) (record_at (records_of chip) r))) open_
+          ap (λ z. some_if_allowed (refusal_unless_matched z) (chip_after_pass (records_of chip) w r (record_at (records_of chip) w) (record_at (records_of chip) r))) open_
           ∙ ap (λ z. Some (chip_after_pass (records_of chip) w r z (record_at (records_of chip) r))) read_w
           ∙ ap (λ z. Some (chip_after_pass (records_of chip) w r (record_of (node_at chip w)) z)) read_r
           ∙ ap (λ z. Some (set (set (records_of chip) w (sent (record_of (node_at chip w)))) r (taken z (record_of (node_at chip r))), PassedWord z)) (sym told)

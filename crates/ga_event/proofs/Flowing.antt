@@ -1,23 +1,23 @@
 -- What flows into each part of a node in an event.
 use Rattle.std.proofs.Common.{◌≡◌, ℕ, ◌+◌, ◌-◌, ◌/◌, ◌%◌, ◌^◌, ◌==◌, Bool, true, false, cond, List, [], ◌∷◌, ◌++◌, nat_le, refl, sym, ap, ◌∙◌, subst, bit_and, bit_xor}
-use Rattle.ga_word.specs.Word.{words, carry_value, doubled_word, halved_word, multiply_step_sum, multiply_step_t, multiply_step_a}
+use Rattle.ga_word.specs.Word.{word_modulus, carry_value, doubled_word, halved_word, multiply_step_sum, multiply_step_t, multiply_step_a}
 use Rattle.ga_slots.specs.Slots.{target, opcode}
 use Rattle.ga_slots.specs.Codes.{code_of}
 use Rattle.ga_slots.specs.declared.op.Op.{Op}
 use Rattle.ga_slots.specs.declared.op.Op.TheVariants as op
-use Rattle.ga_ports.specs.Address.{address_target, advanced_address, is_single_side, side_of}
-use Rattle.ga_ports.specs.declared.address.Target.{Target}
-use Rattle.ga_ports.specs.declared.address.Target.TheVariants.{Ram, Rom, Io, Ports, Bad}
-use Rattle.ga_node.specs.Record.{NodeRecord, HasSizes}
+use Rattle.ga_ports.specs.Address.{address_target, advanced_address, is_single_side, side_of_single_set}
+use Rattle.ga_ports.specs.declared.address.AddressTarget.{AddressTarget}
+use Rattle.ga_ports.specs.declared.address.AddressTarget.TheVariants.{Ram, Rom, Io, Ports, Bad}
+use Rattle.ga_node.specs.Record.{NodeRecord, HasListSizes}
 use Rattle.ga_node.specs.Io.{io_word}
-use Rattle.ga_node.specs.Changes.{Change, after_changes}
+use Rattle.ga_node.specs.Changes.{Change, node_after_changes}
 use Rattle.ga_node.specs.Changes as change
-use Rattle.ga_node.specs.Table.{t, r, wait_effect, stop_effect, found, stored, followed, with_kind, effect, is_extended, next_action_of, action_result, own_event, own, sent, taken, take_changes}
-use Rattle.ga_event.specs.Flow.{Flow, Same, From, Move, top, second, top_return, part_value, IsNodePart, flows_after_moves, from, read_moves, write_moves, moves, action_moves, take_moves, own_flow, send_flow, take_flow, choice, choice_target, test_holds, HaveSameNextAction, IsFlowOf, deciding_parts, AgreeAtParts}
+use Rattle.ga_node.specs.Table.{t, r, wait_effect, stop_effect, target_read_result, target_write_result, with_following_changes, event_with_kind, effect, is_extended, next_action_of, action_result, own_event, own, sent, taken, take_changes}
+use Rattle.ga_event.specs.Flow.{Flow, Same, From, FlowMove, top, second, top_return, part_value, IsNodePart, flows_after_moves, from, read_moves, write_moves, opcode_moves, action_moves, take_moves, flow_of_own_event, send_flow, take_flow, choice, choice_target, choice_test_holds, HaveSameNextAction, AreFlowValues, deciding_parts, AgreeAtParts}
 use Rattle.ga_event.specs.declared.flow.part.NodePart.{NodePart}
 use Rattle.ga_event.specs.declared.flow.part.NodePart.TheVariants.{Ram as OfRam, Rom as OfRom, A as OfA, P as OfP, I as OfI, Carry as OfCarry, Slot as OfSlot, Outside}
 use Rattle.ga_event.specs.Flow as move
-use Rattle.ga_node.specs.declared.seen.Seen.{Seen}
+use Rattle.ga_node.specs.declared.seen.SeenNeighbours.{SeenNeighbours}
 use Rattle.ga_node.specs.declared.kind.OwnEventKind.{OwnEventKind}
 use Rattle.ga_node.specs.declared.kind.OwnEventKind.TheVariants as kind
 use Rattle.ga_node.specs.declared.due.NextAction.{NextAction}
@@ -27,15 +27,15 @@ use Rattle.ga_node.specs.declared.wait.Wait.TheVariants as wait
 use Rattle.ga_node.specs.declared.wait.ReadKind.{ReadKind}
 use Rattle.ga_node.specs.declared.wait.ReadKind.TheVariants.{Instruction, Stack}
 use Rattle.ga_event.proofs.Tracks.{push_data, pop_data, set_top, pop_to, push_return, pop_return, set_top_return, set_p, set_a, set_b, set_i, set_io, set_carry, set_ram, go_on, skip, start_again, set_wait, set_stop, AreMoves, none, then, comes_after, sizes_after}
-use Rattle.ga_event.specs.declared.flow.choice.Choice.TheVariants.{Test, At}
+use Rattle.ga_event.specs.declared.flow.choice.ActionChoice.TheVariants.{Test, At}
 
 abbrev posts_to : ℕ → OwnEventKind × List Change
-posts_to sides = wait_effect (wait.Write (side_of sides))
+posts_to sides = wait_effect (wait.Write (side_of_single_set sides))
 
-module _ (seen other : Seen) (n m : NodeRecord) where
+module _ (seen other : SeenNeighbours) (n m : NodeRecord) where
   -- what comes from there at the start of an event of both nodes
   abbrev Source : Flow → ℕ → ℕ → Type 0
-  Source flow x y = IsFlowOf (io_word seen) n (io_word other) m flow x y
+  Source flow x y = AreFlowValues (io_word seen) n (io_word other) m flow x y
 
   abbrev at_n : NodePart → ℕ
   at_n = part_value (io_word seen) n
@@ -44,11 +44,11 @@ module _ (seen other : Seen) (n m : NodeRecord) where
   at_m = part_value (io_word other) m
 
   -- the moves of two changes, the same in both
-  abbrev Rows : List Move → List Change → List Change → Type 0
+  abbrev Rows : List FlowMove → List Change → List Change → Type 0
   Rows = AreMoves (io_word seen) n (io_word other) m
 
   -- two events of one kind with these moves
-  abbrev IsRow : List Move → OwnEventKind × List Change → OwnEventKind × List Change → Type 0
+  abbrev IsRow : List FlowMove → OwnEventKind × List Change → OwnEventKind × List Change → Type 0
   IsRow mvs x y = (x.0 ≡ y.0) × Rows mvs x.1 y.1
 
   from_one : (g : ℕ → ℕ) (a : NodePart) → Source (from a) (g (at_n a)) (g (at_m a))
@@ -70,51 +70,51 @@ module _ (seen other : Seen) (n m : NodeRecord) where
   jump_row : Rows move.jump_moves (change.SetP (target n.p n.i n.slot) ∷ change.Skip ∷ []) (change.SetP (target m.p m.i m.slot) ∷ change.Skip ∷ [])
   jump_row = then (set_p (from_three target OfP OfI OfSlot)) skips
 
-  either : (b c : Bool) (p q : List Move) (x x' y y' : List Change) → b ≡ c → Rows p x y → Rows q x' y' → Rows (cond b p q) (cond b x x') (cond c y y')
+  either : (b c : Bool) (p q : List FlowMove) (x x' y y' : List Change) → b ≡ c → Rows p x y → Rows q x' y' → Rows (cond b p q) (cond b x x') (cond c y y')
   either b c p q x x' y y' e where_so else_so = subst (λ c. Rows (cond b p q) (cond b x x') (cond c y y')) e (same b)
     where
       same : (b : Bool) → Rows (cond b p q) (cond b x x') (cond b y y')
       same true = where_so
       same false = else_so
 
-  read_row : (a b : Target) (reader : ReadKind) (k : OwnEventKind) (mvs : Flow → List Move) (xs ys : ℕ → List Change) → a ≡ b
+  read_row : (a b : AddressTarget) (reader : ReadKind) (k : OwnEventKind) (mvs : Flow → List FlowMove) (xs ys : ℕ → List Change) → a ≡ b
       → ((flow : Flow) (x y : ℕ) → Source flow x y → Rows (mvs flow) (xs x) (ys y))
-      → IsRow (read_moves a mvs) (with_kind k (followed (found a reader seen n) xs)) (with_kind k (followed (found b reader other m) ys))
-  unfolding found followed
-  read_row a b reader k mvs xs ys e rows = subst (λ b. IsRow (read_moves a mvs) (with_kind k (followed (found a reader seen n) xs)) (with_kind k (followed (found b reader other m) ys))) e (same a)
+      → IsRow (read_moves a mvs) (event_with_kind k (with_following_changes (target_read_result a reader seen n) xs)) (event_with_kind k (with_following_changes (target_read_result b reader other m) ys))
+  unfolding target_read_result with_following_changes
+  read_row a b reader k mvs xs ys e rows = subst (λ b. IsRow (read_moves a mvs) (event_with_kind k (with_following_changes (target_read_result a reader seen n) xs)) (event_with_kind k (with_following_changes (target_read_result b reader other m) ys))) e (same a)
     where
-      same : (a : Target) → IsRow (read_moves a mvs) (with_kind k (followed (found a reader seen n) xs)) (with_kind k (followed (found a reader other m) ys))
+      same : (a : AddressTarget) → IsRow (read_moves a mvs) (event_with_kind k (with_following_changes (target_read_result a reader seen n) xs)) (event_with_kind k (with_following_changes (target_read_result a reader other m) ys))
       same (Ram cell) = (refl, rows (Same (OfRam cell)) _ _ (refl, refl))
       same (Rom cell) = (refl, rows (Same (OfRom cell)) _ _ (refl, refl))
       same Io = (refl, rows (Same Outside) _ _ (refl, refl))
       same (Ports sides) = (refl, then set_wait none)
       same Bad = (refl, then set_stop none)
 
-  write_row : (a b : Target) (k : OwnEventKind) (mvs : List Move) (xs ys : List Change) → a ≡ b → Rows mvs xs ys
-      → IsRow (write_moves a mvs) (with_kind k (followed (stored a n) (λ changes. changes ++ xs))) (with_kind k (followed (stored b m) (λ changes. changes ++ ys)))
-  unfolding stored followed
-  write_row a b k mvs xs ys e rows = subst (λ b. IsRow (write_moves a mvs) (with_kind k (followed (stored a n) (λ changes. changes ++ xs))) (with_kind k (followed (stored b m) (λ changes. changes ++ ys)))) e (same a)
+  write_row : (a b : AddressTarget) (k : OwnEventKind) (mvs : List FlowMove) (xs ys : List Change) → a ≡ b → Rows mvs xs ys
+      → IsRow (write_moves a mvs) (event_with_kind k (with_following_changes (target_write_result a n) (λ changes. changes ++ xs))) (event_with_kind k (with_following_changes (target_write_result b m) (λ changes. changes ++ ys)))
+  unfolding target_write_result with_following_changes
+  write_row a b k mvs xs ys e rows = subst (λ b. IsRow (write_moves a mvs) (event_with_kind k (with_following_changes (target_write_result a n) (λ changes. changes ++ xs))) (event_with_kind k (with_following_changes (target_write_result b m) (λ changes. changes ++ ys)))) e (same a)
     where
       ended : (single : Bool) (sides : ℕ) → IsRow (cond single (move.SetWait ∷ []) (move.SetStop ∷ [])) (cond single (posts_to sides) (stop_effect 1)) (cond single (posts_to sides) (stop_effect 1))
       ended true sides = (refl, then set_wait none)
       ended false sides = (refl, then set_stop none)
 
-      same : (a : Target) → IsRow (write_moves a mvs) (with_kind k (followed (stored a n) (λ changes. changes ++ xs))) (with_kind k (followed (stored a m) (λ changes. changes ++ ys)))
+      same : (a : AddressTarget) → IsRow (write_moves a mvs) (event_with_kind k (with_following_changes (target_write_result a n) (λ changes. changes ++ xs))) (event_with_kind k (with_following_changes (target_write_result a m) (λ changes. changes ++ ys)))
       same (Ram cell) = (refl, then (set_ram (refl, refl)) rows)
       same (Rom cell) = (refl, rows)
       same Io = (refl, then (set_io (refl, refl)) rows)
       same (Ports sides) = ended (is_single_side sides) sides
       same Bad = (refl, then set_stop none)
 
-  effect_row : (op : Op) → choice (due.Run op) n ≡ choice (due.Run op) m → (k : OwnEventKind) → IsRow (moves op n) (with_kind k (effect op seen n)) (with_kind k (effect op other m))
+  effect_row : (op : Op) → choice (due.Run op) n ≡ choice (due.Run op) m → (k : OwnEventKind) → IsRow (opcode_moves op n) (event_with_kind k (effect op seen n)) (event_with_kind k (effect op other m))
   effect_row op.Return e k = (refl, then (set_p (from_one (λ v. v % 2 ^ 10) top_return)) (then pop_return skips))
   effect_row op.Execute e k = (refl, then (set_p (from_one (λ v. v % 2 ^ 10) top_return)) (then (set_top_return (refl, refl)) skips))
   effect_row op.Jump e k = (refl, jump_row)
   effect_row op.Call e k = (refl, then (push_return (refl, refl)) jump_row)
-  effect_row op.Unext e k = (refl, either (r n == 0) (r m == 0) _ _ _ _ _ _ (ap test_holds e) (then pop_return goes_on) (then (set_top_return (from_one (λ v. v - 1) top_return)) (then start_again none)))
-  effect_row op.Next e k = (refl, either (r n == 0) (r m == 0) _ _ _ _ _ _ (ap test_holds e) (then pop_return skips) (then (set_top_return (from_one (λ v. v - 1) top_return)) jump_row))
-  effect_row op.If e k = (refl, either (t n == 0) (t m == 0) _ _ _ _ _ _ (ap test_holds e) jump_row skips)
-  effect_row op.MinusIf e k = (refl, either (t n / 2 ^ 17 == 0) (t m / 2 ^ 17 == 0) _ _ _ _ _ _ (ap test_holds e) jump_row skips)
+  effect_row op.Unext e k = (refl, either (r n == 0) (r m == 0) _ _ _ _ _ _ (ap choice_test_holds e) (then pop_return goes_on) (then (set_top_return (from_one (λ v. v - 1) top_return)) (then start_again none)))
+  effect_row op.Next e k = (refl, either (r n == 0) (r m == 0) _ _ _ _ _ _ (ap choice_test_holds e) (then pop_return skips) (then (set_top_return (from_one (λ v. v - 1) top_return)) jump_row))
+  effect_row op.If e k = (refl, either (t n == 0) (t m == 0) _ _ _ _ _ _ (ap choice_test_holds e) jump_row skips)
+  effect_row op.MinusIf e k = (refl, either (t n / 2 ^ 17 == 0) (t m / 2 ^ 17 == 0) _ _ _ _ _ _ (ap choice_test_holds e) jump_row skips)
   effect_row op.FetchP e k = read_row (address_target n.p) (address_target m.p) Stack k _ _ _ (ap choice_target e) (λ flow x y comes. then (push_data comes) (then (set_p (from_one advanced_address OfP)) goes_on))
   effect_row op.FetchPlus e k = read_row (address_target n.a) (address_target m.a) Stack k _ _ _ (ap choice_target e) (λ flow x y comes. then (push_data comes) (then (set_a (from_one advanced_address OfA)) goes_on))
   effect_row op.FetchB e k = read_row (address_target n.b) (address_target m.b) Stack k _ _ _ (ap choice_target e) (λ flow x y comes. then (push_data comes) goes_on)
@@ -130,9 +130,9 @@ module _ (seen other : Seen) (n m : NodeRecord) where
   effect_row op.Invert e k = (refl, then (set_top (from_one (λ v. 0x3ffff - v) top)) goes_on)
   effect_row op.Plus e k = (
     refl,
-    either (is_extended n) (is_extended m) _ _ _ _ _ _ (ap test_holds e)
-        (then (set_carry (from_three (λ t s c. carry_value (nat_le words (t + s + c))) top second OfCarry)) (then (pop_to (from_three (λ t s c. (t + s + c) % words) top second OfCarry)) goes_on))
-        (then (pop_to (from_two (λ t s. (t + s) % words) top second)) goes_on),
+    either (is_extended n) (is_extended m) _ _ _ _ _ _ (ap choice_test_holds e)
+        (then (set_carry (from_three (λ t s c. carry_value (nat_le word_modulus (t + s + c))) top second OfCarry)) (then (pop_to (from_three (λ t s c. (t + s + c) % word_modulus) top second OfCarry)) goes_on))
+        (then (pop_to (from_two (λ t s. (t + s) % word_modulus) top second)) goes_on),
   )
   effect_row op.And e k = (refl, then (pop_to (from_two bit_and top second)) goes_on)
   effect_row op.Or e k = (refl, then (pop_to (from_two bit_xor top second)) goes_on)
@@ -156,11 +156,11 @@ module _ (seen other : Seen) (n m : NodeRecord) where
       subst (λ d. IsRow (action_moves (next_action_of n) n) (action_result (next_action_of n) seen n) (action_result d other m)) alike.due
       (due_row (next_action_of n) (alike.choice ∙ ap (λ d. choice d m) (sym alike.due)))
 
-  pub own_flows : HaveSameNextAction n m → HasSizes n → HasSizes m → (part : NodePart) → IsNodePart part → Source (own_flow n part) (part_value (io_word seen) (own seen n).1 part) (part_value (io_word other) (own other m).1 part)
-  unfolding own own_flow
+  pub own_flows : HaveSameNextAction n m → HasListSizes n → HasListSizes m → (part : NodePart) → IsNodePart part → Source (flow_of_own_event n part) (part_value (io_word seen) (own seen n).1 part) (part_value (io_word other) (own other m).1 part)
+  unfolding own flow_of_own_event
   own_flows alike = comes_after (io_word seen) n (io_word other) m (own_row alike).1
 
-  pub own_sizes : HaveSameNextAction n m → HasSizes n → HasSizes m → HasSizes (own seen n).1 × HasSizes (own other m).1
+  pub own_sizes : HaveSameNextAction n m → HasListSizes n → HasListSizes m → HasListSizes (own seen n).1 × HasListSizes (own other m).1
   unfolding own
   own_sizes alike = sizes_after (io_word seen) n (io_word other) m (own_row alike).1
 
@@ -171,11 +171,11 @@ module _ (seen other : Seen) (n m : NodeRecord) where
 -- ---- the halves of a transfer
 
 module _ (word : ℕ) (n : NodeRecord) (other : ℕ) (m : NodeRecord) where
-  pub sent_flows : HasSizes n → HasSizes m → (part : NodePart) → IsNodePart part → IsFlowOf word n other m (send_flow part) (part_value word (sent n) part) (part_value other (sent m) part)
+  pub sent_flows : HasListSizes n → HasListSizes m → (part : NodePart) → IsNodePart part → AreFlowValues word n other m (send_flow part) (part_value word (sent n) part) (part_value other (sent m) part)
   unfolding sent send_flow
   sent_flows = comes_after word n other m (then (set_wait {w = wait.Nothing}) (then pop_data (then go_on none)))
 
-  pub sent_sizes : HasSizes n → HasSizes m → HasSizes (sent n) × HasSizes (sent m)
+  pub sent_sizes : HasListSizes n → HasListSizes m → HasListSizes (sent n) × HasListSizes (sent m)
   unfolding sent
   sent_sizes = sizes_after word n other m (then (set_wait {w = wait.Nothing}) (then pop_data (then go_on none)))
 
@@ -185,16 +185,16 @@ module _ (word : ℕ) (n : NodeRecord) (other : ℕ) (m : NodeRecord) where
   take_row wait.Nothing = none
   take_row (wait.Write side) = none
 
-  pub taken_flows : HasSizes n → HasSizes m → n.wait ≡ m.wait → (part : NodePart) → IsNodePart part → IsFlowOf word n other m (take_flow n.wait part) (part_value word (taken word n) part) (part_value other (taken other m) part)
+  pub taken_flows : HasListSizes n → HasListSizes m → n.wait ≡ m.wait → (part : NodePart) → IsNodePart part → AreFlowValues word n other m (take_flow n.wait part) (part_value word (taken word n) part) (part_value other (taken other m) part)
   unfolding taken take_flow
   taken_flows left right same part is =
-      subst (λ w. IsFlowOf word n other m (flows_after_moves (take_moves n.wait) Same part) (part_value word (after_changes (take_changes n.wait word) n) part) (part_value other (after_changes (take_changes w other) m) part)) same
+      subst (λ w. AreFlowValues word n other m (flows_after_moves (take_moves n.wait) Same part) (part_value word (node_after_changes (take_changes n.wait word) n) part) (part_value other (node_after_changes (take_changes w other) m) part)) same
       (comes_after word n other m (take_row n.wait) left right part is)
 
-  pub taken_sizes : HasSizes n → HasSizes m → n.wait ≡ m.wait → HasSizes (taken word n) × HasSizes (taken other m)
+  pub taken_sizes : HasListSizes n → HasListSizes m → n.wait ≡ m.wait → HasListSizes (taken word n) × HasListSizes (taken other m)
   unfolding taken
   taken_sizes left right same =
-      subst (λ w. HasSizes (after_changes (take_changes n.wait word) n) × HasSizes (after_changes (take_changes w other) m)) same (sizes_after word n other m (take_row n.wait) left right)
+      subst (λ w. HasListSizes (node_after_changes (take_changes n.wait word) n) × HasListSizes (node_after_changes (take_changes w other) m)) same (sizes_after word n other m (take_row n.wait) left right)
 
 -- ---- the same is decided in two nodes that hold the same in the parts by which an event is decided
 
@@ -241,7 +241,7 @@ module _ (n m : NodeRecord) where
   chosen (due.Run op.AStore) agree = refl
 
   pub alike : AgreeAtParts 0 n 0 m (OfI ∷ OfSlot ∷ []) → AgreeAtParts 0 n 0 m (deciding_parts (next_action_of n)) → HaveSameNextAction n m
-  alike word computed_from = record {
+  alike word computed_flow = record {
     due = due_same word.0 word.1.0;
-    choice = chosen (next_action_of n) computed_from ∙ ap (λ d. choice d m) (due_same word.0 word.1.0);
+    choice = chosen (next_action_of n) computed_flow ∙ ap (λ d. choice d m) (due_same word.0 word.1.0);
   }

@@ -3,18 +3,18 @@ use Rattle.std.proofs.Common.{◌≡◌, ◌==◌, ◌+◌, ◌-◌, Bool, true,
 use Rattle.ga_slots.specs.declared.op.Op.{Op}
 use Rattle.ga_slots.specs.declared.op.Op.TheVariants as op
 use Rattle.ga_ports.specs.Address.{is_single_side}
-use Rattle.ga_ports.specs.declared.address.Target.{Target}
-use Rattle.ga_ports.specs.declared.address.Target.TheVariants as target
+use Rattle.ga_ports.specs.declared.address.AddressTarget.{AddressTarget}
+use Rattle.ga_ports.specs.declared.address.AddressTarget.TheVariants as target
 use Rattle.ga_node.specs.Record.{NodeRecord}
 use Rattle.ga_node.specs.Table.{next_action_of}
 use Rattle.ga_node.specs.declared.due.NextAction.{NextAction}
 use Rattle.ga_node.specs.declared.due.NextAction.TheVariants as due
 use Rattle.ga_node.specs.declared.wait.Wait.{Wait}
 use Rattle.ga_node.specs.declared.wait.Wait.TheVariants as wait
-use Rattle.ga_event.specs.declared.flow.choice.Choice.{Choice}
+use Rattle.ga_event.specs.declared.flow.choice.ActionChoice.{ActionChoice}
 use Rattle.ga_event.specs.declared.flow.part.NodePart.{NodePart}
 use Rattle.ga_event.specs.declared.flow.part.NodePart.TheVariants.{Data, Return, Ram, Rom, A, B, P, I, Io, Carry, Slot, Wait as WaitPart, Stop, Outside}
-use Rattle.ga_event.specs.Flow.{Flow, Same, From, PartFlows, Move, PushData, PopData, SetTop, PopTo, PushReturn, PopReturn, SetTopReturn, SetP, SetA, SetB, SetI, SetIo, SetCarry, SetRam, GoOn, Skip, StartAgain, SetWait, SetStop, is_equal_to, with_flow, data_flows_pushed, data_flows_popped, return_flows_pushed, return_flows_popped, computed_from, flows_after_move, flows_after_moves, top, top_return, choice, choice_target, test_holds, read_moves, write_moves, moves_by_choice, action_moves, send_moves, take_moves, flow_by_choice, own_flow, send_flow, take_flow, part_kind, part_index}
+use Rattle.ga_event.specs.Flow.{Flow, Same, From, PartFlows, FlowMove, PushData, PopData, SetTop, PopTo, PushReturn, PopReturn, SetTopReturn, SetP, SetA, SetB, SetI, SetIo, SetCarry, SetRam, GoOn, Skip, StartAgain, SetWait, SetStop, is_equal_to, with_flow, flows_after_data_push, flows_after_data_pop, flows_after_return_push, flows_after_return_pop, computed_flow, flows_after_move, flows_after_moves, top, top_return, choice, choice_target, choice_test_holds, read_moves, write_moves, moves_by_choice, action_moves, send_moves, take_moves, flow_by_choice, flow_of_own_event, send_flow, take_flow, part_kind, part_index}
 use Rattle.ga_event.specs.inner.{Trace, At, Found, set_at, push_data, pop_data, push_return, pop_return, before, before_all, settled, read_before, write_before, count_before}
 use Rattle.std.specs.Prelude.{◌↔◌, IsTrue}
 use Rattle.std.proofs.lemmas.Bool.{eq-eqb, eqb-true}
@@ -32,7 +32,7 @@ set_back : (at : NodePart) (flow : Flow) (f : PartFlows) (trace : Trace) → res
 set_back at flow f (At part) = by_test f (is_equal_to part at) (Found flow) (At part)
 set_back at flow f (Found found) = refl
 
-push_data_back : (flow : Flow) (f : PartFlows) (trace : Trace) → resolved f (push_data flow trace) ≡ resolved (data_flows_pushed flow f) trace
+push_data_back : (flow : Flow) (f : PartFlows) (trace : Trace) → resolved f (push_data flow trace) ≡ resolved (flows_after_data_push flow f) trace
 push_data_back flow f (At (Data k)) = by_test f (k == 0) (Found flow) (At (Data (k - 1)))
 push_data_back flow f (At (Return k)) = refl
 push_data_back flow f (At (Ram k)) = refl
@@ -49,7 +49,7 @@ push_data_back flow f (At Stop) = refl
 push_data_back flow f (At Outside) = refl
 push_data_back flow f (Found found) = refl
 
-pop_data_back : (f : PartFlows) (trace : Trace) → resolved f (pop_data trace) ≡ resolved (data_flows_popped f) trace
+pop_data_back : (f : PartFlows) (trace : Trace) → resolved f (pop_data trace) ≡ resolved (flows_after_data_pop f) trace
 pop_data_back f (At (Data k)) = by_test f (k == 9) (At (Data 2)) (At (Data (k + 1)))
 pop_data_back f (At (Return k)) = refl
 pop_data_back f (At (Ram k)) = refl
@@ -66,7 +66,7 @@ pop_data_back f (At Stop) = refl
 pop_data_back f (At Outside) = refl
 pop_data_back f (Found found) = refl
 
-push_return_back : (flow : Flow) (f : PartFlows) (trace : Trace) → resolved f (push_return flow trace) ≡ resolved (return_flows_pushed flow f) trace
+push_return_back : (flow : Flow) (f : PartFlows) (trace : Trace) → resolved f (push_return flow trace) ≡ resolved (flows_after_return_push flow f) trace
 push_return_back flow f (At (Data k)) = refl
 push_return_back flow f (At (Return k)) = by_test f (k == 0) (Found flow) (At (Return (k - 1)))
 push_return_back flow f (At (Ram k)) = refl
@@ -83,7 +83,7 @@ push_return_back flow f (At Stop) = refl
 push_return_back flow f (At Outside) = refl
 push_return_back flow f (Found found) = refl
 
-pop_return_back : (f : PartFlows) (trace : Trace) → resolved f (pop_return trace) ≡ resolved (return_flows_popped f) trace
+pop_return_back : (f : PartFlows) (trace : Trace) → resolved f (pop_return trace) ≡ resolved (flows_after_return_pop f) trace
 pop_return_back f (At (Data k)) = refl
 pop_return_back f (At (Return k)) = by_test f (k == 8) (At (Return 1)) (At (Return (k + 1)))
 pop_return_back f (At (Ram k)) = refl
@@ -101,11 +101,11 @@ pop_return_back f (At Outside) = refl
 pop_return_back f (Found found) = refl
 
 -- a move, where the slot is still the one before the event
-move_back : (move : Move) (f : PartFlows) (trace : Trace) → f Slot ≡ Same Slot → resolved f (before move trace) ≡ resolved (flows_after_move move f) trace
+move_back : (move : FlowMove) (f : PartFlows) (trace : Trace) → f Slot ≡ Same Slot → resolved f (before move trace) ≡ resolved (flows_after_move move f) trace
 move_back (PushData flow) f trace slot = push_data_back flow f trace
 move_back PopData f trace slot = pop_data_back f trace
 move_back (SetTop flow) f trace slot = set_back top flow f trace
-move_back (PopTo flow) f trace slot = pop_data_back f (set_at top flow trace) ∙ set_back top flow (data_flows_popped f) trace
+move_back (PopTo flow) f trace slot = pop_data_back f (set_at top flow trace) ∙ set_back top flow (flows_after_data_pop f) trace
 move_back (PushReturn flow) f trace slot = push_return_back flow f trace
 move_back PopReturn f trace slot = pop_return_back f trace
 move_back (SetTopReturn flow) f trace slot = set_back top_return flow f trace
@@ -116,25 +116,25 @@ move_back (SetI flow) f trace slot = set_back I flow f trace
 move_back (SetIo flow) f trace slot = set_back Io flow f trace
 move_back (SetCarry flow) f trace slot = set_back Carry flow f trace
 move_back (SetRam cell flow) f trace slot = set_back (Ram cell) flow f trace
-move_back GoOn f trace slot = set_back Slot (From (Slot ∷ [])) f trace ∙ ap (λ flow. resolved (with_flow Slot (computed_from flow) f) trace) (sym slot)
+move_back GoOn f trace slot = set_back Slot (From (Slot ∷ [])) f trace ∙ ap (λ flow. resolved (with_flow Slot (computed_flow flow) f) trace) (sym slot)
 move_back Skip f trace slot = set_back Slot (From []) f trace
 move_back StartAgain f trace slot = set_back Slot (From []) f trace
 move_back SetWait f trace slot = set_back WaitPart (From []) f trace
 move_back SetStop f trace slot = set_back Stop (From []) f trace
 
 -- moves of which the last alone may move the slot
-abbrev LeavesSlot : Move → Type 0
+abbrev LeavesSlot : FlowMove → Type 0
 LeavesSlot GoOn = ⊥
 LeavesSlot Skip = ⊥
 LeavesSlot StartAgain = ⊥
 LeavesSlot _ = Unit {0}
 
-abbrev SlotLast : List Move → Type 0
+abbrev SlotLast : List FlowMove → Type 0
 SlotLast [] = Unit {0}
 SlotLast (move ∷ []) = Unit {0}
 SlotLast (move ∷ (next ∷ rest)) = LeavesSlot move × SlotLast (next ∷ rest)
 
-slot_left : (move : Move) (f : PartFlows) → LeavesSlot move → flows_after_move move f Slot ≡ f Slot
+slot_left : (move : FlowMove) (f : PartFlows) → LeavesSlot move → flows_after_move move f Slot ≡ f Slot
 slot_left (PushData flow) f leaves = refl
 slot_left PopData f leaves = refl
 slot_left (SetTop flow) f leaves = refl
@@ -155,7 +155,7 @@ slot_left StartAgain f leaves = absurd leaves
 slot_left SetWait f leaves = refl
 slot_left SetStop f leaves = refl
 
-all_back : (moves : List Move) (f : PartFlows) (trace : Trace) → f Slot ≡ Same Slot → SlotLast moves → resolved f (before_all moves trace) ≡ resolved (flows_after_moves moves f) trace
+all_back : (moves : List FlowMove) (f : PartFlows) (trace : Trace) → f Slot ≡ Same Slot → SlotLast moves → resolved f (before_all moves trace) ≡ resolved (flows_after_moves moves f) trace
 all_back [] f trace slot last = refl
 all_back (move ∷ []) f trace slot last = move_back move f trace slot
 all_back (move ∷ (next ∷ rest)) f trace slot last =
@@ -166,38 +166,38 @@ settled_back : (trace : Trace) → settled trace ≡ resolved Same trace
 settled_back (At part) = refl
 settled_back (Found flow) = refl
 
-pub found_flow : (moves : List Move) (part : NodePart) → SlotLast moves → settled (before_all moves (At part)) ≡ flows_after_moves moves Same part
+pub found_flow : (moves : List FlowMove) (part : NodePart) → SlotLast moves → settled (before_all moves (At part)) ≡ flows_after_moves moves Same part
 found_flow moves part last = settled_back (before_all moves (At part)) ∙ all_back moves Same (At part) refl last
 
 -- ---- the rows
 
-either_last : (b : Bool) (x y : List Move) → SlotLast x → SlotLast y → SlotLast (cond b x y)
+either_last : (b : Bool) (x y : List FlowMove) → SlotLast x → SlotLast y → SlotLast (cond b x y)
 either_last true x y p q = p
 either_last false x y p q = q
 
-read_last : (target : Target) (more : Flow → List Move) → ((flow : Flow) → SlotLast (more flow)) → SlotLast (read_moves target more)
+read_last : (target : AddressTarget) (more : Flow → List FlowMove) → ((flow : Flow) → SlotLast (more flow)) → SlotLast (read_moves target more)
 read_last (target.Ram k) more last = last _
 read_last (target.Rom k) more last = last _
 read_last target.Io more last = last _
 read_last (target.Ports sides) more last = tt
 read_last target.Bad more last = tt
 
-write_last : (target : Target) (next : Move) (rest : List Move) → SlotLast (next ∷ rest) → SlotLast (write_moves target (next ∷ rest))
+write_last : (target : AddressTarget) (next : FlowMove) (rest : List FlowMove) → SlotLast (next ∷ rest) → SlotLast (write_moves target (next ∷ rest))
 write_last (target.Ram k) next rest last = (tt, last)
 write_last (target.Rom k) next rest last = last
 write_last target.Io next rest last = (tt, last)
 write_last (target.Ports sides) next rest last = either_last (is_single_side sides) _ _ tt tt
 write_last target.Bad next rest last = tt
 
-op_last : (op : Op) (c : Choice) → SlotLast (moves_by_choice (due.Run op) c)
+op_last : (op : Op) (c : ActionChoice) → SlotLast (moves_by_choice (due.Run op) c)
 op_last op.Return c = (tt, (tt, tt))
 op_last op.Execute c = (tt, (tt, tt))
 op_last op.Jump c = (tt, tt)
 op_last op.Call c = (tt, (tt, tt))
-op_last op.Unext c = either_last (test_holds c) _ _ (tt, tt) (tt, tt)
-op_last op.Next c = either_last (test_holds c) _ _ (tt, tt) (tt, (tt, tt))
-op_last op.If c = either_last (test_holds c) _ _ (tt, tt) tt
-op_last op.MinusIf c = either_last (test_holds c) _ _ (tt, tt) tt
+op_last op.Unext c = either_last (choice_test_holds c) _ _ (tt, tt) (tt, tt)
+op_last op.Next c = either_last (choice_test_holds c) _ _ (tt, tt) (tt, (tt, tt))
+op_last op.If c = either_last (choice_test_holds c) _ _ (tt, tt) tt
+op_last op.MinusIf c = either_last (choice_test_holds c) _ _ (tt, tt) tt
 op_last op.FetchP c = read_last (choice_target c) _ (λ flow. (tt, (tt, tt)))
 op_last op.FetchPlus c = read_last (choice_target c) _ (λ flow. (tt, (tt, tt)))
 op_last op.FetchB c = read_last (choice_target c) _ (λ flow. (tt, tt))
@@ -210,7 +210,7 @@ op_last op.MultiplyStep c = (tt, (tt, tt))
 op_last op.TwoStar c = (tt, tt)
 op_last op.TwoSlash c = (tt, tt)
 op_last op.Invert c = (tt, tt)
-op_last op.Plus c = either_last (test_holds c) _ _ (tt, (tt, tt)) (tt, tt)
+op_last op.Plus c = either_last (choice_test_holds c) _ _ (tt, (tt, tt)) (tt, tt)
 op_last op.And c = (tt, tt)
 op_last op.Or c = (tt, tt)
 op_last op.Drop c = (tt, tt)
@@ -224,11 +224,11 @@ op_last op.BStore c = (tt, (tt, tt))
 op_last op.AStore c = (tt, (tt, tt))
 
 -- what is found before what comes next in a node, and before the halves of a transfer
-due_last : (d : NextAction) (c : Choice) → SlotLast (moves_by_choice d c)
+due_last : (d : NextAction) (c : ActionChoice) → SlotLast (moves_by_choice d c)
 due_last due.Fetch c = read_last (choice_target c) _ (λ flow. (tt, (tt, tt)))
 due_last (due.Run op) c = op_last op c
 
-pub where_found : (d : NextAction) (c : Choice) (part : NodePart) → settled (before_all (moves_by_choice d c) (At part)) ≡ flow_by_choice d c part
+pub where_found : (d : NextAction) (c : ActionChoice) (part : NodePart) → settled (before_all (moves_by_choice d c) (At part)) ≡ flow_by_choice d c part
 unfolding flow_by_choice
 where_found d c part = found_flow (moves_by_choice d c) part (due_last d c)
 
@@ -236,10 +236,10 @@ in_node : (d : NextAction) (n : NodeRecord) → moves_by_choice d (choice d n) �
 in_node due.Fetch n = refl
 in_node (due.Run op) n = refl
 
-pub own_found : (d : NextAction) (c : Choice) (n : NodeRecord) (part : NodePart) → d ≡ next_action_of n → c ≡ choice d n → flow_by_choice d c part ≡ own_flow n part
-unfolding flow_by_choice own_flow
+pub own_found : (d : NextAction) (c : ActionChoice) (n : NodeRecord) (part : NodePart) → d ≡ next_action_of n → c ≡ choice d n → flow_by_choice d c part ≡ flow_of_own_event n part
+unfolding flow_by_choice flow_of_own_event
 own_found d c n part is so =
-    ap (λ (moves : List Move). flows_after_moves moves Same part) (ap (moves_by_choice d) so ∙ in_node d n) ∙ ap (λ d. flows_after_moves (action_moves d n) Same part) is
+    ap (λ (moves : List FlowMove). flows_after_moves moves Same part) (ap (moves_by_choice d) so ∙ in_node d n) ∙ ap (λ d. flows_after_moves (action_moves d n) Same part) is
 
 pub send_found : (part : NodePart) → settled (before_all send_moves (At part)) ≡ send_flow part
 unfolding send_flow
@@ -254,14 +254,14 @@ take_found (wait.Write side) part = refl
 
 -- ---- reads and writes
 
-pub read_found : (target : Target) (part : NodePart) (more : List Move) → read_before target part (before_all more (At part)) ≡ before_all (read_moves target (λ word. PushData word ∷ more)) (At part)
+pub read_found : (target : AddressTarget) (part : NodePart) (more : List FlowMove) → read_before target part (before_all more (At part)) ≡ before_all (read_moves target (λ word. PushData word ∷ more)) (At part)
 read_found (target.Ram k) part more = refl
 read_found (target.Rom k) part more = refl
 read_found target.Io part more = refl
 read_found (target.Ports sides) part more = refl
 read_found target.Bad part more = refl
 
-pub write_found : (target : Target) (part : NodePart) (more : List Move) → write_before target part (before_all more (At part)) ≡ before_all (write_moves target more) (At part)
+pub write_found : (target : AddressTarget) (part : NodePart) (more : List FlowMove) → write_before target part (before_all more (At part)) ≡ before_all (write_moves target more) (At part)
 write_found (target.Ram k) part more = refl
 write_found (target.Rom k) part more = refl
 write_found target.Io part more = refl
@@ -272,7 +272,7 @@ write_found (target.Ports sides) part more = by_single (is_single_side sides)
     by_single false = refl
 write_found target.Bad part more = refl
 
-pub count_found : (ends : Bool) (part : NodePart) (last again : List Move) → count_before ends (before_all last (At part)) (before_all again (At part)) ≡ before_all (cond ends (PopReturn ∷ last) (SetTopReturn (From (top_return ∷ [])) ∷ again)) (At part)
+pub count_found : (ends : Bool) (part : NodePart) (last again : List FlowMove) → count_before ends (before_all last (At part)) (before_all again (At part)) ≡ before_all (cond ends (PopReturn ∷ last) (SetTopReturn (From (top_return ∷ [])) ∷ again)) (At part)
 count_found true part last again = refl
 count_found false part last again = refl
 

@@ -9,14 +9,14 @@ use Rattle.ga_node.specs.Table.{own, looks, refusal}
 use Rattle.ga_node.proofs.Looks.{own_blind}
 use Rattle.ga_ports.specs.declared.side.Side.TheVariants.{Right, Down, Left, Up}
 use Rattle.ga_grid.specs.Grid.{neighbour_of}
-use Rattle.ga_node.specs.declared.kind.NotReady.{NotReady}
-use Rattle.ga_grid.specs.Chip.{nowhere, record_at}
+use Rattle.ga_node.specs.declared.kind.EventRefusal.{EventRefusal}
+use Rattle.ga_grid.specs.Chip.{default_node, record_at}
 use Rattle.ga_grid.specs.declared.node_id.NodeId.{NodeId}
 use Rattle.ga_event.specs.declared.event.Event.{Event}
 use Rattle.ga_event.specs.declared.event.Cause.{Cause}
 use Rattle.ga_event.specs.declared.event.Event.TheVariants.{Own, Pass}
 use Rattle.ga_event.specs.Touches.{event_nodes, touches, prepend_some, neighbours, looked_at_nodes, observed_by, has_common_node}
-use Rattle.ga_event.specs.Apply.{EventOutcome, shown_state, shown_neighbour_state, neighbour_states, is_transfer_ready, unmatched_unless, refusal_of, chip_after_own, chip_after_pass, some_if_allowed, after, apply, is_look, cause_of, AgreeOutsideMarks, BehaveAlike}
+use Rattle.ga_event.specs.Apply.{EventOutcome, shown_wait_state, shown_neighbour_state, neighbour_states, is_transfer_ready, refusal_unless_matched, refusal_of, chip_after_own, chip_after_pass, some_if_allowed, after, apply, is_look, cause_of, AgreeOutsideMarks, AreEventResultsAlike}
 
 pub any-append : (marks : ℕ → Bool) (a b : List ℕ) → list_any marks a ≡ true → list_any marks (a ++ b) ≡ true
 any-append marks [] b t = absurd (both_ways false refl t)
@@ -56,13 +56,13 @@ touched-has_common_node marks cause blind t =
 pub AgreeOutsideMarks-set : (marks : ℕ → Bool) (c d : List NodeRecord) (n : ℕ) (x : NodeRecord) → AgreeOutsideMarks marks c d → AgreeOutsideMarks marks (set c n x) (set d n x)
 AgreeOutsideMarks-set marks c d n x a = record {
   size = length-set c n x ∙ a.size ∙ sym (length-set d n x);
-  same = λ m free. elim (cases_eq m n) [ inl e ↦ here m e free | inr ne ↦ get_or-set_other c n m x (record_of nowhere) ne ∙ a.same m free ∙ sym (get_or-set_other d n m x (record_of nowhere) ne) ];
+  same = λ m free. elim (cases_eq m n) [ inl e ↦ here m e free | inr ne ↦ get_or-set_other c n m x (record_of default_node) ne ∙ a.same m free ∙ sym (get_or-set_other d n m x (record_of default_node) ne) ];
 }
   where
     within : (m : ℕ) → m ≡ n → marks m ≡ false → n < length c → record_at (set c n x) m ≡ record_at (set d n x) m
     within m e free h =
         let k : n < length d = omega (arith, a.size) in
-        subst (λ z. record_at (set c n x) z ≡ record_at (set d n x) z) (sym e) (get_or-set_same c n x (record_of nowhere) h ∙ sym (get_or-set_same d n x (record_of nowhere) k))
+        subst (λ z. record_at (set c n x) z ≡ record_at (set d n x) z) (sym e) (get_or-set_same c n x (record_of default_node) h ∙ sym (get_or-set_same d n x (record_of default_node) k))
 
     past : (m : ℕ) → m ≡ n → marks m ≡ false → length c ≤ n → record_at (set c n x) m ≡ record_at (set d n x) m
     past m e free h =
@@ -90,7 +90,7 @@ side_alike : (marks : ℕ → Bool) (c d : List NodeRecord) (side : Side) (at : 
 side_alike marks c d side None ns a free = record { here = refl; others = free }
 side_alike marks c d side (Some n) ns a free =
     let p : (marks n ≡ false) × (list_any marks ns ≡ false) = or_parts (marks n) (list_any marks ns) free in
-    record { here = ap (λ (z : NodeRecord). shown_state z.wait side) (a.same n p.0); others = p.1 }
+    record { here = ap (λ (z : NodeRecord). shown_wait_state z.wait side) (a.same n p.0); others = p.1 }
 
 sides_alike : (marks : ℕ → Bool) (c d : List NodeRecord) (n : ℕ) → AgreeOutsideMarks marks c d → list_any marks (neighbours n) ≡ false → neighbour_states c n ≡ neighbour_states d n
 unfolding neighbours neighbour_states
@@ -110,8 +110,8 @@ touch_alike : (marks : ℕ → Bool) (c d : List NodeRecord) (event : Event) →
 touch_alike marks c d (Own node) a free = ap (λ z. refusal z) (seen_same marks c d node a free)
 touch_alike marks c d (Pass w r side) a free =
     let e : (record_at c w.number ≡ record_at d w.number) × (record_at c r.number ≡ record_at d r.number) = seen_both marks c d w r side a free in
-    ap (λ z. unmatched_unless (is_transfer_ready w.number r.number side z.wait (record_at c r.number).wait)) e.0
-    ∙ ap (λ z. unmatched_unless (is_transfer_ready w.number r.number side (record_at d w.number).wait z.wait)) e.1
+    ap (λ z. refusal_unless_matched (is_transfer_ready w.number r.number side z.wait (record_at c r.number).wait)) e.0
+    ∙ ap (λ z. refusal_unless_matched (is_transfer_ready w.number r.number side (record_at d w.number).wait z.wait)) e.1
 
 pub refusal_alike : (marks : ℕ → Bool) (c d : List NodeRecord) (event : Event) → AgreeOutsideMarks marks c d → has_common_node marks (cause_of c event) ≡ false → refusal_of c event ≡ refusal_of d event
 refusal_alike marks c d event a free = touch_alike marks c d event a (touched_free marks (cause_of c event) free)
@@ -140,11 +140,11 @@ after_alike marks c d (Pass writer reader side) a free =
     (AgreeOutsideMarks-set marks (set c w _) (set d w _) r _ (AgreeOutsideMarks-set marks c d w _ a), refl))
 
 -- an event that sees no marked node does the same to two chips that agree elsewhere
-pub apply_alike : (marks : ℕ → Bool) (c d : List NodeRecord) (event : Event) → AgreeOutsideMarks marks c d → has_common_node marks (cause_of c event) ≡ false → BehaveAlike marks (apply c event) (apply d event)
+pub apply_alike : (marks : ℕ → Bool) (c d : List NodeRecord) (event : Event) → AgreeOutsideMarks marks c d → has_common_node marks (cause_of c event) ≡ false → AreEventResultsAlike marks (apply c event) (apply d event)
 apply_alike marks c d event a free =
-    subst (λ z. BehaveAlike marks (some_if_allowed (refusal_of c event) (after c event)) (some_if_allowed z (after d event))) (refusal_alike marks c d event a free) (go (refusal_of c event))
+    subst (λ z. AreEventResultsAlike marks (some_if_allowed (refusal_of c event) (after c event)) (some_if_allowed z (after d event))) (refusal_alike marks c d event a free) (go (refusal_of c event))
   where
-    go : (o : Option NotReady) → BehaveAlike marks (some_if_allowed o (after c event)) (some_if_allowed o (after d event))
+    go : (o : Option EventRefusal) → AreEventResultsAlike marks (some_if_allowed o (after c event)) (some_if_allowed o (after d event))
     go None = after_alike marks c d event a free
     go (Some why) = tt
 
@@ -169,7 +169,7 @@ AgreeOutsideMarks-sym marks c d a = record { size = sym a.size; same = λ n free
 AgreeOutsideMarks-write : (marks : ℕ → Bool) (c d : List NodeRecord) (n : ℕ) (x : NodeRecord) → marks n ≡ true → AgreeOutsideMarks marks c d → AgreeOutsideMarks marks c (set d n x)
 AgreeOutsideMarks-write marks c d n x m a = record {
   size = a.size ∙ sym (length-set d n x);
-  same = λ k free. a.same k free ∙ sym (get_or-set_other d n k x (record_of nowhere) (λ e. both_ways (marks k) free (subst (λ z. marks z ≡ true) (sym e) m)));
+  same = λ k free. a.same k free ∙ sym (get_or-set_other d n k x (record_of default_node) (λ e. both_ways (marks k) free (subst (λ z. marks z ≡ true) (sym e) m)));
 }
 
 after_keeps : (c : List NodeRecord) (event : Event) → AgreeOutsideMarks (touches event) c (after c event).0
@@ -182,6 +182,6 @@ after_keeps c (Pass w r side) =
 pub apply_keeps : (c : List NodeRecord) (event : Event) → IfSome (apply c event) (λ done. AgreeOutsideMarks (touches event) c done.0)
 apply_keeps c event = go (refusal_of c event)
   where
-    go : (o : Option NotReady) → IfSome (some_if_allowed o (after c event)) (λ done. AgreeOutsideMarks (touches event) c done.0)
+    go : (o : Option EventRefusal) → IfSome (some_if_allowed o (after c event)) (λ done. AgreeOutsideMarks (touches event) c done.0)
     go None = after_keeps c event
     go (Some why) = tt

@@ -9,8 +9,8 @@ use Rattle.ga_ports.specs.declared.side.Side.TheVariants.{Right, Down, Left, Up}
 use Rattle.ga_ports.specs.Address.{has_side, are_same_side}
 use Rattle.ga_node.specs.Record.{NodeRecord}
 use Rattle.ga_node.specs.Table.{wait_refusal}
-use Rattle.ga_node.specs.declared.kind.NotReady.{NotReady}
-use Rattle.ga_node.specs.declared.kind.NotReady.TheVariants.{Stopped}
+use Rattle.ga_node.specs.declared.kind.EventRefusal.{EventRefusal}
+use Rattle.ga_node.specs.declared.kind.EventRefusal.TheVariants.{Stopped}
 use Rattle.ga_node.specs.declared.wait.Wait.{Wait}
 use Rattle.ga_node.specs.declared.wait.Wait.TheVariants.{Nothing, Fetch, Read, Write}
 use Rattle.ga_grid.specs.declared.node_id.NodeId.{NodeId}
@@ -19,7 +19,7 @@ use Rattle.ga_grid.specs.Chip.{record_at}
 use Rattle.ga_grid.proofs.NodeIds.{neighbour_of-back}
 use Rattle.ga_event.specs.declared.event.Event.{Event}
 use Rattle.ga_event.specs.declared.event.Event.TheVariants.{Own, Pass}
-use Rattle.ga_event.specs.Apply.{waits_to_write_side, waits_to_read_side, equals_some, unmatched_unless, refusal_of}
+use Rattle.ga_event.specs.Apply.{waits_to_write_side, waits_to_read_side, equals_some, refusal_unless_matched, refusal_of}
 use Rattle.ga_event.specs.Next.{writer_pass, reader_pass, reader_pass_over, or_else, first_pass_over, first_pass, ok_or_waiting, next_event_by_wait, next}
 
 pub neighbour_of-within : (n m : ℕ) (side : Side) → n < 144 → neighbour_of n side ≡ Some m → m < 144
@@ -35,7 +35,7 @@ side_self Left = refl
 side_self Up = refl
 
 -- an answer that is there
-same_Ok : (e f : Event) → (let a : Result Event NotReady = Ok e in a) ≡ Ok f → e ≡ f
+same_Ok : (e f : Event) → (let a : Result Event EventRefusal = Ok e in a) ≡ Ok f → e ≡ f
 same_Ok e f h = cc
 
 some_next : (o : Option Event) (e : Event) → ok_or_waiting o ≡ Ok e → o ≡ Some e
@@ -49,7 +49,7 @@ number_is m l = mod-eq_of_lt l
 -- two ends that match
 opens : (chip : List NodeRecord) (w r : NodeId) (side : Side) → neighbour_of w.number side ≡ Some r.number → waits_to_write_side (record_at chip w.number).wait side ≡ true → waits_to_read_side (record_at chip r.number).wait side ≡ true → refusal_of chip (Pass w r side) ≡ None
 opens chip w r side near out in_ =
-    ap unmatched_unless (and_from (equals_some (neighbour_of w.number side) r.number && waits_to_write_side (record_at chip w.number).wait side) (waits_to_read_side (record_at chip r.number).wait side)
+    ap refusal_unless_matched (and_from (equals_some (neighbour_of w.number side) r.number && waits_to_write_side (record_at chip w.number).wait side) (waits_to_read_side (record_at chip r.number).wait side)
     (and_from (equals_some (neighbour_of w.number side) r.number) (waits_to_write_side (record_at chip w.number).wait side) (ap (λ (o : Option ℕ). equals_some o r.number) near ∙ eq-eqb r.number r.number refl) out)
     in_)
 

@@ -5,20 +5,20 @@ use Rattle.std.proofs.lemmas.Option.{same_Some}
 use Rattle.std.proofs.Common.{eq-eqb}
 use Rattle.std.proofs.lemmas.Bool.{cases_eq, cases_lt, ne_eqb}
 use Rattle.std.proofs.lemmas.List.{get_or_past, get_or-set_same, get_or-set_other, length-set}
-use Rattle.ga_node.specs.Record.{NodeRecord, HasSizes, record_of}
+use Rattle.ga_node.specs.Record.{NodeRecord, HasListSizes, record_of}
 use Rattle.ga_node.specs.Io.{io_word}
 use Rattle.ga_node.specs.Table.{t, own, sent, taken}
 use Rattle.ga_event.specs.declared.flow.part.NodePart.{NodePart}
 use Rattle.ga_event.specs.declared.flow.part.NodePart.TheVariants.{Data as OfD, Return as OfR, Ram as OfRam, Rom as OfRom, A as OfA, B as OfB, P as OfP, I as OfI, Io as OfIo, Carry as OfCarry, Slot as OfSlot, Wait as OfWait, Stop as OfStop, Outside}
-use Rattle.ga_event.specs.Flow.{Flow, Same, From, top, part_value, IsNodePart, own_flow, send_flow, take_flow, AgreeAtParts, IsFlowOf}
+use Rattle.ga_event.specs.Flow.{Flow, Same, From, top, part_value, IsNodePart, flow_of_own_event, send_flow, take_flow, AgreeAtParts, AreFlowValues}
 use Rattle.ga_event.proofs.Flowing.{own_flows, own_sizes, sent_flows, sent_sizes, taken_flows, taken_sizes}
-use Rattle.ga_grid.specs.Chip.{record_at, nowhere}
+use Rattle.ga_grid.specs.Chip.{record_at, default_node}
 use Rattle.ga_event.specs.declared.event.Event.{Event}
 use Rattle.ga_event.specs.declared.event.Event.TheVariants.{Own, Pass}
 use Rattle.ga_event.specs.declared.event.Cause.{Cause}
-use Rattle.ga_node.specs.declared.kind.NotReady.{NotReady}
+use Rattle.ga_node.specs.declared.kind.EventRefusal.{EventRefusal}
 use Rattle.ga_event.specs.Apply.{neighbour_states, after, EventOutcome, run, replay, cause_of, some_if_allowed, refusal_of}
-use Rattle.ga_event.specs.Sources.{Sources, initial_sources, sources_of_part, sources_of_parts, sources_of_flow, sources_after, sources_after_events, chip_after_events, IsDecidedAlike, AreDecidedAlike, AgreeAtNodeParts, AllHaveSizes}
+use Rattle.ga_event.specs.Sources.{Sources, initial_sources, sources_of_part, sources_of_parts, sources_of_flow, sources_after, sources_after_events, chip_after_events, IsEventDecidedAlike, AreEventsDecidedAlike, AgreeAtNodeParts, AllHaveListSizes}
 
 -- the parts of the node alone don't change with the word from outside
 word_free : (word : ℕ) (n : NodeRecord) (part : NodePart) → IsNodePart part → part_value word n part ≡ part_value 0 n part
@@ -41,7 +41,7 @@ past_both : (xs ys : List ℕ) (size k : ℕ) → length xs ≡ size → length 
 past_both xs ys size k long long' l = get_or_past xs k 0 (omega arith) ∙ sym (get_or_past ys k 0 (omega arith))
 
 -- either each node has the part, or its value is the same in both nodes
-part_or_none : (n m : NodeRecord) (part : NodePart) → HasSizes n → HasSizes m → IsNodePart part ⊎ (part_value 0 n part ≡ part_value 0 m part)
+part_or_none : (n m : NodeRecord) (part : NodePart) → HasListSizes n → HasListSizes m → IsNodePart part ⊎ (part_value 0 n part ≡ part_value 0 m part)
 part_or_none n m (OfD k) left right = ⊎_elim (λ l. inl l) (λ l. inr (past_both n.d m.d 10 k left.d right.d l)) (cases_lt k 10)
 part_or_none n m (OfR k) left right = ⊎_elim (λ l. inl l) (λ l. inr (past_both n.r m.r 9 k left.r right.r l)) (cases_lt k 9)
 part_or_none n m (OfRam k) left right = ⊎_elim (λ l. inl l) (λ l. inr (past_both n.ram m.ram 64 k left.ram right.ram l)) (cases_lt k 64)
@@ -94,12 +94,12 @@ module _ (first second : List NodeRecord) where
       all_same stands came rest (rest_of (sources_of_part node outside part) (sources_of_parts node outside rest) same),
     )
 
-    value_same : Stands node a b → (AgreeAtNodeParts first second outside → word ≡ other) → (flow : Flow) (x y : ℕ) → IsFlowOf word a other b flow x y → AgreeAtNodeParts first second (sources_of_flow node outside flow) → x ≡ y
+    value_same : Stands node a b → (AgreeAtNodeParts first second outside → word ≡ other) → (flow : Flow) (x y : ℕ) → AreFlowValues word a other b flow x y → AgreeAtNodeParts first second (sources_of_flow node outside flow) → x ≡ y
     value_same stands came (Same part) x y comes same = comes.0 ∙ part_same stands came part same ∙ sym comes.1
     value_same stands came (From parts) x y comes same = comes (all_same stands came parts same)
 
     -- a node after an event, by the flow of each part
-    node_after : (flows : NodePart → Flow) (x y : NodeRecord) → HasSizes x → HasSizes y → ((part : NodePart) → IsNodePart part → IsFlowOf word a other b (flows part) (part_value word x part) (part_value other y part))
+    node_after : (flows : NodePart → Flow) (x y : NodeRecord) → HasListSizes x → HasListSizes y → ((part : NodePart) → IsNodePart part → AreFlowValues word a other b (flows part) (part_value word x part) (part_value other y part))
         → Stands node a b → (AgreeAtNodeParts first second outside → word ≡ other) → Stands (λ part. sources_of_flow node outside (flows part)) x y
     node_after flows x y left right law stands came part same = ⊎_elim
         (λ is. sym (word_free word x part is) ∙ value_same stands came (flows part) (part_value word x part) (part_value other y part) (law part is) same ∙ word_free other y part is)
@@ -109,13 +109,13 @@ module _ (first second : List NodeRecord) where
   -- both chips, with where their parts come from
   pub record Holds (sources : Sources) (c d : List NodeRecord) : Type 0 where
     pub nodes : (n : ℕ) → Stands (sources n) (record_at c n) (record_at d n)
-    pub left : AllHaveSizes c
-    pub right : AllHaveSizes d
+    pub left : AllHaveListSizes c
+    pub right : AllHaveListSizes d
     pub long : length c ≡ 144
     pub long_too : length d ≡ 144
 
   -- one node set on both chips
-  pub set_node : (sources mine : Sources) (c d : List NodeRecord) (k : ℕ) (x y : NodeRecord) → k < 144 → Holds sources c d → Stands (mine k) x y → HasSizes x → HasSizes y
+  pub set_node : (sources mine : Sources) (c d : List NodeRecord) (k : ℕ) (x y : NodeRecord) → k < 144 → Holds sources c d → Stands (mine k) x y → HasListSizes x → HasListSizes y
       → ((n : ℕ) → n ≢ k → mine n ≡ sources n) → Holds mine (slice_set c k x) (slice_set d k y)
   set_node sources mine c d k x y inside holds stands left right others = record {
     nodes = λ n. ⊎_elim
@@ -133,19 +133,19 @@ module _ (first second : List NodeRecord) where
   }
     where
       here : (chip : List NodeRecord) (v : NodeRecord) → length chip ≡ 144 → record_at (slice_set chip k v) k ≡ v
-      here chip v long = get_or-set_same chip k v (record_of nowhere) (omega arith)
+      here chip v long = get_or-set_same chip k v (record_of default_node) (omega arith)
 
       there : (chip : List NodeRecord) (v : NodeRecord) (n : ℕ) → n ≢ k → record_at (slice_set chip k v) n ≡ record_at chip n
-      there chip v n ne = get_or-set_other chip k n v (record_of nowhere) ne
+      there chip v n ne = get_or-set_other chip k n v (record_of default_node) ne
 
-      sizes : (chip : List NodeRecord) (v : NodeRecord) → length chip ≡ 144 → HasSizes v → AllHaveSizes chip → (n : ℕ) → HasSizes (record_at (slice_set chip k v) n)
+      sizes : (chip : List NodeRecord) (v : NodeRecord) → length chip ≡ 144 → HasListSizes v → AllHaveListSizes chip → (n : ℕ) → HasListSizes (record_at (slice_set chip k v) n)
       sizes chip v long has all n = ⊎_elim
-          (λ e. subst (λ z. HasSizes (record_at (slice_set chip k v) z)) (sym e) (subst HasSizes (sym (here chip v long)) has))
-          (λ ne. subst HasSizes (sym (there chip v n ne)) (all n))
+          (λ e. subst (λ z. HasListSizes (record_at (slice_set chip k v) z)) (sym e) (subst HasListSizes (sym (here chip v long)) has))
+          (λ ne. subst HasListSizes (sym (there chip v n ne)) (all n))
           (cases_eq n k)
 
   -- an event of both chips
-  event_holds : (sources : Sources) (c d : List NodeRecord) (e : Event) → IsDecidedAlike c d e → Holds sources c d → Holds (sources_after c e sources) (after c e).0 (after d e).0
+  event_holds : (sources : Sources) (c d : List NodeRecord) (e : Event) → IsEventDecidedAlike c d e → Holds sources c d → Holds (sources_after c e sources) (after c e).0 (after d e).0
   event_holds sources c d (Own node) alike holds =
       let k = node.number in
       let a : NodeRecord = record_at c k in
@@ -153,12 +153,12 @@ module _ (first second : List NodeRecord) where
       let seen = neighbour_states c k in
       let other = neighbour_states d k in
       let sizes = own_sizes seen other a b alike.0 (holds.left k) (holds.right k) in
-      let stands : Stands (λ part. sources_of_flow (sources k) [] (own_flow a part)) (own seen a).1 (own other b).1 =
-      node_after (sources k) [] (io_word seen) (io_word other) a b (own_flow a) (own seen a).1 (own other b).1 sizes.0 sizes.1 (own_flows seen other a b alike.0 (holds.left k) (holds.right k)) (holds.nodes k) (λ none. alike.1) in
+      let stands : Stands (λ part. sources_of_flow (sources k) [] (flow_of_own_event a part)) (own seen a).1 (own other b).1 =
+      node_after (sources k) [] (io_word seen) (io_word other) a b (flow_of_own_event a) (own seen a).1 (own other b).1 sizes.0 sizes.1 (own_flows seen other a b alike.0 (holds.left k) (holds.right k)) (holds.nodes k) (λ none. alike.1) in
       set_node sources (sources_after c (Own node) sources) c d k (own seen a).1 (own other b).1 node.in_range holds
-      (subst (λ is. Stands (λ part. cond is (sources_of_flow (sources k) [] (own_flow a part)) (sources k part)) (own seen a).1 (own other b).1) (sym (eq-eqb k k refl)) stands)
+      (subst (λ is. Stands (λ part. cond is (sources_of_flow (sources k) [] (flow_of_own_event a part)) (sources k part)) (own seen a).1 (own other b).1) (sym (eq-eqb k k refl)) stands)
       sizes.0 sizes.1
-      (λ n ne. ap (λ is. λ part. cond is (sources_of_flow (sources n) [] (own_flow (record_at c n) part)) (sources n part)) (ne_eqb n k ne))
+      (λ n ne. ap (λ is. λ part. cond is (sources_of_flow (sources n) [] (flow_of_own_event (record_at c n) part)) (sources n part)) (ne_eqb n k ne))
   event_holds sources c d (Pass writer reader side) alike holds =
       let w = writer.number in
       let r = reader.number in
@@ -188,11 +188,11 @@ module _ (first second : List NodeRecord) where
       came : (w : ℕ) → Holds sources c d → AgreeAtNodeParts first second (sources w top) → t (record_at c w) ≡ t (record_at d w)
       came w holds same = holds.nodes w top same
 
-  events_hold : (sources : Sources) (c d : List NodeRecord) (events : List Event) → AreDecidedAlike c d events → Holds sources c d → Holds (sources_after_events c events sources) (chip_after_events c events) (chip_after_events d events)
+  events_hold : (sources : Sources) (c d : List NodeRecord) (events : List Event) → AreEventsDecidedAlike c d events → Holds sources c d → Holds (sources_after_events c events sources) (chip_after_events c events) (chip_after_events d events)
   events_hold sources c d [] alike holds = holds
   events_hold sources c d (e ∷ es) alike holds = events_hold (sources_after c e sources) (after c e).0 (after d e).0 es alike.1 (event_holds sources c d e alike.0 holds)
 
-pub sources_all : (c d : List NodeRecord) (events : List Event) (n : ℕ) (part : NodePart) → length c ≡ 144 → length d ≡ 144 → AllHaveSizes c → AllHaveSizes d → AreDecidedAlike c d events
+pub sources_all : (c d : List NodeRecord) (events : List Event) (n : ℕ) (part : NodePart) → length c ≡ 144 → length d ≡ 144 → AllHaveListSizes c → AllHaveListSizes d → AreEventsDecidedAlike c d events
     → AgreeAtNodeParts c d (sources_after_events c events initial_sources n part) → part_value 0 (record_at (chip_after_events c events) n) part ≡ part_value 0 (record_at (chip_after_events d events) n) part
 sources_all c d events n part long long' left right alike same =
     let start : Holds c d initial_sources c d = record { nodes = λ n part same. same.0; left = left; right = right; long = long; long_too = long' } in
@@ -215,7 +215,7 @@ chip_after_replay c d events e = mapped (run c events) (λ done is. ran c events
         at_rest None f h = absurd (cc)
         at_rest (Some rest) f h = f rest refl ∙ ap (λ (z : List NodeRecord × List (Cause × EventOutcome)). z.0) (same_Some _ _ h)
 
-        at_first : (why : Option NotReady) → ((rest : List NodeRecord × List (Cause × EventOutcome)) → run (after c x).0 xs ≡ Some rest → chip_after_events (after c x).0 xs ≡ rest.0)
+        at_first : (why : Option EventRefusal) → ((rest : List NodeRecord × List (Cause × EventOutcome)) → run (after c x).0 xs ≡ Some rest → chip_after_events (after c x).0 xs ≡ rest.0)
             → option_and_then {U = List NodeRecord × List (Cause × EventOutcome)} (λ first. option_map {U = List NodeRecord × List (Cause × EventOutcome)} (λ rest. (rest.0, (cause_of c x, first.1) ∷ rest.1)) (run first.0 xs)) (some_if_allowed why (after c x)) ≡ Some done
             → chip_after_events (after c x).0 xs ≡ done.0
         at_first None f h = at_rest (run (after c x).0 xs) f h

@@ -5,9 +5,9 @@ use Rattle.std.proofs.lemmas.Bool.{cases_eq, cases_lt}
 use Rattle.std.proofs.lemmas.List.{set_past}
 use Rattle.ga_node.specs.Record.{NodeRecord, record_of, HasConsistentWait}
 use Rattle.ga_node.specs.Table.{own, sent}
-use Rattle.ga_node.specs.declared.kind.NotReady.{NotReady}
+use Rattle.ga_node.specs.declared.kind.EventRefusal.{EventRefusal}
 use Rattle.ga_node.proofs.Steadiness.{own_steady, sent_steady, taken_steady}
-use Rattle.ga_grid.specs.Chip.{nowhere, record_at, HaveConsistentWaits}
+use Rattle.ga_grid.specs.Chip.{default_node, record_at, HaveConsistentWaits}
 use Rattle.ga_event.specs.declared.event.Cause.{Cause}
 use Rattle.ga_event.specs.declared.event.Event.{Event}
 use Rattle.ga_event.specs.declared.event.Event.TheVariants.{Own, Pass}
@@ -17,13 +17,13 @@ set_steady : (chip : List NodeRecord) (n : ℕ) (node : NodeRecord) → HaveCons
 set_steady chip n node steady new = λ m within.
     elim (cases_eq m n) [
       | inl e ↦ here m within e
-      | inr other ↦ subst HasConsistentWait (sym (get_or-set_other chip n m node (record_of nowhere) other)) (steady m within)
+      | inr other ↦ subst HasConsistentWait (sym (get_or-set_other chip n m node (record_of default_node) other)) (steady m within)
     ]
   where
     here : (m : ℕ) → m < 144 → m ≡ n → HasConsistentWait (record_at (set chip n node) m)
     here m within e =
         elim (cases_lt n (length chip)) [
-          | inl inside ↦ subst (λ k. HasConsistentWait (record_at (set chip n node) k)) (sym e) (subst HasConsistentWait (sym (get_or-set_same chip n node (record_of nowhere) inside)) new)
+          | inl inside ↦ subst (λ k. HasConsistentWait (record_at (set chip n node) k)) (sym e) (subst HasConsistentWait (sym (get_or-set_same chip n node (record_of default_node) inside)) new)
           | inr past ↦ subst (λ c. HasConsistentWait (record_at c m)) (sym (set_past chip n node past)) (steady m within)
         ]
 
@@ -39,7 +39,7 @@ after_steady chip (Pass writer reader side) steady ready =
 pub apply_steady : (chip : List NodeRecord) (event : Event) → HaveConsistentWaits chip → IfSome (apply chip event) (λ done. HaveConsistentWaits done.0)
 apply_steady chip event steady = go (refusal_of chip event) refl
   where
-    go : (why : Option NotReady) → refusal_of chip event ≡ why → IfSome (some_if_allowed why (after chip event)) (λ done. HaveConsistentWaits done.0)
+    go : (why : Option EventRefusal) → refusal_of chip event ≡ why → IfSome (some_if_allowed why (after chip event)) (λ done. HaveConsistentWaits done.0)
     go None ready = after_steady chip event steady ready
     go (Some reason) refused = tt
 

@@ -8,10 +8,10 @@ use Rattle.ga_node.specs.Record.{NodeRecord}
 use Rattle.ga_node.specs.Table.{t, own, looks, refusal, sent, taken}
 use Rattle.ga_node.specs.declared.seen.NeighbourState.{NeighbourState}
 use Rattle.ga_node.specs.declared.seen.NeighbourState.TheVariants.{Nobody, Idle, Reading, Writing}
-use Rattle.ga_node.specs.declared.seen.Seen.{Seen}
+use Rattle.ga_node.specs.declared.seen.SeenNeighbours.{SeenNeighbours}
 use Rattle.ga_node.specs.declared.kind.OwnEventKind.{OwnEventKind}
-use Rattle.ga_node.specs.declared.kind.NotReady.{NotReady}
-use Rattle.ga_node.specs.declared.kind.NotReady.TheVariants.{Unmatched}
+use Rattle.ga_node.specs.declared.kind.EventRefusal.{EventRefusal}
+use Rattle.ga_node.specs.declared.kind.EventRefusal.TheVariants.{Unmatched}
 use Rattle.ga_node.specs.declared.wait.Wait.{Wait}
 use Rattle.ga_node.specs.declared.wait.Wait.TheVariants.{Nothing, Fetch, Read, Write}
 use Rattle.ga_grid.specs.Grid.{neighbour_of}
@@ -40,16 +40,16 @@ waits_to_read_side (Read sides) side = has_side sides side
 waits_to_read_side (Write posted) side = false
 
 -- what a neighbour that waits so shows on a side
-abbrev pub shown_state : Wait → Side → NeighbourState
-shown_state wait side = if waits_to_read_side wait side then Reading else if waits_to_write_side wait side then Writing else Idle
+abbrev pub shown_wait_state : Wait → Side → NeighbourState
+shown_wait_state wait side = if waits_to_read_side wait side then Reading else if waits_to_write_side wait side then Writing else Idle
 
 -- the state that the neighbour of this number, if there is one, shows on a side
 abbrev pub shown_neighbour_state : List NodeRecord → Side → Option ℕ → NeighbourState
 shown_neighbour_state chip side None = Nobody
-shown_neighbour_state chip side (Some n) = shown_state (record_at chip n).wait side
+shown_neighbour_state chip side (Some n) = shown_wait_state (record_at chip n).wait side
 
 -- the states of a node's neighbours on its four sides
-unfoldable pub neighbour_states : List NodeRecord → ℕ → Seen
+unfoldable pub neighbour_states : List NodeRecord → ℕ → SeenNeighbours
 neighbour_states chip n = record {
   right = shown_neighbour_state chip Right (neighbour_of n Right);
   down = shown_neighbour_state chip Down (neighbour_of n Down);
@@ -66,15 +66,15 @@ equals_some (Some m) n = m == n
 abbrev pub is_transfer_ready : ℕ → ℕ → Side → Wait → Wait → Bool
 is_transfer_ready writer reader side posted awaited = equals_some (neighbour_of writer side) reader && waits_to_write_side posted side && waits_to_read_side awaited side
 
-abbrev pub unmatched_unless : Bool → Option NotReady
-unmatched_unless true = None
-unmatched_unless false = Some Unmatched
+abbrev pub refusal_unless_matched : Bool → Option EventRefusal
+refusal_unless_matched true = None
+refusal_unless_matched false = Some Unmatched
 
 -- Why the event cannot be: the node waits or is stopped, or the two ends of the pass don't match.
-abbrev pub refusal_of : List NodeRecord → Event → Option NotReady
+abbrev pub refusal_of : List NodeRecord → Event → Option EventRefusal
 refusal_of chip (Own node) = refusal (record_at chip node.number)
 refusal_of chip (Pass writer reader side) =
-    unmatched_unless (is_transfer_ready writer.number reader.number side (record_at chip writer.number).wait (record_at chip reader.number).wait)
+    refusal_unless_matched (is_transfer_ready writer.number reader.number side (record_at chip writer.number).wait (record_at chip reader.number).wait)
 
 -- the chip after an own event of a node, with the event's outcome
 abbrev pub chip_after_own : List NodeRecord → ℕ → OwnEventKind × NodeRecord → List NodeRecord × EventOutcome
@@ -85,8 +85,8 @@ abbrev pub chip_after_pass : List NodeRecord → ℕ → ℕ → NodeRecord → 
 chip_after_pass chip writer reader from to = (slice_set (slice_set chip writer (sent from)) reader (taken (t from) to), PassedWord (t from))
 
 -- a call is refused with this reason, or there is none
-abbrev pub IsRefusedBy : {T : Type 0} → Result T NotReady → Option NotReady → Type 0
-IsRefusedBy answer why = MatchResult answer (λ done. why ≡ None) (λ reason. why ≡ Some reason)
+abbrev pub IsRefusedForReason : {T : Type 0} → Result T EventRefusal → Option EventRefusal → Type 0
+IsRefusedForReason answer why = MatchResult answer (λ done. why ≡ None) (λ reason. why ≡ Some reason)
 
 -- the result of the event if it is enabled
 abbrev pub after : List NodeRecord → Event → List NodeRecord × EventOutcome
@@ -95,7 +95,7 @@ after chip (Pass writer reader side) =
     chip_after_pass chip writer.number reader.number (record_at chip writer.number) (record_at chip reader.number)
 
 -- what is done where nothing refuses it
-abbrev pub some_if_allowed : {A : Type 0} → Option NotReady → A → Option A
+abbrev pub some_if_allowed : {A : Type 0} → Option EventRefusal → A → Option A
 some_if_allowed None done = Some done
 some_if_allowed (Some why) done = None
 
@@ -131,8 +131,8 @@ pub record AgreeOutsideMarks (marks : ℕ → Bool) (chip other : List NodeRecor
   pub same : (n : ℕ) → marks n ≡ false → record_at chip n ≡ record_at other n
 
 -- whether an event is enabled on neither of two chips, or has the same outcome on both and leads to chips that agree
-abbrev pub BehaveAlike : (ℕ → Bool) → Option (List NodeRecord × EventOutcome) → Option (List NodeRecord × EventOutcome) → Type 0
-BehaveAlike marks None None = Unit {0}
-BehaveAlike marks None (Some there) = ⊥
-BehaveAlike marks (Some here) None = ⊥
-BehaveAlike marks (Some here) (Some there) = AgreeOutsideMarks marks here.0 there.0 × (here.1 ≡ there.1)
+abbrev pub AreEventResultsAlike : (ℕ → Bool) → Option (List NodeRecord × EventOutcome) → Option (List NodeRecord × EventOutcome) → Type 0
+AreEventResultsAlike marks None None = Unit {0}
+AreEventResultsAlike marks None (Some there) = ⊥
+AreEventResultsAlike marks (Some here) None = ⊥
+AreEventResultsAlike marks (Some here) (Some there) = AgreeOutsideMarks marks here.0 there.0 × (here.1 ≡ there.1)

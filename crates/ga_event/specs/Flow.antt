@@ -5,13 +5,13 @@ use Rattle.ga_word.specs.Word.{carry_value}
 use Rattle.ga_slots.specs.declared.op.Op.{Op}
 use Rattle.ga_slots.specs.declared.op.Op.TheVariants.{Return, Execute, Jump, Call, Unext, Next, If, MinusIf, FetchP, FetchPlus, FetchB, Fetch, StoreP, StorePlus, StoreB, Store, MultiplyStep, TwoStar, TwoSlash, Invert, Plus, And, Or, Drop, Dup, Pop, Over, A, Nop, Push, BStore, AStore}
 use Rattle.ga_ports.specs.Address.{address_target, is_single_side}
-use Rattle.ga_ports.specs.declared.address.Target.{Target}
-use Rattle.ga_ports.specs.declared.address.Target.TheVariants.{Ram, Rom, Io, Ports, Bad}
+use Rattle.ga_ports.specs.declared.address.AddressTarget.{AddressTarget}
+use Rattle.ga_ports.specs.declared.address.AddressTarget.TheVariants.{Ram, Rom, Io, Ports, Bad}
 use Rattle.ga_node.specs.Record.{NodeRecord}
 use Rattle.ga_node.specs.State.{wait_code}
 use Rattle.ga_node.specs.Table.{t, r, is_extended, next_action_of}
-use Rattle.ga_event.specs.declared.flow.choice.Choice.{Choice}
-use Rattle.ga_event.specs.declared.flow.choice.Choice.TheVariants.{Plain, Test, At}
+use Rattle.ga_event.specs.declared.flow.choice.ActionChoice.{ActionChoice}
+use Rattle.ga_event.specs.declared.flow.choice.ActionChoice.TheVariants.{Plain, Test, At}
 use Rattle.ga_event.specs.declared.flow.part.NodePart.{NodePart}
 use Rattle.ga_event.specs.declared.flow.part.NodePart.TheVariants.{Data as OfD, Return as OfR, Ram as OfRam, Rom as OfRom, A as OfA, B as OfB, P as OfP, I as OfI, Io as OfIo, Carry as OfCarry, Slot as OfSlot, Wait as OfWait, Stop as OfStop, Outside}
 use Rattle.ga_event.specs.declared.flow.Flow.{Flow as KeptFlow}
@@ -66,26 +66,26 @@ pub data Flow : Type 0 where
 
 -- ---- the changes of Changes.antt, each with the flow of its word
 
-pub data Move : Type 0 where
-  PushData : Flow → Move
-  PopData : Move
-  SetTop : Flow → Move
-  PopTo : Flow → Move
-  PushReturn : Flow → Move
-  PopReturn : Move
-  SetTopReturn : Flow → Move
-  SetP : Flow → Move
-  SetA : Flow → Move
-  SetB : Flow → Move
-  SetI : Flow → Move
-  SetIo : Flow → Move
-  SetCarry : Flow → Move
-  SetRam : ℕ → Flow → Move
-  GoOn : Move
-  Skip : Move
-  StartAgain : Move
-  SetWait : Move
-  SetStop : Move
+pub data FlowMove : Type 0 where
+  PushData : Flow → FlowMove
+  PopData : FlowMove
+  SetTop : Flow → FlowMove
+  PopTo : Flow → FlowMove
+  PushReturn : Flow → FlowMove
+  PopReturn : FlowMove
+  SetTopReturn : Flow → FlowMove
+  SetP : Flow → FlowMove
+  SetA : Flow → FlowMove
+  SetB : Flow → FlowMove
+  SetI : Flow → FlowMove
+  SetIo : Flow → FlowMove
+  SetCarry : Flow → FlowMove
+  SetRam : ℕ → Flow → FlowMove
+  GoOn : FlowMove
+  Skip : FlowMove
+  StartAgain : FlowMove
+  SetWait : FlowMove
+  SetStop : FlowMove
 
 -- where the value of each part comes from
 abbrev pub PartFlows : Type 0
@@ -123,34 +123,34 @@ is_equal_to part other = part_kind part == part_kind other && part_index part ==
 abbrev pub with_flow : NodePart → Flow → PartFlows → PartFlows
 with_flow at flow f part = if is_equal_to part at then flow else f part
 
-abbrev pub data_flows_pushed : Flow → PartFlows → PartFlows
-data_flows_pushed flow f (OfD k) = if k == 0 then flow else f (OfD (k - 1))
-data_flows_pushed flow f part = f part
+abbrev pub flows_after_data_push : Flow → PartFlows → PartFlows
+flows_after_data_push flow f (OfD k) = if k == 0 then flow else f (OfD (k - 1))
+flows_after_data_push flow f part = f part
 
-abbrev pub data_flows_popped : PartFlows → PartFlows
-data_flows_popped f (OfD k) = if k == 9 then f (OfD 2) else f (OfD (k + 1))
-data_flows_popped f part = f part
+abbrev pub flows_after_data_pop : PartFlows → PartFlows
+flows_after_data_pop f (OfD k) = if k == 9 then f (OfD 2) else f (OfD (k + 1))
+flows_after_data_pop f part = f part
 
-abbrev pub return_flows_pushed : Flow → PartFlows → PartFlows
-return_flows_pushed flow f (OfR k) = if k == 0 then flow else f (OfR (k - 1))
-return_flows_pushed flow f part = f part
+abbrev pub flows_after_return_push : Flow → PartFlows → PartFlows
+flows_after_return_push flow f (OfR k) = if k == 0 then flow else f (OfR (k - 1))
+flows_after_return_push flow f part = f part
 
-abbrev pub return_flows_popped : PartFlows → PartFlows
-return_flows_popped f (OfR k) = if k == 8 then f (OfR 1) else f (OfR (k + 1))
-return_flows_popped f part = f part
+abbrev pub flows_after_return_pop : PartFlows → PartFlows
+flows_after_return_pop f (OfR k) = if k == 8 then f (OfR 1) else f (OfR (k + 1))
+flows_after_return_pop f part = f part
 
 -- the flow of what is computed from a value of this flow
-abbrev pub computed_from : Flow → Flow
-computed_from (Same part) = From (part ∷ [])
-computed_from (From parts) = From parts
+abbrev pub computed_flow : Flow → Flow
+computed_flow (Same part) = From (part ∷ [])
+computed_flow (From parts) = From parts
 
-abbrev pub flows_after_move : Move → PartFlows → PartFlows
-flows_after_move (PushData flow) f = data_flows_pushed flow f
-flows_after_move PopData f = data_flows_popped f
+abbrev pub flows_after_move : FlowMove → PartFlows → PartFlows
+flows_after_move (PushData flow) f = flows_after_data_push flow f
+flows_after_move PopData f = flows_after_data_pop f
 flows_after_move (SetTop flow) f = with_flow top flow f
-flows_after_move (PopTo flow) f = with_flow top flow (data_flows_popped f)
-flows_after_move (PushReturn flow) f = return_flows_pushed flow f
-flows_after_move PopReturn f = return_flows_popped f
+flows_after_move (PopTo flow) f = with_flow top flow (flows_after_data_pop f)
+flows_after_move (PushReturn flow) f = flows_after_return_push flow f
+flows_after_move PopReturn f = flows_after_return_pop f
 flows_after_move (SetTopReturn flow) f = with_flow top_return flow f
 flows_after_move (SetP flow) f = with_flow OfP flow f
 flows_after_move (SetA flow) f = with_flow OfA flow f
@@ -159,20 +159,20 @@ flows_after_move (SetI flow) f = with_flow OfI flow f
 flows_after_move (SetIo flow) f = with_flow OfIo flow f
 flows_after_move (SetCarry flow) f = with_flow OfCarry flow f
 flows_after_move (SetRam cell flow) f = with_flow (OfRam cell) flow f
-flows_after_move GoOn f = with_flow OfSlot (computed_from (f OfSlot)) f
+flows_after_move GoOn f = with_flow OfSlot (computed_flow (f OfSlot)) f
 flows_after_move Skip f = with_flow OfSlot (From []) f
 flows_after_move StartAgain f = with_flow OfSlot (From []) f
 flows_after_move SetWait f = with_flow OfWait (From []) f
 flows_after_move SetStop f = with_flow OfStop (From []) f
 
-abbrev pub flows_after_moves : List Move → PartFlows → PartFlows
+abbrev pub flows_after_moves : List FlowMove → PartFlows → PartFlows
 flows_after_moves [] f = f
 flows_after_moves (move ∷ rest) f = flows_after_moves rest (flows_after_move move f)
 
 -- ---- what decides an event
 
 -- what decides an event besides its opcode: a test, or the target of an address
-abbrev pub choice : NextAction → NodeRecord → Choice
+abbrev pub choice : NextAction → NodeRecord → ActionChoice
 choice due.Fetch n = At (address_target n.p)
 choice (due.Run Unext) n = Test (r n == 0)
 choice (due.Run Next) n = Test (r n == 0)
@@ -208,18 +208,18 @@ deciding_parts (due.Run Store) = OfA ∷ []
 deciding_parts (due.Run _) = []
 
 -- what the address of a choice names, and whether its test held
-abbrev pub choice_target : Choice → Target
+abbrev pub choice_target : ActionChoice → AddressTarget
 choice_target (At target) = target
 choice_target _ = Bad
 
-abbrev pub test_holds : Choice → Bool
-test_holds (Test held) = held
-test_holds _ = false
+abbrev pub choice_test_holds : ActionChoice → Bool
+choice_test_holds (Test held) = held
+choice_test_holds _ = false
 
 -- ---- the table
 
 -- what a read gives, and what comes after it
-abbrev pub read_moves : Target → (Flow → List Move) → List Move
+abbrev pub read_moves : AddressTarget → (Flow → List FlowMove) → List FlowMove
 read_moves (Ram k) more = more (Same (OfRam k))
 read_moves (Rom k) more = more (Same (OfRom k))
 read_moves Io more = more (Same Outside)
@@ -227,7 +227,7 @@ read_moves (Ports sides) more = SetWait ∷ []
 read_moves Bad more = SetStop ∷ []
 
 -- what a write of T changes, and what comes after it
-abbrev pub write_moves : Target → List Move → List Move
+abbrev pub write_moves : AddressTarget → List FlowMove → List FlowMove
 write_moves (Ram k) more = SetRam k (Same top) ∷ more
 write_moves (Rom k) more = more
 write_moves Io more = SetIo (Same top) ∷ more
@@ -240,35 +240,35 @@ from part = From (part ∷ [])
 abbrev pub from_t_and_s : Flow
 from_t_and_s = From (top ∷ second ∷ [])
 
-abbrev pub execute_moves : List Move
+abbrev pub execute_moves : List FlowMove
 execute_moves = SetP (from top_return) ∷ SetTopReturn (Same OfP) ∷ Skip ∷ []
 
-abbrev pub jump_moves : List Move
+abbrev pub jump_moves : List FlowMove
 jump_moves = SetP (From (OfP ∷ OfI ∷ OfSlot ∷ [])) ∷ Skip ∷ []
 
-abbrev pub add_moves : Bool → List Move
+abbrev pub add_moves : Bool → List FlowMove
 add_moves extended =
     let sum = From (top ∷ second ∷ OfCarry ∷ []) in
     if extended then SetCarry sum ∷ PopTo sum ∷ GoOn ∷ [] else PopTo from_t_and_s ∷ GoOn ∷ []
 
-abbrev pub multiply_moves : List Move
+abbrev pub multiply_moves : List FlowMove
 multiply_moves = let sum = From (top ∷ second ∷ OfA ∷ []) in SetA sum ∷ SetTop sum ∷ GoOn ∷ []
 
 -- the moves of a fetch, by what P names
-abbrev pub fetch_moves : Target → List Move
+abbrev pub fetch_moves : AddressTarget → List FlowMove
 fetch_moves target = read_moves target (λ word. SetI word ∷ SetP (from OfP) ∷ StartAgain ∷ [])
 
 -- the moves of what comes next in their order, by the opcode and what else decides the event
-abbrev pub moves_by_choice : NextAction → Choice → List Move
+abbrev pub moves_by_choice : NextAction → ActionChoice → List FlowMove
 moves_by_choice due.Fetch c = fetch_moves (choice_target c)
 moves_by_choice (due.Run Return) c = SetP (from top_return) ∷ PopReturn ∷ Skip ∷ []
 moves_by_choice (due.Run Execute) c = execute_moves
 moves_by_choice (due.Run Jump) c = jump_moves
 moves_by_choice (due.Run Call) c = PushReturn (Same OfP) ∷ jump_moves
-moves_by_choice (due.Run Unext) c = if test_holds c then PopReturn ∷ GoOn ∷ [] else SetTopReturn (from top_return) ∷ StartAgain ∷ []
-moves_by_choice (due.Run Next) c = if test_holds c then PopReturn ∷ Skip ∷ [] else SetTopReturn (from top_return) ∷ jump_moves
-moves_by_choice (due.Run If) c = if test_holds c then jump_moves else Skip ∷ []
-moves_by_choice (due.Run MinusIf) c = if test_holds c then jump_moves else Skip ∷ []
+moves_by_choice (due.Run Unext) c = if choice_test_holds c then PopReturn ∷ GoOn ∷ [] else SetTopReturn (from top_return) ∷ StartAgain ∷ []
+moves_by_choice (due.Run Next) c = if choice_test_holds c then PopReturn ∷ Skip ∷ [] else SetTopReturn (from top_return) ∷ jump_moves
+moves_by_choice (due.Run If) c = if choice_test_holds c then jump_moves else Skip ∷ []
+moves_by_choice (due.Run MinusIf) c = if choice_test_holds c then jump_moves else Skip ∷ []
 moves_by_choice (due.Run FetchP) c = read_moves (choice_target c) (λ word. PushData word ∷ SetP (from OfP) ∷ GoOn ∷ [])
 moves_by_choice (due.Run FetchPlus) c = read_moves (choice_target c) (λ word. PushData word ∷ SetA (from OfA) ∷ GoOn ∷ [])
 moves_by_choice (due.Run FetchB) c = read_moves (choice_target c) (λ word. PushData word ∷ GoOn ∷ [])
@@ -281,7 +281,7 @@ moves_by_choice (due.Run MultiplyStep) c = multiply_moves
 moves_by_choice (due.Run TwoStar) c = SetTop (from top) ∷ GoOn ∷ []
 moves_by_choice (due.Run TwoSlash) c = SetTop (from top) ∷ GoOn ∷ []
 moves_by_choice (due.Run Invert) c = SetTop (from top) ∷ GoOn ∷ []
-moves_by_choice (due.Run Plus) c = add_moves (test_holds c)
+moves_by_choice (due.Run Plus) c = add_moves (choice_test_holds c)
 moves_by_choice (due.Run And) c = PopTo from_t_and_s ∷ GoOn ∷ []
 moves_by_choice (due.Run Or) c = PopTo from_t_and_s ∷ GoOn ∷ []
 moves_by_choice (due.Run Drop) c = PopData ∷ GoOn ∷ []
@@ -295,30 +295,30 @@ moves_by_choice (due.Run BStore) c = SetB (from top) ∷ PopData ∷ GoOn ∷ []
 moves_by_choice (due.Run AStore) c = SetA (Same top) ∷ PopData ∷ GoOn ∷ []
 
 -- the moves of an opcode in a node, and those of what comes next in a node
-abbrev pub moves : Op → NodeRecord → List Move
-moves op n = moves_by_choice (due.Run op) (choice (due.Run op) n)
+abbrev pub opcode_moves : Op → NodeRecord → List FlowMove
+opcode_moves op n = moves_by_choice (due.Run op) (choice (due.Run op) n)
 
-abbrev pub action_moves : NextAction → NodeRecord → List Move
+abbrev pub action_moves : NextAction → NodeRecord → List FlowMove
 action_moves due.Fetch n = fetch_moves (address_target n.p)
-action_moves (due.Run op) n = moves op n
+action_moves (due.Run op) n = opcode_moves op n
 
 -- the moves of the two halves of a transfer
-abbrev pub send_moves : List Move
+abbrev pub send_moves : List FlowMove
 send_moves = SetWait ∷ PopData ∷ GoOn ∷ []
 
-abbrev pub take_moves : Wait → List Move
+abbrev pub take_moves : Wait → List FlowMove
 take_moves (wait.Fetch sides) = SetWait ∷ SetI (Same Outside) ∷ StartAgain ∷ []
 take_moves (wait.Read sides) = SetWait ∷ PushData (Same Outside) ∷ GoOn ∷ []
 take_moves wait.Nothing = []
 take_moves (wait.Write side) = []
 
 -- where the value of a part comes from after what comes next, where this decides it
-unfoldable pub flow_by_choice : NextAction → Choice → NodePart → Flow
+unfoldable pub flow_by_choice : NextAction → ActionChoice → NodePart → Flow
 flow_by_choice due choice = flows_after_moves (moves_by_choice due choice) Same
 
 -- where the value of a part comes from after a node's own event, after it sent a word, and after it took one
-unfoldable pub own_flow : NodeRecord → NodePart → Flow
-own_flow n = flows_after_moves (action_moves (next_action_of n) n) Same
+unfoldable pub flow_of_own_event : NodeRecord → NodePart → Flow
+flow_of_own_event n = flows_after_moves (action_moves (next_action_of n) n) Same
 
 unfoldable pub send_flow : NodePart → Flow
 send_flow = flows_after_moves send_moves Same
@@ -339,9 +339,9 @@ AgreeAtParts word n other m [] = Unit {0}
 AgreeAtParts word n other m (part ∷ rest) = (part_value word n part ≡ part_value other m part) × AgreeAtParts word n other m rest
 
 -- Two values come from a flow, in two nodes before an event: each is that of a part, or they are the same where the nodes agree.
-abbrev pub IsFlowOf : ℕ → NodeRecord → ℕ → NodeRecord → Flow → ℕ → ℕ → Type 0
-IsFlowOf word n other m (Same part) x y = (x ≡ part_value word n part) × (y ≡ part_value other m part)
-IsFlowOf word n other m (From parts) x y = AgreeAtParts word n other m parts → x ≡ y
+abbrev pub AreFlowValues : ℕ → NodeRecord → ℕ → NodeRecord → Flow → ℕ → ℕ → Type 0
+AreFlowValues word n other m (Same part) x y = (x ≡ part_value word n part) × (y ≡ part_value other m part)
+AreFlowValues word n other m (From parts) x y = AgreeAtParts word n other m parts → x ≡ y
 
 -- ---- the flows of the code
 
@@ -351,16 +351,16 @@ flow_of (flow.Same part) = Same part
 flow_of (flow.From parts) = From parts.items
 
 -- a part that each node has, or the word from outside
-abbrev pub IsSource : NodePart → Type 0
-IsSource Outside = Unit {0}
-IsSource part = IsNodePart part
+abbrev pub IsFlowSource : NodePart → Type 0
+IsFlowSource Outside = Unit {0}
+IsFlowSource part = IsNodePart part
 
-abbrev pub AreParts : List NodePart → Type 0
-AreParts [] = Unit {0}
-AreParts (part ∷ rest) = IsNodePart part × AreParts rest
+abbrev pub AreNodeParts : List NodePart → Type 0
+AreNodeParts [] = Unit {0}
+AreNodeParts (part ∷ rest) = IsNodePart part × AreNodeParts rest
 
 -- Whether the word from outside occurs in a flow only as the new value of a part: nothing is computed from it in the event that
 -- brings it.
 abbrev pub HasValidSources : Flow → Type 0
-HasValidSources (Same part) = IsSource part
-HasValidSources (From parts) = AreParts parts
+HasValidSources (Same part) = IsFlowSource part
+HasValidSources (From parts) = AreNodeParts parts

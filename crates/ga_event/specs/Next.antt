@@ -5,8 +5,8 @@ use Rattle.ga_ports.specs.declared.side.Side.{Side}
 use Rattle.ga_ports.specs.declared.side.Side.TheVariants.{Right, Down, Left, Up}
 use Rattle.ga_ports.specs.Address.{has_side}
 use Rattle.ga_node.specs.Record.{NodeRecord}
-use Rattle.ga_node.specs.declared.kind.NotReady.{NotReady}
-use Rattle.ga_node.specs.declared.kind.NotReady.TheVariants.{Waiting, Stopped}
+use Rattle.ga_node.specs.declared.kind.EventRefusal.{EventRefusal}
+use Rattle.ga_node.specs.declared.kind.EventRefusal.TheVariants.{Waiting, Stopped}
 use Rattle.ga_node.specs.declared.wait.Wait.{Wait}
 use Rattle.ga_node.specs.declared.wait.Wait.TheVariants.{Nothing, Fetch, Read, Write}
 use Rattle.ga_grid.specs.declared.node_id.NodeId.{NodeId}
@@ -50,12 +50,12 @@ first_pass_over chip reader sides (side ∷ others) = or_else (reader_pass_over 
 abbrev pub first_pass : List NodeRecord → NodeId → ℕ → Option Event
 first_pass chip reader sides = first_pass_over chip reader sides (Right ∷ Down ∷ Left ∷ Up ∷ [])
 
-abbrev pub ok_or_waiting : Option Event → Result Event NotReady
+abbrev pub ok_or_waiting : Option Event → Result Event EventRefusal
 ok_or_waiting (Some event) = Ok event
 ok_or_waiting None = Err Waiting
 
 -- the event that a step of the node makes, by its stop and by what it waits for
-abbrev pub next_event_by_wait : List NodeRecord → NodeId → ℕ → Wait → Result Event NotReady
+abbrev pub next_event_by_wait : List NodeRecord → NodeId → ℕ → Wait → Result Event EventRefusal
 next_event_by_wait chip node stop Nothing = if stop == 0 then Ok (Own node) else Err Stopped
 next_event_by_wait chip node stop (Fetch sides) = ok_or_waiting (first_pass chip node sides)
 next_event_by_wait chip node stop (Read sides) = ok_or_waiting (first_pass chip node sides)
@@ -63,5 +63,5 @@ next_event_by_wait chip node stop (Write side) = ok_or_waiting (writer_pass chip
 
 -- The event that a step of the node makes: its own if it runs; the pass over its side if it waits to write; the first enabled
 -- pass if it waits to read. Else the node waits or is stopped.
-abbrev pub next : List NodeRecord → NodeId → Result Event NotReady
+abbrev pub next : List NodeRecord → NodeId → Result Event EventRefusal
 next chip node = next_event_by_wait chip node (record_at chip node.number).stop (record_at chip node.number).wait

@@ -1,10 +1,10 @@
 -- Which parts of the load the values of a chip come from, through stacks, memories, registers and links.
 use Rattle.std.specs.Prelude.{◌≡◌, ◌≢◌, ℕ, ◌==◌, if◌then◌else◌, List, [], ◌∷◌, ◌++◌}
-use Rattle.ga_node.specs.Record.{NodeRecord, HasSizes}
+use Rattle.ga_node.specs.Record.{NodeRecord, HasListSizes}
 use Rattle.ga_node.specs.Io.{io_word}
 use Rattle.ga_event.specs.declared.flow.part.NodePart.{NodePart}
 use Rattle.ga_event.specs.declared.flow.part.NodePart.TheVariants.{Outside}
-use Rattle.ga_event.specs.Flow.{Flow, Same, From, top, part_value, own_flow, send_flow, take_flow, HaveSameNextAction}
+use Rattle.ga_event.specs.Flow.{Flow, Same, From, top, part_value, flow_of_own_event, send_flow, take_flow, HaveSameNextAction}
 use Rattle.ga_grid.specs.Chip.{record_at}
 use Rattle.ga_event.specs.declared.event.Event.{Event}
 use Rattle.ga_event.specs.declared.event.Event.TheVariants.{Own, Pass}
@@ -35,7 +35,7 @@ sources_of_flow node outside (From parts) = sources_of_parts node outside parts
 -- the sources after an event; what a read of `io` shows has none, and a word that is taken has those of the writer's T
 abbrev pub sources_after : List NodeRecord → Event → Sources → Sources
 sources_after chip (Own node) sources n part =
-    if n == node.number then sources_of_flow (sources n) [] (own_flow (record_at chip n) part) else sources n part
+    if n == node.number then sources_of_flow (sources n) [] (flow_of_own_event (record_at chip n) part) else sources n part
 sources_after chip (Pass writer reader side) sources n part =
     if n == reader.number then sources_of_flow (sources n) (sources writer.number top) (take_flow (record_at chip n).wait part)
     else if n == writer.number then sources_of_flow (sources n) [] (send_flow part)
@@ -53,21 +53,21 @@ sources_after_events chip (e ∷ es) sources = sources_after_events (after chip 
 -- ---- two runs
 
 -- an event is decided alike on two chips: an own event with the same word at `io`, a pass of two nodes with the same wait of its reader
-abbrev pub IsDecidedAlike : List NodeRecord → List NodeRecord → Event → Type 0
-IsDecidedAlike c d (Own node) =
+abbrev pub IsEventDecidedAlike : List NodeRecord → List NodeRecord → Event → Type 0
+IsEventDecidedAlike c d (Own node) =
     HaveSameNextAction (record_at c node.number) (record_at d node.number) × (io_word (neighbour_states c node.number) ≡ io_word (neighbour_states d node.number))
-IsDecidedAlike c d (Pass writer reader side) =
+IsEventDecidedAlike c d (Pass writer reader side) =
     (writer.number ≢ reader.number) × ((record_at c reader.number).wait ≡ (record_at d reader.number).wait)
 
 -- each of some events in turn is decided alike on two chips
-abbrev pub AreDecidedAlike : List NodeRecord → List NodeRecord → List Event → Type 0
-AreDecidedAlike c d [] = Unit {0}
-AreDecidedAlike c d (e ∷ es) = IsDecidedAlike c d e × AreDecidedAlike (after c e).0 (after d e).0 es
+abbrev pub AreEventsDecidedAlike : List NodeRecord → List NodeRecord → List Event → Type 0
+AreEventsDecidedAlike c d [] = Unit {0}
+AreEventsDecidedAlike c d (e ∷ es) = IsEventDecidedAlike c d e × AreEventsDecidedAlike (after c e).0 (after d e).0 es
 
 -- two chips hold the same in these parts of their nodes
 abbrev pub AgreeAtNodeParts : List NodeRecord → List NodeRecord → List (ℕ × NodePart) → Type 0
 AgreeAtNodeParts c d [] = Unit {0}
 AgreeAtNodeParts c d (at ∷ rest) = (part_value 0 (record_at c at.0) at.1 ≡ part_value 0 (record_at d at.0) at.1) × AgreeAtNodeParts c d rest
 
-abbrev pub AllHaveSizes : List NodeRecord → Type 0
-AllHaveSizes chip = (n : ℕ) → HasSizes (record_at chip n)
+abbrev pub AllHaveListSizes : List NodeRecord → Type 0
+AllHaveListSizes chip = (n : ℕ) → HasListSizes (record_at chip n)

@@ -29,8 +29,8 @@ made_event_after events (event.Own node) (PassedWord word) = None
 made_event_after events (event.Pass w r side) (ExecutedOwn kind) = None
 
 -- the event at a place, as made
-abbrev pub made_event_in : List (Cause × EventOutcome) → ℕ → Option Made
-made_event_in kept place =
+abbrev pub made_event_at_place : List (Cause × EventOutcome) → ℕ → Option Made
+made_event_at_place kept place =
     option_and_then (λ x. made_event_after (events_without_outcomes (take place kept)) x.0.event x.1) (slice_get kept place)
 
 -- those of the events that touch a node, in order, as made after the events `before`
@@ -40,8 +40,8 @@ made_events_after before (x ∷ xs) n =
     (if touches x.0.event n then option_to_list (made_event_after before x.0.event x.1) else [])
     ++ made_events_after (before ++ x.0.event ∷ []) xs n
 
-abbrev pub made_events_of : List (Cause × EventOutcome) → ℕ → List Made
-made_events_of kept n = made_events_after [] kept n
+abbrev pub made_events_of_node : List (Cause × EventOutcome) → ℕ → List Made
+made_events_of_node kept n = made_events_after [] kept n
 
 -- the events of a list, without whether they looked
 abbrev pub events_of_causes : List Cause → List Event

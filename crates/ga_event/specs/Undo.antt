@@ -58,24 +58,24 @@ IsEffectOfEvent (event.Pass writer reader side) (effect.Own kind saved) = ⊥
 IsEffectOfEvent (event.Pass writer reader side) (effect.Look kind saved) = ⊥
 
 -- the old values of a node can be written back
-pub record CanRestore (node : NodeState) (saved : List (Place × ℕ)) : Type 0 where
+pub record CanRestoreNode (node : NodeState) (saved : List (Place × ℕ)) : Type 0 where
   pub fit : AreValuesInRange saved
   pub apart : HasAtMostOneStatus (with_restored_values node saved)
 
 -- Whether the event can be undone: the effect is of its kind, the nodes of a pass are two, and the restored values make nodes.
 -- It holds of each chip whose touched nodes are as the event left them.
 abbrev pub CanUndoEvent : List NodeState → Event → Effect → Type 0
-CanUndoEvent chip (event.Own node) (effect.Own kind saved) = CanRestore (node_at chip node.number) saved
-CanUndoEvent chip (event.Own node) (effect.Look kind saved) = CanRestore (node_at chip node.number) saved
+CanUndoEvent chip (event.Own node) (effect.Own kind saved) = CanRestoreNode (node_at chip node.number) saved
+CanUndoEvent chip (event.Own node) (effect.Look kind saved) = CanRestoreNode (node_at chip node.number) saved
 CanUndoEvent chip (event.Pass writer reader side) (effect.Pass word sent took) =
-    (writer.number ≢ reader.number) × CanRestore (node_at chip writer.number) sent × CanRestore (node_at chip reader.number) took
+    (writer.number ≢ reader.number) × CanRestoreNode (node_at chip writer.number) sent × CanRestoreNode (node_at chip reader.number) took
 CanUndoEvent chip (event.Own node) (effect.Pass word sent took) = ⊥
 CanUndoEvent chip (event.Pass writer reader side) (effect.Own kind saved) = ⊥
 CanUndoEvent chip (event.Pass writer reader side) (effect.Look kind saved) = ⊥
 
 -- The event led from one chip to the other with this effect, which is of its kind: the records and the outcome are those of the
 -- definition, the event looked exactly if the effect is a look's, and its undo leads to the whole old chip.
-pub record IsApplied (old : List NodeState) (event : Event) (effect : Effect) (new : List NodeState) : Type 0 where
+pub record IsEventApplied (old : List NodeState) (event : Event) (effect : Effect) (new : List NodeState) : Type 0 where
   pub of_kind : IsEffectOfEvent event effect
   pub done : apply (records_of old) event ≡ Some (records_of new, outcome_of_effect effect)
   pub look : is_look (records_of old) event ≡ has_looked effect

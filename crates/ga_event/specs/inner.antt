@@ -1,6 +1,6 @@
 -- What private contracts alone name: a node's own event before it is made, and a part followed back over the moves of one event.
 use Rattle.ga_event.specs.declared.flow.sought.TracedPart.TheVariants as sought
-use Rattle.ga_ports.specs.declared.address.Target.TheVariants as target
+use Rattle.ga_ports.specs.declared.address.AddressTarget.TheVariants as target
 use Rattle.std.specs.Prelude.{◌≡◌, ◌+◌, ◌-◌, ◌==◌, Bool, None, if◌then◌else◌, List, [], ◌∷◌}
 use Rattle.ga_event.specs.declared.flow.part.NodePart.{NodePart}
 use Rattle.ga_event.specs.declared.flow.part.NodePart.TheVariants.{Data, Return, Ram, Rom, A, B, P, I, Io, Carry, Slot, Wait, Stop, Outside}
@@ -10,8 +10,8 @@ use Rattle.ga_node.specs.Record.{NodeRecord}
 use Rattle.ga_node.specs.Table.{refusal, next_action_of, is_look_action}
 use Rattle.ga_node.specs.Ready.{CanExecute}
 use Rattle.ga_node.specs.declared.due.NextAction.{NextAction}
-use Rattle.ga_ports.specs.declared.address.Target.{Target}
-use Rattle.ga_event.specs.Flow.{Flow, Same, From, Move, PushData, PopData, SetTop, PopTo, PushReturn, PopReturn, SetTopReturn, SetP, SetA, SetB, SetI, SetIo, SetCarry, SetRam, GoOn, Skip, StartAgain, SetWait, SetStop, top, top_return, is_equal_to, IsNodePart, flow_of, HasValidSources}
+use Rattle.ga_ports.specs.declared.address.AddressTarget.{AddressTarget}
+use Rattle.ga_event.specs.Flow.{Flow, Same, From, FlowMove, PushData, PopData, SetTop, PopTo, PushReturn, PopReturn, SetTopReturn, SetP, SetA, SetB, SetI, SetIo, SetCarry, SetRam, GoOn, Skip, StartAgain, SetWait, SetStop, top, top_return, is_equal_to, IsNodePart, flow_of, HasValidSources}
 
 -- the node makes this next, looking at its neighbours or not
 pub record IsNextOwn (due : NextAction) (looks : Bool) (n : NodeRecord) : Type 0 where
@@ -55,7 +55,7 @@ pop_return (At (Return k)) = if k == 8 then At (Return 1) else At (Return (k + 1
 pop_return trace = trace
 
 -- a part followed back over a move
-abbrev pub before : Move → Trace → Trace
+abbrev pub before : FlowMove → Trace → Trace
 before (PushData flow) trace = push_data flow trace
 before PopData trace = pop_data trace
 before (SetTop flow) trace = set_at top flow trace
@@ -77,19 +77,19 @@ before SetWait trace = set_at Wait (From []) trace
 before SetStop trace = set_at Stop (From []) trace
 
 -- a part followed back over some moves, the last of them first
-abbrev pub before_all : List Move → Trace → Trace
+abbrev pub before_all : List FlowMove → Trace → Trace
 before_all [] trace = trace
 before_all (move ∷ rest) trace = before move (before_all rest trace)
 
 -- a part followed back over a read whose word is pushed, and over a write; what came after is followed back already
-abbrev pub read_before : Target → NodePart → Trace → Trace
+abbrev pub read_before : AddressTarget → NodePart → Trace → Trace
 read_before (target.Ram k) part later = push_data (Same (Ram k)) later
 read_before (target.Rom k) part later = push_data (Same (Rom k)) later
 read_before target.Io part later = push_data (Same Outside) later
 read_before (target.Ports sides) part later = before SetWait (At part)
 read_before target.Bad part later = before SetStop (At part)
 
-abbrev pub write_before : Target → NodePart → Trace → Trace
+abbrev pub write_before : AddressTarget → NodePart → Trace → Trace
 write_before (target.Ram k) part later = set_at (Ram k) (Same top) later
 write_before (target.Rom k) part later = later
 write_before target.Io part later = set_at Io (Same top) later

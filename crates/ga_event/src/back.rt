@@ -2,7 +2,7 @@
 
 ghost use Rattle.std.specs.Prelude.{◌≡◌};
 ghost use Rattle.ga_grid.specs.Chip.{node_at};
-ghost use Rattle.ga_event.specs.Undo.{with_restored_node, chip_after_undo, CanRestore, CanUndoEvent};
+ghost use Rattle.ga_event.specs.Undo.{with_restored_node, chip_after_undo, CanRestoreNode, CanUndoEvent};
 
 use crate::event::{Effect, Event};
 use ga_grid::{Chip, NodeId};
@@ -11,7 +11,7 @@ use ga_node::Saved;
 /// Writes the old values of one node back.
 #[inline]
 pub fn undo_node(chip: &mut Chip, node: NodeId, saved: &Saved)
-    requires { CanRestore (node_at chip.old node.number) saved.now }
+    requires { CanRestoreNode (node_at chip.old node.number) saved.now }
     ensures { chip.new ≡ with_restored_node chip.old node.number saved.now }
 {
     chip.node_mut(node).restore(saved);

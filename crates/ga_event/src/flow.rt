@@ -9,8 +9,8 @@ ghost use Rattle.std.specs.Prelude.{◌≡◌, ◌∷◌, []};
 ghost use Rattle.ga_event.specs.Flow.{From, flow_of};
 
 use arrayvec::ArrayVec;
-pub use choice::Choice;
-pub use flows::{flow_by_choice, next_action_in, own_flow, send_flow, take_flow};
+pub use choice::ActionChoice;
+pub use flows::{flow_by_choice, flow_of_own_event, next_action_in, send_flow, take_flow};
 pub use part::NodePart;
 
 /// Where the value of a part comes from that an event leaves.

@@ -1,8 +1,8 @@
 //! Laws of the definitions, each the contract of a function that does nothing.
 
 ghost use Rattle.std.specs.Prelude.{◌≡◌, ℕ, Bool, false, if◌then◌else◌, List, ◌∷◌, [], length, IfSome, Some, None, Ok};
-ghost use Rattle.ga_node.specs.declared.seen.Seen.{Seen};
-ghost use Rattle.ga_node.specs.Record.{NodeState, NodeRecord, HasSizes};
+ghost use Rattle.ga_node.specs.declared.seen.SeenNeighbours.{SeenNeighbours};
+ghost use Rattle.ga_node.specs.Record.{NodeState, NodeRecord, HasListSizes};
 ghost use Rattle.ga_node.specs.Table.{own, sent, taken, next_action_of};
 ghost use Rattle.ga_node.specs.Io.{io_word};
 ghost use Rattle.ga_grid.specs.declared.node_id.NodeId.{NodeId};
@@ -10,13 +10,13 @@ ghost use Rattle.ga_grid.specs.Chip.{node_at, record_at, records_of, HaveConsist
 ghost use Rattle.ga_event.specs.declared.event.Event.{Event};
 ghost use Rattle.ga_event.specs.declared.event.Effect.{Effect};
 ghost use Rattle.ga_event.specs.Touches.{touches, has_common_node};
-ghost use Rattle.ga_event.specs.Apply.{refusal_of, apply, cause_of, replay, AgreeOutsideMarks, BehaveAlike};
+ghost use Rattle.ga_event.specs.Apply.{refusal_of, apply, cause_of, replay, AgreeOutsideMarks, AreEventResultsAlike};
 ghost use Rattle.ga_event.specs.Next.{next};
-ghost use Rattle.ga_event.specs.Undo.{chip_after_undo, cause_from_effect, CanUndoEvent, IsApplied, KeepsTouchedNodes};
+ghost use Rattle.ga_event.specs.Undo.{chip_after_undo, cause_from_effect, CanUndoEvent, IsEventApplied, KeepsTouchedNodes};
 ghost use Rattle.ga_event.specs.declared.flow.part.NodePart.{NodePart};
 ghost use Rattle.ga_event.specs.declared.flow.part.NodePart.TheVariants.{I, Slot};
-ghost use Rattle.ga_event.specs.Flow.{IsNodePart, part_value, own_flow, send_flow, take_flow, deciding_parts, HaveSameNextAction, AgreeAtParts, IsFlowOf};
-ghost use Rattle.ga_event.specs.Sources.{initial_sources, sources_after_events, chip_after_events, AreDecidedAlike, AgreeAtNodeParts, AllHaveSizes};
+ghost use Rattle.ga_event.specs.Flow.{IsNodePart, part_value, flow_of_own_event, send_flow, take_flow, deciding_parts, HaveSameNextAction, AgreeAtParts, AreFlowValues};
+ghost use Rattle.ga_event.specs.Sources.{initial_sources, sources_after_events, chip_after_events, AreEventsDecidedAlike, AgreeAtNodeParts, AllHaveListSizes};
 
 /// An event changes the nodes that it touches alone.
 #[tactic(auto, using(crate::proofs::Locality::apply_keeps))]
@@ -43,24 +43,24 @@ pub fn event_depends_on_observed_only()
         cause_of chip event ≡ cause_of other event }
     ensures alike { (marks : ℕ → Bool) (chip other : List NodeRecord) (event : Event) →
         AgreeOutsideMarks marks chip other → has_common_node marks (cause_of chip event) ≡ false →
-        BehaveAlike marks (apply chip event) (apply other event) }
+        AreEventResultsAlike marks (apply chip event) (apply other event) }
 {}
 
 /// The effect of an event has whether it looked.
 #[tactic(auto, using(crate::proofs::Applied::applied_cause))]
 pub fn effect_determines_look()
     ensures { (old new : List NodeState) (event : Event) (effect : Effect) →
-        IsApplied old event effect new → cause_of (records_of old) event ≡ cause_from_effect event effect }
+        IsEventApplied old event effect new → cause_of (records_of old) event ≡ cause_from_effect event effect }
 {}
 
 /// An event can be undone also if nodes that it doesn't touch have changed since: the touched nodes get their values from
 /// before it, and the others are unchanged.
 pub fn undo_after_other_events()
     ensures ready { (old new chip : List NodeState) (event : Event) (effect : Effect) →
-        IsApplied old event effect new → KeepsTouchedNodes event new chip →
+        IsEventApplied old event effect new → KeepsTouchedNodes event new chip →
         CanUndoEvent chip event effect }
     ensures nodes { (old new chip : List NodeState) (event : Event) (effect : Effect) →
-        IsApplied old event effect new → KeepsTouchedNodes event new chip →
+        IsEventApplied old event effect new → KeepsTouchedNodes event new chip →
         (n : ℕ) → node_at (chip_after_undo chip event effect) n ≡ (if touches event n then node_at old n else node_at chip n) }
 {}
 
@@ -76,21 +76,21 @@ pub fn events_keep_waits_consistent()
 
 /// Where each value comes from that an event leaves, in two nodes in which the same is decided: it is that of one part before,
 /// or it is the same in both if both have the same values in the parts that the table of `Flow.antt` names.
-pub fn flows()
-    ensures own { (seen other : Seen) (n m : NodeRecord) (part : NodePart) → HasSizes n → HasSizes m → HaveSameNextAction n m → IsNodePart part
-        → IsFlowOf (io_word seen) n (io_word other) m (own_flow n part) (part_value (io_word seen) (own seen n).1 part) (part_value (io_word other) (own other m).1 part) }
-    ensures sent { (word other : ℕ) (n m : NodeRecord) (part : NodePart) → HasSizes n → HasSizes m → IsNodePart part
-        → IsFlowOf word n other m (send_flow part) (part_value word (sent n) part) (part_value other (sent m) part) }
-    ensures taken { (word other : ℕ) (n m : NodeRecord) (part : NodePart) → HasSizes n → HasSizes m → n.wait ≡ m.wait → IsNodePart part
-        → IsFlowOf word n other m (take_flow n.wait part) (part_value word (taken word n) part) (part_value other (taken other m) part) }
-    ensures kind { (seen other : Seen) (n m : NodeRecord) → HaveSameNextAction n m → (own seen n).0 ≡ (own other m).0 }
+pub fn flow_determines_value()
+    ensures own { (seen other : SeenNeighbours) (n m : NodeRecord) (part : NodePart) → HasListSizes n → HasListSizes m → HaveSameNextAction n m → IsNodePart part
+        → AreFlowValues (io_word seen) n (io_word other) m (flow_of_own_event n part) (part_value (io_word seen) (own seen n).1 part) (part_value (io_word other) (own other m).1 part) }
+    ensures sent { (word other : ℕ) (n m : NodeRecord) (part : NodePart) → HasListSizes n → HasListSizes m → IsNodePart part
+        → AreFlowValues word n other m (send_flow part) (part_value word (sent n) part) (part_value other (sent m) part) }
+    ensures taken { (word other : ℕ) (n m : NodeRecord) (part : NodePart) → HasListSizes n → HasListSizes m → n.wait ≡ m.wait → IsNodePart part
+        → AreFlowValues word n other m (take_flow n.wait part) (part_value word (taken word n) part) (part_value other (taken other m) part) }
+    ensures kind { (seen other : SeenNeighbours) (n m : NodeRecord) → HaveSameNextAction n m → (own seen n).0 ≡ (own other m).0 }
     ensures alike { (n m : NodeRecord) → AgreeAtParts 0 n 0 m (I ∷ Slot ∷ []) → AgreeAtParts 0 n 0 m (deciding_parts (next_action_of n)) → HaveSameNextAction n m }
 {}
 
 /// What isn't among the sources of a value gave nothing to it.
 pub fn sources_determine_value()
     ensures value { (c d : List NodeRecord) (events : List Event) (n : ℕ) (part : NodePart) →
-        length c ≡ 144 → length d ≡ 144 → AllHaveSizes c → AllHaveSizes d → AreDecidedAlike c d events
+        length c ≡ 144 → length d ≡ 144 → AllHaveListSizes c → AllHaveListSizes d → AreEventsDecidedAlike c d events
         → AgreeAtNodeParts c d (sources_after_events c events initial_sources n part)
         → part_value 0 (record_at (chip_after_events c events) n) part ≡ part_value 0 (record_at (chip_after_events d events) n) part }
     ensures chip { (c d : List NodeRecord) (events : List Event) → replay c events ≡ Some d → chip_after_events c events ≡ d }

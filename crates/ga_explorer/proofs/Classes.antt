@@ -9,9 +9,9 @@ use Rattle.ga_text.specs.Parsing.{split_at_space, parse_node, parse_number}
 use Rattle.ga_debug_info.specs.declared.notes.DebugInfo.{DebugInfo}
 use Rattle.ga_scheduler.specs.declared.schedule.Schedule.{Schedule}
 use Rattle.ga_scheduler.specs.Schedules.{round_robin, greedy, random}
-use Rattle.ga_conditions.specs.Conditions.{no_conditions, conditions_in, until_in}
-use Rattle.ga_display.specs.declared.wording.Wording.{Wording}
-use Rattle.ga_display.specs.declared.wording.Wording.TheVariants.{Advised}
+use Rattle.ga_conditions.specs.Conditions.{no_conditions, parsed_run_conditions, parsed_until}
+use Rattle.ga_display.specs.declared.wording.RefusalWording.{RefusalWording}
+use Rattle.ga_display.specs.declared.wording.RefusalWording.TheVariants.{Advised}
 use Rattle.ga_console.specs.Commands.{SpellsCommand}
 use Rattle.ga_console.specs.Replies.{IsCommandReply, IsAnswerInWording, Reply, reply_in_wording}
 use Rattle.ga_console.specs.Replies.IsAnswerInWording.{long, command, syntax}
@@ -19,7 +19,7 @@ use Rattle.ga_console.specs.declared.command.Command.{Command}
 use Rattle.ga_console.specs.declared.command.Command.TheVariants.{Step, Back, Rewind, Node, Memory, Trace, Why, Count, Dump, Quit}
 use Rattle.ga_explorer.specs.Answers.{AnswersExplorerLine, AnswersOutsideExplorer}
 use Rattle.ga_explorer.specs.Answers.AnswersExplorerLine.{explored, debugged}
-use Rattle.ga_explorer.specs.Classes.{class_of_name, class_of_line, class_of_explorer_command, class_of_debugger_command}
+use Rattle.ga_explorer.specs.Classes.{command_class_of_name, command_class_of_line, class_of_explorer_command, class_of_debugger_command}
 use Rattle.ga_explorer.specs.Commands.{command_of_line, command_of_parts, single_word_command, bare_query, command_with_arguments, query_with_arguments, command_table, AnswersExplorerCommand}
 use Rattle.ga_explorer.specs.Forms.{command_place_from}
 use Rattle.ga_explorer.specs.NoCommand.{command_word}
@@ -36,18 +36,18 @@ use Rattle.ga_explorer.proofs.LineAnswers.{same_explored}
 -- the row of this name is that of a query, if a query is spelled
 abbrev IsQueryRow : List ℕ → Option Question → Type 0
 IsQueryRow name None = Unit {0}
-IsQueryRow name (Some question) = class_of_name name ≡ Some Query
+IsQueryRow name (Some question) = command_class_of_name name ≡ Some Query
 
-any_query : (name : List ℕ) (asked : Option Question) → class_of_name name ≡ Some Query → IsQueryRow name asked
+any_query : (name : List ℕ) (asked : Option Question) → command_class_of_name name ≡ Some Query → IsQueryRow name asked
 any_query name None of = tt
 any_query name (Some question) of = of
 
 -- a branch of a test on the name
-query_if : (name word : List ℕ) (found others : Option Question) → class_of_name word ≡ Some Query → IsQueryRow name others
+query_if : (name word : List ℕ) (found others : Option Question) → command_class_of_name word ≡ Some Query → IsQueryRow name others
     → IsQueryRow name (if pointwise nat_eq name word then found else others)
 query_if name word found others of later = by_test (pointwise nat_eq name word) (bytes_eq-Decides name word).0 where
   by_test : (b : Bool) → (b ≡ true → name ≡ word) → IsQueryRow name (if b then found else others)
-  by_test true is = any_query name found (ap class_of_name (is refl) ∙ of)
+  by_test true is = any_query name found (ap command_class_of_name (is refl) ∙ of)
   by_test false is = later
 
 bare : (name : List ℕ) → IsQueryRow name (bare_query name)
@@ -80,8 +80,8 @@ run_words : (notes : Option DebugInfo) (schedule : Schedule) (name text : List �
 unfolding run_bounds_of_words
 run_words notes schedule name text =
     change_if (pointwise nat_eq name (codes "until")) _ _
-    (change_mapped (conditions_in notes text) (Run schedule max_run_events) (λ until. refl))
-    (change_then (parse_number name) _ (λ most. change_then (until_in notes text) _ (λ until. refl)))
+    (change_mapped (parsed_run_conditions notes text) (Run schedule max_run_events) (λ until. refl))
+    (change_then (parse_number name) _ (λ most. change_then (parsed_until notes text) _ (λ until. refl)))
 
 run_bounds : (notes : Option DebugInfo) (schedule : Schedule) (text : List ℕ) → IsChange (parse_run_bounds notes schedule text)
 run_bounds notes schedule text = by_parts (split_at_space text) where
@@ -115,8 +115,8 @@ back_words : (notes : Option DebugInfo) (name text : List ℕ) → IsChange (bac
 unfolding back_command_of_words
 back_words notes name text =
     change_if (pointwise nat_eq name (codes "until")) _ _
-    (change_mapped (conditions_in notes text) (BackUntil None) (λ until. refl))
-    (change_then (parse_node name) _ (λ node. change_then (until_in notes text) _ (λ until. refl)))
+    (change_mapped (parsed_run_conditions notes text) (BackUntil None) (λ until. refl))
+    (change_then (parse_node name) _ (λ node. change_then (parsed_until notes text) _ (λ until. refl)))
 
 back_arguments : (notes : Option DebugInfo) (text : List ℕ) → IsChange (parse_back_arguments notes text)
 unfolding parse_back_arguments
@@ -127,9 +127,9 @@ back_arguments notes text = change_then (split_at_space text) (λ parts. back_co
 -- the row of this name has the class of the command, if one is spelled
 abbrev IsItsRow : List ℕ → Option ExplorerCommand → Type 0
 IsItsRow name None = Unit {0}
-IsItsRow name (Some asked) = class_of_name name ≡ Some (class_of_explorer_command asked)
+IsItsRow name (Some asked) = command_class_of_name name ≡ Some (class_of_explorer_command asked)
 
-change_row : (name : List ℕ) (asked : Option ExplorerCommand) → class_of_name name ≡ Some Change → IsChange asked → IsItsRow name asked
+change_row : (name : List ℕ) (asked : Option ExplorerCommand) → command_class_of_name name ≡ Some Change → IsChange asked → IsItsRow name asked
 change_row name None of h = tt
 change_row name (Some asked) of h = of ∙ ap (λ z. Some z) (sym h)
 
@@ -137,11 +137,11 @@ query_row : (name : List ℕ) (asked : Option Question) → IsQueryRow name aske
 query_row name None h = tt
 query_row name (Some question) h = h
 
-row_if : (name word : List ℕ) (found others : Option ExplorerCommand) → class_of_name word ≡ Some Change → IsChange found → IsItsRow name others
+row_if : (name word : List ℕ) (found others : Option ExplorerCommand) → command_class_of_name word ≡ Some Change → IsChange found → IsItsRow name others
     → IsItsRow name (if pointwise nat_eq name word then found else others)
 row_if name word found others of change later = by_test (pointwise nat_eq name word) (bytes_eq-Decides name word).0 where
   by_test : (b : Bool) → (b ≡ true → name ≡ word) → IsItsRow name (if b then found else others)
-  by_test true is = change_row name found (ap class_of_name (is refl) ∙ of) change
+  by_test true is = change_row name found (ap command_class_of_name (is refl) ∙ of) change
   by_test false is = later
 
 single_row : (name : List ℕ) → IsItsRow name (single_word_command name)
@@ -158,13 +158,13 @@ row_of_parts : (notes : Option DebugInfo) (parts : Option (List ℕ × List ℕ)
 row_of_parts notes None line = single_row line
 row_of_parts notes (Some parts) line = arguments_row notes parts.0 parts.1
 
-pub explored_class : (notes : Option DebugInfo) (line : List ℕ) (asked : ExplorerCommand) → command_of_line notes line ≡ Some asked → class_of_line line ≡ Some (class_of_explorer_command asked)
+pub explored_class : (notes : Option DebugInfo) (line : List ℕ) (asked : ExplorerCommand) → command_of_line notes line ≡ Some asked → command_class_of_line line ≡ Some (class_of_explorer_command asked)
 explored_class notes line asked e =
     let P : Option ExplorerCommand → Type 0 = IsItsRow (command_word (split_at_space line) line) in subst P e (row_of_parts notes (split_at_space line) line)
 
 -- ---- commands of the debugger
 
-pub debugged_class : (c : Command) (line : List ℕ) → SpellsCommand c line → class_of_line line ≡ Some (class_of_debugger_command c)
+pub debugged_class : (c : Command) (line : List ℕ) → SpellsCommand c line → command_class_of_line line ≡ Some (class_of_debugger_command c)
 unfolding command_table command_place_from
 debugged_class (Step node) line is = rw is refl
 debugged_class Back line is = rw is refl
@@ -183,26 +183,26 @@ explored_same : (e : ExplorerState) (asked : ExplorerCommand) (answer : List ℕ
 explored_same e (AnswerQuery question) answer new other_class does = does.1
 explored_same e other answer new other_class does = absurd (other_class refl)
 
-reply_same : (w : Wording) (s : State) (c : Command) → class_of_debugger_command c ≢ Change → (reply_in_wording w s c).1 ≡ s
+reply_same : (w : RefusalWording) (s : State) (c : Command) → class_of_debugger_command c ≢ Change → (reply_in_wording w s c).1 ≡ s
 reply_same w s (Step node) other_class = absurd (other_class refl)
 reply_same w s Back other_class = absurd (other_class refl)
 reply_same w s (Rewind node k) other_class = absurd (other_class refl)
 reply_same w s other other_class = refl
 
-does_same : (w : Wording) (s : State) (c : Command) (answer : List ℕ) (new : State) → class_of_debugger_command c ≢ Change → IsCommandReply w s c answer new → new ≡ s
+does_same : (w : RefusalWording) (s : State) (c : Command) (answer : List ℕ) (new : State) → class_of_debugger_command c ≢ Change → IsCommandReply w s c answer new → new ≡ s
 does_same w s c answer new other_class (inl e) = ap (λ (r : Reply). r.1) e ∙ reply_same w s c other_class
 does_same w s c answer new other_class (inr refused) = refused.2
 
-line_same : (s : State) (line answer : List ℕ) (new : State) → class_of_line line ≢ Some Change → IsAnswerInWording Advised s line answer new → new ≡ s
+line_same : (s : State) (line answer : List ℕ) (new : State) → command_class_of_line line ≢ Some Change → IsAnswerInWording Advised s line answer new → new ≡ s
 line_same s line answer new other_class (long past text same) = same
 line_same s line answer new other_class (command c short spelled does) = does_same Advised s c answer new (λ is. other_class (debugged_class c line spelled ∙ ap (λ z. Some z) is)) does
 line_same s line answer new other_class (syntax short none text same) = same
 
-other_same : (s : State) (line answer : List ℕ) (new : State) → class_of_line line ≢ Some Change → AnswersOutsideExplorer s line answer new → new ≡ s
+other_same : (s : State) (line answer : List ℕ) (new : State) → command_class_of_line line ≢ Some Change → AnswersOutsideExplorer s line answer new → new ≡ s
 other_same s line answer new other_class (inl of) = line_same s line answer new other_class of.1
 other_same s line answer new other_class (inr none) = none.2
 
-pub no_change_same : (e : ExplorerState) (line answer : List ℕ) (new : ExplorerState) → class_of_line line ≢ Some Change → AnswersExplorerLine e line answer new → new ≡ e
+pub no_change_same : (e : ExplorerState) (line answer : List ℕ) (new : ExplorerState) → command_class_of_line line ≢ Some Change → AnswersExplorerLine e line answer new → new ≡ e
 no_change_same e line answer new other_class (explored asked short spelled does) =
     explored_same e asked answer new (λ is. other_class (explored_class e.notes line asked spelled ∙ ap (λ z. Some z) is)) does
 no_change_same e line answer new other_class (debugged none other notes) = same_explored e new (other_same e.lab line answer new.lab other_class other) notes

@@ -4,7 +4,7 @@ use Rattle.std.proofs.Common.{◌≡◌, ◌∙◌, ◌≤◌, ℕ, List, length
 use Rattle.ga_grid.specs.declared.node_id.NodeId.{NodeId}
 use Rattle.ga_lab.specs.Machine.{State}
 use Rattle.ga_scheduler.specs.Conditions.{active_conditions}
-use Rattle.ga_scheduler.specs.Backward.{find_newest_holding, machine_back_at_place, removed_event_count}
+use Rattle.ga_scheduler.specs.Backward.{find_newest_matching_event, machine_after_back_until, removed_event_count}
 use Rattle.ga_scheduler.specs.Running.{Running, running, run_after_events, HasNextEvents, HasRunEnded}
 use Rattle.ga_scheduler.specs.declared.schedule.Schedule.{Schedule}
 use Rattle.ga_scheduler.specs.declared.condition.Condition.{Condition}
@@ -40,11 +40,11 @@ run_done s notes asked schedule most bound given until many events end new gone 
     )
 
 pub back_done : (s : State) (notes : Option DebugInfo) (asked : ExplorerCommand) (only : Option NodeId) (until watched : List Condition) (text : List ℕ) (now : State)
-    → asked ≡ BackUntil only until → watched ≡ active_conditions until → text ≡ back_text (removed_event_count only s (find_newest_holding watched only s)) (length now.kept)
-    → now ≡ machine_back_at_place only s (find_newest_holding watched only s) → AnswersExplorerCommand (explorer_state s notes) asked text (explorer_state now notes)
+    → asked ≡ BackUntil only until → watched ≡ active_conditions until → text ≡ back_text (removed_event_count only s (find_newest_matching_event watched only s)) (length now.kept)
+    → now ≡ machine_after_back_until only s (find_newest_matching_event watched only s) → AnswersExplorerCommand (explorer_state s notes) asked text (explorer_state now notes)
 back_done s notes asked only until watched text now e w t state =
     subst (λ z. AnswersExplorerCommand (explorer_state s notes) z text (explorer_state now notes)) (sym e) (
-      t ∙ ap (λ (z : List Condition). back_text (removed_event_count only s (find_newest_holding z only s)) (length now.kept)) w,
-      state ∙ ap (λ (z : List Condition). machine_back_at_place only s (find_newest_holding z only s)) w,
+      t ∙ ap (λ (z : List Condition). back_text (removed_event_count only s (find_newest_matching_event z only s)) (length now.kept)) w,
+      state ∙ ap (λ (z : List Condition). machine_after_back_until only s (find_newest_matching_event z only s)) w,
       refl,
     )

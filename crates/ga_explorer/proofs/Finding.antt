@@ -4,7 +4,7 @@ use Rattle.std.specs.Prelude.{map}
 use Rattle.std.specs.Cmp.Lexicographic.{pointwise}
 use Rattle.std.proofs.lemmas.List.{drop_more, drop_all}
 use Rattle.ga_explorer.specs.Forms.{command_place_from, form_row_text, form_rows_text}
-use Rattle.ga_explorer.specs.NoCommand.{form_of_command, near_form_in, is_upper}
+use Rattle.ga_explorer.specs.NoCommand.{form_of_command, form_of_similar_command, is_upper}
 use Rattle.ga_parser.specs.Nearness.{is_within_one_edit}
 use Rattle.ga_explorer.specs.inner.{entry_of}
 use Rattle.ga_explorer.specs.declared.forms.Row.{Row}
@@ -27,21 +27,21 @@ named_behind word rows i d within b is e =
     sym (named word rows i d within b e ∙ ap (λ (z : Bool). if z then Some (get_or rows i d).form.now else form_of_command word (map entry_of (drop (i + 1) rows))) is)
 
 near : (word : List ℕ) (rows : List Row) (i : ℕ) (d : Row) → i < length rows → (b : Bool) → b ≡ is_within_one_edit word (get_or rows i d).name.now
-    → near_form_in word (map entry_of (drop i rows)) ≡ (if b then Some (get_or rows i d).form.now else near_form_in word (map entry_of (drop (i + 1) rows)))
-unfolding near_form_in
+    → form_of_similar_command word (map entry_of (drop i rows)) ≡ (if b then Some (get_or rows i d).form.now else form_of_similar_command word (map entry_of (drop (i + 1) rows)))
+unfolding form_of_similar_command
 near word rows i d within b e =
-    ap (λ z. near_form_in word (map entry_of z)) (drop_more rows i d within)
-    ∙ ap (λ (z : Bool). if z then Some (get_or rows i d).form.now else near_form_in word (map entry_of (drop (i + 1) rows))) (sym e)
+    ap (λ z. form_of_similar_command word (map entry_of z)) (drop_more rows i d within)
+    ∙ ap (λ (z : Bool). if z then Some (get_or rows i d).form.now else form_of_similar_command word (map entry_of (drop (i + 1) rows))) (sym e)
 
 pub near_here : (word : List ℕ) (rows : List Row) (i : ℕ) (d : Row) → i < length rows → (b : Bool) → b ≡ true → b ≡ is_within_one_edit word (get_or rows i d).name.now
-    → Some (get_or rows i d).form.now ≡ near_form_in word (map entry_of (drop i rows))
+    → Some (get_or rows i d).form.now ≡ form_of_similar_command word (map entry_of (drop i rows))
 near_here word rows i d within b is e =
-    sym (near word rows i d within b e ∙ ap (λ (z : Bool). if z then Some (get_or rows i d).form.now else near_form_in word (map entry_of (drop (i + 1) rows))) is)
+    sym (near word rows i d within b e ∙ ap (λ (z : Bool). if z then Some (get_or rows i d).form.now else form_of_similar_command word (map entry_of (drop (i + 1) rows))) is)
 
 pub near_behind : (word : List ℕ) (rows : List Row) (i : ℕ) (d : Row) → i < length rows → (b : Bool) → b ≡ false → b ≡ is_within_one_edit word (get_or rows i d).name.now
-    → near_form_in word (map entry_of (drop (i + 1) rows)) ≡ near_form_in word (map entry_of (drop i rows))
+    → form_of_similar_command word (map entry_of (drop (i + 1) rows)) ≡ form_of_similar_command word (map entry_of (drop i rows))
 near_behind word rows i d within b is e =
-    sym (near word rows i d within b e ∙ ap (λ (z : Bool). if z then Some (get_or rows i d).form.now else near_form_in word (map entry_of (drop (i + 1) rows))) is)
+    sym (near word rows i d within b e ∙ ap (λ (z : Bool). if z then Some (get_or rows i d).form.now else form_of_similar_command word (map entry_of (drop (i + 1) rows))) is)
 
 pub upper_at : (word : List ℕ) (i d : ℕ) → i < length word → is_upper (drop i word) ≡ ((nat_le 65 (get_or word i d) && nat_le (get_or word i d) 90) || is_upper (drop (i + 1) word))
 unfolding is_upper

@@ -6,7 +6,7 @@ use Rattle.ga_text.specs.Input.{input_limit, UnreadInput}
 use Rattle.ga_text.specs.Image.{HasNoEndLine}
 use Rattle.ga_console.specs.Run.{ReadsOnlyImage}
 use Rattle.ga_console.specs.declared.run.Status.{Status}
-use Rattle.ga_explorer.specs.Opening.{ExplorerState, begins_as_image, is_read_as_image, OpensExplorer, OpensLeadingText, IsLeadingText, IsRefusedImage, IsSessionOpened}
+use Rattle.ga_explorer.specs.Opening.{ExplorerState, begins_as_image, is_read_as_image, OpensExplorer, OpensTextBeforeCommands, IsTextBeforeCommands, IsRefusedImage, IsSessionOpened}
 use Rattle.ga_explorer.specs.Opening.IsUnopenedSession.{image_refused, source_refused}
 use Rattle.ga_explorer.specs.inner.{IsOpened, IsFaultOf}
 use Rattle.ga_explorer.specs.declared.opening.OpenError.TheVariants.{Image, Source}
@@ -19,7 +19,7 @@ refused_image (Some given) image ahead rest fault part e = inr (record { source 
 
 -- of a text that was read whole
 pub begun_after : (chip : Option (List ℕ)) (limit : ℕ) (left text : List ℕ) (input : UnreadInput) (rest written : List ℕ) (result : Result ExplorerState Status) → left ≡ text ++ (input.bytes ++ rest)
-    → left ≡ (text ++ input.bytes) ++ rest → input.taken ≡ length text → IsLeadingText text (input.bytes ++ rest) → ReadsOnlyImage text input.bytes rest
+    → left ≡ (text ++ input.bytes) ++ rest → input.taken ≡ length text → IsTextBeforeCommands text (input.bytes ++ rest) → ReadsOnlyImage text input.bytes rest
     → IsOpened chip limit text written result → IsSessionOpened chip limit left input rest written result
 begun_after chip limit left text input rest written (Ok begun) split whole taken front alone opened = (opened.0, text, split, taken, front, opened.1)
 begun_after chip limit left text input rest written (Err status) split whole taken front alone (Image fault, why, declined) =
@@ -39,7 +39,7 @@ too_long limit text begun full is (inr opens) = not_both text is opens.0
 no_image : (chip : Option (List ℕ)) (text : List ℕ) → is_read_as_image chip text ≡ true → is_read_as_image chip text ≡ false → ⊥
 no_image chip text is other = cc
 
-not_so_long : (chip : Option (List ℕ)) (limit : ℕ) (text : List ℕ) (begun : ExplorerState) → length text ≡ input_limit → is_read_as_image chip text ≡ true → OpensLeadingText chip text limit begun → ⊥
+not_so_long : (chip : Option (List ℕ)) (limit : ℕ) (text : List ℕ) (begun : ExplorerState) → length text ≡ input_limit → is_read_as_image chip text ≡ true → OpensTextBeforeCommands chip text limit begun → ⊥
 not_so_long None limit text begun full is opens = too_long limit text begun full is opens
 not_so_long (Some given) limit text begun full is opens = absurd (cc)
 

@@ -9,7 +9,7 @@ use Rattle.ga_debug_info.specs.declared.notes.DebugInfo.{DebugInfo}
 use Rattle.ga_explorer.specs.Commands.{command_of_line, single_word_command, bare_query, command_with_arguments, query_with_arguments, AnswersExplorerCommand}
 use Rattle.std.specs.Result.{IsErr}
 use Rattle.std.proofs.lemmas.List.{take_all}
-use Rattle.ga_display.specs.declared.wording.Wording.TheVariants.{Advised}
+use Rattle.ga_display.specs.declared.wording.RefusalWording.TheVariants.{Advised}
 use Rattle.ga_console.specs.Replies.{IsAnswerInWording}
 use Rattle.ga_console.specs.Session.{quit_line, AnswersOrQuits, AnswersLine}
 use Rattle.ga_lab.specs.Machine.{State}

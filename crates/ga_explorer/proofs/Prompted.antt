@@ -5,16 +5,16 @@ use Rattle.std.specs.Result.{IsErr}
 use Rattle.ga_text.specs.declared.output.WriteError.{WriteError}
 use Rattle.ga_text.specs.Lines.{terminated_lines}
 use Rattle.ga_display.specs.Texts.{input_limit_refusal}
-use Rattle.ga_text.specs.Output.{TextHasPrefix, IsTruncated, IsWrittenOrTruncated}
+use Rattle.ga_text.specs.Output.{TextHasPrefix, IsTextTruncated, IsTextWrittenOrTruncated}
 use Rattle.ga_text.proofs.WriteLemmas.{at_err, truncated_here, truncated_within}
-use Rattle.ga_console.specs.Session.{AnswersLine, ServesCommands, ServesToWriteFailureBy, IsWrittenOrPrefix, lines_within_bound}
+use Rattle.ga_console.specs.Session.{AnswersLine, ServesCommands, ServesToWriteFailureBy, IsWholeOrPrefixOnWriteError, lines_within_bound}
 use Rattle.ga_console.specs.inner.Run.{AnswersOrEnds, AnswersCommand, ObeysCommand}
 use Rattle.ga_console.specs.declared.command.Command.{Command}
 use Rattle.ga_console.specs.declared.commands.CommandsEnd.{CommandsEnd}
 use Rattle.ga_console.specs.declared.responder.LineAction.{LineAction}
 use Rattle.ga_console.specs.declared.responder.LineAction.TheVariants as turn
 use Rattle.ga_explorer.specs.Opening.{ExplorerState}
-use Rattle.ga_explorer.specs.Session.{prompt, AnswersOn, AnswersLast, AnswersWithPrompt}
+use Rattle.ga_explorer.specs.Session.{prompt, AnswersAndContinues, AnswersAndEndsSession, AnswersWithPrompt}
 use Rattle.ga_explorer.specs.inner.{PromptsFor, EndsPrompting}
 use Rattle.ga_explorer.specs.declared.prompting.PromptedExplorer.{PromptedExplorer}
 use Rattle.ga_explorer.specs.declared.strict.StrictExplorer.{StrictExplorer}
@@ -30,10 +30,10 @@ abbrev pub EndsPrompted : PromptedExplorer → List ℕ → List ℕ → Prompte
 EndsPrompted p line answer new =
     EndsPrompting p.is_prompted p.explorer.is_strict p.explorer.explorer line answer new.is_prompted new.explorer.is_strict new.explorer.explorer
 
-prompts_after : (prompts strict : Bool) (e : ExplorerState) (line answer : List ℕ) (new : ExplorerState) → AnswersOn strict e line answer new
+prompts_after : (prompts strict : Bool) (e : ExplorerState) (line answer : List ℕ) (new : ExplorerState) → AnswersAndContinues strict e line answer new
     → AnswersWithPrompt prompts strict e line (answer ++ prompt prompts) new
 prompts_after true strict e line answer new h = (answer, h, refl)
-prompts_after false strict e line answer new h = subst (λ (t : List ℕ). AnswersOn strict e line t new) (sym (append-nil answer)) h
+prompts_after false strict e line answer new h = subst (λ (t : List ℕ). AnswersAndContinues strict e line t new) (sym (append-nil answer)) h
 
 module _ (p : PromptedExplorer) (after : StrictExplorer) where
   -- the machine after an answer
@@ -64,8 +64,8 @@ module _ (p : PromptedExplorer) (after : StrictExplorer) where
 
   -- a failed write of an answer
   pub line_err : (line answer : List ℕ) (result : Result LineAction WriteError) (contents : Option (List ℕ)) (before said pending : List ℕ) → IsErr result
-      → AnswersLine GoesOn p.explorer line answer after ⊎ AnswersLine EndsStrictly p.explorer line answer after → IsTruncated contents before (said ++ answer)
-      → (text : List ℕ) × AnswersOrEnds AnswersPrompted EndsPrompted p line on result text × IsWrittenOrTruncated result contents before (said ++ text) pending
+      → AnswersLine GoesOn p.explorer line answer after ⊎ AnswersLine EndsStrictly p.explorer line answer after → IsTextTruncated contents before (said ++ answer)
+      → (text : List ℕ) × AnswersOrEnds AnswersPrompted EndsPrompted p line on result text × IsTextWrittenOrTruncated result contents before (said ++ text) pending
   line_err line answer result contents before said pending failed (inl h) cut =
       let text : List ℕ = answer ++ prompt p.is_prompted in (
         text,
@@ -79,8 +79,8 @@ module _ (p : PromptedExplorer) (after : StrictExplorer) where
   )
 
   pub command_err : (asked : Command) (answer : List ℕ) (result : Result LineAction WriteError) (contents : Option (List ℕ)) (before said pending : List ℕ) → IsErr result
-      → AnswersCommand GoesOn p.explorer asked after answer ⊎ AnswersCommand EndsStrictly p.explorer asked after answer → IsTruncated contents before (said ++ answer)
-      → (text : List ℕ) × ObeysCommand AnswersPrompted EndsPrompted p asked on result text × IsWrittenOrTruncated result contents before (said ++ text) pending
+      → AnswersCommand GoesOn p.explorer asked after answer ⊎ AnswersCommand EndsStrictly p.explorer asked after answer → IsTextTruncated contents before (said ++ answer)
+      → (text : List ℕ) × ObeysCommand AnswersPrompted EndsPrompted p asked on result text × IsTextWrittenOrTruncated result contents before (said ++ text) pending
   command_err asked answer result contents before said pending failed (inl h) cut =
       let text : List ℕ = answer ++ prompt p.is_prompted in (
         text,
@@ -96,21 +96,21 @@ module _ (p : PromptedExplorer) (after : StrictExplorer) where
 -- what such a session serves is what one of exploring does that prompts, and is strict, as it is at first
 pub serves_prompted : (room : ℕ) (prompts strict : Bool) (p : PromptedExplorer) (read rest text : List ℕ) (last : PromptedExplorer) (ending : Result CommandsEnd WriteError)
     → p.is_prompted ≡ prompts → p.explorer.is_strict ≡ strict → ServesCommands AnswersPrompted EndsPrompted room p read rest text last ending
-    → ServesCommands (AnswersWithPrompt prompts strict) (AnswersLast strict) room p.explorer.explorer read rest text last.explorer.explorer ending
+    → ServesCommands (AnswersWithPrompt prompts strict) (AnswersAndEndsSession strict) room p.explorer.explorer read rest text last.explorer.explorer ending
 serves_prompted room prompts strict p read rest text last ending is tight h =
     serves_seen input_limit_refusal (λ (x : PromptedExplorer). x.explorer.explorer) (λ (x : PromptedExplorer). (x.is_prompted ≡ prompts) × (x.explorer.is_strict ≡ strict))
-    AnswersPrompted EndsPrompted (AnswersWithPrompt prompts strict) (AnswersLast strict)
+    AnswersPrompted EndsPrompted (AnswersWithPrompt prompts strict) (AnswersAndEndsSession strict)
     (record {
       answer = λ m line answer new k a. subst (λ b. AnswersWithPrompt b strict m.explorer.explorer line answer new.explorer.explorer) k.0
           (subst (λ b. AnswersWithPrompt m.is_prompted b m.explorer.explorer line answer new.explorer.explorer) k.1 a.0);
       holds = λ m line answer new k a. (a.2 ∙ k.0, a.1 ∙ k.1);
-      refusal = λ m line answer new k a. subst (λ b. AnswersLast b m.explorer.explorer line answer new.explorer.explorer) k.1 a.0;
+      refusal = λ m line answer new k a. subst (λ b. AnswersAndEndsSession b m.explorer.explorer line answer new.explorer.explorer) k.1 a.0;
     })
     room p read rest text last ending (is, tight) h
 
 -- where nothing was answered yet when a write failed
 pub nothing_served : (prompts strict : Bool) (room : ℕ) (e : ExplorerState) (read rest : List ℕ)
-    → ServesToWriteFailureBy input_limit_refusal (AnswersWithPrompt prompts strict) (AnswersLast strict) room e read rest [] e
+    → ServesToWriteFailureBy input_limit_refusal (AnswersWithPrompt prompts strict) (AnswersAndEndsSession strict) room e read rest [] e
 nothing_served prompts strict room e read rest = record {
   heard = [];
   after = lines_within_bound room read;
@@ -121,8 +121,8 @@ nothing_served prompts strict room e read rest = record {
 }
 
 -- what is written, from the prompt on
-pub written_on : (result : Result CommandsEnd WriteError) (said first text sent : List ℕ) → IsWrittenOrPrefix result ((said ++ first) ++ text) sent → IsWrittenOrPrefix result (said ++ (first ++ text)) sent
-written_on result said first text sent h = subst (λ (t : List ℕ). IsWrittenOrPrefix result t sent) (append_assoc said first text) h
+pub written_on : (result : Result CommandsEnd WriteError) (said first text sent : List ℕ) → IsWholeOrPrefixOnWriteError result ((said ++ first) ++ text) sent → IsWholeOrPrefixOnWriteError result (said ++ (first ++ text)) sent
+written_on result said first text sent h = subst (λ (t : List ℕ). IsWholeOrPrefixOnWriteError result t sent) (append_assoc said first text) h
 
 pub prefix_on : (said first sent : List ℕ) → TextHasPrefix (said ++ first) sent → TextHasPrefix (said ++ (first ++ [])) sent
 prefix_on said first sent h = subst (λ (t : List ℕ). TextHasPrefix (said ++ t) sent) (sym (append-nil first)) h

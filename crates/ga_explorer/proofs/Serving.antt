@@ -2,7 +2,7 @@
 use Rattle.std.proofs.Common.{ℕ, List, [], ◌∷◌, ap, sym, subst, inl, inr}
 use Rattle.std.specs.Prelude.{Result, Ok, Err}
 use Rattle.ga_text.specs.declared.output.WriteError.{WriteError}
-use Rattle.ga_console.specs.Session.{AnswerRelation, Answers, AnswersToRefusal, WritesAnswersBy, ServesCommandsBy}
+use Rattle.ga_console.specs.Session.{AnswerRelation, Answers, AnswersLinesUntilRefusal, WritesAnswersBy, ServesCommandsBy}
 use Rattle.ga_console.specs.declared.commands.CommandsEnd.{CommandsEnd}
 use Rattle.ga_console.specs.declared.commands.CommandsEnd.TheVariants.{Ended, Quit, Refused, Past, ReadFailed}
 
@@ -22,7 +22,7 @@ module _ {M N : Type 0} (past : List ℕ) (part : M → N) (Holds : M → Type 0
   holds_seen m [] text last k h = subst Holds (sym h.1) k
   holds_seen m (line ∷ lines) text last k h = holds_seen h.1 lines h.2 last (seen.holds m line h.0 h.1 k h.3) h.4
 
-  refusal_seen : (m : M) (lines : List (List ℕ)) (text : List ℕ) (last : M) → Holds m → AnswersToRefusal A R m lines text last → AnswersToRefusal B S (part m) lines text (part last)
+  refusal_seen : (m : M) (lines : List (List ℕ)) (text : List ℕ) (last : M) → Holds m → AnswersLinesUntilRefusal A R m lines text last → AnswersLinesUntilRefusal B S (part m) lines text (part last)
   refusal_seen m lines text last k h =
       (h.0, h.1, h.2, h.3, part h.4, h.5, answers_seen m h.0 h.2 h.4 k h.6, seen.refusal h.4 h.1 h.3 last (holds_seen m h.0 h.2 h.4 k h.6) h.7, h.8)
 

@@ -2,90 +2,90 @@
 use Rattle.std.proofs.Common.{◌≡◌, ℕ, List, [], ◌++◌, Some, append-nil, Bool, true, false, inl, inr, refl, sym, ap, subst, ◌∙◌}
 use Rattle.std.specs.Prelude.{◌⊎◌, if◌then◌else◌, IfOk, Result, Ok, Err}
 use Rattle.std.proofs.lemmas.Option.{same_Some}
-use Rattle.ga_text.specs.Output.{IsWritten}
+use Rattle.ga_text.specs.Output.{IsTextWritten}
 use Rattle.ga_text.specs.declared.output.WriteError.{WriteError}
-use Rattle.ga_console.specs.Session.{AnswersLine, EndsAtNoAnswer}
+use Rattle.ga_console.specs.Session.{AnswersLine, EndsSessionAtNoAnswer}
 use Rattle.ga_console.specs.inner.Run.{AnswersOrEnds, AnswersCommand, ObeysCommand}
 use Rattle.ga_console.specs.declared.command.Command.{Command}
 use Rattle.ga_console.specs.declared.responder.LineAction.{LineAction}
 use Rattle.ga_console.specs.declared.responder.LineAction.TheVariants as turn
 use Rattle.ga_explorer.specs.Answers.{AnswersExplorerLine}
 use Rattle.ga_explorer.specs.Opening.{ExplorerState}
-use Rattle.ga_explorer.specs.Session.{is_refusal, AnswersOn, AnswersLast}
+use Rattle.ga_explorer.specs.Session.{is_refusal, AnswersAndContinues, AnswersAndEndsSession}
 use Rattle.ga_explorer.specs.inner.{turn_after, GoesOnFor, EndsFor}
 use Rattle.ga_explorer.specs.declared.strict.StrictExplorer.{StrictExplorer}
 
 -- ---- an answer of a strict session
 
 module _ (e new : ExplorerState) (line answer : List ℕ) (h : AnswersLine AnswersExplorerLine e line answer new) where
-  went_on : is_refusal answer ≡ false → AnswersLine (AnswersOn true) e line answer new
+  went_on : is_refusal answer ≡ false → AnswersLine (AnswersAndContinues true) e line answer new
   went_on is = λ part kept. (((h part kept).0, is), (h part kept).1)
 
-  ended : is_refusal answer ≡ true → AnswersLine (AnswersLast true) e line answer new
+  ended : is_refusal answer ≡ true → AnswersLine (AnswersAndEndsSession true) e line answer new
   ended is = λ part kept. (((h part kept).0, is), (h part kept).1)
 
-  pub line_turn : (t : LineAction) → t ≡ turn_after answer → AnswersOrEnds (AnswersOn true) (AnswersLast true) e line new (Ok t) answer
-  line_turn t same = subst (λ (u : LineAction). AnswersOrEnds (AnswersOn true) (AnswersLast true) e line new (Ok u) answer) (sym same) (go (is_refusal answer) refl) where
-    go : (b : Bool) → is_refusal answer ≡ b → AnswersOrEnds (AnswersOn true) (AnswersLast true) e line new (Ok (if b then turn.Refused else turn.Answered)) answer
+  pub line_turn : (t : LineAction) → t ≡ turn_after answer → AnswersOrEnds (AnswersAndContinues true) (AnswersAndEndsSession true) e line new (Ok t) answer
+  line_turn t same = subst (λ (u : LineAction). AnswersOrEnds (AnswersAndContinues true) (AnswersAndEndsSession true) e line new (Ok u) answer) (sym same) (go (is_refusal answer) refl) where
+    go : (b : Bool) → is_refusal answer ≡ b → AnswersOrEnds (AnswersAndContinues true) (AnswersAndEndsSession true) e line new (Ok (if b then turn.Refused else turn.Answered)) answer
     go true is = ended is
     go false is = went_on is
 
-  pub line_fails : AnswersLine (AnswersOn true) e line answer new ⊎ AnswersLine (AnswersLast true) e line answer new
+  pub line_fails : AnswersLine (AnswersAndContinues true) e line answer new ⊎ AnswersLine (AnswersAndEndsSession true) e line answer new
   line_fails = go (is_refusal answer) refl where
-    go : (b : Bool) → is_refusal answer ≡ b → AnswersLine (AnswersOn true) e line answer new ⊎ AnswersLine (AnswersLast true) e line answer new
+    go : (b : Bool) → is_refusal answer ≡ b → AnswersLine (AnswersAndContinues true) e line answer new ⊎ AnswersLine (AnswersAndEndsSession true) e line answer new
     go true is = inr (ended is)
     go false is = inl (went_on is)
 
-  pub line_result : (result : Result LineAction WriteError) → IfOk result (λ t. t ≡ turn_after answer) → AnswersOrEnds (AnswersOn true) (AnswersLast true) e line new result answer
+  pub line_result : (result : Result LineAction WriteError) → IfOk result (λ t. t ≡ turn_after answer) → AnswersOrEnds (AnswersAndContinues true) (AnswersAndEndsSession true) e line new result answer
   line_result (Ok t) same = line_turn t same
   line_result (Err why) same = line_fails
 
 module _ (e new : ExplorerState) (asked : Command) (answer : List ℕ) (h : AnswersCommand AnswersExplorerLine e asked new answer) where
-  obeyed_on : is_refusal answer ≡ false → AnswersCommand (AnswersOn true) e asked new answer
+  obeyed_on : is_refusal answer ≡ false → AnswersCommand (AnswersAndContinues true) e asked new answer
   obeyed_on is = λ line short spelled. (h line short spelled, is)
 
-  obeyed_last : is_refusal answer ≡ true → AnswersCommand (AnswersLast true) e asked new answer
+  obeyed_last : is_refusal answer ≡ true → AnswersCommand (AnswersAndEndsSession true) e asked new answer
   obeyed_last is = λ line short spelled. (h line short spelled, is)
 
-  pub command_turn : (t : LineAction) → t ≡ turn_after answer → ObeysCommand (AnswersOn true) (AnswersLast true) e asked new (Ok t) answer
-  command_turn t same = subst (λ (u : LineAction). ObeysCommand (AnswersOn true) (AnswersLast true) e asked new (Ok u) answer) (sym same) (go (is_refusal answer) refl) where
-    go : (b : Bool) → is_refusal answer ≡ b → ObeysCommand (AnswersOn true) (AnswersLast true) e asked new (Ok (if b then turn.Refused else turn.Answered)) answer
+  pub command_turn : (t : LineAction) → t ≡ turn_after answer → ObeysCommand (AnswersAndContinues true) (AnswersAndEndsSession true) e asked new (Ok t) answer
+  command_turn t same = subst (λ (u : LineAction). ObeysCommand (AnswersAndContinues true) (AnswersAndEndsSession true) e asked new (Ok u) answer) (sym same) (go (is_refusal answer) refl) where
+    go : (b : Bool) → is_refusal answer ≡ b → ObeysCommand (AnswersAndContinues true) (AnswersAndEndsSession true) e asked new (Ok (if b then turn.Refused else turn.Answered)) answer
     go true is = obeyed_last is
     go false is = obeyed_on is
 
-  pub command_fails : AnswersCommand (AnswersOn true) e asked new answer ⊎ AnswersCommand (AnswersLast true) e asked new answer
+  pub command_fails : AnswersCommand (AnswersAndContinues true) e asked new answer ⊎ AnswersCommand (AnswersAndEndsSession true) e asked new answer
   command_fails = go (is_refusal answer) refl where
-    go : (b : Bool) → is_refusal answer ≡ b → AnswersCommand (AnswersOn true) e asked new answer ⊎ AnswersCommand (AnswersLast true) e asked new answer
+    go : (b : Bool) → is_refusal answer ≡ b → AnswersCommand (AnswersAndContinues true) e asked new answer ⊎ AnswersCommand (AnswersAndEndsSession true) e asked new answer
     go true is = inr (obeyed_last is)
     go false is = inl (obeyed_on is)
 
-  pub command_result : (result : Result LineAction WriteError) → IfOk result (λ t. t ≡ turn_after answer) → ObeysCommand (AnswersOn true) (AnswersLast true) e asked new result answer
+  pub command_result : (result : Result LineAction WriteError) → IfOk result (λ t. t ≡ turn_after answer) → ObeysCommand (AnswersAndContinues true) (AnswersAndEndsSession true) e asked new result answer
   command_result (Ok t) same = command_turn t same
   command_result (Err why) same = command_fails
 
 -- ---- an answer that was held back
 
 -- all of it is pending
-pub held_short : (items answer pending : List ℕ) → IsWritten (Some items) [] answer pending → items ≡ [] → pending ≡ answer
+pub held_short : (items answer pending : List ℕ) → IsTextWritten (Some items) [] answer pending → items ≡ [] → pending ≡ answer
 held_short items answer pending h e = sym (h.splits ∙ ap (λ (t : List ℕ). t ++ pending) (sym (same_Some items h.sent h.held) ∙ e))
 
 -- or nothing
-pub held_long : (items answer pending : List ℕ) → IsWritten (Some items) [] answer pending → pending ≡ [] → items ≡ answer
+pub held_long : (items answer pending : List ℕ) → IsTextWritten (Some items) [] answer pending → pending ≡ [] → items ≡ answer
 held_long items answer pending h e =
     same_Some items h.sent h.held ∙ sym (h.splits ∙ ap (λ (t : List ℕ). h.sent ++ t) e ∙ append-nil h.sent)
 
 -- ---- a session that isn't strict
 
-pub plain_turn : (e new : ExplorerState) (line answer : List ℕ) (result : Result LineAction WriteError) → AnswersOrEnds AnswersExplorerLine EndsAtNoAnswer e line new result answer
-    → AnswersOrEnds (AnswersOn false) (AnswersLast false) e line new result answer
+pub plain_turn : (e new : ExplorerState) (line answer : List ℕ) (result : Result LineAction WriteError) → AnswersOrEnds AnswersExplorerLine EndsSessionAtNoAnswer e line new result answer
+    → AnswersOrEnds (AnswersAndContinues false) (AnswersAndEndsSession false) e line new result answer
 plain_turn e new line answer (Ok turn.Answered) h = λ part kept. (((h part kept).0, refl), (h part kept).1)
 plain_turn e new line answer (Ok turn.Refused) h = λ part kept. absurd (h part kept).0
 plain_turn e new line answer (Ok turn.Quit) h = h
 plain_turn e new line answer (Err failed) (inl h) = inl (λ part kept. (((h part kept).0, refl), (h part kept).1))
 plain_turn e new line answer (Err failed) (inr h) = inl (λ part kept. absurd (h part kept).0)
 
-pub plain_command : (e new : ExplorerState) (asked : Command) (answer : List ℕ) (result : Result LineAction WriteError) → ObeysCommand AnswersExplorerLine EndsAtNoAnswer e asked new result answer
-    → ObeysCommand (AnswersOn false) (AnswersLast false) e asked new result answer
+pub plain_command : (e new : ExplorerState) (asked : Command) (answer : List ℕ) (result : Result LineAction WriteError) → ObeysCommand AnswersExplorerLine EndsSessionAtNoAnswer e asked new result answer
+    → ObeysCommand (AnswersAndContinues false) (AnswersAndEndsSession false) e asked new result answer
 plain_command e new asked answer (Ok turn.Answered) h = λ line short spelled. (h line short spelled, refl)
 plain_command e new asked answer (Ok turn.Refused) h = λ line short spelled. absurd (h line short spelled)
 plain_command e new asked answer (Ok turn.Quit) h = h
@@ -102,14 +102,14 @@ abbrev pub EndsStrictly : StrictExplorer → List ℕ → List ℕ → StrictExp
 EndsStrictly p line answer new = EndsFor p.is_strict p.explorer line answer new.is_strict new.explorer
 
 module _ (strict : Bool) (p new : StrictExplorer) (is : p.is_strict ≡ strict) (same : new.is_strict ≡ p.is_strict) where
-  goes : (line answer : List ℕ) → AnswersOn strict p.explorer line answer new.explorer → GoesOn p line answer new
-  goes line answer h = (subst (λ (b : Bool). AnswersOn b p.explorer line answer new.explorer) (sym is) h, same)
+  goes : (line answer : List ℕ) → AnswersAndContinues strict p.explorer line answer new.explorer → GoesOn p line answer new
+  goes line answer h = (subst (λ (b : Bool). AnswersAndContinues b p.explorer line answer new.explorer) (sym is) h, same)
 
-  ends : (line answer : List ℕ) → AnswersLast strict p.explorer line answer new.explorer → EndsStrictly p line answer new
-  ends line answer h = (subst (λ (b : Bool). AnswersLast b p.explorer line answer new.explorer) (sym is) h, same)
+  ends : (line answer : List ℕ) → AnswersAndEndsSession strict p.explorer line answer new.explorer → EndsStrictly p line answer new
+  ends line answer h = (subst (λ (b : Bool). AnswersAndEndsSession b p.explorer line answer new.explorer) (sym is) h, same)
 
   pub strict_turn : (line answer : List ℕ) (result : Result LineAction WriteError) → (result ≡ Ok turn.Quit → new.refusal ≡ p.refusal)
-      → AnswersOrEnds (AnswersOn strict) (AnswersLast strict) p.explorer line new.explorer result answer → AnswersOrEnds GoesOn EndsStrictly p line new result answer
+      → AnswersOrEnds (AnswersAndContinues strict) (AnswersAndEndsSession strict) p.explorer line new.explorer result answer → AnswersOrEnds GoesOn EndsStrictly p line new result answer
   strict_turn line answer (Ok turn.Answered) noted h = λ part kept. (goes part answer (h part kept).0, (h part kept).1)
   strict_turn line answer (Ok turn.Refused) noted h = λ part kept. (ends part answer (h part kept).0, (h part kept).1)
   strict_turn line answer (Ok turn.Quit) noted h =
@@ -120,7 +120,7 @@ module _ (strict : Bool) (p new : StrictExplorer) (is : p.is_strict ≡ strict) 
   strict_turn line answer (Err failed) noted (inr h) = inr (λ part kept. (ends part answer (h part kept).0, (h part kept).1))
 
   pub strict_command : (asked : Command) (answer : List ℕ) (result : Result LineAction WriteError)
-      → ObeysCommand (AnswersOn strict) (AnswersLast strict) p.explorer asked new.explorer result answer → ObeysCommand GoesOn EndsStrictly p asked new result answer
+      → ObeysCommand (AnswersAndContinues strict) (AnswersAndEndsSession strict) p.explorer asked new.explorer result answer → ObeysCommand GoesOn EndsStrictly p asked new result answer
   strict_command asked answer (Ok turn.Answered) h = λ line short spelled. goes line answer (h line short spelled)
   strict_command asked answer (Ok turn.Refused) h = λ line short spelled. ends line answer (h line short spelled)
   strict_command asked answer (Ok turn.Quit) h = h

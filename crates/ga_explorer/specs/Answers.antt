@@ -3,7 +3,7 @@ use Rattle.std.specs.Prelude.{◌≡◌, ◌≢◌, ◌+◌, ◌<◌, ◌≤◌,
 use Rattle.ga_text.specs.Lines.{max_input_line, Text, Line}
 use Rattle.ga_text.specs.declared.output.WriteError.{WriteError}
 use Rattle.ga_lab.specs.Machine.{State}
-use Rattle.ga_display.specs.declared.wording.Wording.TheVariants.{Advised}
+use Rattle.ga_display.specs.declared.wording.RefusalWording.TheVariants.{Advised}
 use Rattle.ga_console.specs.Replies.{IsAnswerInWording}
 use Rattle.ga_console.specs.Commands.{SpellsCommand}
 use Rattle.ga_console.specs.Session.{quit_line}

@@ -12,12 +12,12 @@ use Rattle.ga_explorer.specs.declared.forms.CommandClass.{CommandClass}
 use Rattle.ga_explorer.specs.declared.forms.CommandClass.TheVariants.{Query, Change}
 
 -- the class of the row with this name
-abbrev pub class_of_name : Line → Option CommandClass
-class_of_name name = option_map (λ row. row.class) (option_and_then (slice_get command_table) (command_place name))
+abbrev pub command_class_of_name : Line → Option CommandClass
+command_class_of_name name = option_map (λ row. row.class) (option_and_then (slice_get command_table) (command_place name))
 
 -- the class of the command whose name the line begins with
-abbrev pub class_of_line : Line → Option CommandClass
-class_of_line line = class_of_name (command_word (split_at_space line) line)
+abbrev pub command_class_of_line : Line → Option CommandClass
+command_class_of_line line = command_class_of_name (command_word (split_at_space line) line)
 
 -- a query is one by its type
 abbrev pub class_of_explorer_command : ExplorerCommand → CommandClass

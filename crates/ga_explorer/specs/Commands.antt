@@ -7,7 +7,7 @@ use Rattle.ga_text.specs.Parsing.{split_at_space, parse_node}
 use Rattle.ga_ports.specs.Steps.{◌>>=◌}
 use Rattle.ga_lab.specs.Machine.{State}
 use Rattle.ga_scheduler.specs.Conditions.{active_conditions}
-use Rattle.ga_scheduler.specs.Backward.{find_newest_holding, machine_back_at_place, removed_event_count}
+use Rattle.ga_scheduler.specs.Backward.{find_newest_matching_event, machine_after_back_until, removed_event_count}
 use Rattle.ga_scheduler.specs.Running.{running, run_after_events, HasNextEvents, HasRunEnded}
 use Rattle.ga_scheduler.specs.Schedules.{round_robin}
 use Rattle.ga_scheduler.specs.declared.schedule.Schedule.{Schedule}
@@ -24,9 +24,9 @@ use Rattle.ga_explorer_text.specs.Whence.{IsWhenceAnswer}
 use Rattle.ga_explorer_text.specs.Because.{because_text}
 use Rattle.ga_explorer_text.specs.Races.{IsRacesAnswer}
 use Rattle.ga_console.specs.Selectors.{selected_step}
-use Rattle.ga_explorer.specs.Reading.{part_of_node_value, parse_run_arguments, parse_back_arguments, max_run_events, node_and_step, two_nodes, node_and_cell, node_and_value, node_and_steps}
+use Rattle.ga_explorer.specs.Reading.{part_of_node_value, parse_run_arguments, parse_back_arguments, max_run_events, parse_node_and_step, parse_two_nodes, parse_node_and_cell, parse_node_and_value, parse_node_and_steps}
 use Rattle.ga_conditions.specs.Conditions.{no_conditions}
-use Rattle.ga_explorer.specs.Forms.{CommandForm, entry, change_entry, command_place_from, form_rows_text, found_command_details}
+use Rattle.ga_explorer.specs.Forms.{CommandForm, query_command_entry, change_command_entry, command_place_from, form_rows_text, found_command_details}
 use Rattle.ga_explorer.specs.Opening.{ExplorerState}
 use Rattle.ga_explorer.specs.declared.commands.ExplorerCommand.{ExplorerCommand}
 use Rattle.ga_explorer.specs.declared.commands.ExplorerCommand.TheVariants as asked
@@ -38,28 +38,28 @@ use Rattle.ga_explorer.specs.declared.commands.Query.TheVariants as told
 -- the commands of exploring and those of the debugger, in the order of `help`
 unfoldable pub command_table : List CommandForm
 command_table =
-    change_entry (codes "run") (codes "run [greedy|random SEED] [N] [until COND]") (codes "\n                      make up to N events, in rounds or in this order\nCOND: NNN VALUE OP N, pass NNN MMM OP N, pass NNN MMM J, step NNN K, stop, stop NNN,\n      wait NNN, mem NNN HH = N, p NNN X, reach NNN X, change NNN HH [= N], COND or COND\nVALUE: t s r p a b i, d2 to d9, r1 to r8, io, slot, carry, step, [HH]\nOP: = != < <= > >=   N: a number, a port, a label   X: an address, a label, line N\n") (codes "answers: reached M EVENT, made M, quiet M or full M: how many events, and why no more\nexample: run 1000 until stop or 001 t = 0x150\n")
-    ∷ entry (codes "chip") (codes "chip") (codes "                  what each node does\n") (codes "answers: rows 7 to 0 of nodes: . made no step, * runs, x stopped, @ waits for code, ? reads, ! writes\nexample: chip\n")
-    ∷ entry (codes "who") (codes "who") (codes "                   who waits for whom, and which nodes can never go on\n") (codes "answers: for each that waits what it does, and the nodes that it awaits; then stuck, ring, ended and idle\nexample: who\n")
-    ∷ entry (codes "effects") (codes "effects NNN K") (codes "         what rewind NNN K would remove\n") (codes "answers: effects X N, and for each of N nodes its first step that it would remove, and their number\nexample: effects 001 last\n")
-    ∷ entry (codes "words") (codes "words NNN MMM") (codes "         the words transferred from NNN to MMM\n") (codes "answers: words NNN MMM C, and for each of C words its number, the steps of both nodes and the word\nexample: words 000 001\n")
-    ∷ entry (codes "writes") (codes "writes NNN HH") (codes "         the steps that wrote the cell HH of NNN, the newest first\n") (codes "answers: for each the step, the opcode and the word\nexample: writes 001 20\n")
-    ∷ entry (codes "at") (codes "at NNN K [N]") (codes "          N steps before and after step K of NNN, with registers\n") (codes "answers: for each the step, what it did, and the registers t, s, r, a, b and p after it\nexample: at 001 last 5\n")
-    ∷ entry (codes "whence") (codes "whence NNN K [VALUE] [from L]") (codes "\n                      the steps whose values went into what step K of NNN made, or\n                      into a register, a word of a stack or a cell as it is after step K\n") (codes "answers: the nearest 100, each with its number and > the number of the step that used its value\nexample: whence 001 last, or whence 001 last r\n")
-    ∷ entry (codes "because") (codes "because NNN K [N]") (codes "     N steps before step K at which a value decided where NNN continued\nK of effects, at, whence, because: a step's number, or last\n") (codes "answers: for each the step and the word that it tested, and below it the step that made that word\nexample: because 001 last\n")
-    ∷ entry (codes "races") (codes "races [NNN]") (codes "           steps that yield another word in another order, and how\n") (codes "answers: races N, and for each of N steps the other word, and two commands that lead there\nexample: races 001\n")
-    ∷ entry (codes "save") (codes "save") (codes "                  the history as lines of debug\n") (codes "answers: step NNN for each event, the oldest first\nexample: save\n")
-    ∷ entry (codes "help") (codes "help [COMMAND]") (codes "        these lines, or more of one command\n") (codes "answers: the command's form and what it does, what it answers, and an example\nexample: help why\n")
-    ∷ change_entry (codes "step") (codes "step NNN") (codes "              make the next event of NNN\n") (codes "answers: NNN K and what the step did, or pass WWW K RRR J W: it moved the word W from WWW to RRR\nexample: step 001\n")
-    ∷ change_entry (codes "back") (codes "back [[NNN] until COND]") (codes "\n                      undo the newest event; or the newest after which COND held, and all\n                      later ones; or such a step of NNN, with its dependents\n") (codes "answers: removed X kept M: X events were removed, and M are left; or none if there is no such event\nexample: back until change 001 20\n")
-    ∷ change_entry (codes "rewind") (codes "rewind NNN K") (codes "          remove step K of NNN, with its dependents\n") (codes "answers: removed X kept M: X events were removed, and M are left\nexample: rewind 001 4\n")
-    ∷ entry (codes "node") (codes "node NNN") (codes "              the state of NNN\n") (codes "answers: the state, the registers and both stacks, the top first\nexample: node 001\n")
-    ∷ entry (codes "mem") (codes "mem NNN HH") (codes "            the word at HH of the memory of NNN\n") (codes "answers: mem NNN HH W: RAM below 80, ROM from there on\nexample: mem 001 20\n")
-    ∷ entry (codes "trace") (codes "trace NNN") (codes "             the steps of NNN\n") (codes "answers: trace NNN C, and C events, the oldest first\nexample: trace 001\n")
-    ∷ entry (codes "why") (codes "why NNN K MMM J") (codes "       by which events step K of NNN led to step J of MMM\n") (codes "answers: chain C, and C events from the cause to its effect; or independent\nexample: why 000 3 001 7, did step 3 of 000 lead to step 7 of 001?\n")
-    ∷ entry (codes "count") (codes "count") (codes "                 how many events the history has, and how many were made\n") (codes "answers: kept K made M limit L\nexample: count\n")
-    ∷ entry (codes "dump") (codes "dump") (codes "                  the chip as an image\n") (codes "answers: an image of format 2, which every command reads\nexample: dump\n")
-    ∷ entry (codes "quit") (codes "quit") (codes "                  end\n") (codes "answers: nothing\nexample: quit\n")
+    change_command_entry (codes "run") (codes "run [greedy|random SEED] [N] [until COND]") (codes "\n                      make up to N events, in rounds or in this order\nCOND: NNN VALUE OP N, pass NNN MMM OP N, pass NNN MMM J, step NNN K, stop, stop NNN,\n      wait NNN, mem NNN HH = N, p NNN X, reach NNN X, change NNN HH [= N], COND or COND\nVALUE: t s r p a b i, d2 to d9, r1 to r8, io, slot, carry, step, [HH]\nOP: = != < <= > >=   N: a number, a port, a label   X: an address, a label, line N\n") (codes "answers: reached M EVENT, made M, quiet M or full M: how many events, and why no more\nexample: run 1000 until stop or 001 t = 0x150\n")
+    ∷ query_command_entry (codes "chip") (codes "chip") (codes "                  what each node does\n") (codes "answers: rows 7 to 0 of nodes: . made no step, * runs, x stopped, @ waits for code, ? reads, ! writes\nexample: chip\n")
+    ∷ query_command_entry (codes "who") (codes "who") (codes "                   who waits for whom, and which nodes can never go on\n") (codes "answers: for each that waits what it does, and the nodes that it awaits; then stuck, ring, ended and idle\nexample: who\n")
+    ∷ query_command_entry (codes "effects") (codes "effects NNN K") (codes "         what rewind NNN K would remove\n") (codes "answers: effects X N, and for each of N nodes its first step that it would remove, and their number\nexample: effects 001 last\n")
+    ∷ query_command_entry (codes "words") (codes "words NNN MMM") (codes "         the words transferred from NNN to MMM\n") (codes "answers: words NNN MMM C, and for each of C words its number, the steps of both nodes and the word\nexample: words 000 001\n")
+    ∷ query_command_entry (codes "writes") (codes "writes NNN HH") (codes "         the steps that wrote the cell HH of NNN, the newest first\n") (codes "answers: for each the step, the opcode and the word\nexample: writes 001 20\n")
+    ∷ query_command_entry (codes "at") (codes "at NNN K [N]") (codes "          N steps before and after step K of NNN, with registers\n") (codes "answers: for each the step, what it did, and the registers t, s, r, a, b and p after it\nexample: at 001 last 5\n")
+    ∷ query_command_entry (codes "whence") (codes "whence NNN K [VALUE] [from L]") (codes "\n                      the steps whose values went into what step K of NNN made, or\n                      into a register, a word of a stack or a cell as it is after step K\n") (codes "answers: the nearest 100, each with its number and > the number of the step that used its value\nexample: whence 001 last, or whence 001 last r\n")
+    ∷ query_command_entry (codes "because") (codes "because NNN K [N]") (codes "     N steps before step K at which a value decided where NNN continued\nK of effects, at, whence, because: a step's number, or last\n") (codes "answers: for each the step and the word that it tested, and below it the step that made that word\nexample: because 001 last\n")
+    ∷ query_command_entry (codes "races") (codes "races [NNN]") (codes "           steps that yield another word in another order, and how\n") (codes "answers: races N, and for each of N steps the other word, and two commands that lead there\nexample: races 001\n")
+    ∷ query_command_entry (codes "save") (codes "save") (codes "                  the history as lines of debug\n") (codes "answers: step NNN for each event, the oldest first\nexample: save\n")
+    ∷ query_command_entry (codes "help") (codes "help [COMMAND]") (codes "        these lines, or more of one command\n") (codes "answers: the command's form and what it does, what it answers, and an example\nexample: help why\n")
+    ∷ change_command_entry (codes "step") (codes "step NNN") (codes "              make the next event of NNN\n") (codes "answers: NNN K and what the step did, or pass WWW K RRR J W: it moved the word W from WWW to RRR\nexample: step 001\n")
+    ∷ change_command_entry (codes "back") (codes "back [[NNN] until COND]") (codes "\n                      undo the newest event; or the newest after which COND held, and all\n                      later ones; or such a step of NNN, with its dependents\n") (codes "answers: removed X kept M: X events were removed, and M are left; or none if there is no such event\nexample: back until change 001 20\n")
+    ∷ change_command_entry (codes "rewind") (codes "rewind NNN K") (codes "          remove step K of NNN, with its dependents\n") (codes "answers: removed X kept M: X events were removed, and M are left\nexample: rewind 001 4\n")
+    ∷ query_command_entry (codes "node") (codes "node NNN") (codes "              the state of NNN\n") (codes "answers: the state, the registers and both stacks, the top first\nexample: node 001\n")
+    ∷ query_command_entry (codes "mem") (codes "mem NNN HH") (codes "            the word at HH of the memory of NNN\n") (codes "answers: mem NNN HH W: RAM below 80, ROM from there on\nexample: mem 001 20\n")
+    ∷ query_command_entry (codes "trace") (codes "trace NNN") (codes "             the steps of NNN\n") (codes "answers: trace NNN C, and C events, the oldest first\nexample: trace 001\n")
+    ∷ query_command_entry (codes "why") (codes "why NNN K MMM J") (codes "       by which events step K of NNN led to step J of MMM\n") (codes "answers: chain C, and C events from the cause to its effect; or independent\nexample: why 000 3 001 7, did step 3 of 000 lead to step 7 of 001?\n")
+    ∷ query_command_entry (codes "count") (codes "count") (codes "                 how many events the history has, and how many were made\n") (codes "answers: kept K made M limit L\nexample: count\n")
+    ∷ query_command_entry (codes "dump") (codes "dump") (codes "                  the chip as an image\n") (codes "answers: an image of format 2, which every command reads\nexample: dump\n")
+    ∷ query_command_entry (codes "quit") (codes "quit") (codes "                  end\n") (codes "answers: nothing\nexample: quit\n")
     ∷ []
 
 -- the place of the command of this name
@@ -86,22 +86,22 @@ bare_query name =
 unfoldable pub query_with_arguments : Line → Line → Option Query
 query_with_arguments name text =
     if pointwise nat_eq name (codes "effects") then (do
-      it ← node_and_step text
+      it ← parse_node_and_step text
       Some (told.Effects it.0 it.1))
     else if pointwise nat_eq name (codes "words") then (do
-      it ← two_nodes text
+      it ← parse_two_nodes text
       Some (told.Words it.0 it.1))
     else if pointwise nat_eq name (codes "writes") then (do
-      it ← node_and_cell text
+      it ← parse_node_and_cell text
       Some (told.Writes it.0 it.1))
     else if pointwise nat_eq name (codes "at") then (do
-      it ← node_and_steps text
+      it ← parse_node_and_steps text
       Some (told.At it.0 it.1 it.2))
     else if pointwise nat_eq name (codes "whence") then (do
-      it ← node_and_value text
+      it ← parse_node_and_value text
       Some (told.Whence it.0 it.1 it.2 it.3))
     else if pointwise nat_eq name (codes "because") then (do
-      it ← node_and_steps text
+      it ← parse_node_and_steps text
       Some (told.Because it.0 it.1 it.2))
     else if pointwise nat_eq name (codes "races") then option_map (λ node. told.Races (Some node)) (parse_node text)
     else if pointwise nat_eq name (codes "help") then option_map told.HelpOf (command_place text)
@@ -160,6 +160,6 @@ AnswersQuery e (told.HelpOf place) answer = answer ≡ command_help_text place
 abbrev pub AnswersExplorerCommand : ExplorerState → ExplorerCommand → Text → ExplorerState → Type 0
 AnswersExplorerCommand e (asked.Run schedule most until) answer new = IsRunResult e.lab schedule most (active_conditions until) answer new.lab × (new.notes ≡ e.notes)
 AnswersExplorerCommand e (asked.BackUntil only until) answer new =
-    (answer ≡ back_text (removed_event_count only e.lab (find_newest_holding (active_conditions until) only e.lab)) (length new.lab.kept))
-    × (new.lab ≡ machine_back_at_place only e.lab (find_newest_holding (active_conditions until) only e.lab)) × (new.notes ≡ e.notes)
+    (answer ≡ back_text (removed_event_count only e.lab (find_newest_matching_event (active_conditions until) only e.lab)) (length new.lab.kept))
+    × (new.lab ≡ machine_after_back_until only e.lab (find_newest_matching_event (active_conditions until) only e.lab)) × (new.notes ≡ e.notes)
 AnswersExplorerCommand e (asked.AnswerQuery question) answer new = AnswersQuery e question answer × (new ≡ e)

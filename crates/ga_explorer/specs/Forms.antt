@@ -15,12 +15,12 @@ pub record CommandForm : Type 0 where
   pub more : Text
 
 -- the row of a query
-abbrev pub entry : Text → Text → Text → Text → CommandForm
-entry name form does more = record { name = name; class = Query; form = form; does = does; more = more }
+abbrev pub query_command_entry : Text → Text → Text → Text → CommandForm
+query_command_entry name form does more = record { name = name; class = Query; form = form; does = does; more = more }
 
 -- the row of a command that changes the machine
-abbrev pub change_entry : Text → Text → Text → Text → CommandForm
-change_entry name form does more = record { name = name; class = Change; form = form; does = does; more = more }
+abbrev pub change_command_entry : Text → Text → Text → Text → CommandForm
+change_command_entry name form does more = record { name = name; class = Change; form = form; does = does; more = more }
 
 abbrev pub form_row_text : CommandForm → Text
 form_row_text row = row.form ++ row.does

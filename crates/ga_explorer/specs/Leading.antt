@@ -7,6 +7,6 @@ use Rattle.ga_console.specs.Replies.{brief_reply}
 use Rattle.ga_console.specs.declared.command.Command.{Command}
 
 -- These lines are commands of the debugger, and its replies to them lead from one machine to another where memory is never wanting.
-abbrev pub LinesLeadTo : State → List Line → State → Type 0
-LinesLeadTo s [] last = last ≡ s
-LinesLeadTo s (line ∷ lines) last = (asked : Command) × SpellsCommand asked line × LinesLeadTo (brief_reply s asked).1 lines last
+abbrev pub LinesLeadToState : State → List Line → State → Type 0
+LinesLeadToState s [] last = last ≡ s
+LinesLeadToState s (line ∷ lines) last = (asked : Command) × SpellsCommand asked line × LinesLeadToState (brief_reply s asked).1 lines last

@@ -14,16 +14,16 @@ form_of_command word [] = None
 form_of_command word (row ∷ more) = if pointwise nat_eq row.name word then Some row.form else form_of_command word more
 
 -- the form of the first command that has nearly this name
-unfoldable pub near_form_in : Line → List CommandForm → Option Text
-near_form_in word [] = None
-near_form_in word (row ∷ more) = if is_within_one_edit word row.name then Some row.form else near_form_in word more
+unfoldable pub form_of_similar_command : Line → List CommandForm → Option Text
+form_of_similar_command word [] = None
+form_of_similar_command word (row ∷ more) = if is_within_one_edit word row.name then Some row.form else form_of_similar_command word more
 
 abbrev pub form_or_default : Option Text → Text → Text
 form_or_default None other = other
 form_or_default (Some form) other = form
 
 abbrev pub suggested_form : Line → Text
-suggested_form word = form_or_default (form_of_command word command_table) (form_or_default (near_form_in word command_table) (codes "help"))
+suggested_form word = form_or_default (form_of_command word command_table) (form_or_default (form_of_similar_command word command_table) (codes "help"))
 
 -- the word with which a line begins
 abbrev pub command_word : Option (Line × Line) → Line → Line
@@ -38,8 +38,8 @@ abbrev pub ends_with_carriage_return : Line → Bool
 ends_with_carriage_return line = ends_with nat_eq line (13 ∷ [])
 
 -- the line begins or ends with a blank or a tab
-abbrev pub has_blank_end : Line → Bool
-has_blank_end line = starts_with nat_eq line (32 ∷ []) || (starts_with nat_eq line (9 ∷ []) || (ends_with nat_eq line (32 ∷ []) || ends_with nat_eq line (9 ∷ [])))
+abbrev pub has_leading_or_trailing_blank : Line → Bool
+has_leading_or_trailing_blank line = starts_with nat_eq line (32 ∷ []) || (starts_with nat_eq line (9 ∷ []) || (ends_with nat_eq line (32 ∷ []) || ends_with nat_eq line (9 ∷ [])))
 
 -- A letter is in upper case.
 unfoldable pub is_upper : Line → Bool
@@ -47,13 +47,13 @@ is_upper [] = false
 is_upper (letter ∷ more) = (nat_le 65 letter && nat_le letter 90) || is_upper more
 
 -- what to write in place of the line
-abbrev pub suggestion : Line → Text
-suggestion line =
+abbrev pub command_suggestion : Line → Text
+command_suggestion line =
     if begins_with_byte_order_mark line then codes "a byte order mark stands before the command; leave it out"
     else if ends_with_carriage_return line then codes "a carriage return ends the line; end it with a line feed alone"
-    else if has_blank_end line then codes "a blank stands at an end of the line; leave it out"
+    else if has_leading_or_trailing_blank line then codes "a blank stands at an end of the line; leave it out"
     else if is_upper (command_word (split_at_space line) line) then codes "the command is in upper case; write it in lower case"
     else suggested_form (command_word (split_at_space line) line)
 
 abbrev pub unknown_command_text : Line → Text
-unknown_command_text line = codes "no 31 syntax: " ++ suggestion line ++ codes "\n"
+unknown_command_text line = codes "no 31 syntax: " ++ command_suggestion line ++ codes "\n"

@@ -8,7 +8,7 @@ use Rattle.ga_node.specs.Record.{NodeState}
 use Rattle.ga_grid.specs.Chip.{records_of}
 use Rattle.ga_text.specs.Lines.{Bytes, Text, lines_of}
 use Rattle.ga_image.specs.FirstFault.{memory_fault}
-use Rattle.ga_image.specs.Given.{ranges_of, image_ranges}
+use Rattle.ga_image.specs.Given.{ranges_of_given_words, image_ranges}
 use Rattle.ga_image.specs.declared.fault.ImageFault.{ImageFault}
 use Rattle.ga_source.specs.declared.program.Program.{Program}
 use Rattle.ga_source.specs.Programs.{IsAssembledChip, ArePlainProgramsOfSource, AreProgramsOfSource}
@@ -51,7 +51,7 @@ pub record OpensSource (source : Text) (limit : ℕ) (begun : ExplorerState) : T
 
 -- the words that an image gives are known, in format 2 all
 abbrev pub HasImageWords : Text → DebugInfo → Type 0
-HasImageWords image notes = ranges_of notes.given ≡ image_ranges (lines_of image)
+HasImageWords image notes = ranges_of_given_words notes.given ≡ image_ranges (lines_of image)
 
 -- The machine has the chip of an image as its load. Known is which words the image gives, and nothing of its cells; and nothing is
 -- expected of it.
@@ -82,7 +82,7 @@ pub record IsDebugInfoOf (source : Text) (notes : DebugInfo) : Type 0 where
 
 -- The machine has as its load the chip of an image, which gives the words, and the notes are those of the source, whatever that
 -- chip holds.
-pub record OpensOnImage (source image : Text) (limit : ℕ) (begun : ExplorerState) : Type 0 where
+pub record OpensSourceOnImage (source image : Text) (limit : ℕ) (begun : ExplorerState) : Type 0 where
   pub notes : DebugInfo
   pub opens : OpensImage image limit begun.lab
   pub noted : begun.notes ≡ Some notes
@@ -94,9 +94,9 @@ abbrev pub image_text_of : Option (Vec ℕ Global) → Option Text
 image_text_of chip = option_map (λ (image : Vec ℕ Global). image.items) chip
 
 -- what is opened on a text: where an image is given for the chip, the text is its source
-abbrev pub OpensLeadingText : Option Text → Text → ℕ → ExplorerState → Type 0
-OpensLeadingText None text limit begun = OpensExplorer text limit begun
-OpensLeadingText (Some image) text limit begun = OpensOnImage text image limit begun
+abbrev pub OpensTextBeforeCommands : Option Text → Text → ℕ → ExplorerState → Type 0
+OpensTextBeforeCommands None text limit begun = OpensExplorer text limit begun
+OpensTextBeforeCommands (Some image) text limit begun = OpensSourceOnImage text image limit begun
 
 -- the text is read as an image: never where another image is given for the chip
 abbrev pub is_read_as_image : Option Text → Text → Bool
@@ -104,11 +104,11 @@ is_read_as_image None text = begins_as_image text
 is_read_as_image (Some image) text = false
 
 -- The text extends to its first line `end`; or no such line was read, and nothing is left after it.
-abbrev pub IsLeadingText : Text → Bytes → Type 0
-IsLeadingText text behind = EndsWithEndLine text ⊎ ((behind ≡ []) × HasNoEndLine text)
+abbrev pub IsTextBeforeCommands : Text → Bytes → Type 0
+IsTextBeforeCommands text behind = EndsWithEndLine text ⊎ ((behind ≡ []) × HasNoEndLine text)
 
 -- Source was read, and nothing after it.
-pub record IsSourceAlone (chip : Option Text) (read rest : Bytes) : Type 0 where
+pub record IsSourceWithoutCommands (chip : Option Text) (read rest : Bytes) : Type 0 where
   pub source : Text
   pub ahead : Bytes
   pub splits : read ≡ source ++ ahead
@@ -118,7 +118,7 @@ pub record IsSourceAlone (chip : Option Text) (read rest : Bytes) : Type 0 where
 -- The image that was read has this first fault, and nothing was read after it; or the one that gives the chip has.
 abbrev pub IsFaultyImage : Option Text → Bytes → Bytes → ImageFault → Type 0
 IsFaultyImage None read rest fault = (faulty : IsFaultyImageInput read rest fault) × (begins_as_image faulty.image ≡ true)
-IsFaultyImage (Some image) read rest fault = IsSourceAlone (Some image) read rest × IsFaultOfImage image fault
+IsFaultyImage (Some image) read rest fault = IsSourceWithoutCommands (Some image) read rest × IsFaultOfImage image fault
 
 -- an image was refused with its first fault; or memory was wanting before
 abbrev pub IsRefusedImage : Option Text → Bytes → Bytes → ImageFault → Type 0
@@ -128,12 +128,12 @@ IsRefusedImage chip read rest fault = (fault ≡ memory_fault) ⊎ IsFaultyImage
 pub data IsUnopenedSession (chip : Option Text) (read rest : Bytes) (written : Text) (status : Status) : Type 0 where
   image_refused : (fault : ImageFault) → IsRefusedImage chip read rest fault → WritesImageRefusal fault written status → IsUnopenedSession chip read rest written status
   -- standard error has the reason
-  source_refused : IsSourceAlone chip read rest → written ≡ [] → status ≡ ImageRefused → IsUnopenedSession chip read rest written status
+  source_refused : IsSourceWithoutCommands chip read rest → written ≡ [] → status ≡ ImageRefused → IsUnopenedSession chip read rest written status
   -- a read failed in the image or source
   unread : HasNoEndLine read → written ≡ [] → status ≡ StreamFault → IsUnopenedSession chip read rest written status
 
 -- A text was taken of what was left to read, and a machine opened on it; or no session begins.
 abbrev pub IsSessionOpened : Option Text → ℕ → Bytes → UnreadInput → Bytes → Text → Result ExplorerState Status → Type 0
 IsSessionOpened chip limit left input rest written (Ok begun) = (written ≡ []) × (text : Text) × (left ≡ text ++ (input.bytes ++ rest))
-    × (input.taken ≡ length text) × IsLeadingText text (input.bytes ++ rest) × OpensLeadingText chip text limit begun
+    × (input.taken ≡ length text) × IsTextBeforeCommands text (input.bytes ++ rest) × OpensTextBeforeCommands chip text limit begun
 IsSessionOpened chip limit left input rest written (Err status) = (read : Bytes) × (left ≡ read ++ rest) × IsUnopenedSession chip read rest written status

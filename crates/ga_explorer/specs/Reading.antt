@@ -9,7 +9,7 @@ use Rattle.ga_console.specs.declared.step_selector.StepSelector.{StepSelector}
 use Rattle.ga_console.specs.Selectors.{parse_step_selector}
 use Rattle.ga_scheduler.specs.declared.value_test.NodeValue.{NodeValue}
 use Rattle.ga_scheduler.specs.declared.value_test.NodeValue.TheVariants as value
-use Rattle.ga_conditions.specs.Tests.{named_value_in}
+use Rattle.ga_conditions.specs.Tests.{parsed_node_value}
 use Rattle.ga_event.specs.declared.flow.part.NodePart.{NodePart}
 use Rattle.ga_event.specs.declared.flow.part.NodePart.TheVariants as part
 use Rattle.ga_ports.specs.Steps.{◌>>=◌}
@@ -17,7 +17,7 @@ use Rattle.ga_text.specs.Digits.{hex_byte_value}
 use Rattle.ga_scheduler.specs.Schedules.{round_robin, greedy, random}
 use Rattle.ga_scheduler.specs.declared.schedule.Schedule.{Schedule}
 use Rattle.ga_debug_info.specs.declared.notes.DebugInfo.{DebugInfo}
-use Rattle.ga_conditions.specs.Conditions.{conditions_in, until_in, no_conditions}
+use Rattle.ga_conditions.specs.Conditions.{parsed_run_conditions, parsed_until, no_conditions}
 use Rattle.ga_explorer.specs.declared.commands.ExplorerCommand.{ExplorerCommand}
 use Rattle.ga_explorer.specs.declared.commands.ExplorerCommand.TheVariants.{Run, BackUntil}
 
@@ -42,7 +42,7 @@ value_with_part value.Step = None
 value_with_part other = Some other
 
 abbrev pub parse_part_value : Line → Option NodeValue
-parse_part_value word = option_and_then value_with_part (named_value_in word)
+parse_part_value word = option_and_then value_with_part (parsed_node_value word)
 
 -- how many events are made at most where no number is given
 abbrev pub max_run_events : ℕ
@@ -51,7 +51,7 @@ max_run_events = 4294967295
 -- ---- `run`
 
 abbrev pub run_until : Option DebugInfo → Schedule → ℕ → Line → Option ExplorerCommand
-run_until notes schedule most text = option_map (Run schedule most) (conditions_in notes text)
+run_until notes schedule most text = option_map (Run schedule most) (parsed_run_conditions notes text)
 
 -- `until COND`, or a number and `until COND`
 unfoldable pub run_bounds_of_words : Option DebugInfo → Schedule → Line → Line → Option ExplorerCommand
@@ -59,7 +59,7 @@ run_bounds_of_words notes schedule name text =
     if pointwise nat_eq name (codes "until") then run_until notes schedule max_run_events text
     else (do
       most ← parse_number name
-      until ← until_in notes text
+      until ← parsed_until notes text
       Some (Run schedule most until))
 
 abbrev pub run_bounds_of_parts : Option DebugInfo → Option (Line × Line) → Schedule → Line → Option ExplorerCommand
@@ -102,7 +102,7 @@ parse_run_arguments notes text = run_command_of_parts notes (split_at_space text
 -- ---- `back until`
 
 abbrev pub back_until_command : Option DebugInfo → Line → Option ExplorerCommand
-back_until_command notes text = option_map (BackUntil None) (conditions_in notes text)
+back_until_command notes text = option_map (BackUntil None) (parsed_run_conditions notes text)
 
 -- `until COND or COND ..`, or a node before it
 unfoldable pub back_command_of_words : Option DebugInfo → Line → Line → Option ExplorerCommand
@@ -110,7 +110,7 @@ back_command_of_words notes name text =
     if pointwise nat_eq name (codes "until") then back_until_command notes text
     else (do
       node ← parse_node name
-      until ← until_in notes text
+      until ← parsed_until notes text
       Some (BackUntil (Some node) until))
 
 -- the arguments of `back`
@@ -122,8 +122,8 @@ parse_back_arguments notes text = do
 -- ---- the arguments of a command
 
 -- `NNN K`
-unfoldable pub node_and_step : Line → Option (NodeId × StepSelector)
-node_and_step text = do
+unfoldable pub parse_node_and_step : Line → Option (NodeId × StepSelector)
+parse_node_and_step text = do
   parts ← split_at_space text
   node ← parse_node parts.0
   which ← parse_step_selector parts.1
@@ -133,11 +133,11 @@ node_and_step text = do
 abbrev pub line_number : Line → Option ℕ
 line_number text = option_and_then (λ number. if number == 0 then None else Some number) (parse_number text)
 
-abbrev pub line_number_after : Line × Line → Option ℕ
-line_number_after parts = if pointwise nat_eq parts.0 (codes "from") then line_number parts.1 else None
+abbrev pub parse_line_number_after_from : Line × Line → Option ℕ
+parse_line_number_after_from parts = if pointwise nat_eq parts.0 (codes "from") then line_number parts.1 else None
 
-abbrev pub from_line : Line → Option ℕ
-from_line text = option_and_then line_number_after (split_at_space text)
+abbrev pub parse_from_line_number : Line → Option ℕ
+parse_from_line_number text = option_and_then parse_line_number_after_from (split_at_space text)
 
 -- `VALUE`, `from L` or `VALUE from L`: a value, and the number of the first line
 abbrev pub value_and_line_of_parts : Option (Line × Line) → Line → Option (Option NodeValue × ℕ)
@@ -148,42 +148,42 @@ value_and_line_of_parts (Some parts) text =
       Some (None, line))
     else (do
       value ← parse_part_value parts.0
-      line ← from_line parts.1
+      line ← parse_from_line_number parts.1
       Some (Some value, line))
 
-abbrev pub value_and_line : Line → Option (Option NodeValue × ℕ)
-value_and_line text = value_and_line_of_parts (split_at_space text) text
+abbrev pub parse_value_and_line : Line → Option (Option NodeValue × ℕ)
+parse_value_and_line text = value_and_line_of_parts (split_at_space text) text
 
 -- `K [VALUE] [from L]`
 abbrev pub step_and_value_of_parts : Option (Line × Line) → Line → Option (StepSelector × Option NodeValue × ℕ)
 step_and_value_of_parts None text = option_map (λ which. (which, None, 1)) (parse_step_selector text)
 step_and_value_of_parts (Some parts) text = do
   which ← parse_step_selector parts.0
-  asked ← value_and_line parts.1
+  asked ← parse_value_and_line parts.1
   Some (which, asked.0, asked.1)
 
-abbrev pub step_and_value : Line → Option (StepSelector × Option NodeValue × ℕ)
-step_and_value text = step_and_value_of_parts (split_at_space text) text
+abbrev pub parse_step_and_value : Line → Option (StepSelector × Option NodeValue × ℕ)
+parse_step_and_value text = step_and_value_of_parts (split_at_space text) text
 
 -- `NNN K [VALUE] [from L]`
-unfoldable pub node_and_value : Line → Option (NodeId × StepSelector × Option NodeValue × ℕ)
-node_and_value text = do
+unfoldable pub parse_node_and_value : Line → Option (NodeId × StepSelector × Option NodeValue × ℕ)
+parse_node_and_value text = do
   parts ← split_at_space text
   node ← parse_node parts.0
-  asked ← step_and_value parts.1
+  asked ← parse_step_and_value parts.1
   Some (node, asked.0, asked.1, asked.2)
 
 -- `NNN MMM`
-unfoldable pub two_nodes : Line → Option (NodeId × NodeId)
-two_nodes text = do
+unfoldable pub parse_two_nodes : Line → Option (NodeId × NodeId)
+parse_two_nodes text = do
   parts ← split_at_space text
   first ← parse_node parts.0
   second ← parse_node parts.1
   Some (first, second)
 
 -- `NNN HH`
-unfoldable pub node_and_cell : Line → Option (NodeId × ℕ)
-node_and_cell text = do
+unfoldable pub parse_node_and_cell : Line → Option (NodeId × ℕ)
+parse_node_and_cell text = do
   parts ← split_at_space text
   node ← parse_node parts.0
   address ← hex_byte_value parts.1
@@ -211,8 +211,8 @@ abbrev pub parse_step_and_count : Line → Option (StepSelector × ℕ)
 parse_step_and_count text = step_and_count_of_parts (split_at_space text) text
 
 -- `NNN K` or `NNN K N`
-unfoldable pub node_and_steps : Line → Option (NodeId × StepSelector × ℕ)
-node_and_steps text = do
+unfoldable pub parse_node_and_steps : Line → Option (NodeId × StepSelector × ℕ)
+parse_node_and_steps text = do
   parts ← split_at_space text
   node ← parse_node parts.0
   asked ← parse_step_and_count parts.1

@@ -4,14 +4,14 @@ use Rattle.std.specs.List.{starts_with}
 use Rattle.ga_text.specs.Lines.{Bytes, Text}
 use Rattle.ga_text.specs.Input.{input_limit}
 use Rattle.ga_text.specs.Output.{ready}
-use Rattle.ga_console.specs.Run.{status_of}
-use Rattle.ga_console.specs.Session.{AnswerRelation, ServesCommands, IsWrittenOrPrefix}
+use Rattle.ga_console.specs.Run.{status_of_commands_end}
+use Rattle.ga_console.specs.Session.{AnswerRelation, ServesCommands, IsWholeOrPrefixOnWriteError}
 use Rattle.ga_console.specs.declared.commands.CommandsEnd.{CommandsEnd}
 use Rattle.ga_console.specs.declared.commands.CommandsEnd.TheVariants.{Ended, Quit, Refused, Past, ReadFailed}
 use Rattle.ga_text.specs.declared.output.WriteError.{WriteError}
 use Rattle.ga_console.specs.declared.run.Status.{Status}
 use Rattle.ga_console.specs.declared.run.Status.TheVariants.{StreamFault, CommandRefused}
-use Rattle.ga_explorer.specs.Opening.{ExplorerState, OpensLeadingText, IsLeadingText, IsUnopenedSession}
+use Rattle.ga_explorer.specs.Opening.{ExplorerState, OpensTextBeforeCommands, IsTextBeforeCommands, IsUnopenedSession}
 use Rattle.ga_explorer.specs.Answers.{AnswersExplorerLine}
 
 -- ---- a session that ends at its first refused command, if it is strict
@@ -21,12 +21,12 @@ abbrev pub is_refusal : Text → Bool
 is_refusal answer = starts_with nat_eq answer (codes "no ")
 
 -- the line is answered, and the session goes on
-abbrev pub AnswersOn : Bool → AnswerRelation ExplorerState
-AnswersOn strict e line answer new = AnswersExplorerLine e line answer new × ((strict && is_refusal answer) ≡ false)
+abbrev pub AnswersAndContinues : Bool → AnswerRelation ExplorerState
+AnswersAndContinues strict e line answer new = AnswersExplorerLine e line answer new × ((strict && is_refusal answer) ≡ false)
 
 -- the line is refused, and so the session ends
-abbrev pub AnswersLast : Bool → AnswerRelation ExplorerState
-AnswersLast strict e line answer new = AnswersExplorerLine e line answer new × ((strict && is_refusal answer) ≡ true)
+abbrev pub AnswersAndEndsSession : Bool → AnswerRelation ExplorerState
+AnswersAndEndsSession strict e line answer new = AnswersExplorerLine e line answer new × ((strict && is_refusal answer) ≡ true)
 
 -- a line past the bound of the input is refused, too
 abbrev pub status_past_limit : Bool → Status
@@ -34,12 +34,12 @@ status_past_limit true = CommandRefused
 status_past_limit false = StreamFault
 
 abbrev pub session_status : Bool → Result CommandsEnd WriteError → Status
-session_status strict (Ok Ended) = status_of (Ok Ended)
-session_status strict (Ok Quit) = status_of (Ok Quit)
-session_status strict (Ok (Refused number)) = status_of (Ok (Refused number))
+session_status strict (Ok Ended) = status_of_commands_end (Ok Ended)
+session_status strict (Ok Quit) = status_of_commands_end (Ok Quit)
+session_status strict (Ok (Refused number)) = status_of_commands_end (Ok (Refused number))
 session_status strict (Ok (Past number)) = status_past_limit strict
-session_status strict (Ok ReadFailed) = status_of (Ok ReadFailed)
-session_status strict (Err failed) = status_of (Err failed)
+session_status strict (Ok ReadFailed) = status_of_commands_end (Ok ReadFailed)
+session_status strict (Err failed) = status_of_commands_end (Err failed)
 
 -- ---- a session that may prompt for commands
 
@@ -50,8 +50,8 @@ prompt false = []
 
 -- What is written for a line after which the session goes on: its answer, and the prompt of the next command.
 abbrev pub AnswersWithPrompt : Bool → Bool → AnswerRelation ExplorerState
-AnswersWithPrompt true strict e line written new = (answer : Text) × AnswersOn strict e line answer new × (written ≡ answer ++ prompt true)
-AnswersWithPrompt false strict e line written new = AnswersOn strict e line written new
+AnswersWithPrompt true strict e line written new = (answer : Text) × AnswersAndContinues strict e line answer new × (written ≡ answer ++ prompt true)
+AnswersWithPrompt false strict e line written new = AnswersAndContinues strict e line written new
 
 -- The text, an image or source, was accepted, and so was the image that gives its chip, if there is one; and the commands after
 -- it were served to this ending.
@@ -61,11 +61,11 @@ pub record IsServedExplorerSession (prompts strict : Bool) (chip : Option Text) 
   pub begun : ExplorerState
   pub said : Text
   pub splits : read ≡ text ++ commands
-  pub front : IsLeadingText text (commands ++ rest)
-  pub opens : OpensLeadingText chip text limit begun
+  pub front : IsTextBeforeCommands text (commands ++ rest)
+  pub opens : OpensTextBeforeCommands chip text limit begun
   pub last : ExplorerState
-  pub serves : ServesCommands (AnswersWithPrompt prompts strict) (AnswersLast strict) (input_limit - length text) begun commands rest said last ending
-  pub out : IsWrittenOrPrefix ending (ready ++ (prompt prompts ++ said)) written
+  pub serves : ServesCommands (AnswersWithPrompt prompts strict) (AnswersAndEndsSession strict) (input_limit - length text) begun commands rest said last ending
+  pub out : IsWholeOrPrefixOnWriteError ending (ready ++ (prompt prompts ++ said)) written
 
 -- What a session may have written, where read was read of its input and rest is left of it, and its status.
 pub data RunsExplorer (prompts strict : Bool) (chip : Option Text) (limit : ℕ) (read rest : Bytes) (written : Text) (status : Status) : Type 0 where

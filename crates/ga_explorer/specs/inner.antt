@@ -2,7 +2,7 @@
 use Rattle.std.specs.Prelude.{codes, decimal, ◌++◌, if◌then◌else◌, take, Bool, Option, Some, None, ◌≡◌, ℕ, true, false, [], Result, Ok, Err}
 use Rattle.ga_lab.specs.Machine.{State}
 use Rattle.ga_debug_info.specs.declared.notes.DebugInfo.{DebugInfo}
-use Rattle.ga_explorer.specs.Opening.{ExplorerState, begins_as_image, is_read_as_image, OpensLeadingText}
+use Rattle.ga_explorer.specs.Opening.{ExplorerState, begins_as_image, is_read_as_image, OpensTextBeforeCommands}
 use Rattle.ga_explorer.specs.Forms.{CommandForm}
 use Rattle.ga_explorer.specs.declared.forms.Row.{Row}
 use Rattle.ga_text.specs.Lines.{Text, Line, Bytes}
@@ -12,11 +12,11 @@ use Rattle.ga_console.specs.declared.run.Status.{Status}
 use Rattle.ga_console.specs.declared.run.Status.TheVariants.{ImageRefused}
 use Rattle.ga_explorer.specs.declared.opening.OpenError.{OpenError}
 use Rattle.ga_explorer.specs.declared.opening.OpenError.TheVariants.{Image, Source}
-use Rattle.ga_text.specs.Output.{WritesSome}
+use Rattle.ga_text.specs.Output.{WritesSomeText}
 use Rattle.ga_text.specs.declared.output.Writer.{Writer}
 use Rattle.ga_text.specs.declared.output.WriteError.{WriteError}
 use Rattle.ga_explorer.specs.Commands.{AnswersQuery}
-use Rattle.ga_explorer.specs.Session.{AnswersWithPrompt, AnswersOn, AnswersLast, is_refusal}
+use Rattle.ga_explorer.specs.Session.{AnswersWithPrompt, AnswersAndContinues, AnswersAndEndsSession, is_refusal}
 use Rattle.ga_console.specs.declared.responder.LineAction.{LineAction}
 use Rattle.ga_console.specs.declared.responder.LineAction.TheVariants as turn
 use Rattle.ga_explorer.specs.declared.commands.Query.{Query}
@@ -50,7 +50,7 @@ Declines Source written status = (written ≡ []) × (status ≡ ImageRefused)
 
 -- a machine was opened on the text, or that was declined
 abbrev pub IsOpened : Option Text → ℕ → Text → Text → Result ExplorerState Status → Type 0
-IsOpened chip limit text written (Ok begun) = (written ≡ []) × OpensLeadingText chip text limit begun
+IsOpened chip limit text written (Ok begun) = (written ≡ []) × OpensTextBeforeCommands chip text limit begun
 IsOpened chip limit text written (Err status) = (why : OpenError) × IsUnopened chip text why × Declines why written status
 
 -- ---- the answer of a query, and what is written
@@ -59,15 +59,15 @@ IsOpened chip limit text written (Err status) = (why : OpenError) × IsUnopened 
 pub record IsTold {W : Type 0} (result : Result (Unit {0}) WriteError) (e : ExplorerState) (asked : Query) (contents : W → Option Bytes) (old new : Writer W) : Type 0 where
   pub meant : Query
   pub is : asked ≡ meant
-  pub said : WritesSome result (AnswersQuery e meant) contents old new
+  pub said : WritesSomeText result (AnswersQuery e meant) contents old new
 
 -- ---- A session that may end at its first refused command, by what its machine has
 
 abbrev pub GoesOnFor : Bool → ExplorerState → Line → Text → Bool → ExplorerState → Type 0
-GoesOnFor strict e line answer strict_on new = AnswersOn strict e line answer new × (strict_on ≡ strict)
+GoesOnFor strict e line answer strict_on new = AnswersAndContinues strict e line answer new × (strict_on ≡ strict)
 
 abbrev pub EndsFor : Bool → ExplorerState → Line → Text → Bool → ExplorerState → Type 0
-EndsFor strict e line answer strict_on new = AnswersLast strict e line answer new × (strict_on ≡ strict)
+EndsFor strict e line answer strict_on new = AnswersAndEndsSession strict e line answer new × (strict_on ≡ strict)
 
 -- what a strict session does after an answer
 abbrev pub turn_after : Text → LineAction
@@ -90,4 +90,4 @@ PromptsFor prompts strict e line written prompts_on strict_on new =
     AnswersWithPrompt prompts strict e line written new × (strict_on ≡ strict) × (prompts_on ≡ prompts)
 
 abbrev pub EndsPrompting : Bool → Bool → ExplorerState → Line → Text → Bool → Bool → ExplorerState → Type 0
-EndsPrompting prompts strict e line answer prompts_on strict_on new = AnswersLast strict e line answer new × (strict_on ≡ strict) × (prompts_on ≡ prompts)
+EndsPrompting prompts strict e line answer prompts_on strict_on new = AnswersAndEndsSession strict e line answer new × (strict_on ≡ strict) × (prompts_on ≡ prompts)

@@ -7,7 +7,7 @@ ghost use Rattle.ga_explorer.specs.inner.{IsOpened};
 
 use crate::explorer::Explorer;
 use crate::opening::{NO_MEMORY, OpenError, is_read_as_image, open_text};
-use ga_console::{Status, refuse};
+use ga_console::{Status, write_image_refusal};
 use ga_debug_info::report_input_too_long;
 use ga_text::{ImageEnd, Input, read_image};
 use std::alloc::Global;
@@ -37,7 +37,7 @@ pub fn open_lab<R: Read, W: Write, E: Write>(
 {
     let mut text = Vec::new(alloc);
     match read_image(input, reader, &mut text) {
-        Err(_) => Err(refuse(writer, NO_MEMORY)),
+        Err(_) => Err(write_image_refusal(writer, NO_MEMORY)),
         Ok(ImageEnd::Failed) => Err(Status::StreamFault),
         Ok(ImageEnd::Past) => {
             // No image that is accepted is so long.
@@ -66,7 +66,7 @@ fn open_or_refuse<W: Write, E: Write>(
 {
     match open_text(alloc, errors, text, chip, limit) {
         Ok(begun) => Ok(begun),
-        Err(OpenError::Image(fault)) => Err(refuse(writer, fault)),
+        Err(OpenError::Image(fault)) => Err(write_image_refusal(writer, fault)),
         Err(OpenError::Source) => Err(Status::ImageRefused),
     }
 }

@@ -6,7 +6,10 @@ ghost use Rattle.ga_explorer.specs.Reading.{part_of_node_value};
 ghost use Rattle.ga_explorer.specs.Commands.{command_of_line, single_word_command, bare_query, command_with_arguments, query_with_arguments};
 ghost use Rattle.ga_explorer.specs.inner.{explorer_state, IsTold};
 
-use crate::arguments::{node_and_cell, node_and_step, node_and_steps, node_and_value, two_nodes};
+use crate::arguments::{
+    parse_node_and_cell, parse_node_and_step, parse_node_and_steps, parse_node_and_value,
+    parse_two_nodes,
+};
 use crate::back_request::parse_back;
 use crate::forms::{place_of, say_command, say_help};
 use crate::named_value::part_of_node_value;
@@ -16,8 +19,8 @@ use ga_console::StepSelector;
 use ga_debug_info::DebugInfo;
 use ga_event::NodePart;
 use ga_explorer_text::{
-    chip_overview, write_because, write_effects, write_races, write_save, write_steps_around,
-    write_whence, write_who, write_words, write_writes,
+    chip_overview, write_because, write_cell_writes, write_effects, write_link_words, write_races,
+    write_save, write_steps_around, write_whence, write_who,
 };
 use ga_grid::NodeId;
 use ga_lab::Lab;
@@ -163,19 +166,19 @@ fn query_with_arguments(name: &[u8], arguments: &[u8]) -> Option<Query>
     ensures { result ≡ query_with_arguments name.now arguments.now }
 {
     if name == b"effects".as_slice() {
-        let (node, which) = node_and_step(arguments)?;
+        let (node, which) = parse_node_and_step(arguments)?;
         Some(Query::Effects { node, which })
     } else if name == b"words".as_slice() {
-        let (from, to) = two_nodes(arguments)?;
+        let (from, to) = parse_two_nodes(arguments)?;
         Some(Query::Words { from, to })
     } else if name == b"writes".as_slice() {
-        let (node, address) = node_and_cell(arguments)?;
+        let (node, address) = parse_node_and_cell(arguments)?;
         Some(Query::Writes { node, address })
     } else if name == b"at".as_slice() {
-        let (node, which, most) = node_and_steps(arguments)?;
+        let (node, which, most) = parse_node_and_steps(arguments)?;
         Some(Query::At { node, which, most })
     } else if name == b"whence".as_slice() {
-        let (node, which, value, first) = node_and_value(arguments)?;
+        let (node, which, value, first) = parse_node_and_value(arguments)?;
         Some(Query::Whence {
             node,
             which,
@@ -183,7 +186,7 @@ fn query_with_arguments(name: &[u8], arguments: &[u8]) -> Option<Query>
             first,
         })
     } else if name == b"because".as_slice() {
-        let (node, which, most) = node_and_steps(arguments)?;
+        let (node, which, most) = parse_node_and_steps(arguments)?;
         Some(Query::Because { node, which, most })
     } else if name == b"races".as_slice() {
         let node = parse_node(arguments)?;
@@ -214,8 +217,8 @@ pub(crate) fn answer_query<W: Write>(
             let step = which.resolve(lab, node);
             write_effects(alloc, lab, notes, node, step, writer)
         }
-        Query::Words { from, to } => write_words(lab, from, to, writer),
-        Query::Writes { node, address } => write_writes(lab, node, address, writer),
+        Query::Words { from, to } => write_link_words(lab, from, to, writer),
+        Query::Writes { node, address } => write_cell_writes(lab, node, address, writer),
         Query::At { node, which, most } => {
             let step = which.resolve(lab, node);
             write_steps_around(lab, notes, node, step, most, writer)

@@ -1,7 +1,7 @@
 //! What answers the lines of a session of exploring.
 
 ghost use Rattle.std.specs.Prelude.{◌≡◌, ◌≤◌, length, Some, None, IfSome, IfNone, IsTrue, false};
-ghost use Rattle.ga_text.specs.Output.{WritesSome};
+ghost use Rattle.ga_text.specs.Output.{WritesSomeText};
 ghost use Rattle.ga_explorer.specs.Commands.{command_of_line, AnswersExplorerCommand};
 ghost use Rattle.ga_explorer.specs.inner.{explorer_state};
 ghost use Rattle.ga_explorer.specs.Answers.{AnswersLineOrQuits, AnswersOutsideExplorer, IsDebuggerLine, IsNoCommand};
@@ -13,7 +13,7 @@ use ga_console::{
     Command, LineAction, Responder, answer_in_wording, execute_in_wording, parse_debugger_command,
 };
 use ga_debug_info::DebugInfo;
-use ga_display::Wording;
+use ga_display::RefusalWording;
 use ga_image::LINE_LIMIT;
 use ga_lab::Lab;
 use ga_scheduler::{active_conditions, run_schedule};
@@ -106,7 +106,13 @@ impl Responder for Explorer {
         command: Command,
         writer: &mut Writer<'_, W>,
     ) -> Result<LineAction, WriteError> {
-        execute_in_wording(alloc, &mut self.lab, command, Wording::Advised, writer)?;
+        execute_in_wording(
+            alloc,
+            &mut self.lab,
+            command,
+            RefusalWording::Advised,
+            writer,
+        )?;
         Ok(LineAction::Answered)
     }
 }
@@ -122,7 +128,7 @@ pub fn answer_line<W: Write>(
     line: &[u8],
     writer: &mut Writer<'_, W>,
 ) -> Result<LineAction, WriteError>
-    ensures { WritesSome result (AnswersLineOrQuits (record { lab = lab.old; notes = notes.now }) line.now (record { lab = lab.new; notes = notes.now }) result)
+    ensures { WritesSomeText result (AnswersLineOrQuits (record { lab = lab.old; notes = notes.now }) line.now (record { lab = lab.new; notes = notes.now }) result)
         W.contents writer.old writer.new }
 {
     match asked_by(notes, line) {
@@ -145,7 +151,7 @@ fn explored<W: Write>(
     asked: ExplorerCommand,
     writer: &mut Writer<'_, W>,
 ) -> WriteResult
-    ensures { WritesSome result (λ text. AnswersExplorerCommand (explorer_state lab.old notes.now) asked text (explorer_state lab.new notes.now))
+    ensures { WritesSomeText result (λ text. AnswersExplorerCommand (explorer_state lab.old notes.now) asked text (explorer_state lab.new notes.now))
         W.contents writer.old writer.new }
 {
     match asked {
@@ -187,14 +193,14 @@ fn answer_other<W: Write>(
     line: &[u8],
     writer: &mut Writer<'_, W>,
 ) -> Result<LineAction, WriteError>
-    ensures { WritesSome result (AnswersOrQuits AnswersOutsideExplorer lab.old line.now lab.new result)
+    ensures { WritesSomeText result (AnswersOrQuits AnswersOutsideExplorer lab.old line.now lab.new result)
         W.contents writer.old writer.new }
 {
     if is_no_command(line) {
         write_syntax_error(line, writer)?;
         return Ok(LineAction::Answered);
     }
-    answer_in_wording(alloc, lab, line, Wording::Advised, writer)
+    answer_in_wording(alloc, lab, line, RefusalWording::Advised, writer)
 }
 
 /// Whether a line is not too long and spells no command of the debugger.

@@ -1,11 +1,11 @@
 //! What `help` answers, and the answer to a line that is no command.
 
 ghost use Rattle.std.specs.Prelude.{◌≡◌, ◌++◌, codes, map, option_map, option_copied, slice_get};
-ghost use Rattle.ga_text.specs.Output.{WritesSome, WritesExactly};
+ghost use Rattle.ga_text.specs.Output.{WritesSomeText, WritesExactly};
 ghost use Rattle.ga_explorer.specs.Forms.{form_row_text, form_rows_text, command_details_text, command_place_from};
 ghost use Rattle.ga_explorer.specs.Commands.{command_table, command_help_text, command_place};
-ghost use Rattle.ga_explorer.specs.NoCommand.{form_of_command, near_form_in, suggested_form, command_word, begins_with_byte_order_mark, ends_with_carriage_return, has_blank_end, is_upper, suggestion, unknown_command_text};
-ghost use Rattle.ga_explorer.specs.Classes.{class_of_line};
+ghost use Rattle.ga_explorer.specs.NoCommand.{form_of_command, form_of_similar_command, suggested_form, command_word, begins_with_byte_order_mark, ends_with_carriage_return, has_leading_or_trailing_blank, is_upper, command_suggestion, unknown_command_text};
+ghost use Rattle.ga_explorer.specs.Classes.{command_class_of_line};
 ghost use Rattle.ga_explorer.specs.inner.{entry_of};
 ghost use Rattle.ga_text.specs.Parsing.{split_at_space};
 
@@ -45,14 +45,14 @@ pub(crate) struct Row {
 /// # Errors
 /// A write failed.
 pub(crate) fn say_help<W: Write>(writer: &mut Writer<'_, W>) -> WriteResult
-    ensures { WritesSome result (λ text. text ≡ form_rows_text command_table)
+    ensures { WritesSomeText result (λ text. text ≡ form_rows_text command_table)
         W.contents writer.old writer.new }
 {
     say_rows(command_table(), writer)
 }
 
 fn say_rows<W: Write>(rows: &[Row], writer: &mut Writer<'_, W>) -> WriteResult
-    ensures { WritesSome result (λ text. text ≡ form_rows_text (map entry_of rows.now))
+    ensures { WritesSomeText result (λ text. text ≡ form_rows_text (map entry_of rows.now))
         W.contents writer.old writer.new }
 {
     'rows: for row in rows {
@@ -85,7 +85,7 @@ impl fmt::Display for QueryUsage {
 /// # Errors
 /// A write failed.
 pub(crate) fn say_command<W: Write>(place: usize, writer: &mut Writer<'_, W>) -> WriteResult
-    ensures { WritesSome result (λ text. text ≡ command_help_text place)
+    ensures { WritesSomeText result (λ text. text ≡ command_help_text place)
         W.contents writer.old writer.new }
 {
     match row_in(command_table(), place) {
@@ -130,8 +130,8 @@ pub(crate) fn row_in(rows: &'static [Row], place: usize) -> Option<&'static Row>
 }
 
 /// The class of the command whose name a line begins with; none if that is no command.
-pub fn class_of_line(line: &[u8]) -> Option<CommandClass>
-    ensures { result ≡ class_of_line line.now }
+pub fn command_class_of_line(line: &[u8]) -> Option<CommandClass>
+    ensures { result ≡ command_class_of_line line.now }
 {
     match place_of(command_word(line)) {
         Some(place) => class_at(place),
@@ -164,7 +164,7 @@ fn command_word(line: &[u8]) -> &[u8]
 /// # Errors
 /// A write failed.
 pub(crate) fn write_syntax_error<W: Write>(line: &[u8], writer: &mut Writer<'_, W>) -> WriteResult
-    ensures { WritesSome result (λ text. text ≡ unknown_command_text line.now)
+    ensures { WritesSomeText result (λ text. text ≡ unknown_command_text line.now)
         W.contents writer.old writer.new }
 {
     writer.write_text(b"no 31 syntax: ")?;
@@ -173,15 +173,15 @@ pub(crate) fn write_syntax_error<W: Write>(line: &[u8], writer: &mut Writer<'_, 
 
 /// Says what to write in place of a line that is no command.
 fn say_cure<W: Write>(line: &[u8], writer: &mut Writer<'_, W>) -> WriteResult
-    ensures { WritesExactly result ((suggestion line.now ++ codes "\n")) W.contents writer.old writer.new }
+    ensures { WritesExactly result ((command_suggestion line.now ++ codes "\n")) W.contents writer.old writer.new }
 {
-    writer.write_blocks(suggestion(line))?;
+    writer.write_blocks(command_suggestion(line))?;
     writer.write_text(b"\n")
 }
 
 /// What to write in place of a line that is no command.
-pub fn suggestion(line: &[u8]) -> &'static [u8]
-    ensures { result.now ≡ suggestion line.now }
+pub fn command_suggestion(line: &[u8]) -> &'static [u8]
+    ensures { result.now ≡ command_suggestion line.now }
 {
     let word = command_word(line);
     if begins_with_byte_order_mark(line) {
@@ -213,7 +213,7 @@ fn ends_with_carriage_return(line: &[u8]) -> bool
 
 /// Whether a line begins or ends with a blank or a tab.
 fn is_blank(line: &[u8]) -> bool
-    ensures { result ≡ has_blank_end line.now }
+    ensures { result ≡ has_leading_or_trailing_blank line.now }
 {
     line.starts_with(b" ".as_slice())
         || line.starts_with(b"\t".as_slice())
@@ -240,7 +240,7 @@ fn suggested_form(word: &[u8]) -> &'static [u8]
 {
     match form_in(command_table(), word) {
         Some(form) => form,
-        None => match near_form_in(command_table(), word) {
+        None => match form_of_similar_command(command_table(), word) {
             Some(form) => form,
             None => b"help",
         },
@@ -261,9 +261,9 @@ fn form_in(rows: &'static [Row], word: &[u8]) -> Option<&'static [u8]>
 }
 
 /// The form of the first command whose name is this word but for one letter.
-#[tactic(auto, using(crate::proofs::Finding::near_here, crate::proofs::Finding::near_behind, std::proofs::lemmas::List::drop_all), unfolding(crate::specs::NoCommand::near_form_in))]
-fn near_form_in(rows: &'static [Row], word: &[u8]) -> Option<&'static [u8]>
-    ensures { option_map (λ form. form.now) result ≡ near_form_in word.now (map entry_of rows.now) }
+#[tactic(auto, using(crate::proofs::Finding::near_here, crate::proofs::Finding::near_behind, std::proofs::lemmas::List::drop_all), unfolding(crate::specs::NoCommand::form_of_similar_command))]
+fn form_of_similar_command(rows: &'static [Row], word: &[u8]) -> Option<&'static [u8]>
+    ensures { option_map (λ form. form.now) result ≡ form_of_similar_command word.now (map entry_of rows.now) }
 {
     'rows: for row in rows {
         if is_within_one_edit(word, row.name) {

@@ -7,12 +7,12 @@ ghost use Rattle.ga_console.specs.declared.command.Command.{Command};
 ghost use Rattle.ga_console.specs.declared.run.Status.TheVariants.{CommandRefused};
 ghost use Rattle.ga_lab.specs.Calls.{IsReachableState};
 ghost use Rattle.ga_lab.specs.Machine.{State, initial_state};
-ghost use Rattle.ga_explorer_text.specs.Saved.{saved_lines};
+ghost use Rattle.ga_explorer_text.specs.Saved.{saved_session_lines};
 ghost use Rattle.ga_debug_info.specs.declared.notes.DebugInfo.{DebugInfo};
 ghost use Rattle.ga_explorer.specs.Answers.{AnswersExplorerLine};
-ghost use Rattle.ga_explorer.specs.Classes.{class_of_line, class_of_explorer_command, class_of_debugger_command};
+ghost use Rattle.ga_explorer.specs.Classes.{command_class_of_line, class_of_explorer_command, class_of_debugger_command};
 ghost use Rattle.ga_explorer.specs.Commands.{command_of_line};
-ghost use Rattle.ga_explorer.specs.Leading.{LinesLeadTo};
+ghost use Rattle.ga_explorer.specs.Leading.{LinesLeadToState};
 ghost use Rattle.ga_explorer.specs.Opening.{ExplorerState};
 ghost use Rattle.ga_explorer.specs.declared.commands.ExplorerCommand.{ExplorerCommand};
 ghost use Rattle.ga_explorer.specs.declared.forms.CommandClass.TheVariants.{Change};
@@ -24,7 +24,7 @@ use ga_lab::laws::reachable_by_steps;
 /// to it: it keeps the same events, and has made no others.
 pub fn save_round_trips()
     ensures { (s : State) → IsReachableState s →
-        LinesLeadTo (initial_state s.load s.limit) (saved_lines s) (record s { made = length s.kept }) }
+        LinesLeadToState (initial_state s.load s.limit) (saved_session_lines s) (record s { made = length s.kept }) }
 {
     reachable_by_steps();
 }
@@ -38,13 +38,13 @@ pub fn only_strict_sessions_end_at_a_refusal()
 /// The row of each command that a line spells has the class of the command: that of a query by its type, or of what its effect is.
 pub fn rows_have_the_class_of_their_commands()
     ensures explored { (notes : Option DebugInfo) (line : Line) (asked : ExplorerCommand) →
-        command_of_line notes line ≡ Some asked → class_of_line line ≡ Some (class_of_explorer_command asked) }
+        command_of_line notes line ≡ Some asked → command_class_of_line line ≡ Some (class_of_explorer_command asked) }
     ensures debugged { (command : Command) (line : Line) →
-        SpellsCommand command line → class_of_line line ≡ Some (class_of_debugger_command command) }
+        SpellsCommand command line → command_class_of_line line ≡ Some (class_of_debugger_command command) }
 {}
 
 /// Only a line whose row says that it changes the machine can change anything, whatever is answered.
 pub fn only_changes_change_the_machine()
     ensures { (e : ExplorerState) (line : Line) (answer : Text) (new : ExplorerState) →
-        class_of_line line ≢ Some Change → AnswersExplorerLine e line answer new → new ≡ e }
+        command_class_of_line line ≢ Some Change → AnswersExplorerLine e line answer new → new ≡ e }
 {}

@@ -4,7 +4,7 @@ ghost use Rattle.std.specs.Prelude.{◌≡◌, IfSome};
 ghost use Rattle.ga_event.specs.Flow.{IsNodePart};
 ghost use Rattle.ga_explorer.specs.Reading.{part_of_node_value, parse_part_value};
 
-use ga_conditions::parse_value;
+use ga_conditions::parse_node_value;
 use ga_event::NodePart;
 use ga_scheduler::NodeValue;
 
@@ -12,7 +12,7 @@ use ga_scheduler::NodeValue;
 pub(crate) fn parse_part_value(word: &[u8]) -> Option<NodeValue>
     ensures { result ≡ parse_part_value word.now }
 {
-    match parse_value(word) {
+    match parse_node_value(word) {
         Some(NodeValue::Step) => None,
         other => other,
     }

@@ -1,9 +1,9 @@
 //! What a session of exploring begins on: an image, or source, which may have a chip of its own.
 ghost use Rattle.std.specs.Prelude.{◌≡◌, IfOk, IfErr, IfSome, Some, None};
-ghost use Rattle.ga_explorer.specs.Opening.{begins_as_image, image_text_of, is_read_as_image, OpensLeadingText, OpensExplorer, OpensOnImage, OpensSource, IsDebugInfoOf};
+ghost use Rattle.ga_explorer.specs.Opening.{begins_as_image, image_text_of, is_read_as_image, OpensTextBeforeCommands, OpensExplorer, OpensSourceOnImage, OpensSource, IsDebugInfoOf};
 ghost use Rattle.ga_explorer.specs.inner.{IsUnopened};
 ghost use Rattle.ga_console.specs.Run.{IsOpenedOnImage as OpensImage, IsFaultOfImage};
-ghost use Rattle.ga_image.specs.Given.{ranges_of, image_ranges};
+ghost use Rattle.ga_image.specs.Given.{ranges_of_given_words, image_ranges};
 ghost use Rattle.ga_text.specs.Lines.{lines_of};
 
 use crate::explorer::Explorer;
@@ -64,7 +64,7 @@ pub(crate) fn open_text<E: Write>(
     chip: Option<Vec<u8>>,
     limit: u32,
 ) -> Result<Explorer, OpenError>
-    ensures ok { IfOk result (λ begun. OpensLeadingText (image_text_of chip) text.items limit begun) }
+    ensures ok { IfOk result (λ begun. OpensTextBeforeCommands (image_text_of chip) text.items limit begun) }
     ensures err { IfErr result (λ why. IsUnopened (image_text_of chip) text.items why) }
 {
     match chip {
@@ -84,7 +84,7 @@ fn open_on_image<E: Write>(
     image: Vec<u8>,
     limit: u32,
 ) -> Result<Explorer, OpenError>
-    ensures ok { IfOk result (λ begun. OpensOnImage source.now image.items limit begun) }
+    ensures ok { IfOk result (λ begun. OpensSourceOnImage source.now image.items limit begun) }
     ensures err { IfErr result (λ why. IsUnopened (Some image.items) source.now why) }
 {
     let notes = note_source(alloc, errors, source);
@@ -133,7 +133,7 @@ fn open_with_words(
     limit: u32,
 ) -> Result<(Lab, GivenWords), ImageFault>
     ensures ok { IfOk result (λ opened. OpensImage image.items limit opened.0) }
-    ensures given { IfOk result (λ opened. ranges_of opened.1 ≡ image_ranges (lines_of image.items)) }
+    ensures given { IfOk result (λ opened. ranges_of_given_words opened.1 ≡ image_ranges (lines_of image.items)) }
     ensures err { IfErr result (λ fault. IsFaultOfImage image.items fault) }
 {
     let Ok(given) = given_words(alloc, image.as_slice()) else {

@@ -18,7 +18,7 @@ pub fn lacks_end_line(text: &[u8]) -> bool
 ///
 /// # Errors
 /// Allocation failed. The text is unchanged.
-pub fn append_end_line(text: &mut Vec<u8>) -> Result<(), AllocError>
+pub fn complete_end_line(text: &mut Vec<u8>) -> Result<(), AllocError>
     ensures ok { OnOk result (text.new.items ≡ text_with_end_line text.old.items) }
 {
     text.extend_from_slice(missing_end_text(text.as_slice()))

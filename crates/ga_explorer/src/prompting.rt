@@ -3,9 +3,9 @@
 ghost use Rattle.std.specs.Prelude.{◌≡◌, ◌-◌, ◌++◌, Some};
 ghost use Rattle.ga_text.specs.Lines.{Bytes};
 ghost use Rattle.ga_text.specs.Input.{IsWithinInputLimit, input_limit};
-ghost use Rattle.ga_text.specs.Output.{IsSameStream, IsWritten, WritesExactly};
-ghost use Rattle.ga_console.specs.Session.{ServesCommands, IsWrittenOrPrefix};
-ghost use Rattle.ga_explorer.specs.Session.{prompt, AnswersWithPrompt, AnswersLast};
+ghost use Rattle.ga_text.specs.Output.{IsSameStream, IsTextWritten, WritesExactly};
+ghost use Rattle.ga_console.specs.Session.{ServesCommands, IsWholeOrPrefixOnWriteError};
+ghost use Rattle.ga_explorer.specs.Session.{prompt, AnswersWithPrompt, AnswersAndEndsSession};
 
 use crate::strict::StrictExplorer;
 use ga_console::{Command, CommandsEnd, LineAction, Responder, serve_commands};
@@ -105,13 +105,13 @@ pub(crate) fn serve_explorer<R: Read, W: Write>(
     requires { IsWithinInputLimit input.old }
     ensures same { IsSameStream writer.old writer.new }
     ensures serves { (left before said : Bytes) → R.remaining reader.old ≡ Some left →
-        IsWritten (W.contents writer.old.stream.now) before said writer.old.pending.items →
+        IsTextWritten (W.contents writer.old.stream.now) before said writer.old.pending.items →
         (read rest text sent : Bytes)
         × (input.old.bytes ++ left ≡ read ++ rest) × (R.remaining reader.new ≡ Some rest)
         × (W.contents writer.new.stream.now ≡ Some (before ++ sent))
-        × ServesCommands (AnswersWithPrompt session.old.is_prompted session.old.explorer.is_strict) (AnswersLast session.old.explorer.is_strict)
+        × ServesCommands (AnswersWithPrompt session.old.is_prompted session.old.explorer.is_strict) (AnswersAndEndsSession session.old.explorer.is_strict)
         (input_limit - input.old.taken) session.old.explorer.explorer read rest text session.new.explorer.explorer result
-        × IsWrittenOrPrefix result (said ++ (prompt session.old.is_prompted ++ text)) sent }
+        × IsWholeOrPrefixOnWriteError result (said ++ (prompt session.old.is_prompted ++ text)) sent }
 {
     session.write_prompt(writer)?;
     serve_commands(alloc, input, reader, writer, session)

@@ -1,7 +1,7 @@
 //! The text of a query's answer, for a session that writes it in another form.
 
 ghost use Rattle.std.specs.Prelude.{◌≡◌};
-ghost use Rattle.ga_text.specs.Output.{WritesSome};
+ghost use Rattle.ga_text.specs.Output.{WritesSomeText};
 ghost use Rattle.ga_explorer.specs.Commands.{AnswersQuery};
 
 use crate::commands::{Query, answer_query};
@@ -22,7 +22,7 @@ pub fn write_query_answer<W: Write>(
     asked: Query,
     writer: &mut Writer<'_, W>,
 ) -> WriteResult
-    ensures said { WritesSome result (AnswersQuery (record { lab = lab.old; notes = notes.now }) asked) W.contents writer.old writer.new }
+    ensures said { WritesSomeText result (AnswersQuery (record { lab = lab.old; notes = notes.now }) asked) W.contents writer.old writer.new }
     ensures same { lab.new ≡ lab.old }
 {
     answer_query(alloc, lab, notes, asked, writer)

@@ -2,13 +2,13 @@
 
 ghost use Rattle.std.specs.Prelude.{◌≡◌, ◌≢◌, ◌≤◌, [], Some, IfOk, take, length, true};
 ghost use Rattle.ga_text.specs.Lines.{Bytes};
-ghost use Rattle.ga_text.specs.Output.{IsWritten, IsWrittenOrTruncated, WritesExactly, WritesSome};
+ghost use Rattle.ga_text.specs.Output.{IsTextWritten, IsTextWrittenOrTruncated, WritesExactly, WritesSomeText};
 ghost use Rattle.ga_console.specs.inner.Run.{AnswersOrEnds, ObeysCommand};
-ghost use Rattle.ga_explorer.specs.Session.{is_refusal, AnswersOn, AnswersLast, session_status};
+ghost use Rattle.ga_explorer.specs.Session.{is_refusal, AnswersAndContinues, AnswersAndEndsSession, session_status};
 ghost use Rattle.ga_explorer.specs.inner.{turn_after, IsNoted, refused_line_text};
 
 use crate::explorer::Explorer;
-use ga_console::{Command, CommandsEnd, LineAction, Responder, Status, status_of};
+use ga_console::{Command, CommandsEnd, LineAction, Responder, Status, status_of_commands_end};
 use ga_lab::Lab;
 use ga_text::{
     LineBuffer, TextBuffer, WriteError, WriteResult, Writer, push_number, push_text, write_all,
@@ -105,7 +105,7 @@ fn answer_strictly<W: Write>(
     line: &[u8],
     writer: &mut Writer<'_, W>,
 ) -> Result<LineAction, WriteError>
-    ensures answered { WritesSome result (AnswersOrEnds (AnswersOn true) (AnswersLast true) explorer.old line.now explorer.new result) W.contents writer.old writer.new }
+    ensures answered { WritesSomeText result (AnswersOrEnds (AnswersAndContinues true) (AnswersAndEndsSession true) explorer.old line.now explorer.new result) W.contents writer.old writer.new }
     ensures quit { result ≡ Ok LineAction.Quit → refusal.new ≡ refusal.old }
 {
     let mut long = Vec::new(alloc);
@@ -128,7 +128,7 @@ fn obey_strictly<W: Write>(
     command: Command,
     writer: &mut Writer<'_, W>,
 ) -> Result<LineAction, WriteError>
-    ensures { WritesSome result (ObeysCommand (AnswersOn true) (AnswersLast true) explorer.old command explorer.new result) W.contents writer.old writer.new }
+    ensures { WritesSomeText result (ObeysCommand (AnswersAndContinues true) (AnswersAndEndsSession true) explorer.old command explorer.new result) W.contents writer.old writer.new }
 {
     let mut long = Vec::new(alloc);
     let mut held = Writer::new(&mut long);
@@ -148,7 +148,7 @@ fn pass_on<W: Write>(
     refusal: &mut LineBuffer,
     writer: &mut Writer<'_, W>,
 ) -> Result<LineAction, WriteError>
-    ensures answer { (answer : Bytes) → IsWritten (Some held.old.stream.now.items) [] answer held.old.pending.items →
+    ensures answer { (answer : Bytes) → IsTextWritten (Some held.old.stream.now.items) [] answer held.old.pending.items →
         WritesExactly result answer W.contents writer.old writer.new
         × IfOk result (λ turn. turn ≡ turn_after answer)
         × IfOk result (λ turn. IsNoted turn answer refusal.new.items) }
@@ -224,7 +224,7 @@ pub fn end_session<E: Write>(
             }
             Status::StreamFault
         }
-        _ => status_of(ending),
+        _ => status_of_commands_end(ending),
     }
 }
 
@@ -232,7 +232,7 @@ pub fn end_session<E: Write>(
 fn report_refusal<E: Write>(errors: &mut E, number: u32, refusal: &[u8]) -> WriteResult
     requires { length refusal.now ≤ MAX_REFUSAL }
     ensures { (before : Bytes) → E.contents errors.old ≡ Some before →
-        IsWrittenOrTruncated result (E.contents errors.new) before (refused_line_text number refusal.now) [] }
+        IsTextWrittenOrTruncated result (E.contents errors.new) before (refused_line_text number refusal.now) [] }
 {
     let mut text = TextBuffer::new();
     push_text(&mut text, b"ga144: line ");

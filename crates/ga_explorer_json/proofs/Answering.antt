@@ -1,13 +1,13 @@
 -- Answers to commands and queries.
 use Rattle.std.proofs.Common.{◌≡◌, ◌≤◌, ◌∙◌, ℕ, List, refl, sym, ap, subst, length, Result, Option, codes}
 use Rattle.ga_text.specs.Lines.{Bytes}
-use Rattle.ga_text.specs.Output.{WritesExactly, WritesSome}
+use Rattle.ga_text.specs.Output.{WritesExactly, WritesSomeText}
 use Rattle.ga_text.specs.declared.output.WriteError.{WriteError}
 use Rattle.ga_text.specs.declared.output.Writer.{Writer}
 use Rattle.ga_grid.specs.declared.node_id.NodeId.{NodeId}
 use Rattle.ga_lab.specs.Machine.{State}
 use Rattle.ga_scheduler.specs.Conditions.{active_conditions}
-use Rattle.ga_scheduler.specs.Backward.{find_newest_holding, machine_back_at_place, removed_event_count}
+use Rattle.ga_scheduler.specs.Backward.{find_newest_matching_event, machine_after_back_until, removed_event_count}
 use Rattle.ga_scheduler.specs.Running.{Running, running, run_after_events, HasNextEvents, HasRunEnded}
 use Rattle.ga_scheduler.specs.declared.schedule.Schedule.{Schedule}
 use Rattle.ga_scheduler.specs.declared.condition.Condition.{Condition}
@@ -22,14 +22,14 @@ use Rattle.ga_explorer.specs.declared.commands.Query.{Query}
 use Rattle.ga_json.specs.Values.{JsonValue}
 use Rattle.ga_json.specs.Compact.{json_line}
 use Rattle.ga_explorer_json.specs.Rows.{IsJsonLine}
-use Rattle.ga_explorer_json.specs.Changes.{run_json, removed_json}
+use Rattle.ga_explorer_json.specs.Changes.{run_json, removed_events_json}
 use Rattle.ga_explorer_json.specs.Answers.{AnswersCommandJson, AnswersQueryJson, AnswersExplorerJson, AnswersLineRequest}
 use Rattle.ga_explorer_json.specs.inner.{IsToldJson}
 use Rattle.ga_explorer_json.specs.declared.answers.LineRequest.{LineRequest}
 
 module _ {T W : Type 0} (contents : W → Option Bytes) (result : Result T WriteError) (old new : Writer W) where
   -- what is written of one kind is of another
-  pub some_as : (P Q : List ℕ → Type 0) → ((text : List ℕ) → P text → Q text) → WritesSome result P contents old new → WritesSome result Q contents old new
+  pub some_as : (P Q : List ℕ → Type 0) → ((text : List ℕ) → P text → Q text) → WritesSomeText result P contents old new → WritesSomeText result Q contents old new
   some_as P Q f h = (
     h.0,
     λ before said s.
@@ -37,29 +37,29 @@ module _ {T W : Type 0} (contents : W → Option Bytes) (result : Result T Write
   )
 
   -- a text that is written is of a kind
-  pub exact_as : (Q : List ℕ → Type 0) (text : List ℕ) → Q text → WritesExactly result text contents old new → WritesSome result Q contents old new
+  pub exact_as : (Q : List ℕ → Type 0) (text : List ℕ) → Q text → WritesExactly result text contents old new → WritesSomeText result Q contents old new
   exact_as Q text q h = (h.0, λ before said s. (text, q, h.1 before said s))
 
   -- the line of a value that is this one
-  pub line_is : (value : JsonValue) → WritesExactly result (json_line value) contents old new → WritesSome result (IsJsonLine (λ answer. answer ≡ value)) contents old new
+  pub line_is : (value : JsonValue) → WritesExactly result (json_line value) contents old new → WritesSomeText result (IsJsonLine (λ answer. answer ≡ value)) contents old new
   line_is value h = (h.0, λ before said s. (json_line value, (value, refl, refl), h.1 before said s))
 
   -- the answer to the command that is meant
-  pub commanded : (s : State) (asked meant : Command) (now : State) → asked ≡ meant → WritesSome result (λ text. AnswersCommandJson s meant text now) contents old new
-      → WritesSome result (λ text. AnswersCommandJson s asked text now) contents old new
-  commanded s asked meant now is h = subst (λ (z : Command). WritesSome result (λ text. AnswersCommandJson s z text now) contents old new) (sym is) h
+  pub commanded : (s : State) (asked meant : Command) (now : State) → asked ≡ meant → WritesSomeText result (λ text. AnswersCommandJson s meant text now) contents old new
+      → WritesSomeText result (λ text. AnswersCommandJson s asked text now) contents old new
+  commanded s asked meant now is h = subst (λ (z : Command). WritesSomeText result (λ text. AnswersCommandJson s z text now) contents old new) (sym is) h
 
-  pub explored_as : (e : ExplorerState) (asked meant : ExplorerCommand) (now : ExplorerState) → asked ≡ meant → WritesSome result (λ text. AnswersExplorerJson e meant text now) contents old new
-      → WritesSome result (λ text. AnswersExplorerJson e asked text now) contents old new
-  explored_as e asked meant now is h = subst (λ (z : ExplorerCommand). WritesSome result (λ text. AnswersExplorerJson e z text now) contents old new) (sym is) h
+  pub explored_as : (e : ExplorerState) (asked meant : ExplorerCommand) (now : ExplorerState) → asked ≡ meant → WritesSomeText result (λ text. AnswersExplorerJson e meant text now) contents old new
+      → WritesSomeText result (λ text. AnswersExplorerJson e asked text now) contents old new
+  explored_as e asked meant now is h = subst (λ (z : ExplorerCommand). WritesSomeText result (λ text. AnswersExplorerJson e z text now) contents old new) (sym is) h
 
   pub requested : (e : ExplorerState) (line : List ℕ) (asked meant : LineRequest) (now : ExplorerState) → asked ≡ meant
-      → WritesSome result (λ text. AnswersLineRequest e line meant text now) contents old new → WritesSome result (λ text. AnswersLineRequest e line asked text now) contents old new
-  requested e line asked meant now is h = subst (λ (z : LineRequest). WritesSome result (λ text. AnswersLineRequest e line z text now) contents old new) (sym is) h
+      → WritesSomeText result (λ text. AnswersLineRequest e line meant text now) contents old new → WritesSomeText result (λ text. AnswersLineRequest e line asked text now) contents old new
+  requested e line asked meant now is h = subst (λ (z : LineRequest). WritesSomeText result (λ text. AnswersLineRequest e line z text now) contents old new) (sym is) h
 
   -- the answer of the query that is meant, after which nothing is changed
   pub queried : (e : ExplorerState) (asked : Query) (now : ExplorerState) → now ≡ e → IsToldJson result e asked contents old new
-      → WritesSome result (λ text. AnswersExplorerJson e (AnswerQuery asked) text now) contents old new
+      → WritesSomeText result (λ text. AnswersExplorerJson e (AnswerQuery asked) text now) contents old new
   queried e asked now same told =
       some_as (IsJsonLine (AnswersQueryJson e told.meant)) (λ text. AnswersExplorerJson e (AnswerQuery asked) text now)
       (λ text h. (subst (λ z. IsJsonLine (AnswersQueryJson e z) text) (sym told.is) h, same)) told.said
@@ -82,11 +82,11 @@ run_told s notes schedule most bound given until events end new gone given_so f 
 )
 
 pub back_told : (s : State) (notes : Option DebugInfo) (only : Option NodeId) (until watched : List Condition) (now : State)
-    → watched ≡ active_conditions until → now ≡ machine_back_at_place only s (find_newest_holding watched only s)
+    → watched ≡ active_conditions until → now ≡ machine_after_back_until only s (find_newest_matching_event watched only s)
     → AnswersExplorerJson (explorer_state s notes) (BackUntil only until)
-    (json_line (removed_json (codes "back") (removed_event_count only s (find_newest_holding watched only s)) (length now.kept))) (explorer_state now notes)
+    (json_line (removed_events_json (codes "back") (removed_event_count only s (find_newest_matching_event watched only s)) (length now.kept))) (explorer_state now notes)
 back_told s notes only until watched now w state = (
-  ap (λ (z : List Condition). json_line (removed_json (codes "back") (removed_event_count only s (find_newest_holding z only s)) (length now.kept))) w,
-  state ∙ ap (λ (z : List Condition). machine_back_at_place only s (find_newest_holding z only s)) w,
+  ap (λ (z : List Condition). json_line (removed_events_json (codes "back") (removed_event_count only s (find_newest_matching_event z only s)) (length now.kept))) w,
+  state ∙ ap (λ (z : List Condition). machine_after_back_until only s (find_newest_matching_event z only s)) w,
   refl,
 )

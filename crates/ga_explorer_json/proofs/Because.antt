@@ -5,9 +5,9 @@ use Rattle.ga_lab.specs.Machine.{State}
 use Rattle.ga_provenance.specs.declared.deciding.Decision.{Decision}
 use Rattle.ga_provenance.specs.Deciding.{newest_decision}
 use Rattle.ga_json.specs.Values.{no_items, item}
-use Rattle.ga_explorer_json.specs.Because.{decision_json, decision_before, decision_rows}
+use Rattle.ga_explorer_json.specs.Because.{decision_json, decision_and_older_rows, decision_rows}
 
-one_more : (s : State) (node : NodeId) (more k : ℕ) → decision_rows s node (suc more) k ≡ decision_before (decision_rows s node more) (newest_decision s node k)
+one_more : (s : State) (node : NodeId) (more k : ℕ) → decision_rows s node (suc more) k ≡ decision_and_older_rows (decision_rows s node more) (newest_decision s node k)
 unfolding decision_rows
 one_more s node more k = refl
 
@@ -19,7 +19,7 @@ no_more s node (suc left) k e = absurd (omega (arith, e))
 
 pub no_decision : (s : State) (node : NodeId) (less left k : ℕ) → left ≡ suc less → None ≡ newest_decision s node k → decision_rows s node left k ≡ no_items
 no_decision s node less left k some e =
-    ap (λ (n : ℕ). decision_rows s node n k) some ∙ one_more s node less k ∙ ap (decision_before (decision_rows s node less)) (sym e)
+    ap (λ (n : ℕ). decision_rows s node n k) some ∙ one_more s node less k ∙ ap (decision_and_older_rows (decision_rows s node less)) (sym e)
 
 -- the newest is first, and then those before it
 pub next_decision : (s : State) (node : NodeId) (less left k rest : ℕ) (decision : Decision) → left ≡ suc less → Some decision ≡ newest_decision s node k → rest + 1 ≡ decision.step
@@ -27,5 +27,5 @@ pub next_decision : (s : State) (node : NodeId) (less left k rest : ℕ) (decisi
 next_decision s node less left k rest decision some is step =
     ap (λ (n : ℕ). decision_rows s node n k) some
     ∙ one_more s node less k
-    ∙ ap (decision_before (decision_rows s node less)) (sym is)
+    ∙ ap (decision_and_older_rows (decision_rows s node less)) (sym is)
     ∙ ap (λ (n : ℕ). item (decision_json decision) (decision_rows s node less n)) (let f : decision.step - 1 ≡ rest = omega (arith, step) in f)

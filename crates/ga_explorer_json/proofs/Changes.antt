@@ -4,7 +4,7 @@ use Rattle.std.specs.Prelude.{IsOk}
 use Rattle.ga_grid.specs.declared.node_id.NodeId.{NodeId}
 use Rattle.ga_event.specs.declared.made.Made.{Made}
 use Rattle.ga_event.specs.Next.{next}
-use Rattle.ga_lab.specs.Machine.{State, chip_of, step_answer, state_after_step, unless_refused, with_event}
+use Rattle.ga_lab.specs.Machine.{State, chip_of, step_answer, state_after_step, state_unless_refused, with_event}
 use Rattle.ga_lab.specs.declared.fault.LabFault.{LabFault}
 use Rattle.ga_lab.specs.declared.fault.LabFault.TheVariants.{Memory}
 use Rattle.ga_explorer_json.specs.Refusals.{lab_refusal_json}
@@ -21,5 +21,5 @@ step_made s node new made (inr wrong) is = absurd (let e = wrong.0 in cc)
 pub step_refused : (s : State) (node : NodeId) (new : State) (why : LabFault) → IsAnswer (Err why) (step_answer s node) → new ≡ s
     → IsStepJson s node new (lab_refusal_json (codes "step") why)
 step_refused s node new why (inl e) same =
-    inl (ap step_json e, same ∙ ap (λ (r : Result Made LabFault). unless_refused s r (with_event s (next (chip_of s) node))) e)
+    inl (ap step_json e, same ∙ ap (λ (r : Result Made LabFault). state_unless_refused s r (with_event s (next (chip_of s) node))) e)
 step_refused s node new why (inr memory) same = inr (memory.1, ap step_json memory.0, same)

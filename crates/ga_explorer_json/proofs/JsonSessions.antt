@@ -12,16 +12,16 @@ use Rattle.ga_json.specs.Values.{JsonValue, null, number, string}
 use Rattle.ga_json.specs.Compact.{json_line}
 use Rattle.ga_json.specs.FieldValues.{optional_number_json}
 use Rattle.ga_json.specs.Fields.{json_object}
-use Rattle.ga_json.specs.Diagnostics.{text_after, without_word, diagnostic_parts, word_if_warning, diagnostic_object, diagnostic_objects, diagnostics_json}
-use Rattle.ga_console.specs.Session.{Answers, AnswersToRefusal, WritesAnswersBy, ServesCommandsBy, IsWrittenOrPrefix}
+use Rattle.ga_json.specs.Diagnostics.{text_after_word, without_leading_word, diagnostic_parts, word_if_warning, diagnostic_object, diagnostic_objects, diagnostics_json}
+use Rattle.ga_console.specs.Session.{Answers, AnswersLinesUntilRefusal, WritesAnswersBy, ServesCommandsBy, IsWholeOrPrefixOnWriteError}
 use Rattle.ga_console.specs.declared.commands.CommandsEnd.{CommandsEnd}
 use Rattle.ga_console.specs.declared.commands.CommandsEnd.TheVariants.{Ended, Quit, Refused, Past, ReadFailed}
 use Rattle.ga_console.specs.declared.run.Status.{Status}
-use Rattle.ga_check_report.specs.Opened.{IsRefusalOutput}
+use Rattle.ga_check_report.specs.Opened.{IsWrittenWithStatus}
 use Rattle.ga_explorer.specs.Opening.{ExplorerState}
 use Rattle.ga_explorer.specs.Session.{session_status}
 use Rattle.ga_explorer_json.specs.JsonLines.{HasJsonText, IsJsonTextLine, AreJsonTextLines, IsJsonOrQuits, WritesJsonTextLines}
-use Rattle.ga_explorer_json.specs.Session.{ready_json, limit_refusal_line, JsonOn, JsonLast, RunsJsonExplorer}
+use Rattle.ga_explorer_json.specs.Session.{ready_json, limit_refusal_line, AnswersJsonAndContinues, AnswersJsonAndEndsSession, RunsJsonExplorer}
 use Rattle.ga_explorer_json.specs.Session.RunsJsonExplorer.{served, unbegun}
 use Rattle.ga_explorer_json.proofs.Utf8Values.{is_low, plain, HasUtf8Texts, has_json_text, checked_text, members_of, have_low_names, object_by}
 use Rattle.ga_explorer_json.proofs.Utf8Answers.{line_answer}
@@ -57,13 +57,13 @@ as_lines text other e h = subst AreJsonTextLines (sym e) h
 
 -- ---- what a session says
 
-answers_lines : (strict : Bool) (e : ExplorerState) (lines : List Line) (text : Text) (last : ExplorerState) → Answers (JsonOn strict) e lines text last → AreJsonTextLines text
+answers_lines : (strict : Bool) (e : ExplorerState) (lines : List Line) (text : Text) (last : ExplorerState) → Answers (AnswersJsonAndContinues strict) e lines text last → AreJsonTextLines text
 answers_lines strict e [] text last h = as_lines text [] h.0 no_lines
 answers_lines strict e (line ∷ lines) text last h =
     as_lines text (h.0 ++ h.2) h.5
     (both_lines h.0 h.2 (answer_lines line h.0 (line_answer e h.1 line h.0 h.3.0)) (answers_lines strict h.1 lines h.2 last h.4))
 
-refused_lines : (strict : Bool) (e : ExplorerState) (lines : List Line) (text : Text) (last : ExplorerState) → AnswersToRefusal (JsonOn strict) (JsonLast strict) e lines text last
+refused_lines : (strict : Bool) (e : ExplorerState) (lines : List Line) (text : Text) (last : ExplorerState) → AnswersLinesUntilRefusal (AnswersJsonAndContinues strict) (AnswersJsonAndEndsSession strict) e lines text last
     → AreJsonTextLines text
 refused_lines strict e lines text last h =
     as_lines text (h.2 ++ h.3) h.8
@@ -84,18 +84,18 @@ limit_utf8 = object_by (members_of limit_json) refl (tt, (tt, (plain (codes "inp
 limit_lines : AreJsonTextLines limit_refusal_line
 limit_lines = as_lines limit_refusal_line (json_line limit_json) limit_is (value_line limit_json limit_utf8)
 
-past_lines : (strict : Bool) (e : ExplorerState) (lines : List Line) (said text : Text) (last : ExplorerState) → Answers (JsonOn strict) e lines said last → text ≡ said ++ limit_refusal_line
+past_lines : (strict : Bool) (e : ExplorerState) (lines : List Line) (said text : Text) (last : ExplorerState) → Answers (AnswersJsonAndContinues strict) e lines said last → text ≡ said ++ limit_refusal_line
     → AreJsonTextLines text
 past_lines strict e lines said text last h is = as_lines text (said ++ limit_refusal_line) is (both_lines said limit_refusal_line (answers_lines strict e lines said last h) limit_lines)
 
 script_lines : (strict : Bool) (room : ℕ) (e : ExplorerState) (read : Bytes) (lines : List Line) (text : Text) (last : ExplorerState)
-    → WritesAnswersBy limit_refusal_line (JsonOn strict) (JsonLast strict) room e read lines text last → AreJsonTextLines text
+    → WritesAnswersBy limit_refusal_line (AnswersJsonAndContinues strict) (AnswersJsonAndEndsSession strict) room e read lines text last → AreJsonTextLines text
 script_lines strict room e read lines text last (inl h) = answers_lines strict e lines text last h
 script_lines strict room e read lines text last (inr (inl h)) = refused_lines strict e lines text last h
 script_lines strict room e read lines text last (inr (inr h)) = past_lines strict e lines h.2 text last h.3 h.4
 
 said_lines : (strict : Bool) (room : ℕ) (e : ExplorerState) (read rest : Bytes) (text : Text) (last : ExplorerState) (ending : Result CommandsEnd WriteError)
-    → ServesCommandsBy limit_refusal_line (JsonOn strict) (JsonLast strict) room e read rest text last ending → AreJsonTextLines text
+    → ServesCommandsBy limit_refusal_line (AnswersJsonAndContinues strict) (AnswersJsonAndEndsSession strict) room e read rest text last ending → AreJsonTextLines text
 said_lines strict room e read rest text last (Ok Ended) h = answers_lines strict e _ text last h.answers
 said_lines strict room e read rest text last (Ok Quit) h = answers_lines strict e h.heard text last h.answers
 said_lines strict room e read rest text last (Ok (Refused at)) h = refused_lines strict e h.heard text last h.answers
@@ -109,7 +109,7 @@ ready_lines : AreJsonTextLines (json_line ready_json)
 unfolding is_low have_low_names
 ready_lines = value_line ready_json (object_by (members_of ready_json) refl (plain (codes "ready") refl, tt))
 
-written_lines : (strict : Bool) (whole written : Text) (ending : Result CommandsEnd WriteError) (status : Status) → status ≡ session_status strict ending → IsWrittenOrPrefix ending whole written
+written_lines : (strict : Bool) (whole written : Text) (ending : Result CommandsEnd WriteError) (status : Status) → status ≡ session_status strict ending → IsWholeOrPrefixOnWriteError ending whole written
     → AreJsonTextLines whole → WritesJsonTextLines written status
 written_lines strict whole written (Ok ending) status is out h = inl (as_lines written whole out h)
 written_lines strict whole written (Err failed) status is out h = inr (is, whole, h, out)
@@ -130,14 +130,14 @@ unfolding is_low have_low_names
 diagnostic_utf8 file line =
     let reason = (diagnostic_parts line).1 in
     object_by (members_of (diagnostic_object file line)) refl
-    (word_utf8 (text_after (codes "warning:") reason), (checked_text file, (line_number (diagnostic_parts line).0, (checked_text (without_word (codes "warning:") reason), tt))))
+    (word_utf8 (text_after_word (codes "warning:") reason), (checked_text file, (line_number (diagnostic_parts line).0, (checked_text (without_leading_word (codes "warning:") reason), tt))))
 
 objects_lines : (file : Text) (lines : List Line) → AreJsonTextLines (diagnostic_objects file lines)
 objects_lines file [] = no_lines
 objects_lines file (line ∷ lines) =
     both_lines (json_line (diagnostic_object file line)) (diagnostic_objects file lines) (value_line (diagnostic_object file line) (diagnostic_utf8 file line)) (objects_lines file lines)
 
-refusal_lines : (whole : Text) (status : Status) (written : Text) (end : Status) → IsRefusalOutput whole status written end → AreJsonTextLines whole → WritesJsonTextLines written end
+refusal_lines : (whole : Text) (status : Status) (written : Text) (end : Status) → IsWrittenWithStatus whole status written end → AreJsonTextLines whole → WritesJsonTextLines written end
 refusal_lines whole status written end (inl h) k = inl (as_lines written whole h.0 k)
 refusal_lines whole status written end (inr h) k = inr (h.1, whole, k, h.0)
 

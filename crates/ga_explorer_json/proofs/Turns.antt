@@ -15,7 +15,7 @@ use Rattle.ga_explorer.specs.Opening.{ExplorerState}
 use Rattle.ga_explorer.specs.inner.{explorer_state}
 use Rattle.ga_explorer.proofs.Serving.{serves_seen}
 use Rattle.ga_explorer_json.specs.Answers.{IsLineRequest, AnswersLineRequest, AnswersJsonLine}
-use Rattle.ga_explorer_json.specs.Session.{is_json_refusal, JsonOn, JsonLast, limit_refusal_line}
+use Rattle.ga_explorer_json.specs.Session.{is_json_refusal, AnswersJsonAndContinues, AnswersJsonAndEndsSession, limit_refusal_line}
 use Rattle.ga_explorer_json.specs.inner.{turn_after, Responds, GoesOnFor, EndsFor}
 use Rattle.ga_explorer_json.specs.declared.answers.LineRequest.{LineRequest}
 use Rattle.ga_explorer_json.specs.declared.answers.LineRequest.TheVariants as request
@@ -115,20 +115,20 @@ module _ (p new : JsonExplorer) (same : new.is_strict ≡ p.is_strict) where
 -- what such a session serves is what one of exploring does that is as strict
 pub serves_objects : (room : ℕ) (strict : Bool) (p : JsonExplorer) (read rest text : List ℕ) (last : JsonExplorer) (ending : Result CommandsEnd WriteError)
     → p.is_strict ≡ strict → ServesCommandsBy limit_refusal_line GoesOn EndsThere room p read rest text last ending
-    → ServesCommandsBy limit_refusal_line (JsonOn strict) (JsonLast strict) room (explorer_state p.lab p.notes) read rest text (explorer_state last.lab last.notes) ending
+    → ServesCommandsBy limit_refusal_line (AnswersJsonAndContinues strict) (AnswersJsonAndEndsSession strict) room (explorer_state p.lab p.notes) read rest text (explorer_state last.lab last.notes) ending
 serves_objects room strict p read rest text last ending is h =
     serves_seen limit_refusal_line (λ (x : JsonExplorer). explorer_state x.lab x.notes) (λ (x : JsonExplorer). x.is_strict ≡ strict)
-    GoesOn EndsThere (JsonOn strict) (JsonLast strict)
+    GoesOn EndsThere (AnswersJsonAndContinues strict) (AnswersJsonAndEndsSession strict)
     (record {
-      answer = λ m line answer new k a. subst (λ b. JsonOn b (explorer_state m.lab m.notes) line answer (explorer_state new.lab new.notes)) k a.0;
+      answer = λ m line answer new k a. subst (λ b. AnswersJsonAndContinues b (explorer_state m.lab m.notes) line answer (explorer_state new.lab new.notes)) k a.0;
       holds = λ m line answer new k a. a.1 ∙ k;
-      refusal = λ m line answer new k a. subst (λ b. JsonLast b (explorer_state m.lab m.notes) line answer (explorer_state new.lab new.notes)) k a.0;
+      refusal = λ m line answer new k a. subst (λ b. AnswersJsonAndEndsSession b (explorer_state m.lab m.notes) line answer (explorer_state new.lab new.notes)) k a.0;
     })
     room p read rest text last ending is h
 
 -- where nothing was answered yet when a write failed
 pub nothing_served : (strict : Bool) (room : ℕ) (e : ExplorerState) (read rest : List ℕ)
-    → ServesToWriteFailureBy limit_refusal_line (JsonOn strict) (JsonLast strict) room e read rest [] e
+    → ServesToWriteFailureBy limit_refusal_line (AnswersJsonAndContinues strict) (AnswersJsonAndEndsSession strict) room e read rest [] e
 nothing_served strict room e read rest = record {
   heard = [];
   after = lines_within_bound room read;

@@ -21,16 +21,16 @@ use Rattle.ga_lab.specs.declared.fault.LabFault.{LabFault}
 use Rattle.ga_lab.specs.declared.fault.LabFault.TheVariants.{Memory as NoMemory}
 use Rattle.ga_scheduler.specs.declared.running.RunEnd.{RunEnd}
 use Rattle.ga_scheduler.specs.declared.running.RunEnd.TheVariants.{Reached, Made as AllMade, Quiet, Refused}
-use Rattle.ga_scheduler.specs.Backward.{find_newest_holding, removed_event_count}
+use Rattle.ga_scheduler.specs.Backward.{find_newest_matching_event, removed_event_count}
 use Rattle.ga_scheduler.specs.Conditions.{active_conditions}
 use Rattle.ga_display.specs.Texts.{worded_long_line_refusal}
-use Rattle.ga_display.specs.declared.wording.Wording.TheVariants.{Advised}
+use Rattle.ga_display.specs.declared.wording.RefusalWording.TheVariants.{Advised}
 use Rattle.ga_console.specs.Replies.{node_without_step}
 use Rattle.ga_console.specs.Commands.{SpellsCommand}
 use Rattle.ga_console.specs.declared.command.Command.{Command}
 use Rattle.ga_console.specs.declared.command.Command.TheVariants.{Step, Back, Rewind, Node, Memory, Trace, Why, Count, Dump, Quit}
 use Rattle.ga_explorer.specs.Forms.{CommandForm}
-use Rattle.ga_explorer.specs.NoCommand.{form_of_command, near_form_in, form_or_default, suggested_form, command_word, begins_with_byte_order_mark, ends_with_carriage_return, has_blank_end, is_upper, suggestion}
+use Rattle.ga_explorer.specs.NoCommand.{form_of_command, form_of_similar_command, form_or_default, suggested_form, command_word, begins_with_byte_order_mark, ends_with_carriage_return, has_leading_or_trailing_blank, is_upper, command_suggestion}
 use Rattle.ga_explorer.specs.Commands.{command_table}
 use Rattle.ga_explorer.specs.Opening.{ExplorerState}
 use Rattle.ga_explorer.specs.Reading.{selected_step, part_of_node_value}
@@ -41,19 +41,19 @@ use Rattle.ga_explorer.specs.declared.commands.Query.TheVariants as query
 use Rattle.ga_json.specs.Values.{JsonValue, number, string}
 use Rattle.ga_json.specs.Fields.{NamedValue}
 use Rattle.ga_explorer_json.specs.Answers.{AnswersCommandJson, AnswersQueryJson, AnswersExplorerJson, IsLineRequest, AnswersLineRequest, AnswersJsonLine}
-use Rattle.ga_explorer_json.specs.Changes.{step_json, IsStepJson, removed_json, undo_json, rewind_json, held_condition_fields, run_end_fields, run_json}
+use Rattle.ga_explorer_json.specs.Changes.{step_json, IsStepJson, removed_events_json, undo_json, rewind_json, held_condition_fields, run_end_fields, run_json}
 use Rattle.ga_explorer_json.specs.Events.{made_event_fields}
 use Rattle.ga_explorer_json.specs.JsonLines.{IsJsonTextLine, IsJsonOrQuits}
 use Rattle.ga_explorer_json.specs.NodeState.{node_status_fields, node_register_fields, node_fields, stack_part, stack_rows, node_json}
 use Rattle.ga_explorer_json.specs.Parts.{value_fields}
 use Rattle.ga_explorer_json.specs.Readings.{memory_word_json, counts_json}
-use Rattle.ga_explorer_json.specs.Refusals.{hint_in}
+use Rattle.ga_explorer_json.specs.Refusals.{hint_of_refusal}
 use Rattle.ga_explorer_json.specs.Rows.{json_rows, IsJsonLine}
 use Rattle.ga_explorer_json.specs.Steps.{event_json, trace_fields, trace_json, IsTraceJson, chain_fields, chain_json, IsChainJson, IsWhyJson, IsDumpJson}
 use Rattle.ga_explorer_json.specs.Texts.{text_answer_json, line_refusal_json, long_line_json, syntax_json}
 use Rattle.ga_explorer_json.specs.declared.answers.LineRequest.{LineRequest}
 use Rattle.ga_explorer_json.specs.declared.answers.LineRequest.TheVariants as request
-use Rattle.ga_explorer_json.proofs.Utf8Values.{IsLow, is_low, low, low_utf8, plain, node_name, HasUtf8Texts, HaveUtf8Items, is_json_line, checked_text, optional_number, number_if_any, AreUtf8Fields, are_named, fields, fields_append, object_of, report_of, rows_of, members_of, have_low_names, object_by}
+use Rattle.ga_explorer_json.proofs.Utf8Values.{IsLow, is_low, low, low_utf8, plain, node_name, HasUtf8Texts, HaveUtf8Items, is_json_line, checked_text, optional_number, number_if_any, AreUtf8Fields, are_named, fields, fields_append, json_object_of_member, report_of, rows_of, members_of, have_low_names, object_by}
 use Rattle.ga_explorer_json.proofs.Utf8Rows.{hint_utf8, fault_word_utf8, fault_hint_utf8, lab_refusal, step_refusal, made_event, value}
 use Rattle.ga_explorer_json.proofs.Utf8Queries.{effects_utf8, words_utf8, writes_utf8, at_utf8, whence_utf8, because_utf8, races_utf8, activity_utf8, who_utf8}
 
@@ -67,7 +67,7 @@ step_utf8 : (answer : Result Made LabFault) → HasUtf8Texts (step_json answer)
 unfolding is_low are_named
 step_utf8 (Ok made) =
     let first : List NamedValue = (codes "command", string (codes "step")) ∷ [] in
-    object_of (first ++ made_event_fields made) (fields_append first (made_event_fields made) (fields first refl (plain (codes "step") refl, tt)) (made_event made))
+    json_object_of_member (first ++ made_event_fields made) (fields_append first (made_event_fields made) (fields first refl (plain (codes "step") refl, tt)) (made_event made))
 step_utf8 (Err why) = lab_refusal (codes "step") why (plain (codes "step") refl)
 
 stepped_utf8 : (s : State) (node : NodeId) (new : State) (answer : JsonValue) → IsStepJson s node new answer → HasUtf8Texts answer
@@ -75,9 +75,9 @@ unfolding is_low
 stepped_utf8 s node new answer (inl h) = as_value answer (step_json (step_answer s node)) h.0 (step_utf8 (step_answer s node))
 stepped_utf8 s node new answer (inr h) = as_value answer _ h.1 (lab_refusal (codes "step") NoMemory (plain (codes "step") refl))
 
-removed_utf8 : (command : Text) (removed : Option ℕ) (kept : ℕ) → IsUtf8 command → HasUtf8Texts (removed_json command removed kept)
+removed_utf8 : (command : Text) (removed : Option ℕ) (kept : ℕ) → IsUtf8 command → HasUtf8Texts (removed_events_json command removed kept)
 unfolding is_low have_low_names
-removed_utf8 command removed kept h = object_by (members_of (removed_json command removed kept)) refl (h, (optional_number removed, (tt, tt)))
+removed_utf8 command removed kept h = object_by (members_of (removed_events_json command removed kept)) refl (h, (optional_number removed, (tt, tt)))
 
 undo_utf8 : (answer : Result (Unit {0}) LabFault) (kept : ℕ) → HasUtf8Texts (undo_json answer kept)
 unfolding is_low
@@ -101,7 +101,7 @@ run_utf8 : (events : ℕ) (end : RunEnd) → HasUtf8Texts (run_json events end)
 unfolding is_low are_named
 run_utf8 events end =
     let first : List NamedValue = (codes "command", string (codes "run")) ∷ (codes "events", number (pos events)) ∷ [] in
-    object_of (first ++ run_end_fields end) (fields_append first (run_end_fields end) (fields first refl (plain (codes "run") refl, (tt, tt))) (run_end_utf8 end))
+    json_object_of_member (first ++ run_end_fields end) (fields_append first (run_end_fields end) (fields first refl (plain (codes "run") refl, (tt, tt))) (run_end_utf8 end))
 
 -- ---- readings
 
@@ -109,7 +109,7 @@ stack_from : (at : NodeRecord) (k more : ℕ) → HaveUtf8Items (stack_rows at k
 unfolding stack_rows
 stack_from at k zero = tt
 stack_from at k (suc more) =
-    (object_of (value_fields (stack_part k) (part_value 0 at (stack_part k))) (value (stack_part k) (part_value 0 at (stack_part k))), stack_from at (k + 1) more)
+    (json_object_of_member (value_fields (stack_part k) (part_value 0 at (stack_part k))) (value (stack_part k) (part_value 0 at (stack_part k))), stack_from at (k + 1) more)
 
 node_utf8 : (s : State) (node : NodeId) → HasUtf8Texts (node_json s node)
 unfolding is_low are_named
@@ -131,7 +131,7 @@ unfolding is_low have_low_names
 counts_utf8 s = object_by (members_of (counts_json s)) refl (plain (codes "count") refl, (tt, (tt, (tt, tt))))
 
 event_utf8 : (made : Made) → HasUtf8Texts (event_json made)
-event_utf8 made = object_of (made_event_fields made) (made_event made)
+event_utf8 made = json_object_of_member (made_event_fields made) (made_event made)
 
 trace_utf8 : (s : State) (node : NodeId) (answer : JsonValue) → IsTraceJson s node answer → HasUtf8Texts answer
 unfolding is_low are_named
@@ -174,7 +174,7 @@ line_refusal code why hint a b = object_by (members_of (line_refusal_json code w
 
 long_utf8 : HasUtf8Texts long_line_json
 unfolding is_low
-long_utf8 = line_refusal 32 (codes "long") (hint_in (worded_long_line_refusal Advised)) (plain (codes "long") refl) (hint_utf8 (worded_long_line_refusal Advised) (low (worded_long_line_refusal Advised) refl))
+long_utf8 = line_refusal 32 (codes "long") (hint_of_refusal (worded_long_line_refusal Advised)) (plain (codes "long") refl) (hint_utf8 (worded_long_line_refusal Advised) (low (worded_long_line_refusal Advised) refl))
 
 -- the forms of these commands are ASCII
 unfoldable have_low_forms : List CommandForm → Bool
@@ -192,12 +192,12 @@ form_low word (row ∷ rows) h =
     let parts = and_parts (is_low row.form) (have_low_forms rows) h in
     cond_both (pointwise nat_eq row.name word) (Some row.form) (form_of_command word rows) IsLowIfAny (λ _. low row.form parts.0) (λ _. form_low word rows parts.1)
 
-near_low : (word : Line) (rows : List CommandForm) → have_low_forms rows ≡ true → IsLowIfAny (near_form_in word rows)
-unfolding have_low_forms near_form_in
+near_low : (word : Line) (rows : List CommandForm) → have_low_forms rows ≡ true → IsLowIfAny (form_of_similar_command word rows)
+unfolding have_low_forms form_of_similar_command
 near_low word [] h = tt
 near_low word (row ∷ rows) h =
     let parts = and_parts (is_low row.form) (have_low_forms rows) h in
-    cond_both (is_within_one_edit word row.name) (Some row.form) (near_form_in word rows) IsLowIfAny (λ _. low row.form parts.0) (λ _. near_low word rows parts.1)
+    cond_both (is_within_one_edit word row.name) (Some row.form) (form_of_similar_command word rows) IsLowIfAny (λ _. low row.form parts.0) (λ _. near_low word rows parts.1)
 
 or_low : (form : Option Text) (other : Text) → IsLowIfAny form → IsLow other → IsLow (form_or_default form other)
 or_low None other h k = k
@@ -206,10 +206,10 @@ or_low (Some form) other h k = h
 suggested_low : (word : Line) → IsLow (suggested_form word)
 unfolding is_low have_low_forms command_table
 suggested_low word =
-    or_low (form_of_command word command_table) (form_or_default (near_form_in word command_table) (codes "help")) (form_low word command_table refl)
-    (or_low (near_form_in word command_table) (codes "help") (near_low word command_table refl) (low (codes "help") refl))
+    or_low (form_of_command word command_table) (form_or_default (form_of_similar_command word command_table) (codes "help")) (form_low word command_table refl)
+    (or_low (form_of_similar_command word command_table) (codes "help") (near_low word command_table refl) (low (codes "help") refl))
 
-suggestion_low : (line : Line) → IsLow (suggestion line)
+suggestion_low : (line : Line) → IsLow (command_suggestion line)
 unfolding is_low
 suggestion_low line =
     let mark = codes "a byte order mark stands before the command; leave it out" in
@@ -219,12 +219,12 @@ suggestion_low line =
     let word = command_word (split_at_space line) line in
     cond_both (begins_with_byte_order_mark line) mark _ IsLow (λ _. low mark refl)
     (λ _. cond_both (ends_with_carriage_return line) returned _ IsLow (λ _. low returned refl)
-    (λ _. cond_both (has_blank_end line) blank _ IsLow (λ _. low blank refl)
+    (λ _. cond_both (has_leading_or_trailing_blank line) blank _ IsLow (λ _. low blank refl)
     (λ _. cond_both (is_upper word) upper (suggested_form word) IsLow (λ _. low upper refl) (λ _. suggested_low word))))
 
 syntax_utf8 : (line : Line) → HasUtf8Texts (syntax_json line)
 unfolding is_low
-syntax_utf8 line = line_refusal 31 (codes "syntax") (suggestion line) (plain (codes "syntax") refl) (low_utf8 (suggestion line) (suggestion_low line))
+syntax_utf8 line = line_refusal 31 (codes "syntax") (command_suggestion line) (plain (codes "syntax") refl) (low_utf8 (command_suggestion line) (suggestion_low line))
 
 -- ---- an answer
 
@@ -266,8 +266,8 @@ explorer_answer : (e : ExplorerState) (command : ExplorerCommand) (answer : Text
 unfolding is_low
 explorer_answer e (asked.Run schedule most until) answer new h = is_json_line (run_json h.0.events h.0.end) answer h.0.line (run_utf8 h.0.events h.0.end)
 explorer_answer e (asked.BackUntil only until) answer new h =
-    let removed = removed_event_count only e.lab (find_newest_holding (active_conditions until) only e.lab) in
-    is_json_line (removed_json (codes "back") removed (length new.lab.kept)) answer h.0 (removed_utf8 (codes "back") removed (length new.lab.kept) (plain (codes "back") refl))
+    let removed = removed_event_count only e.lab (find_newest_matching_event (active_conditions until) only e.lab) in
+    is_json_line (removed_events_json (codes "back") removed (length new.lab.kept)) answer h.0 (removed_utf8 (codes "back") removed (length new.lab.kept) (plain (codes "back") refl))
 explorer_answer e (asked.AnswerQuery question) answer new h = line_of (AnswersQueryJson e question) answer (query_utf8 e question) h.0
 
 request_answer : (e : ExplorerState) (line : Line) (asked : LineRequest) (answer : Text) (new : ExplorerState) → IsLineRequest e.notes line asked

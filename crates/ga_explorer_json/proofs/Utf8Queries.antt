@@ -21,11 +21,11 @@ use Rattle.ga_lab.specs.Machine.{State, chip_of, causes_of, has_step, history_of
 use Rattle.ga_lab.specs.declared.fault.LabFault.{LabFault}
 use Rattle.ga_lab.specs.declared.fault.LabFault.TheVariants.{Memory, NoStep}
 use Rattle.ga_races.specs.HappensBefore.{are_neighbours}
-use Rattle.ga_scheduler.specs.Words.{words_of, link_transfer_count}
+use Rattle.ga_scheduler.specs.Words.{link_transfers, link_transfer_count}
 use Rattle.ga_scheduler.specs.Effects.{rollback_effects}
 use Rattle.ga_scheduler.specs.declared.words.Transfer.{Transfer}
 use Rattle.ga_scheduler.specs.declared.effects.RollbackEffect.{RollbackEffect}
-use Rattle.ga_provenance.specs.Origins.{node_after}
+use Rattle.ga_provenance.specs.Origins.{node_after_steps}
 use Rattle.ga_provenance.specs.Writes.{cell_write_at}
 use Rattle.ga_provenance.specs.Deciding.{newest_decision}
 use Rattle.ga_provenance.specs.declared.writes.CellWrite.{CellWrite}
@@ -35,25 +35,25 @@ use Rattle.ga_provenance.specs.declared.lines.ProvenanceLine.{ProvenanceLine}
 use Rattle.ga_race_detector.specs.declared.races.Race.{Race}
 use Rattle.ga_race_detector.specs.declared.readings.LookRace.{LookRace}
 use Rattle.ga_race_detector.specs.Readings.{rollback_step_of}
-use Rattle.ga_race_detector.specs.Races.{requested_races, has_looks, first_ready_node}
-use Rattle.ga_explorer_text.specs.Texts.{no_link}
+use Rattle.ga_race_detector.specs.Races.{requested_races, has_made_or_next_look, first_ready_node}
+use Rattle.ga_explorer_text.specs.Texts.{no_link_refusal}
 use Rattle.ga_explorer_text.specs.Waiting.{activity_name, awaited_neighbour, node_count}
 use Rattle.ga_explorer_text.specs.Whence.{word_of_value, selected_value}
 use Rattle.ga_json.specs.Values.{JsonValue, number, string, JsonItems, no_items, item}
 use Rattle.ga_json.specs.Fields.{NamedValue}
-use Rattle.ga_explorer_json.specs.Parts.{number_or_null, part_place, value_fields}
+use Rattle.ga_explorer_json.specs.Parts.{number_or_null, node_part_index, value_fields}
 use Rattle.ga_explorer_json.specs.Events.{action_fields}
-use Rattle.ga_explorer_json.specs.Refusals.{hint_in, step_refusal_json}
-use Rattle.ga_explorer_json.specs.Rows.{json_rows, row_before}
-use Rattle.ga_explorer_json.specs.Around.{register_fields, step_fields, numbered_step_json, step_rows, at_fields, rows_around, steps_around_json, at_json}
-use Rattle.ga_explorer_json.specs.Because.{tested_fields, decided_step_fields, decision_json, decision_before, decision_rows, because_fields, decisions_json, because_json}
+use Rattle.ga_explorer_json.specs.Refusals.{hint_of_refusal, step_refusal_json}
+use Rattle.ga_explorer_json.specs.Rows.{json_rows, rows_if_first_present}
+use Rattle.ga_explorer_json.specs.Around.{register_fields, step_fields, numbered_step_json, step_rows, at_answer_fields, step_rows_around, steps_around_json, at_json}
+use Rattle.ga_explorer_json.specs.Because.{tested_fields, decided_step_fields, decision_json, decision_and_older_rows, decision_rows, because_fields, decisions_json, because_json}
 use Rattle.ga_explorer_json.specs.Effects.{effect_json, effects_fields, effects_json, IsEffectsJson}
 use Rattle.ga_explorer_json.specs.Races.{race_json, look_race_json, race_rows, optional_node_json, races_fields, listed_races_json, races_json, IsRacesJson}
-use Rattle.ga_explorer_json.specs.Whence.{no_value_fields, optional_action_fields, made_fields, line_front_fields, line_fields, line_json, line_rows, whence_fields, line_to_go_on, lines_json, no_lines_json, IsValueJson, IsWhenceJson}
+use Rattle.ga_explorer_json.specs.Whence.{no_value_fields, optional_action_fields, value_origin_fields, provenance_line_start_fields, provenance_line_fields, provenance_line_json, provenance_line_rows, whence_fields, next_provenance_line, provenance_lines_json, no_provenance_lines_json, IsValueJson, IsWhenceJson}
 use Rattle.ga_explorer_json.specs.Who.{neighbour_json, neighbour_activity_json, awaited_fields, activity_fields, waiting_fields, waiting_json, has_who_row, who_rows, who_fields, who_json, IsWhoJson}
 use Rattle.ga_explorer_json.specs.Words.{transfer_json, link_fields, transfers_json, words_json}
 use Rattle.ga_explorer_json.specs.Writes.{cell_write_fields, cell_write_json, with_cell_write, cell_write_rows, writes_fields, writes_rows, writes_json}
-use Rattle.ga_explorer_json.proofs.Utf8Values.{is_low, low, plain, node_name, number_name, HasUtf8Texts, HaveUtf8Items, optional_number, number_if_any, AreUtf8Fields, are_named, fields, fields_append, object_of, report_of, rows_of, members_of, have_low_names, object_by}
+use Rattle.ga_explorer_json.proofs.Utf8Values.{is_low, low, plain, node_name, number_name, HasUtf8Texts, HaveUtf8Items, optional_number, number_if_any, AreUtf8Fields, are_named, fields, fields_append, json_object_of_member, report_of, rows_of, members_of, have_low_names, object_by}
 use Rattle.ga_explorer_json.proofs.Utf8Rows.{hint_utf8, refusal, lab_refusal, step_refusal, action, part_utf8, value}
 
 -- the same value
@@ -89,15 +89,15 @@ transfers_utf8 : (s : State) (from to : NodeId) → HasUtf8Texts (transfers_json
 unfolding is_low are_named
 transfers_utf8 s from to =
     let count = link_transfer_count s from.number to.number in
-    report_of (link_fields from to count) (json_rows transfer_json (words_of s from.number to.number))
+    report_of (link_fields from to count) (json_rows transfer_json (link_transfers s from.number to.number))
     (fields (link_fields from to count) refl (plain (codes "words") refl, (node_name from, (node_name to, (tt, tt)))))
-    (rows_of transfer_json transfer_utf8 (words_of s from.number to.number))
+    (rows_of transfer_json transfer_utf8 (link_transfers s from.number to.number))
 
 pub words_utf8 : (s : State) (from to : NodeId) → HasUtf8Texts (words_json s from to)
 unfolding is_low
 words_utf8 s from to =
     cond_both (are_neighbours from.number to.number) (transfers_json s from to) _ HasUtf8Texts (λ _. transfers_utf8 s from to)
-    (λ _. refusal (codes "words") 34 (codes "nolink") (hint_in no_link) (plain (codes "words") refl) (plain (codes "nolink") refl) (hint_utf8 no_link (low no_link refl)))
+    (λ _. refusal (codes "words") 34 (codes "nolink") (hint_of_refusal no_link_refusal) (plain (codes "words") refl) (plain (codes "nolink") refl) (hint_utf8 no_link_refusal (low no_link_refusal refl)))
 
 -- ---- `writes`
 
@@ -106,7 +106,7 @@ unfolding is_low are_named
 cell_write_utf8 written =
     let first : List NamedValue = (codes "step", number (pos written.step)) ∷ [] in
     let last : List NamedValue = (codes "value", number (pos written.word)) ∷ [] in
-    object_of (cell_write_fields written)
+    json_object_of_member (cell_write_fields written)
     (fields_append (first ++ action_fields written.made) last (fields_append first (action_fields written.made) (fields first refl (tt, tt)) (action written.made)) (fields last refl (tt, tt)))
 
 with_write : (written : Option CellWrite) (older : JsonItems) → HaveUtf8Items older → HaveUtf8Items (with_cell_write written older)
@@ -131,11 +131,11 @@ numbered_step : (step : ℕ) (after : NodeRecord) (made : Made) → HasUtf8Texts
 unfolding is_low are_named
 numbered_step step after made =
     let first : List NamedValue = (codes "step", number (pos step)) ∷ [] in
-    object_of (step_fields step after made)
+    json_object_of_member (step_fields step after made)
     (fields_append (first ++ action_fields made) (register_fields after) (fields_append first (action_fields made) (fields first refl (tt, tt)) (action made))
     (fields (register_fields after) refl (tt, (tt, (tt, (tt, (tt, (tt, tt))))))))
 
-step_before : (step : ℕ) (after : NodeRecord) (made : Option Made) (rest : JsonItems) → HaveUtf8Items rest → HaveUtf8Items (row_before (option_map (numbered_step_json step after) made) rest)
+step_before : (step : ℕ) (after : NodeRecord) (made : Option Made) (rest : JsonItems) → HaveUtf8Items rest → HaveUtf8Items (rows_if_first_present (option_map (numbered_step_json step after) made) rest)
 step_before step after None rest h = tt
 step_before step after (Some made) rest h = (numbered_step step after made, h)
 
@@ -143,14 +143,14 @@ steps_from : (s : State) (n k more : ℕ) → HaveUtf8Items (step_rows s n k mor
 unfolding step_rows
 steps_from s n k zero = tt
 steps_from s n k (suc more) =
-    step_before (k + 1) (node_after s n (k + 1)) (slice_get (history_of s n) (k + 1 - 1)) (step_rows s n (k + 1) more) (steps_from s n (k + 1) more)
+    step_before (k + 1) (node_after_steps s n (k + 1)) (slice_get (history_of s n) (k + 1 - 1)) (step_rows s n (k + 1) more) (steps_from s n (k + 1) more)
 
 pub at_utf8 : (s : State) (node : NodeId) (step around : ℕ) → HasUtf8Texts (at_json s node step around)
 unfolding is_low are_named
 at_utf8 s node step around =
     let count = count_steps node.number s.kept in
     cond_both (has_step s node.number step) (steps_around_json s node step around) (step_refusal_json (codes "at") node count NoStep) HasUtf8Texts
-    (λ _. report_of (at_fields node step) (rows_around s node step around) (fields (at_fields node step) refl (plain (codes "at") refl, (node_name node, (tt, tt))))
+    (λ _. report_of (at_answer_fields node step) (step_rows_around s node step around) (fields (at_answer_fields node step) refl (plain (codes "at") refl, (node_name node, (tt, tt))))
     (steps_from s node.number (step - 1 - around) (min (step + around) count - (step - 1 - around))))
     (λ _. step_refusal (codes "at") node count NoStep (plain (codes "at") refl))
 
@@ -160,26 +160,26 @@ made_by : (made : Option Made) → AreUtf8Fields (optional_action_fields made)
 made_by None = tt
 made_by (Some made) = action made
 
-made_or_loaded : (s : State) (value : Value) → AreUtf8Fields (made_fields s value)
+made_or_loaded : (s : State) (value : Value) → AreUtf8Fields (value_origin_fields s value)
 unfolding is_low are_named
 made_or_loaded s value =
     let loaded : List NamedValue = (codes "what", string (codes "load")) ∷ [] in
     let made = slice_get (history_of s value.node.number) (value.step - 1) in
     cond_both (value.step == 0) loaded (optional_action_fields made) AreUtf8Fields (λ _. fields loaded refl (plain (codes "load") refl, tt)) (λ _. made_by made)
 
-line_utf8 : (s : State) (k : ℕ) (line : ProvenanceLine) (word : ℕ) → HasUtf8Texts (line_json s k line word)
+line_utf8 : (s : State) (k : ℕ) (line : ProvenanceLine) (word : ℕ) → HasUtf8Texts (provenance_line_json s k line word)
 unfolding is_low are_named
 line_utf8 s k line word =
     let last : List NamedValue = (codes "count", number (pos line.count)) ∷ [] in
     let values = value_fields line.value.part word in
-    object_of (line_fields s k line word)
-    (fields_append (line_front_fields k line) ((made_fields s line.value ++ values) ++ last)
-    (fields (line_front_fields k line) refl (tt, (tt, (node_name line.value.node, (number_if_any line.value.step, tt)))))
-    (fields_append (made_fields s line.value ++ values) last (fields_append (made_fields s line.value) values (made_or_loaded s line.value) (value line.value.part word)) (fields last refl (tt, tt))))
+    json_object_of_member (provenance_line_fields s k line word)
+    (fields_append (provenance_line_start_fields k line) ((value_origin_fields s line.value ++ values) ++ last)
+    (fields (provenance_line_start_fields k line) refl (tt, (tt, (node_name line.value.node, (number_if_any line.value.step, tt)))))
+    (fields_append (value_origin_fields s line.value ++ values) last (fields_append (value_origin_fields s line.value) values (made_or_loaded s line.value) (value line.value.part word)) (fields last refl (tt, tt))))
 
-lines_from : (s : State) (k : ℕ) (lines : List ProvenanceLine) → HaveUtf8Items (line_rows s k lines)
-lines_from s k [] = tt
-lines_from s k (line ∷ rest) = (line_utf8 s (k + 1) line (word_of_value s line.value), lines_from s (k + 1) rest)
+provenance_lines_text_from : (s : State) (k : ℕ) (lines : List ProvenanceLine) → HaveUtf8Items (provenance_line_rows s k lines)
+provenance_lines_text_from s k [] = tt
+provenance_lines_text_from s k (line ∷ rest) = (line_utf8 s (k + 1) line (word_of_value s line.value), provenance_lines_text_from s (k + 1) rest)
 
 whence_head : (node : NodeId) (step first : ℕ) (queried : List NamedValue) (more : Option ℕ) → AreUtf8Fields queried → AreUtf8Fields (whence_fields node step first queried more)
 unfolding is_low are_named
@@ -196,15 +196,15 @@ whence_head node step first queried more h =
 value_utf8 : (s : State) (node : NodeId) (step first : ℕ) (queried : Option Value) (answer : JsonValue) → IsValueJson s node step first queried answer → HasUtf8Texts answer
 unfolding is_low are_named
 value_utf8 s node step first None answer e =
-    as_value answer (no_lines_json node step first) e
+    as_value answer (no_provenance_lines_json node step first) e
     (report_of (whence_fields node step first no_value_fields None) no_items (whence_head node step first no_value_fields None (fields no_value_fields refl (tt, (tt, (tt, tt))))) tt)
 value_utf8 s node step first (Some queried) answer (inl e) = as_value answer _ e (lab_refusal (codes "whence") Memory (plain (codes "whence") refl))
 value_utf8 s node step first (Some queried) answer (inr h) =
     let asked = value_fields queried.part (word_of_value s queried) in
-    let more = line_to_go_on (length h.lines) h.is_whole in
-    as_value answer (lines_json s node step first queried h.lines h.is_whole) h.json
-    (report_of (whence_fields node step first asked more) (line_rows s (first - 1) (drop (first - 1) h.lines))
-    (whence_head node step first asked more (value queried.part (word_of_value s queried))) (lines_from s (first - 1) (drop (first - 1) h.lines)))
+    let more = next_provenance_line (length h.lines) h.is_whole in
+    as_value answer (provenance_lines_json s node step first queried h.lines h.is_whole) h.json
+    (report_of (whence_fields node step first asked more) (provenance_line_rows s (first - 1) (drop (first - 1) h.lines))
+    (whence_head node step first asked more (value queried.part (word_of_value s queried))) (provenance_lines_text_from s (first - 1) (drop (first - 1) h.lines)))
 
 pub whence_utf8 : (s : State) (node : NodeId) (step : ℕ) (at : Option NodePart) (first : ℕ) (answer : JsonValue) → IsWhenceJson s node step at first answer → HasUtf8Texts answer
 unfolding is_low
@@ -217,23 +217,23 @@ decision_utf8 : (decision : Decision) → HasUtf8Texts (decision_json decision)
 unfolding is_low are_named
 decision_utf8 decision =
     let first : List NamedValue = (codes "step", number (pos decision.step)) ∷ [] in
-    object_of (decided_step_fields decision)
+    json_object_of_member (decided_step_fields decision)
     (fields_append (first ++ action_fields decision.made) (tested_fields decision) (fields_append first (action_fields decision.made) (fields first refl (tt, tt)) (action decision.made))
     (fields (tested_fields decision) refl (
       part_utf8 decision.tested.part,
       (
-        optional_number (part_place decision.tested.part),
+        optional_number (node_part_index decision.tested.part),
         (
           tt,
           (
             node_name decision.source.node,
-            (number_if_any decision.source.step, (part_utf8 decision.source.part, (optional_number (part_place decision.source.part), tt))),
+            (number_if_any decision.source.step, (part_utf8 decision.source.part, (optional_number (node_part_index decision.source.part), tt))),
           ),
         ),
       ),
     )))
 
-decision_before_utf8 : (older : ℕ → JsonItems) → ((k : ℕ) → HaveUtf8Items (older k)) → (decision : Option Decision) → HaveUtf8Items (decision_before older decision)
+decision_before_utf8 : (older : ℕ → JsonItems) → ((k : ℕ) → HaveUtf8Items (older k)) → (decision : Option Decision) → HaveUtf8Items (decision_and_older_rows older decision)
 decision_before_utf8 older h None = tt
 decision_before_utf8 older h (Some decision) = (decision_utf8 decision, h (decision.step - 1))
 
@@ -282,7 +282,7 @@ listed_races only races readings looks quiet =
 pub races_utf8 : (s : State) (only : Option NodeId) (answer : JsonValue) → IsRacesJson s only answer → HasUtf8Texts answer
 unfolding is_low
 races_utf8 s only answer (inl h) =
-    as_value answer (races_json s only h.0) h.3 (listed_races only (requested_races s only) h.0 (has_looks (causes_of s) (chip_of s)) (is_none (first_ready_node (chip_of s))))
+    as_value answer (races_json s only h.0) h.3 (listed_races only (requested_races s only) h.0 (has_made_or_next_look (causes_of s) (chip_of s)) (is_none (first_ready_node (chip_of s))))
 races_utf8 s only answer (inr e) = as_value answer _ e (lab_refusal (codes "races") Memory (plain (codes "races") refl))
 
 -- ---- `who`
@@ -324,7 +324,7 @@ waiting_utf8 chip deadlocked ended n l =
     let down = awaited_fields chip n Down (codes "down") (codes "down_does") in
     let left = awaited_fields chip n Left (codes "left") (codes "left_does") in
     let up = awaited_fields chip n Up (codes "up") (codes "up_does") in
-    object_of (waiting_fields chip deadlocked ended n)
+    json_object_of_member (waiting_fields chip deadlocked ended n)
     (fields_append first (right ++ down ++ left ++ up)
     (fields first refl (number_name n l, (activity_utf8 (record_at chip n).wait (record_at chip n).stop, (tt, (tt, tt)))))
     (fields_append right (down ++ left ++ up) (awaited chip n Right (codes "right") (codes "right_does") l (plain (codes "right") refl) (plain (codes "right_does") refl))

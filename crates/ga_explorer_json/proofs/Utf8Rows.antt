@@ -5,7 +5,7 @@ use Rattle.std.specs.Str.{IsUtf8}
 use Rattle.std.proofs.lemmas.Bool.{cond_both, agree_below_at}
 use Rattle.ga_text.specs.Lines.{Text}
 use Rattle.ga_text.specs.Digits.{name_of_node}
-use Rattle.ga_slots.specs.Codes.{name_of, op_of}
+use Rattle.ga_slots.specs.Codes.{name_of, op_of_code}
 use Rattle.ga_node.specs.declared.kind.OwnEventKind.{OwnEventKind}
 use Rattle.ga_node.specs.declared.kind.OwnEventKind.TheVariants as kind
 use Rattle.ga_grid.specs.declared.node_id.NodeId.{NodeId}
@@ -18,22 +18,22 @@ use Rattle.ga_lab.specs.declared.fault.LabFault.TheVariants.{Waiting, Stopped, F
 use Rattle.ga_display.specs.Texts.{advised_refusal_text, advised_step_refusal_text, missing_step_text, steps_word}
 use Rattle.ga_json.specs.Values.{number, string}
 use Rattle.ga_explorer_json.specs.Events.{own_event_fields, pass_fields, action_fields, made_event_fields}
-use Rattle.ga_explorer_json.specs.Parts.{part_word, part_place, value_fields}
-use Rattle.ga_explorer_json.specs.Refusals.{after_byte, before_byte, hint_in, refusal_json, fault_code, fault_word, fault_hint, lab_refusal_json, step_refusal_json}
-use Rattle.ga_explorer_json.proofs.Utf8Values.{IsLow, is_low, low, low_append, low_utf8, plain, decimal_low, name_low, node_name, HasUtf8Texts, optional_number, AreUtf8Fields, are_named, fields, fields_append, object_of}
+use Rattle.ga_explorer_json.specs.Parts.{node_part_word, node_part_index, value_fields}
+use Rattle.ga_explorer_json.specs.Refusals.{text_after_byte, text_before_byte, hint_of_refusal, refusal_json, fault_code, fault_word, fault_hint, lab_refusal_json, step_refusal_json}
+use Rattle.ga_explorer_json.proofs.Utf8Values.{IsLow, is_low, low, low_append, low_utf8, plain, decimal_low, name_low, node_name, HasUtf8Texts, optional_number, AreUtf8Fields, are_named, fields, fields_append, json_object_of_member}
 
 -- ---- refusals
 
-after_low : (byte : ℕ) (text : Text) → IsLow text → IsLow (after_byte byte text)
+after_low : (byte : ℕ) (text : Text) → IsLow text → IsLow (text_after_byte byte text)
 after_low byte [] h = tt
-after_low byte (b ∷ text) h = cond_both (b == byte) text (after_byte byte text) IsLow (λ _. h.1) (λ _. after_low byte text h.1)
+after_low byte (b ∷ text) h = cond_both (b == byte) text (text_after_byte byte text) IsLow (λ _. h.1) (λ _. after_low byte text h.1)
 
-before_low : (byte : ℕ) (text : Text) → IsLow text → IsLow (before_byte byte text)
+before_low : (byte : ℕ) (text : Text) → IsLow text → IsLow (text_before_byte byte text)
 before_low byte [] h = tt
-before_low byte (b ∷ text) h = cond_both (b == byte) [] (b ∷ before_byte byte text) IsLow (λ _. tt) (λ _. (h.0, before_low byte text h.1))
+before_low byte (b ∷ text) h = cond_both (b == byte) [] (b ∷ text_before_byte byte text) IsLow (λ _. tt) (λ _. (h.0, before_low byte text h.1))
 
-pub hint_utf8 : (line : Text) → IsLow line → IsUtf8 (hint_in line)
-hint_utf8 line h = low_utf8 (hint_in line) (before_low 10 (after_byte 32 (after_byte 58 line)) (after_low 32 (after_byte 58 line) (after_low 58 line h)))
+pub hint_utf8 : (line : Text) → IsLow line → IsUtf8 (hint_of_refusal line)
+hint_utf8 line h = low_utf8 (hint_of_refusal line) (before_low 10 (text_after_byte 32 (text_after_byte 58 line)) (after_low 32 (text_after_byte 58 line) (after_low 58 line h)))
 
 advice_low : (why : LabFault) → IsLow (advised_refusal_text why)
 unfolding is_low
@@ -80,7 +80,7 @@ fault_hint_utf8 why = hint_utf8 (advised_refusal_text why) (advice_low why)
 
 pub refusal : (command : Text) (code : ℕ) (why hint : Text) → IsUtf8 command → IsUtf8 why → IsUtf8 hint → HasUtf8Texts (refusal_json command code why hint)
 unfolding is_low are_named
-refusal command code why hint a b c = object_of
+refusal command code why hint a b c = json_object_of_member
     ((codes "command", string command) ∷ (codes "refused", number (pos code)) ∷ (codes "why", string why) ∷ (codes "hint", string hint) ∷ [])
     (fields ((codes "command", string command) ∷ (codes "refused", number (pos code)) ∷ (codes "why", string why) ∷ (codes "hint", string hint) ∷ []) refl (a, (tt, (b, (c, tt)))))
 
@@ -89,14 +89,14 @@ lab_refusal command why h = refusal command (fault_code why) (fault_word why) (f
 
 pub step_refusal : (command : Text) (node : NodeId) (count : ℕ) (why : LabFault) → IsUtf8 command → HasUtf8Texts (step_refusal_json command node count why)
 step_refusal command node count why h =
-    refusal command (fault_code why) (fault_word why) (hint_in (advised_step_refusal_text node count why)) h (fault_word_utf8 why)
+    refusal command (fault_code why) (fault_word why) (hint_of_refusal (advised_step_refusal_text node count why)) h (fault_word_utf8 why)
     (hint_utf8 (advised_step_refusal_text node count why) (step_advice_low node count why))
 
 -- ---- events
 
-opcode_utf8 : (code : ℕ) → IsUtf8 (name_of (op_of (code % 32)))
+opcode_utf8 : (code : ℕ) → IsUtf8 (name_of (op_of_code (code % 32)))
 unfolding is_low
-opcode_utf8 code = plain (name_of (op_of (code % 32))) (agree_below_at (λ k. is_low (name_of (op_of k))) (λ k. true) 32 (code % 32) refl (omega arith))
+opcode_utf8 code = plain (name_of (op_of_code (code % 32))) (agree_below_at (λ k. is_low (name_of (op_of_code k))) (λ k. true) 32 (code % 32) refl (omega arith))
 
 own_event : (kind : OwnEventKind) → AreUtf8Fields (own_event_fields kind)
 unfolding is_low are_named
@@ -122,7 +122,7 @@ made_event (Pass writer i reader j word) = pass writer i reader j word
 
 -- ---- parts of a node
 
-pub part_utf8 : (at : NodePart) → IsUtf8 (part_word at)
+pub part_utf8 : (at : NodePart) → IsUtf8 (node_part_word at)
 unfolding is_low
 part_utf8 (part.Data k) =
     cond_both (k == 0) (codes "t") (if k == 1 then codes "s" else codes "d") IsUtf8 (λ _. plain (codes "t") refl)
@@ -143,4 +143,4 @@ part_utf8 part.Outside = plain (codes "outside") refl
 
 pub value : (at : NodePart) (word : ℕ) → AreUtf8Fields (value_fields at word)
 unfolding is_low are_named
-value at word = fields (value_fields at word) refl (part_utf8 at, (optional_number (part_place at), (tt, tt)))
+value at word = fields (value_fields at word) refl (part_utf8 at, (optional_number (node_part_index at), (tt, tt)))

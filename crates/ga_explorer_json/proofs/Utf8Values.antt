@@ -11,7 +11,7 @@ use Rattle.ga_text.specs.Digits.{name_of_node}
 use Rattle.ga_grid.specs.declared.node_id.NodeId.{NodeId}
 use Rattle.ga_explorer_text.specs.Waiting.{name_text_of_node}
 use Rattle.ga_json.specs.Values.{JsonValue, null, boolean, number, string, array, object, JsonItems, no_items, item, JsonMembers, no_members, member}
-use Rattle.ga_json.specs.Compact.{IsWritable, AreWritableItems, AreWritableMembers, json_line}
+use Rattle.ga_json.specs.Compact.{IsWritableValue, AreWritableItems, AreWritableMembers, json_line}
 use Rattle.ga_json.specs.FieldValues.{text_json}
 use Rattle.ga_json.specs.Fields.{NamedValue, with_members, json_object, json_report}
 use Rattle.ga_json.proofs.Written.{line_is_json, rows_name}
@@ -92,7 +92,7 @@ abbrev mutual
   HaveUtf8Members (member name value members) = IsUtf8 name × HasUtf8Texts value × HaveUtf8Members members
 
 mutual
-  writable : (value : JsonValue) → HasUtf8Texts value → HasIntegersOf64Bits value → IsWritable value
+  writable : (value : JsonValue) → HasUtf8Texts value → HasIntegersOf64Bits value → IsWritableValue value
   writable null h k = tt
   writable (boolean b) h k = tt
   writable (number z) h k = k
@@ -151,8 +151,8 @@ members : (named : List NamedValue) (more : JsonMembers) → AreUtf8Fields named
 members [] more h k = k
 members (field ∷ named) more h k = (h.0.0, h.0.1, members named more h.1 k)
 
-pub object_of : (named : List NamedValue) → AreUtf8Fields named → HasUtf8Texts (json_object named)
-object_of named h = members named no_members h tt
+pub json_object_of_member : (named : List NamedValue) → AreUtf8Fields named → HasUtf8Texts (json_object named)
+json_object_of_member named h = members named no_members h tt
 
 pub report_of : (head : List NamedValue) (rows : JsonItems) → AreUtf8Fields head → HaveUtf8Items rows → HasUtf8Texts (json_report head rows)
 report_of head rows h k = members head (member (codes "rows") (array rows) no_members) h (rows_name, k, tt)

@@ -7,11 +7,11 @@ use Rattle.ga_lab.specs.Machine.{State, has_step}
 use Rattle.ga_lab.specs.declared.fault.LabFault.TheVariants.{NoStep}
 use Rattle.ga_provenance.specs.declared.value.Value.{Value}
 use Rattle.ga_provenance.specs.declared.lines.ProvenanceLine.{ProvenanceLine}
-use Rattle.ga_provenance.specs.Lines.{AreLinesOf}
-use Rattle.ga_explorer_text.specs.Whence.{selected_value, most_lines}
+use Rattle.ga_provenance.specs.Lines.{AreProvenanceLinesOf}
+use Rattle.ga_explorer_text.specs.Whence.{selected_value, last_written_line}
 use Rattle.ga_json.specs.Values.{JsonValue}
 use Rattle.ga_explorer_json.specs.Refusals.{step_refusal_json}
-use Rattle.ga_explorer_json.specs.Whence.{lines_json, IsValueJson, IsWhenceJson}
+use Rattle.ga_explorer_json.specs.Whence.{provenance_lines_json, IsValueJson, IsWhenceJson}
 
 pub whence_nowhere : (s : State) (node : NodeId) (step : ℕ) (at : Option NodePart) (first : ℕ) → has_step s node.number step ≡ false
     → IsWhenceJson s node step at first (step_refusal_json (codes "whence") node (count_steps node.number s.kept) NoStep)
@@ -22,8 +22,8 @@ pub whence_here : (s : State) (node : NodeId) (step : ℕ) (at : Option NodePart
 whence_here s node step at first value answer e is h = inr (e, subst (λ o. IsValueJson s node step first o answer) is h)
 
 pub lines_found : (s : State) (node : NodeId) (step first : ℕ) (value : Value) (lines written : List ProvenanceLine) (is_whole : Bool) → written ≡ lines
-    → AreLinesOf s value lines is_whole → length lines ≤ most_lines first → (is_whole ≡ false → length lines ≡ most_lines first)
-    → IsValueJson s node step first (Some value) (lines_json s node step first value written is_whole)
+    → AreProvenanceLinesOf s value lines is_whole → length lines ≤ last_written_line first → (is_whole ≡ false → length lines ≡ last_written_line first)
+    → IsValueJson s node step first (Some value) (provenance_lines_json s node step first value written is_whole)
 lines_found s node step first value lines written is_whole same told most cut =
     inr (record {
       lines = lines;
@@ -31,5 +31,5 @@ lines_found s node step first value lines written is_whole same told most cut =
       told = told;
       most = most;
       cut = cut;
-      json = ap (λ (z : List ProvenanceLine). lines_json s node step first value z is_whole) same;
+      json = ap (λ (z : List ProvenanceLine). provenance_lines_json s node step first value z is_whole) same;
     })

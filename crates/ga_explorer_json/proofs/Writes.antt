@@ -1,7 +1,7 @@
 -- The steps that wrote a cell, one after another from the newest on.
 use Rattle.std.proofs.Common.{◌≡◌, ℕ, zero, suc, ◌-◌, Option, Some, None, ap, sym, ◌∙◌, refl, arith}
 use Rattle.ga_lab.specs.Machine.{State}
-use Rattle.ga_provenance.specs.Writes.{cell_write_at, newer_write, newest_cell_write}
+use Rattle.ga_provenance.specs.Writes.{cell_write_at, newer_cell_write, newest_cell_write}
 use Rattle.ga_provenance.specs.declared.writes.CellWrite.{CellWrite}
 use Rattle.ga_provenance.proofs.Keeping.{written_step}
 use Rattle.ga_json.specs.Values.{no_items, item}
@@ -24,7 +24,7 @@ no_write s n cell zero e = no_step s n cell
 no_write s n cell (suc k) e = go (cell_write_at s n cell k) refl (λ h. no_write s n cell k h) e
   where
     go : (o : Option CellWrite) → cell_write_at s n cell k ≡ o → (None ≡ newest_cell_write s n cell k → cell_write_rows s n cell k ≡ no_items)
-        → None ≡ newer_write o (newest_cell_write s n cell k) → cell_write_rows s n cell (suc k) ≡ no_items
+        → None ≡ newer_cell_write o (newest_cell_write s n cell k) → cell_write_rows s n cell (suc k) ≡ no_items
     go None is before h = passed s n cell k is ∙ before h
     go (Some wrote) is before h = absurd (cc)
 
@@ -36,7 +36,7 @@ newest s n cell (suc k) wrote e = go (cell_write_at s n cell k) refl (λ h. newe
   where
     go : (o : Option CellWrite) → cell_write_at s n cell k ≡ o
         → (Some wrote ≡ newest_cell_write s n cell k → cell_write_rows s n cell k ≡ with_cell_write (Some wrote) (cell_write_rows s n cell (wrote.step - 1)))
-        → Some wrote ≡ newer_write o (newest_cell_write s n cell k)
+        → Some wrote ≡ newer_cell_write o (newest_cell_write s n cell k)
         → cell_write_rows s n cell (suc k) ≡ with_cell_write (Some wrote) (cell_write_rows s n cell (wrote.step - 1))
     go None is before h = passed s n cell k is ∙ before h
     go (Some other) is before h =

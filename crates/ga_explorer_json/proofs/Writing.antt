@@ -3,7 +3,7 @@ use Rattle.std.proofs.Common.{◌≡◌, List, Bool, true, false, ap, sym, ◌�
 use Rattle.std.specs.Prelude.{map, if◌then◌else◌, option_map}
 use Rattle.arrayvec.specs.ArrayVec.{ArrayVec}
 use Rattle.ga_text.specs.Lines.{Bytes}
-use Rattle.ga_text.specs.Output.{WritesExactly, WritesSome}
+use Rattle.ga_text.specs.Output.{WritesExactly, WritesSomeText}
 use Rattle.ga_text.specs.declared.output.WriteError.{WriteError}
 use Rattle.ga_text.specs.declared.output.Writer.{Writer}
 use Rattle.ga_json.specs.Values.{JsonValue, JsonItems}
@@ -11,7 +11,7 @@ use Rattle.ga_json.specs.Compact.{json_line}
 use Rattle.ga_json.specs.Fields.{NamedValue, named_field_value, row_json, report_json, json_report}
 use Rattle.ga_json.specs.declared.field.Field.{Field}
 use Rattle.ga_json.specs.inner.{rows_from}
-use Rattle.ga_explorer_json.specs.Rows.{IsJsonLine, row_before}
+use Rattle.ga_explorer_json.specs.Rows.{IsJsonLine, rows_if_first_present}
 use Rattle.ga_json.proofs.Says.{says_as}
 
 pub object_as : {T W : Type 0} (contents : W → Option Bytes) (result : Result T WriteError) (old new : Writer W) (fields : List Field) (value : JsonValue) → row_json fields ≡ value
@@ -38,7 +38,7 @@ by_false test other value e = ap (λ (b : Bool). if b then other else value) (sy
 
 -- the line of a value of some kind
 pub line_of : {T W : Type 0} (contents : W → Option Bytes) (result : Result T WriteError) (old new : Writer W) (IsAnswer : JsonValue → Type 0) (value : JsonValue) → IsAnswer value
-    → WritesExactly result (json_line value) contents old new → WritesSome result (IsJsonLine IsAnswer) contents old new
+    → WritesExactly result (json_line value) contents old new → WritesSomeText result (IsJsonLine IsAnswer) contents old new
 line_of contents result old new IsAnswer value is h = (h.0, λ before said s. (json_line value, (value, is, refl), h.1 before said s))
 
 -- rows by a test
@@ -50,13 +50,13 @@ items_by_false test other rows e = ap (λ (b : Bool). if b then other else rows)
 
 -- a row that is taken
 pub row_from : (taken : Option (ArrayVec Field)) (row : Option JsonValue) (rest : JsonItems) → option_map (λ (fields : ArrayVec Field). row_json fields.items) taken ≡ row
-    → row_before row rest ≡ rows_from (option_map (λ (fields : ArrayVec Field). fields.items) taken) rest
-row_from (Some fields) row rest e = ap (λ z. row_before z rest) (sym e)
-row_from None row rest e = ap (λ z. row_before z rest) (sym e)
+    → rows_if_first_present row rest ≡ rows_from (option_map (λ (fields : ArrayVec Field). fields.items) taken) rest
+row_from (Some fields) row rest e = ap (λ z. rows_if_first_present z rest) (sym e)
+row_from None row rest e = ap (λ z. rows_if_first_present z rest) (sym e)
 
 -- the line of a value of another kind
 pub line_as : {T W : Type 0} (contents : W → Option Bytes) (result : Result T WriteError) (old new : Writer W) (IsAnswer IsOther : JsonValue → Type 0)
-    → ((answer : JsonValue) → IsAnswer answer → IsOther answer) → WritesSome result (IsJsonLine IsAnswer) contents old new → WritesSome result (IsJsonLine IsOther) contents old new
+    → ((answer : JsonValue) → IsAnswer answer → IsOther answer) → WritesSomeText result (IsJsonLine IsAnswer) contents old new → WritesSomeText result (IsJsonLine IsOther) contents old new
 line_as contents result old new IsAnswer IsOther f h = (
   h.0,
   λ before said written.

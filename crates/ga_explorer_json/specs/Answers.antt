@@ -5,7 +5,7 @@ use Rattle.ga_event.specs.Told.{count_steps}
 use Rattle.ga_lab.specs.Machine.{State, undo_answer, rewind_answer, state_after_undo, state_after_rewind}
 use Rattle.ga_debug_info.specs.declared.notes.DebugInfo.{DebugInfo}
 use Rattle.ga_scheduler.specs.Conditions.{active_conditions}
-use Rattle.ga_scheduler.specs.Backward.{find_newest_holding, machine_back_at_place, removed_event_count}
+use Rattle.ga_scheduler.specs.Backward.{find_newest_matching_event, machine_after_back_until, removed_event_count}
 use Rattle.ga_scheduler.specs.Running.{running, run_after_events, HasNextEvents, HasRunEnded}
 use Rattle.ga_scheduler.specs.declared.schedule.Schedule.{Schedule}
 use Rattle.ga_scheduler.specs.declared.condition.Condition.{Condition}
@@ -24,7 +24,7 @@ use Rattle.ga_explorer.specs.declared.commands.Query.TheVariants as query
 use Rattle.ga_json.specs.Values.{JsonValue}
 use Rattle.ga_json.specs.Compact.{json_line}
 use Rattle.ga_explorer_json.specs.Rows.{IsJsonLine}
-use Rattle.ga_explorer_json.specs.Changes.{IsStepJson, undo_json, rewind_json, removed_json, run_json}
+use Rattle.ga_explorer_json.specs.Changes.{IsStepJson, undo_json, rewind_json, removed_events_json, run_json}
 use Rattle.ga_explorer_json.specs.NodeState.{node_json}
 use Rattle.ga_explorer_json.specs.Readings.{memory_word_json, counts_json}
 use Rattle.ga_explorer_json.specs.Steps.{IsTraceJson, IsWhyJson, IsDumpJson}
@@ -86,8 +86,8 @@ pub record IsRunJson (s : State) (schedule : Schedule) (most : ℕ) (until : Lis
 abbrev pub AnswersExplorerJson : ExplorerState → ExplorerCommand → Text → ExplorerState → Type 0
 AnswersExplorerJson e (asked.Run schedule most until) answer new = IsRunJson e.lab schedule most (active_conditions until) answer new.lab × (new.notes ≡ e.notes)
 AnswersExplorerJson e (asked.BackUntil only until) answer new =
-    (answer ≡ json_line (removed_json (codes "back") (removed_event_count only e.lab (find_newest_holding (active_conditions until) only e.lab)) (length new.lab.kept)))
-    × (new.lab ≡ machine_back_at_place only e.lab (find_newest_holding (active_conditions until) only e.lab)) × (new.notes ≡ e.notes)
+    (answer ≡ json_line (removed_events_json (codes "back") (removed_event_count only e.lab (find_newest_matching_event (active_conditions until) only e.lab)) (length new.lab.kept)))
+    × (new.lab ≡ machine_after_back_until only e.lab (find_newest_matching_event (active_conditions until) only e.lab)) × (new.notes ≡ e.notes)
 AnswersExplorerJson e (asked.AnswerQuery question) answer new = IsJsonLine (AnswersQueryJson e question) answer × (new ≡ e)
 
 -- ---- a line

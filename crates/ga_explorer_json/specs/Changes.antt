@@ -29,17 +29,17 @@ IsStepJson s node new answer =
 -- ---- `back`, `rewind`
 
 -- how many events were removed, if some were, and how many are kept
-abbrev pub removed_json : Text → Option ℕ → ℕ → JsonValue
-removed_json command removed kept =
+abbrev pub removed_events_json : Text → Option ℕ → ℕ → JsonValue
+removed_events_json command removed kept =
     json_object ((codes "command", string command) ∷ (codes "removed", number_or_null removed) ∷ (codes "kept", number (pos kept)) ∷ [])
 
 abbrev pub undo_json : Result (Unit {0}) LabFault → ℕ → JsonValue
-undo_json (Ok done) kept = removed_json (codes "back") (Some 1) kept
+undo_json (Ok done) kept = removed_events_json (codes "back") (Some 1) kept
 undo_json (Err why) kept = lab_refusal_json (codes "back") why
 
 -- about a step of a node that has `count` steps
 abbrev pub rewind_json : NodeId → ℕ → Result ℕ LabFault → ℕ → JsonValue
-rewind_json node count (Ok removed) kept = removed_json (codes "rewind") (Some removed) kept
+rewind_json node count (Ok removed) kept = removed_events_json (codes "rewind") (Some removed) kept
 rewind_json node count (Err why) kept = step_refusal_json (codes "rewind") node count why
 
 -- ---- `run`

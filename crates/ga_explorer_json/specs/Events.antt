@@ -1,6 +1,6 @@
 -- Events as fields of a row (docs/REFERENCE.md, "Exploring"; this project's own).
 use Rattle.std.specs.Prelude.{ℕ, ◌%◌, pos, List, [], ◌∷◌, ◌++◌, codes}
-use Rattle.ga_slots.specs.Codes.{name_of, op_of}
+use Rattle.ga_slots.specs.Codes.{name_of, op_of_code}
 use Rattle.ga_node.specs.declared.kind.OwnEventKind.{OwnEventKind}
 use Rattle.ga_node.specs.declared.kind.OwnEventKind.TheVariants as kind
 use Rattle.ga_grid.specs.declared.node_id.NodeId.{NodeId}
@@ -13,7 +13,7 @@ use Rattle.ga_json.specs.Fields.{NamedValue}
 -- an event of a node's own: the opcode, or what came in its place, with the number of a stop
 abbrev pub own_event_fields : OwnEventKind → List NamedValue
 own_event_fields kind.Fetch = (codes "what", string (codes "fetch")) ∷ []
-own_event_fields (kind.Run code) = (codes "what", string (codes "run")) ∷ (codes "opcode", string (name_of (op_of (code % 32)))) ∷ []
+own_event_fields (kind.Run code) = (codes "what", string (codes "run")) ∷ (codes "opcode", string (name_of (op_of_code (code % 32)))) ∷ []
 own_event_fields kind.Wait = (codes "what", string (codes "wait")) ∷ []
 own_event_fields (kind.Stop n) = (codes "what", string (codes "stop")) ∷ (codes "stop", number (pos n)) ∷ []
 

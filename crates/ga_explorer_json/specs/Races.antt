@@ -7,7 +7,7 @@ use Rattle.ga_lab.specs.declared.fault.LabFault.TheVariants.{Memory}
 use Rattle.ga_race_detector.specs.declared.races.Race.{Race}
 use Rattle.ga_race_detector.specs.declared.readings.LookRace.{LookRace}
 use Rattle.ga_race_detector.specs.Readings.{rollback_step_of, IsReportedLookRace, HasAllNearLookRaces}
-use Rattle.ga_race_detector.specs.Races.{requested_races, has_looks, first_ready_node}
+use Rattle.ga_race_detector.specs.Races.{requested_races, has_made_or_next_look, first_ready_node}
 use Rattle.ga_text.specs.Digits.{name_of_node}
 use Rattle.ga_json.specs.Values.{JsonValue, null, boolean, number, string, JsonItems, item}
 use Rattle.ga_json.specs.Fields.{NamedValue, json_object, json_report}
@@ -74,7 +74,7 @@ listed_races_json only races readings looks quiet = json_report (races_fields on
 -- the answer, with these looks
 abbrev pub races_json : State → Option NodeId → List LookRace → JsonValue
 races_json s only readings =
-    listed_races_json only (requested_races s only) readings (has_looks (causes_of s) (chip_of s)) (is_none (first_ready_node (chip_of s)))
+    listed_races_json only (requested_races s only) readings (has_made_or_next_look (causes_of s) (chip_of s)) (is_none (first_ready_node (chip_of s)))
 
 -- all races of passes are listed, and the looks that could have read another word, all that a near change leads to; or an
 -- allocation failed

@@ -11,18 +11,18 @@ use Rattle.ga_json.specs.Fields.{json_object}
 -- ---- the hint of a refusal
 
 -- the text after the first of these bytes
-abbrev pub after_byte : ℕ → Text → Text
-after_byte byte [] = []
-after_byte byte (b ∷ text) = if b == byte then text else after_byte byte text
+abbrev pub text_after_byte : ℕ → Text → Text
+text_after_byte byte [] = []
+text_after_byte byte (b ∷ text) = if b == byte then text else text_after_byte byte text
 
 -- the text before the first of these bytes
-abbrev pub before_byte : ℕ → Text → Text
-before_byte byte [] = []
-before_byte byte (b ∷ text) = if b == byte then [] else b ∷ before_byte byte text
+abbrev pub text_before_byte : ℕ → Text → Text
+text_before_byte byte [] = []
+text_before_byte byte (b ∷ text) = if b == byte then [] else b ∷ text_before_byte byte text
 
 -- what the line of text of a refusal has after its colon and a blank
-abbrev pub hint_in : Text → Text
-hint_in line = before_byte 10 (after_byte 32 (after_byte 58 line))
+abbrev pub hint_of_refusal : Text → Text
+hint_of_refusal line = text_before_byte 10 (text_after_byte 32 (text_after_byte 58 line))
 
 -- ---- the objects
 
@@ -51,11 +51,11 @@ fault_word NoStep = codes "nostep"
 fault_word Spent = codes "spent"
 
 abbrev pub fault_hint : LabFault → Text
-fault_hint why = hint_in (advised_refusal_text why)
+fault_hint why = hint_of_refusal (advised_refusal_text why)
 
 abbrev pub lab_refusal_json : Text → LabFault → JsonValue
 lab_refusal_json command why = refusal_json command (fault_code why) (fault_word why) (fault_hint why)
 
 -- why a call about a step of a node that has `count` steps was refused
 abbrev pub step_refusal_json : Text → NodeId → ℕ → LabFault → JsonValue
-step_refusal_json command node count why = refusal_json command (fault_code why) (fault_word why) (hint_in (advised_step_refusal_text node count why))
+step_refusal_json command node count why = refusal_json command (fault_code why) (fault_word why) (hint_of_refusal (advised_step_refusal_text node count why))

@@ -14,6 +14,6 @@ abbrev pub IsJsonLine : (JsonValue → Type 0) → Text → Type 0
 IsJsonLine IsAnswer text = (answer : JsonValue) × IsAnswer answer × (text ≡ json_line answer)
 
 -- a row before others; without one there are none
-abbrev pub row_before : Option JsonValue → JsonItems → JsonItems
-row_before None rest = no_items
-row_before (Some row) rest = item row rest
+abbrev pub rows_if_first_present : Option JsonValue → JsonItems → JsonItems
+rows_if_first_present None rest = no_items
+rows_if_first_present (Some row) rest = item row rest

@@ -7,14 +7,14 @@ use Rattle.ga_text.specs.declared.output.WriteError.{WriteError}
 use Rattle.ga_json.specs.Values.{JsonValue, string}
 use Rattle.ga_json.specs.Fields.{json_object}
 use Rattle.ga_json.specs.Compact.{json_line}
-use Rattle.ga_console.specs.Session.{AnswerRelation, ServesCommandsBy, IsWrittenOrPrefix}
+use Rattle.ga_console.specs.Session.{AnswerRelation, ServesCommandsBy, IsWholeOrPrefixOnWriteError}
 use Rattle.ga_console.specs.declared.commands.CommandsEnd.{CommandsEnd}
 use Rattle.ga_console.specs.declared.run.Status.{Status}
 use Rattle.ga_check_report.specs.Opened.{HasRefusalObjects}
-use Rattle.ga_explorer.specs.Opening.{ExplorerState, OpensLeadingText, IsLeadingText}
+use Rattle.ga_explorer.specs.Opening.{ExplorerState, OpensTextBeforeCommands, IsTextBeforeCommands}
 use Rattle.ga_explorer.specs.Session.{session_status}
 use Rattle.ga_explorer_json.specs.Answers.{AnswersJsonLine}
-use Rattle.ga_explorer_json.specs.Refusals.{after_byte}
+use Rattle.ga_explorer_json.specs.Refusals.{text_after_byte}
 
 -- what begins a session
 abbrev pub ready_json : JsonValue
@@ -27,20 +27,20 @@ limit_refusal_line = codes "{\"command\":null,\"refused\":33,\"why\":\"input\"}\
 -- ---- a session that ends at its first refused command, if it is strict
 
 -- the text after the first comma
-abbrev pub after_comma : Text → Text
-after_comma text = after_byte 44 text
+abbrev pub text_after_comma : Text → Text
+text_after_comma text = text_after_byte 44 text
 
 -- the answer is a refusal: its second field is `refused`
 abbrev pub is_json_refusal : Text → Bool
-is_json_refusal answer = starts_with nat_eq (after_comma answer) (codes "\"refused\":")
+is_json_refusal answer = starts_with nat_eq (text_after_comma answer) (codes "\"refused\":")
 
 -- the line is answered, and the session goes on
-abbrev pub JsonOn : Bool → AnswerRelation ExplorerState
-JsonOn strict e line answer new = AnswersJsonLine e line answer new × ((strict && is_json_refusal answer) ≡ false)
+abbrev pub AnswersJsonAndContinues : Bool → AnswerRelation ExplorerState
+AnswersJsonAndContinues strict e line answer new = AnswersJsonLine e line answer new × ((strict && is_json_refusal answer) ≡ false)
 
 -- the line is refused, and so the session ends
-abbrev pub JsonLast : Bool → AnswerRelation ExplorerState
-JsonLast strict e line answer new = AnswersJsonLine e line answer new × ((strict && is_json_refusal answer) ≡ true)
+abbrev pub AnswersJsonAndEndsSession : Bool → AnswerRelation ExplorerState
+AnswersJsonAndEndsSession strict e line answer new = AnswersJsonLine e line answer new × ((strict && is_json_refusal answer) ≡ true)
 
 -- ---- the session
 
@@ -52,11 +52,11 @@ pub record IsServedJsonSession (strict : Bool) (chip : Option Text) (limit : ℕ
   pub begun : ExplorerState
   pub said : Text
   pub splits : read ≡ text ++ commands
-  pub front : IsLeadingText text (commands ++ rest)
-  pub opens : OpensLeadingText chip text limit begun
+  pub front : IsTextBeforeCommands text (commands ++ rest)
+  pub opens : OpensTextBeforeCommands chip text limit begun
   pub last : ExplorerState
-  pub serves : ServesCommandsBy limit_refusal_line (JsonOn strict) (JsonLast strict) (input_limit - length text) begun commands rest said last ending
-  pub out : IsWrittenOrPrefix ending (json_line ready_json ++ said) written
+  pub serves : ServesCommandsBy limit_refusal_line (AnswersJsonAndContinues strict) (AnswersJsonAndEndsSession strict) (input_limit - length text) begun commands rest said last ending
+  pub out : IsWholeOrPrefixOnWriteError ending (json_line ready_json ++ said) written
 
 -- What a session may have written, where read was read of its input and rest is left of it, and its status.
 pub data RunsJsonExplorer (strict : Bool) (file : Text) (chip : Option Text) (limit : ℕ) (read rest : Bytes) (written : Text) (status : Status) : Type 0 where

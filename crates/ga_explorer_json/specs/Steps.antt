@@ -1,7 +1,7 @@
 -- What `trace`, `why` and `dump` answer, as JSON values (docs/REFERENCE.md, "Sessions"; this project's own).
 use Rattle.std.specs.Prelude.{◌≡◌, ℕ, ◌⊎◌, Bool, true, false, map, List, [], ◌∷◌, codes, Option, Some, None, Result, Ok, Err, IsOk}
 use Rattle.ga_grid.specs.declared.node_id.NodeId.{NodeId}
-use Rattle.ga_event.specs.Told.{made_event_in, count_steps}
+use Rattle.ga_event.specs.Told.{made_event_at_place, count_steps}
 use Rattle.ga_event.specs.declared.made.Made.{Made}
 use Rattle.ga_causal.specs.declared.chain.Link.{Link}
 use Rattle.ga_lab.specs.Machine.{State, chip_of, history_of, outcomes_of_kept, why_answer}
@@ -42,7 +42,7 @@ chain_json leads events = json_report (chain_fields leads) (json_rows event_json
 
 -- the events are those of the links of a chain
 abbrev pub AreEventsOfLinks : State → List Made → List Link → Type 0
-AreEventsOfLinks s events links = map Some events ≡ map (λ (link : Link). made_event_in (outcomes_of_kept s) link.place) links
+AreEventsOfLinks s events links = map Some events ≡ map (λ (link : Link). made_event_at_place (outcomes_of_kept s) link.place) links
 
 -- the answer by what the machine answers; the node is the one that lacks its step, if one does
 abbrev pub IsChainJson : State → NodeId → Result (Option (List Link)) LabFault → JsonValue → Type 0

@@ -5,9 +5,9 @@ use Rattle.ga_json.specs.Values.{JsonValue, null, number, string}
 use Rattle.ga_json.specs.Fields.{json_object}
 use Rattle.ga_json.specs.FieldValues.{text_json}
 use Rattle.ga_display.specs.Texts.{worded_long_line_refusal}
-use Rattle.ga_display.specs.declared.wording.Wording.TheVariants.{Advised}
-use Rattle.ga_explorer_json.specs.Refusals.{hint_in}
-use Rattle.ga_explorer.specs.NoCommand.{suggestion}
+use Rattle.ga_display.specs.declared.wording.RefusalWording.TheVariants.{Advised}
+use Rattle.ga_explorer_json.specs.Refusals.{hint_of_refusal}
+use Rattle.ga_explorer.specs.NoCommand.{command_suggestion}
 use Rattle.ga_explorer.specs.Commands.{AnswersQuery}
 use Rattle.ga_explorer.specs.Opening.{ExplorerState}
 use Rattle.ga_explorer.specs.declared.commands.Query.{Query}
@@ -27,11 +27,11 @@ line_refusal_json code why hint =
 
 -- the line has more than 200 bytes
 abbrev pub long_line_json : JsonValue
-long_line_json = line_refusal_json 32 (codes "long") (hint_in (worded_long_line_refusal Advised))
+long_line_json = line_refusal_json 32 (codes "long") (hint_of_refusal (worded_long_line_refusal Advised))
 
 -- no command, and what is the case or what to write in place of the line
 abbrev pub syntax_refusal_json : Text → JsonValue
 syntax_refusal_json hint = line_refusal_json 31 (codes "syntax") hint
 
 abbrev pub syntax_json : Line → JsonValue
-syntax_json line = syntax_refusal_json (suggestion line)
+syntax_json line = syntax_refusal_json (command_suggestion line)

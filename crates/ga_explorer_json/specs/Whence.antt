@@ -9,9 +9,9 @@ use Rattle.ga_lab.specs.Machine.{State, has_step, history_of}
 use Rattle.ga_lab.specs.declared.fault.LabFault.TheVariants.{NoStep, Memory}
 use Rattle.ga_provenance.specs.declared.value.Value.{Value}
 use Rattle.ga_provenance.specs.declared.lines.ProvenanceLine.{ProvenanceLine}
-use Rattle.ga_provenance.specs.Lines.{AreLinesOf}
+use Rattle.ga_provenance.specs.Lines.{AreProvenanceLinesOf}
 use Rattle.ga_text.specs.Digits.{name_of_node}
-use Rattle.ga_explorer_text.specs.Whence.{word_of_value, selected_value, most_lines}
+use Rattle.ga_explorer_text.specs.Whence.{word_of_value, selected_value, last_written_line}
 use Rattle.ga_json.specs.Values.{JsonValue, null, number, string, JsonItems, no_items, item}
 use Rattle.ga_json.specs.Fields.{NamedValue, json_object, json_report}
 use Rattle.ga_explorer_json.specs.Events.{action_fields}
@@ -27,13 +27,13 @@ abbrev pub optional_action_fields : Option Made → List NamedValue
 optional_action_fields None = []
 optional_action_fields (Some made) = action_fields made
 
-abbrev pub made_fields : State → Value → List NamedValue
-made_fields s value =
+abbrev pub value_origin_fields : State → Value → List NamedValue
+value_origin_fields s value =
     if value.step == 0 then (codes "what", string (codes "load")) ∷ [] else optional_action_fields (slice_get (history_of s value.node.number) (value.step - 1))
 
 -- a line: its number, that of the line that used its value, and the step that made the value
-abbrev pub line_front_fields : ℕ → ProvenanceLine → List NamedValue
-line_front_fields k line =
+abbrev pub provenance_line_start_fields : ℕ → ProvenanceLine → List NamedValue
+provenance_line_start_fields k line =
     (codes "number", number (pos k))
     ∷ (codes "user", number (pos line.user))
     ∷ (codes "node", string (name_of_node line.value.node))
@@ -41,17 +41,17 @@ line_front_fields k line =
     ∷ []
 
 -- a line with the word of its value, and how many values its run has
-abbrev pub line_fields : State → ℕ → ProvenanceLine → ℕ → List NamedValue
-line_fields s k line word =
-    line_front_fields k line ++ made_fields s line.value ++ value_fields line.value.part word ++ (codes "count", number (pos line.count)) ∷ []
+abbrev pub provenance_line_fields : State → ℕ → ProvenanceLine → ℕ → List NamedValue
+provenance_line_fields s k line word =
+    provenance_line_start_fields k line ++ value_origin_fields s line.value ++ value_fields line.value.part word ++ (codes "count", number (pos line.count)) ∷ []
 
-abbrev pub line_json : State → ℕ → ProvenanceLine → ℕ → JsonValue
-line_json s k line word = json_object (line_fields s k line word)
+abbrev pub provenance_line_json : State → ℕ → ProvenanceLine → ℕ → JsonValue
+provenance_line_json s k line word = json_object (provenance_line_fields s k line word)
 
 -- some lines, of which `k` come before
-abbrev pub line_rows : State → ℕ → List ProvenanceLine → JsonItems
-line_rows s k [] = no_items
-line_rows s k (line ∷ rest) = item (line_json s (k + 1) line (word_of_value s line.value)) (line_rows s (k + 1) rest)
+abbrev pub provenance_line_rows : State → ℕ → List ProvenanceLine → JsonItems
+provenance_line_rows s k [] = no_items
+provenance_line_rows s k (line ∷ rest) = item (provenance_line_json s (k + 1) line (word_of_value s line.value)) (provenance_line_rows s (k + 1) rest)
 
 -- the query with the queried value, the first line that is written, and from which line to go on if these are not all
 abbrev pub whence_fields : NodeId → ℕ → ℕ → List NamedValue → Option ℕ → List NamedValue
@@ -65,32 +65,32 @@ whence_fields node step first queried more =
     ++ queried
 
 -- the line from which to go on after so many
-abbrev pub line_to_go_on : ℕ → Bool → Option ℕ
-line_to_go_on lines true = None
-line_to_go_on lines false = Some (lines + 1)
+abbrev pub next_provenance_line : ℕ → Bool → Option ℕ
+next_provenance_line lines true = None
+next_provenance_line lines false = Some (lines + 1)
 
 -- the lines of a value from one on
-abbrev pub lines_json : State → NodeId → ℕ → ℕ → Value → List ProvenanceLine → Bool → JsonValue
-lines_json s node step first value lines is_whole =
-    json_report (whence_fields node step first (value_fields value.part (word_of_value s value)) (line_to_go_on (length lines) is_whole)) (line_rows s (first - 1) (drop (first - 1) lines))
+abbrev pub provenance_lines_json : State → NodeId → ℕ → ℕ → Value → List ProvenanceLine → Bool → JsonValue
+provenance_lines_json s node step first value lines is_whole =
+    json_report (whence_fields node step first (value_fields value.part (word_of_value s value)) (next_provenance_line (length lines) is_whole)) (provenance_line_rows s (first - 1) (drop (first - 1) lines))
 
 -- no value is queried
-abbrev pub no_lines_json : NodeId → ℕ → ℕ → JsonValue
-no_lines_json node step first = json_report (whence_fields node step first no_value_fields None) no_items
+abbrev pub no_provenance_lines_json : NodeId → ℕ → ℕ → JsonValue
+no_provenance_lines_json node step first = json_report (whence_fields node step first no_value_fields None) no_items
 
 -- The lines of the value are written from one on, all or as many as allowed.
-pub record IsLinesJson (s : State) (node : NodeId) (step first : ℕ) (value : Value) (answer : JsonValue) : Type 0 where
+pub record IsProvenanceLinesJson (s : State) (node : NodeId) (step first : ℕ) (value : Value) (answer : JsonValue) : Type 0 where
   pub lines : List ProvenanceLine
   pub is_whole : Bool
-  pub told : AreLinesOf s value lines is_whole
-  pub most : length lines ≤ most_lines first
-  pub cut : is_whole ≡ false → length lines ≡ most_lines first
-  pub json : answer ≡ lines_json s node step first value lines is_whole
+  pub told : AreProvenanceLinesOf s value lines is_whole
+  pub most : length lines ≤ last_written_line first
+  pub cut : is_whole ≡ false → length lines ≡ last_written_line first
+  pub json : answer ≡ provenance_lines_json s node step first value lines is_whole
 
 -- the answer about a step for which this value is queried; or an allocation failed
 abbrev pub IsValueJson : State → NodeId → ℕ → ℕ → Option Value → JsonValue → Type 0
-IsValueJson s node step first None answer = answer ≡ no_lines_json node step first
-IsValueJson s node step first (Some value) answer = (answer ≡ lab_refusal_json (codes "whence") Memory) ⊎ IsLinesJson s node step first value answer
+IsValueJson s node step first None answer = answer ≡ no_provenance_lines_json node step first
+IsValueJson s node step first (Some value) answer = (answer ≡ lab_refusal_json (codes "whence") Memory) ⊎ IsProvenanceLinesJson s node step first value answer
 
 abbrev pub IsWhenceJson : State → NodeId → ℕ → Option NodePart → ℕ → JsonValue → Type 0
 IsWhenceJson s node step at first answer =

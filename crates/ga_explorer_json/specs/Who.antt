@@ -10,7 +10,7 @@ use Rattle.ga_grid.specs.Chip.{record_at}
 use Rattle.ga_lab.specs.Machine.{State, chip_of}
 use Rattle.ga_races.specs.Acts.{AreDeadlocked, IsSubset}
 use Rattle.ga_scheduler.specs.Idle.{AreIdleMarks}
-use Rattle.ga_explorer_text.specs.Ended.{AreEnded}
+use Rattle.ga_explorer_text.specs.Ended.{AreEndedNodes}
 use Rattle.ga_explorer_text.specs.Waiting.{name_text_of_node, node_activity_text, awaited_neighbour, node_count}
 use Rattle.ga_json.specs.Values.{JsonValue, null, boolean, number, string, JsonItems, no_items, item}
 use Rattle.ga_json.specs.Fields.{NamedValue, json_object, json_report}
@@ -60,13 +60,13 @@ is_wait wait.Nothing = false
 abbrev pub has_who_row : List NodeRecord → (ℕ → Bool) → (ℕ → Bool) → ℕ → Bool
 has_who_row chip marks idle n = not (idle n) && (is_wait (record_at chip n).wait || marks n)
 
-abbrev pub row_if : Bool → JsonValue → JsonItems → JsonItems
-row_if test row rest = if test then item row rest else rest
+abbrev pub json_row_if : Bool → JsonValue → JsonItems → JsonItems
+json_row_if test row rest = if test then item row rest else rest
 
 -- the rows of so many nodes from this one on
 unfoldable pub who_rows : List NodeRecord → (ℕ → Bool) → (ℕ → Bool) → (ℕ → Bool) → ℕ → ℕ → JsonItems
 who_rows chip marks over idle n zero = no_items
-who_rows chip marks over idle n (suc more) = row_if (has_who_row chip marks idle n) (waiting_json chip (marks n) (over n) n) (who_rows chip marks over idle (n + 1) more)
+who_rows chip marks over idle n (suc more) = json_row_if (has_who_row chip marks idle n) (waiting_json chip (marks n) (over n) n) (who_rows chip marks over idle (n + 1) more)
 
 -- how many nodes are idle, and how many of the deadlocked ones
 abbrev pub who_fields : ℕ → ℕ → List NamedValue
@@ -82,7 +82,7 @@ pub record IsWhoJson (s : State) (answer : JsonValue) : Type 0 where
   pub stuck : AreDeadlocked (chip_of s) marks
   pub greatest : (others : ℕ → Bool) → AreDeadlocked (chip_of s) others → IsSubset others marks
   pub ended : ℕ → Bool
-  pub done : AreEnded (chip_of s) ended
+  pub done : AreEndedNodes (chip_of s) ended
   pub over : ℕ → Bool
   pub both : (n : ℕ) → n < 144 → over n ≡ (marks n && ended n)
   pub idle : ℕ → Bool

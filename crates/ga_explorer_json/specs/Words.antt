@@ -3,13 +3,13 @@ use Rattle.std.specs.Prelude.{ℕ, pos, if◌then◌else◌, List, [], ◌∷◌
 use Rattle.ga_grid.specs.declared.node_id.NodeId.{NodeId}
 use Rattle.ga_lab.specs.Machine.{State}
 use Rattle.ga_races.specs.HappensBefore.{are_neighbours}
-use Rattle.ga_scheduler.specs.Words.{words_of, link_transfer_count}
+use Rattle.ga_scheduler.specs.Words.{link_transfers, link_transfer_count}
 use Rattle.ga_scheduler.specs.declared.words.Transfer.{Transfer}
 use Rattle.ga_text.specs.Digits.{name_of_node}
 use Rattle.ga_json.specs.Values.{JsonValue, number, string}
 use Rattle.ga_json.specs.Fields.{NamedValue, json_object, json_report}
-use Rattle.ga_explorer_json.specs.Refusals.{hint_in, refusal_json}
-use Rattle.ga_explorer_text.specs.Texts.{no_link}
+use Rattle.ga_explorer_json.specs.Refusals.{hint_of_refusal, refusal_json}
+use Rattle.ga_explorer_text.specs.Texts.{no_link_refusal}
 use Rattle.ga_explorer_json.specs.Rows.{json_rows}
 
 -- a word: its number, the steps of both ends and itself
@@ -34,7 +34,7 @@ link_fields from to count =
 -- the link between two neighbours, and the words of it that are kept
 abbrev pub transfers_json : State → NodeId → NodeId → JsonValue
 transfers_json s from to =
-    json_report (link_fields from to (link_transfer_count s from.number to.number)) (json_rows transfer_json (words_of s from.number to.number))
+    json_report (link_fields from to (link_transfer_count s from.number to.number)) (json_rows transfer_json (link_transfers s from.number to.number))
 
 abbrev pub words_json : State → NodeId → NodeId → JsonValue
-words_json s from to = if are_neighbours from.number to.number then transfers_json s from to else refusal_json (codes "words") 34 (codes "nolink") (hint_in no_link)
+words_json s from to = if are_neighbours from.number to.number then transfers_json s from to else refusal_json (codes "words") 34 (codes "nolink") (hint_of_refusal no_link_refusal)

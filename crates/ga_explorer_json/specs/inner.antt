@@ -1,24 +1,24 @@
 -- What only private contracts and proofs name.
 use Rattle.std.specs.Prelude.{◌≡◌, ◌&&◌, if◌then◌else◌, ◌++◌, codes, Bool, true, false, Option, Result, Ok, Err}
 use Rattle.ga_text.specs.Lines.{Bytes, Text, Line}
-use Rattle.ga_text.specs.Output.{WritesSome}
+use Rattle.ga_text.specs.Output.{WritesSomeText}
 use Rattle.ga_text.specs.declared.output.Writer.{Writer}
 use Rattle.ga_text.specs.declared.output.WriteError.{WriteError}
 use Rattle.ga_console.specs.declared.responder.LineAction.{LineAction}
 use Rattle.ga_console.specs.declared.responder.LineAction.TheVariants as turn
 use Rattle.ga_explorer.specs.Opening.{ExplorerState}
 use Rattle.ga_explorer.specs.declared.commands.Query.{Query}
-use Rattle.ga_explorer_json.specs.Refusals.{after_byte, before_byte}
+use Rattle.ga_explorer_json.specs.Refusals.{text_after_byte, text_before_byte}
 use Rattle.ga_explorer_json.specs.Rows.{IsJsonLine}
 use Rattle.ga_explorer_json.specs.Answers.{AnswersQueryJson, AnswersLineRequest}
-use Rattle.ga_explorer_json.specs.Session.{is_json_refusal, JsonOn, JsonLast}
+use Rattle.ga_explorer_json.specs.Session.{is_json_refusal, AnswersJsonAndContinues, AnswersJsonAndEndsSession}
 use Rattle.ga_explorer_json.specs.declared.answers.LineRequest.{LineRequest}
 
 -- what is written is the answer of the query
 pub record IsToldJson {T W : Type 0} (result : Result T WriteError) (e : ExplorerState) (asked : Query) (contents : W → Option Bytes) (old new : Writer W) : Type 0 where
   pub meant : Query
   pub is : asked ≡ meant
-  pub said : WritesSome result (IsJsonLine (AnswersQueryJson e meant)) contents old new
+  pub said : WritesSomeText result (IsJsonLine (AnswersQueryJson e meant)) contents old new
 
 -- what a session does after an answer
 abbrev pub turn_after : Bool → Text → LineAction
@@ -34,17 +34,17 @@ Responds strict e line request new (Err failed) answer = AnswersLineRequest e li
 -- ---- a session that may end at its first refused command, by what its machine has
 
 abbrev pub GoesOnFor : Bool → ExplorerState → Line → Text → Bool → ExplorerState → Type 0
-GoesOnFor strict e line answer strict_on new = JsonOn strict e line answer new × (strict_on ≡ strict)
+GoesOnFor strict e line answer strict_on new = AnswersJsonAndContinues strict e line answer new × (strict_on ≡ strict)
 
 abbrev pub EndsFor : Bool → ExplorerState → Line → Text → Bool → ExplorerState → Type 0
-EndsFor strict e line answer strict_on new = JsonLast strict e line answer new × (strict_on ≡ strict)
+EndsFor strict e line answer strict_on new = AnswersJsonAndEndsSession strict e line answer new × (strict_on ≡ strict)
 
 -- ---- the text of a refusal, made from its object
 
 -- number, word and hint of a refusal, of which the object has this text after its first comma
 abbrev pub refusal_line_in : Text → Text
 refusal_line_in rest =
-    let number_on = after_byte 58 rest in
-    let word_on = after_byte 34 (after_byte 58 number_on) in
-    let hint_on = after_byte 34 (after_byte 58 word_on) in
-    codes "no " ++ before_byte 44 number_on ++ codes " " ++ before_byte 34 word_on ++ codes ": " ++ before_byte 34 hint_on ++ codes "\n"
+    let number_on = text_after_byte 58 rest in
+    let word_on = text_after_byte 34 (text_after_byte 58 number_on) in
+    let hint_on = text_after_byte 34 (text_after_byte 58 word_on) in
+    codes "no " ++ text_before_byte 44 number_on ++ codes " " ++ text_before_byte 34 word_on ++ codes ": " ++ text_before_byte 34 hint_on ++ codes "\n"

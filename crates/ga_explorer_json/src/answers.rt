@@ -2,7 +2,7 @@
 
 ghost use Rattle.std.specs.Prelude.{◌≡◌, option_and_then, IfSome};
 ghost use Rattle.ga_event.specs.Flow.{IsNodePart};
-ghost use Rattle.ga_text.specs.Output.{WritesSome};
+ghost use Rattle.ga_text.specs.Output.{WritesSomeText};
 ghost use Rattle.ga_explorer.specs.Reading.{part_of_node_value};
 ghost use Rattle.ga_explorer.specs.inner.{explorer_state};
 ghost use Rattle.ga_explorer_json.specs.Answers.{AnswersCommandJson, AnswersExplorerJson, IsLineRequest, AnswersLineRequest};
@@ -11,10 +11,10 @@ ghost use Rattle.ga_explorer_json.specs.inner.{IsToldJson};
 use crate::steps_json::{write_dump_json, write_trace_json, write_why_json};
 use crate::text_json::{write_long_line_json, write_query_text, write_syntax_json};
 use crate::{
-    write_at_json, write_back_until_json, write_because_json, write_counts_json,
-    write_effects_json, write_memory_json, write_node_json, write_races_json, write_rewind_json,
-    write_run_json, write_step_json, write_undo_json, write_whence_json, write_who_json,
-    write_words_json, write_writes_json,
+    write_at_json, write_back_until_json, write_because_json, write_cell_writes_json,
+    write_counts_json, write_effects_json, write_link_words_json, write_memory_json,
+    write_node_json, write_races_json, write_rewind_json, write_run_json, write_step_json,
+    write_undo_json, write_whence_json, write_who_json,
 };
 use ga_console::{Command, parse_debugger_command};
 use ga_debug_info::DebugInfo;
@@ -68,7 +68,7 @@ pub(crate) fn answer_request<W: Write>(
     request: LineRequest,
     writer: &mut Writer<'_, W>,
 ) -> WriteResult
-    ensures { WritesSome result (λ text. AnswersLineRequest (explorer_state lab.old notes.now) line.now request text (explorer_state lab.new notes.now))
+    ensures { WritesSomeText result (λ text. AnswersLineRequest (explorer_state lab.old notes.now) line.now request text (explorer_state lab.new notes.now))
         W.contents writer.old writer.new }
 {
     match request {
@@ -89,7 +89,7 @@ fn obey_for_json<W: Write>(
     command: Command,
     writer: &mut Writer<'_, W>,
 ) -> WriteResult
-    ensures { WritesSome result (λ text. AnswersCommandJson lab.old command text lab.new) W.contents writer.old writer.new }
+    ensures { WritesSomeText result (λ text. AnswersCommandJson lab.old command text lab.new) W.contents writer.old writer.new }
 {
     match command {
         Command::Step(node) => write_step_json(lab, node, writer),
@@ -121,7 +121,7 @@ fn explore_for_json<W: Write>(
     asked: ExplorerCommand,
     writer: &mut Writer<'_, W>,
 ) -> WriteResult
-    ensures { WritesSome result (λ text. AnswersExplorerJson (explorer_state lab.old notes.now) asked text (explorer_state lab.new notes.now))
+    ensures { WritesSomeText result (λ text. AnswersExplorerJson (explorer_state lab.old notes.now) asked text (explorer_state lab.new notes.now))
         W.contents writer.old writer.new }
 {
     match asked {
@@ -162,8 +162,8 @@ fn answer_query_for_json<W: Write>(
             let step = which.resolve(lab, node);
             write_effects_json(alloc, lab, node, step, writer)
         }
-        Query::Words { from, to } => write_words_json(lab, from, to, writer),
-        Query::Writes { node, address } => write_writes_json(lab, node, address, writer),
+        Query::Words { from, to } => write_link_words_json(lab, from, to, writer),
+        Query::Writes { node, address } => write_cell_writes_json(lab, node, address, writer),
         Query::At { node, which, most } => {
             let step = which.resolve(lab, node);
             write_at_json(lab, node, step, most, writer)

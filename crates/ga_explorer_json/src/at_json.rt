@@ -8,7 +8,7 @@ ghost use Rattle.ga_lab.specs.Machine.{node_at_step};
 ghost use Rattle.ga_text.specs.Output.{WritesExactly};
 ghost use Rattle.ga_json.specs.Compact.{json_line};
 ghost use Rattle.ga_json.specs.Fields.{named_field_value, row_json};
-ghost use Rattle.ga_explorer_json.specs.Around.{register_fields, numbered_step_json, step_json_at, step_rows, at_fields, steps_around_json, at_json};
+ghost use Rattle.ga_explorer_json.specs.Around.{register_fields, numbered_step_json, step_json_at, step_rows, at_answer_fields, steps_around_json, at_json};
 
 use crate::event::push_action;
 use crate::refusal::write_step_refusal;
@@ -51,7 +51,7 @@ fn write_steps_around<W: Write>(
     requires { 0 < step }
     ensures { WritesExactly result (json_line (steps_around_json lab.now node step around)) W.contents writer.old writer.new }
 {
-    let head = at_fields(node, step);
+    let head = at_answer_fields(node, step);
     let last = step.saturating_add(around).min(lab.steps(node));
     let mut rows = StepRows {
         lab,
@@ -133,8 +133,8 @@ fn register_fields(node: &Node) -> [Field<'static>; 6]
 }
 
 /// The node and the step.
-fn at_fields(node: NodeId, step: u32) -> [Field<'static>; 3]
-    ensures { map named_field_value result ≡ at_fields node step }
+fn at_answer_fields(node: NodeId, step: u32) -> [Field<'static>; 3]
+    ensures { map named_field_value result ≡ at_answer_fields node step }
 {
     [
         Field::text(b"command", b"at"),

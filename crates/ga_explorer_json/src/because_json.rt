@@ -8,7 +8,7 @@ ghost use Rattle.ga_json.specs.Fields.{named_field_value, row_json};
 ghost use Rattle.ga_explorer_json.specs.Because.{tested_fields, decision_json, decision_rows, because_fields, decisions_json, because_json};
 
 use crate::event::push_action;
-use crate::part::{number_unless_zero, optional_number, part_place, part_word};
+use crate::part::{node_part_index, node_part_word, number_unless_zero, optional_number};
 use crate::refusal::write_step_refusal;
 use crate::row::push_fields;
 use ga_grid::NodeId;
@@ -107,12 +107,12 @@ fn tested_fields(decision: Decision) -> [Field<'static>; 7]
     let tested = decision.tested.part;
     let source = decision.source;
     [
-        Field::text(b"part", part_word(tested)),
-        optional_number(b"index", part_place(tested)),
+        Field::text(b"part", node_part_word(tested)),
+        optional_number(b"index", node_part_index(tested)),
         Field::word(b"value", decision.word),
         Field::node(b"source_node", source.node),
         number_unless_zero(b"source_step", source.step),
-        Field::text(b"source_part", part_word(source.part)),
-        optional_number(b"source_index", part_place(source.part)),
+        Field::text(b"source_part", node_part_word(source.part)),
+        optional_number(b"source_index", node_part_index(source.part)),
     ]
 }

@@ -1,12 +1,12 @@
 //! Parts of a text that bytes delimit.
 
 ghost use Rattle.std.specs.Prelude.{◌≡◌};
-ghost use Rattle.ga_explorer_json.specs.Refusals.{after_byte, before_byte, hint_in};
+ghost use Rattle.ga_explorer_json.specs.Refusals.{text_after_byte, text_before_byte, hint_of_refusal};
 
 /// The text after the first of these bytes.
 #[tactic(auto, using(crate::proofs::Splits::after_found, crate::proofs::Splits::after_none))]
-pub(crate) fn after_byte(byte: u8, text: &[u8]) -> &[u8]
-    ensures { result.now ≡ after_byte byte text.now }
+pub(crate) fn text_after_byte(byte: u8, text: &[u8]) -> &[u8]
+    ensures { result.now ≡ text_after_byte byte text.now }
 {
     for (i, found) in text.iter().enumerate() {
         if *found == byte {
@@ -18,8 +18,8 @@ pub(crate) fn after_byte(byte: u8, text: &[u8]) -> &[u8]
 
 /// The text before the first of these bytes.
 #[tactic(auto, using(crate::proofs::Splits::before_found, crate::proofs::Splits::before_none))]
-pub(crate) fn before_byte(byte: u8, text: &[u8]) -> &[u8]
-    ensures { result.now ≡ before_byte byte text.now }
+pub(crate) fn text_before_byte(byte: u8, text: &[u8]) -> &[u8]
+    ensures { result.now ≡ text_before_byte byte text.now }
 {
     for (i, found) in text.iter().enumerate() {
         if *found == byte {
@@ -30,8 +30,8 @@ pub(crate) fn before_byte(byte: u8, text: &[u8]) -> &[u8]
 }
 
 /// What the line of text of a refusal has after its colon and a blank.
-pub(crate) fn hint_in(line: &[u8]) -> &[u8]
-    ensures { result.now ≡ hint_in line.now }
+pub(crate) fn hint_of_refusal(line: &[u8]) -> &[u8]
+    ensures { result.now ≡ hint_of_refusal line.now }
 {
-    before_byte(b'\n', after_byte(b' ', after_byte(b':', line)))
+    text_before_byte(b'\n', text_after_byte(b' ', text_after_byte(b':', line)))
 }

@@ -3,12 +3,12 @@
 ghost use Rattle.std.specs.Prelude.{◌≡◌, codes, length};
 ghost use Rattle.ga_event.specs.Told.{count_steps};
 ghost use Rattle.ga_lab.specs.Machine.{undo_answer, rewind_answer, state_after_undo, state_after_rewind};
-ghost use Rattle.ga_text.specs.Output.{WritesSome, WritesExactly};
-ghost use Rattle.ga_scheduler.specs.Backward.{find_newest_holding, machine_back_at_place, removed_event_count};
+ghost use Rattle.ga_text.specs.Output.{WritesSomeText, WritesExactly};
+ghost use Rattle.ga_scheduler.specs.Backward.{find_newest_matching_event, machine_after_back_until, removed_event_count};
 ghost use Rattle.ga_json.specs.Compact.{json_line};
 ghost use Rattle.ga_json.specs.Fields.{row_json};
 ghost use Rattle.ga_explorer_json.specs.Rows.{IsJsonLine};
-ghost use Rattle.ga_explorer_json.specs.Changes.{step_json, IsStepJson, removed_json, undo_json, rewind_json};
+ghost use Rattle.ga_explorer_json.specs.Changes.{step_json, IsStepJson, removed_events_json, undo_json, rewind_json};
 
 use crate::event::push_made_event;
 use crate::part::optional_number;
@@ -30,7 +30,7 @@ pub fn write_step_json<W: Write>(
     node: NodeId,
     writer: &mut Writer<'_, W>,
 ) -> WriteResult
-    ensures { WritesSome result (IsJsonLine (IsStepJson lab.old node lab.new)) W.contents writer.old writer.new }
+    ensures { WritesSomeText result (IsJsonLine (IsStepJson lab.old node lab.new)) W.contents writer.old writer.new }
 {
     match lab.step(node) {
         Ok(made) => write_object(step_row(made).as_slice(), writer),
@@ -47,7 +47,7 @@ pub fn write_undo_json<W: Write>(lab: &mut Lab, writer: &mut Writer<'_, W>) -> W
     ensures state { lab.new ≡ state_after_undo lab.old }
 {
     match lab.undo() {
-        Ok(()) => write_removed(b"back", Some(1), lab.counts().kept, writer),
+        Ok(()) => write_removed_events(b"back", Some(1), lab.counts().kept, writer),
         Err(fault) => write_lab_refusal(b"back", fault, writer),
     }
 }
@@ -67,7 +67,7 @@ pub fn write_rewind_json<W: Write>(
 {
     match lab.rewind(node, step) {
         Ok(removed) => {
-            write_removed(
+            write_removed_events(
                 b"rewind",
                 Some(u64::from(removed)),
                 lab.counts().kept,
@@ -89,13 +89,18 @@ pub fn write_back_until_json<W: Write>(
     only: Option<NodeId>,
     writer: &mut Writer<'_, W>,
 ) -> WriteResult
-    ensures said { WritesExactly result (json_line (removed_json (codes "back") (removed_event_count only lab.old (find_newest_holding until.now only lab.old)) (length lab.new.kept)))
+    ensures said { WritesExactly result (json_line (removed_events_json (codes "back") (removed_event_count only lab.old (find_newest_matching_event until.now only lab.old)) (length lab.new.kept)))
         W.contents writer.old writer.new }
-    ensures state { lab.new ≡ machine_back_at_place only lab.old (find_newest_holding until.now only lab.old) }
+    ensures state { lab.new ≡ machine_after_back_until only lab.old (find_newest_matching_event until.now only lab.old) }
 {
     match back_until(lab, until, only) {
-        Some(gone) => write_removed(b"back", Some(u64::from(gone)), lab.counts().kept, writer),
-        None => write_removed(b"back", None, lab.counts().kept, writer),
+        Some(gone) => write_removed_events(
+            b"back",
+            Some(u64::from(gone)),
+            lab.counts().kept,
+            writer,
+        ),
+        None => write_removed_events(b"back", None, lab.counts().kept, writer),
     }
 }
 
@@ -109,20 +114,20 @@ fn step_row(made: Made) -> RowFields<'static>
 }
 
 /// Writes how many events a command removed, if some, and how many are kept.
-fn write_removed<W: Write>(
+fn write_removed_events<W: Write>(
     command: &[u8],
     removed: Option<u64>,
     kept: u32,
     writer: &mut Writer<'_, W>,
 ) -> WriteResult
-    ensures { WritesExactly result (json_line (removed_json command.now removed kept)) W.contents writer.old writer.new }
+    ensures { WritesExactly result (json_line (removed_events_json command.now removed kept)) W.contents writer.old writer.new }
 {
     write_object(&removed_fields(command, removed, kept), writer)
 }
 
 /// How many events a command removed, if some, and how many are kept.
 fn removed_fields<'a>(command: &'a [u8], removed: Option<u64>, kept: u32) -> [Field<'a>; 3]
-    ensures { row_json result ≡ removed_json command.now removed kept }
+    ensures { row_json result ≡ removed_events_json command.now removed kept }
 {
     [
         Field::text(b"command", command),

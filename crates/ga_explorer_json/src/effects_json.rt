@@ -1,7 +1,7 @@
 //! What a rollback would remove.
 
 ghost use Rattle.std.specs.Prelude.{◌≡◌, map};
-ghost use Rattle.ga_text.specs.Output.{WritesSome, WritesExactly};
+ghost use Rattle.ga_text.specs.Output.{WritesSomeText, WritesExactly};
 ghost use Rattle.ga_json.specs.Compact.{json_line};
 ghost use Rattle.ga_json.specs.Fields.{named_field_value, row_json};
 ghost use Rattle.ga_explorer_json.specs.Rows.{json_rows, IsJsonLine};
@@ -27,7 +27,7 @@ pub fn write_effects_json<W: Write>(
     step: u32,
     writer: &mut Writer<'_, W>,
 ) -> WriteResult
-    ensures said { WritesSome result (IsJsonLine (IsEffectsJson lab.old node step)) W.contents writer.old writer.new }
+    ensures said { WritesSomeText result (IsJsonLine (IsEffectsJson lab.old node step)) W.contents writer.old writer.new }
     ensures same { lab.new ≡ lab.old }
 {
     match find_rollback_effects(alloc, lab, node, step) {

@@ -2,7 +2,7 @@
 
 ghost use Rattle.std.specs.Prelude.{◌≡◌, ◌≤◌, ◌+◌, ◌++◌, ◌%◌, map};
 ghost use Rattle.arrayvec.specs.ArrayVec.{array_vec_len};
-ghost use Rattle.ga_slots.specs.Codes.{name_of, op_of};
+ghost use Rattle.ga_slots.specs.Codes.{name_of, op_of_code};
 ghost use Rattle.ga_json.specs.Fields.{named_field_value};
 ghost use Rattle.ga_explorer_json.specs.Events.{own_event_fields, pass_fields, action_fields, made_event_fields};
 
@@ -86,7 +86,7 @@ fn push_own_event<'a>(row: &mut RowFields<'a>, kind: OwnEventKind)
 
 /// The name of the opcode with this code.
 fn opcode_name(code: u8) -> &'static [u8]
-    ensures { result.now ≡ name_of (op_of (code % 32)) }
+    ensures { result.now ≡ name_of (op_of_code (code % 32)) }
 {
     Op::from_code(code % 32).name().as_bytes()
 }

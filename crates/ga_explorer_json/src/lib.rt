@@ -41,8 +41,8 @@ pub use session::explore_json;
 pub use steps_json::{write_dump_json, write_trace_json, write_why_json};
 pub use whence_json::write_whence_json;
 pub use who_json::write_who_json;
-pub use words_json::write_words_json;
-pub use writes_json::write_writes_json;
+pub use words_json::write_link_words_json;
+pub use writes_json::write_cell_writes_json;
 
 #[cfg(test)]
 mod tests;

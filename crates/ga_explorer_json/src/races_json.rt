@@ -1,10 +1,10 @@
 //! Steps that could have come out otherwise.
 
 ghost use Rattle.std.specs.Prelude.{◌≡◌, codes, map};
-ghost use Rattle.ga_text.specs.Output.{WritesSome, WritesExactly};
+ghost use Rattle.ga_text.specs.Output.{WritesSomeText, WritesExactly};
 ghost use Rattle.ga_race_detector.specs.Readings.{rollback_step_of};
 ghost use Rattle.ga_json.specs.Compact.{json_line};
-ghost use Rattle.ga_json.specs.FieldValues.{value_json};
+ghost use Rattle.ga_json.specs.FieldValues.{field_value_json};
 ghost use Rattle.ga_json.specs.Fields.{named_field_value, row_json};
 ghost use Rattle.ga_explorer_json.specs.Rows.{IsJsonLine};
 ghost use Rattle.ga_explorer_json.specs.Races.{race_json, look_race_json, race_rows, optional_node_json, races_fields, listed_races_json, IsRacesJson};
@@ -28,7 +28,7 @@ pub fn write_races_json<W: Write>(
     only: Option<NodeId>,
     writer: &mut Writer<'_, W>,
 ) -> WriteResult
-    ensures said { WritesSome result (IsJsonLine (IsRacesJson lab.old only)) W.contents writer.old writer.new }
+    ensures said { WritesSomeText result (IsJsonLine (IsRacesJson lab.old only)) W.contents writer.old writer.new }
     ensures same { lab.new ≡ lab.old }
 {
     match find_races(alloc, lab, only) {
@@ -98,7 +98,7 @@ fn races_fields(only: Option<NodeId>, count: u64, looks: bool, quiet: bool) -> [
 /// The named node, if one was.
 fn node_field(only: Option<NodeId>) -> Field<'static>
     ensures name { result.name.now ≡ codes "node" }
-    ensures value { value_json result.value ≡ optional_node_json only }
+    ensures value { field_value_json result.value ≡ optional_node_json only }
 {
     match only {
         Some(node) => Field::node(b"node", node),

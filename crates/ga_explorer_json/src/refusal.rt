@@ -6,8 +6,8 @@ ghost use Rattle.ga_json.specs.Compact.{json_line};
 ghost use Rattle.ga_json.specs.Fields.{row_json};
 ghost use Rattle.ga_explorer_json.specs.Refusals.{refusal_json, fault_code, fault_word, fault_hint, lab_refusal_json, step_refusal_json};
 
-use crate::bytes::hint_in;
-use ga_display::{Wording, advised_step_refusal};
+use crate::bytes::hint_of_refusal;
+use ga_display::{RefusalWording, advised_step_refusal};
 use ga_grid::NodeId;
 use ga_json::{Field, write_object};
 use ga_lab::LabFault;
@@ -76,7 +76,7 @@ pub(crate) fn write_step_refusal<W: Write>(
     ensures { WritesExactly result (json_line (step_refusal_json command.now node count fault)) W.contents writer.old writer.new }
 {
     let line = advised_step_refusal(fault, node, count);
-    let hint = hint_in(line.as_slice());
+    let hint = hint_of_refusal(line.as_slice());
     write_refusal(command, fault_code(fault), fault_word(fault), hint, writer)
 }
 
@@ -84,7 +84,7 @@ pub(crate) fn write_step_refusal<W: Write>(
 pub(crate) fn fault_hint(fault: LabFault) -> &'static [u8]
     ensures { result.now ≡ fault_hint fault }
 {
-    hint_in(Wording::Advised.refusal(fault))
+    hint_of_refusal(RefusalWording::Advised.refusal(fault))
 }
 
 /// The number of a refusal.

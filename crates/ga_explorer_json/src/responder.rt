@@ -2,13 +2,13 @@
 
 ghost use Rattle.std.specs.Prelude.{◌≡◌, [], Some, IfOk, option_map, slice_get};
 ghost use Rattle.ga_text.specs.Lines.{Bytes};
-ghost use Rattle.ga_text.specs.Output.{IsWritten, WritesExactly, WritesSome};
+ghost use Rattle.ga_text.specs.Output.{IsTextWritten, WritesExactly, WritesSomeText};
 ghost use Rattle.ga_explorer.specs.inner.{explorer_state};
-ghost use Rattle.ga_explorer_json.specs.Session.{after_comma, is_json_refusal};
+ghost use Rattle.ga_explorer_json.specs.Session.{text_after_comma, is_json_refusal};
 ghost use Rattle.ga_explorer_json.specs.inner.{turn_after, Responds};
 
 use crate::answers::{LineRequest, answer_request, line_request};
-use crate::bytes::after_byte;
+use crate::bytes::text_after_byte;
 use crate::noted_refusal::note_refusal;
 use ga_console::{Command, LineAction, Responder};
 use ga_debug_info::DebugInfo;
@@ -120,7 +120,7 @@ fn respond<W: Write>(
     refusal: &mut LineBuffer,
     writer: &mut Writer<'_, W>,
 ) -> Result<LineAction, WriteError>
-    ensures { WritesSome result (Responds is_strict (explorer_state lab.old notes.now) line.now request (explorer_state lab.new notes.now) result)
+    ensures { WritesSomeText result (Responds is_strict (explorer_state lab.old notes.now) line.now request (explorer_state lab.new notes.now) result)
         W.contents writer.old writer.new }
 {
     let mut long = Vec::new(alloc);
@@ -139,7 +139,7 @@ fn pass_on<W: Write>(
     refusal: &mut LineBuffer,
     writer: &mut Writer<'_, W>,
 ) -> Result<LineAction, WriteError>
-    ensures { (answer : Bytes) → IsWritten (Some held.old.stream.now.items) [] answer held.old.pending.items →
+    ensures { (answer : Bytes) → IsTextWritten (Some held.old.stream.now.items) [] answer held.old.pending.items →
         WritesExactly result answer W.contents writer.old writer.new
         × IfOk result (λ turn. turn ≡ turn_after is_strict answer) }
 {
@@ -167,7 +167,7 @@ fn write_answer<W: Write>(
     if !(is_strict && is_json_refusal(answer)) {
         return Ok(LineAction::Answered);
     }
-    note_refusal(after_comma(answer), refusal);
+    note_refusal(text_after_comma(answer), refusal);
     Ok(LineAction::Refused)
 }
 
@@ -175,12 +175,12 @@ fn write_answer<W: Write>(
 fn is_json_refusal(answer: &[u8]) -> bool
     ensures { result ≡ is_json_refusal answer.now }
 {
-    after_comma(answer).starts_with(b"\"refused\":".as_slice())
+    text_after_comma(answer).starts_with(b"\"refused\":".as_slice())
 }
 
 /// The text after the first comma.
-fn after_comma(text: &[u8]) -> &[u8]
-    ensures { result.now ≡ after_comma text.now }
+fn text_after_comma(text: &[u8]) -> &[u8]
+    ensures { result.now ≡ text_after_comma text.now }
 {
-    after_byte(b',', text)
+    text_after_byte(b',', text)
 }

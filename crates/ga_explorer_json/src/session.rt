@@ -3,16 +3,16 @@
 ghost use Rattle.std.specs.Prelude.{◌≡◌, ◌-◌, ◌++◌, Some};
 ghost use Rattle.ga_text.specs.Lines.{Bytes};
 ghost use Rattle.ga_text.specs.Input.{IsWithinInputLimit, input_limit};
-ghost use Rattle.ga_text.specs.Output.{IsSameStream, IsWritten, ReadsAndWrites, WritesExactly};
+ghost use Rattle.ga_text.specs.Output.{IsSameStream, IsTextWritten, ReadsAndWrites, WritesExactly};
 ghost use Rattle.ga_json.specs.Compact.{json_line};
 ghost use Rattle.ga_json.specs.Fields.{row_json};
-ghost use Rattle.ga_console.specs.Session.{ServesCommandsBy, IsWrittenOrPrefix};
+ghost use Rattle.ga_console.specs.Session.{ServesCommandsBy, IsWholeOrPrefixOnWriteError};
 ghost use Rattle.ga_explorer.specs.Opening.{image_text_of};
 ghost use Rattle.ga_explorer.specs.inner.{explorer_state};
-ghost use Rattle.ga_explorer_json.specs.Session.{ready_json, limit_refusal_line, JsonOn, JsonLast, RunsJsonExplorer};
+ghost use Rattle.ga_explorer_json.specs.Session.{ready_json, limit_refusal_line, AnswersJsonAndContinues, AnswersJsonAndEndsSession, RunsJsonExplorer};
 
 use crate::responder::JsonExplorer;
-use ga_check_report::open_for_objects;
+use ga_check_report::open_for_json_output;
 use ga_console::{CommandsEnd, Status, serve_commands_by};
 use ga_explorer::end_session;
 use ga_json::{Field, write_object};
@@ -37,7 +37,7 @@ pub fn explore_json<R: Read, W: Write, E: Write>(
         (R.remaining reader.old) (R.remaining reader.new) (W.contents writer.old) (W.contents writer.new) }
 {
     let mut input = Input::new();
-    match open_for_objects(alloc, &mut input, reader, writer, errors, file, chip, limit) {
+    match open_for_json_output(alloc, &mut input, reader, writer, errors, file, chip, limit) {
         Ok(begun) => {
             let mut said = Writer::new(writer);
             let mut session = JsonExplorer::new(begun, is_strict);
@@ -62,13 +62,13 @@ fn serve_objects<R: Read, W: Write>(
     requires { IsWithinInputLimit input.old }
     ensures same { IsSameStream writer.old writer.new }
     ensures serves { (left before said : Bytes) → R.remaining reader.old ≡ Some left →
-        IsWritten (W.contents writer.old.stream.now) before said writer.old.pending.items →
+        IsTextWritten (W.contents writer.old.stream.now) before said writer.old.pending.items →
         (read rest text sent : Bytes)
         × (input.old.bytes ++ left ≡ read ++ rest) × (R.remaining reader.new ≡ Some rest)
         × (W.contents writer.new.stream.now ≡ Some (before ++ sent))
-        × ServesCommandsBy limit_refusal_line (JsonOn session.old.is_strict) (JsonLast session.old.is_strict)
+        × ServesCommandsBy limit_refusal_line (AnswersJsonAndContinues session.old.is_strict) (AnswersJsonAndEndsSession session.old.is_strict)
         (input_limit - input.old.taken) (explorer_state session.old.lab session.old.notes) read rest text (explorer_state session.new.lab session.new.notes) result
-        × IsWrittenOrPrefix result (said ++ (json_line ready_json ++ text)) sent }
+        × IsWholeOrPrefixOnWriteError result (said ++ (json_line ready_json ++ text)) sent }
 {
     write_ready(writer)?;
     serve_commands_by(limit_refusal(), alloc, input, reader, writer, session)

@@ -2,7 +2,7 @@
 
 ghost use Rattle.std.specs.Prelude.{◌≡◌, map};
 ghost use Rattle.ga_console.specs.Replies.{node_without_step};
-ghost use Rattle.ga_text.specs.Output.{WritesSome, WritesExactly};
+ghost use Rattle.ga_text.specs.Output.{WritesSomeText, WritesExactly};
 ghost use Rattle.ga_json.specs.Compact.{json_line};
 ghost use Rattle.ga_json.specs.Fields.{named_field_value, row_json};
 ghost use Rattle.ga_explorer_json.specs.Rows.{json_rows, IsJsonLine};
@@ -28,7 +28,7 @@ pub fn write_trace_json<W: Write>(
     node: NodeId,
     writer: &mut Writer<'_, W>,
 ) -> WriteResult
-    ensures { WritesSome result (IsJsonLine (IsTraceJson lab.now node)) W.contents writer.old writer.new }
+    ensures { WritesSomeText result (IsJsonLine (IsTraceJson lab.now node)) W.contents writer.old writer.new }
 {
     match lab.history(node) {
         Ok(steps) => write_steps(node, steps.as_slice(), writer),
@@ -46,7 +46,7 @@ pub fn write_why_json<W: Write>(
     to: (NodeId, u32),
     writer: &mut Writer<'_, W>,
 ) -> WriteResult
-    ensures { WritesSome result (IsJsonLine (IsWhyJson lab.now from.0 from.1 to.0 to.1)) W.contents writer.old writer.new }
+    ensures { WritesSomeText result (IsJsonLine (IsWhyJson lab.now from.0 from.1 to.0 to.1)) W.contents writer.old writer.new }
 {
     match lab.explain(from, to) {
         Ok(Some(chain)) => write_chain(true, chain.as_slice(), writer),
@@ -74,7 +74,7 @@ pub fn write_dump_json<W: Write>(
     lab: &Lab,
     writer: &mut Writer<'_, W>,
 ) -> WriteResult
-    ensures { WritesSome result (IsJsonLine (IsDumpJson lab.now)) W.contents writer.old writer.new }
+    ensures { WritesSomeText result (IsJsonLine (IsDumpJson lab.now)) W.contents writer.old writer.new }
 {
     match print(alloc, lab.chip()) {
         Ok(image) => write_text_answer(b"dump", image.as_slice(), writer),

@@ -1,10 +1,10 @@
 //! Each query once, on programs of examples/. What is wanted is what docs/TUTORIAL.md and docs/FINDING.md have of the same query.
 
 use crate::{
-    write_at_json, write_back_until_json, write_because_json, write_counts_json,
-    write_effects_json, write_memory_json, write_node_json, write_races_json, write_rewind_json,
-    write_run_json, write_step_json, write_undo_json, write_whence_json, write_who_json,
-    write_words_json, write_writes_json,
+    write_at_json, write_back_until_json, write_because_json, write_cell_writes_json,
+    write_counts_json, write_effects_json, write_link_words_json, write_memory_json,
+    write_node_json, write_races_json, write_rewind_json, write_run_json, write_step_json,
+    write_undo_json, write_whence_json, write_who_json,
 };
 use ga_event::NodePart;
 use ga_grid::NodeId;
@@ -74,8 +74,8 @@ fn words_of_a_link(rt: HostRuntime) -> Result<(), Fail> {
     let mut stream = Vec::new(alloc);
     let mut writer = Writer::new(&mut stream);
     let (node, other) = (NodeId::new(0), NodeId::new(1));
-    assert!(rt; write_words_json(&lab, node, other, &mut writer).is_ok());
-    assert!(rt; write_words_json(&lab, node, NodeId::new(2), &mut writer).is_ok());
+    assert!(rt; write_link_words_json(&lab, node, other, &mut writer).is_ok());
+    assert!(rt; write_link_words_json(&lab, node, NodeId::new(2), &mut writer).is_ok());
     assert_text(
         &rt,
         &writer,
@@ -108,8 +108,8 @@ fn writes_of_a_cell(rt: HostRuntime) -> Result<(), Fail> {
     let mut stream = Vec::new(alloc);
     let mut writer = Writer::new(&mut stream);
     let node = NodeId::new(0);
-    assert!(rt; write_writes_json(&lab, node, 32, &mut writer).is_ok());
-    assert!(rt; write_writes_json(&lab, node, 160, &mut writer).is_ok());
+    assert!(rt; write_cell_writes_json(&lab, node, 32, &mut writer).is_ok());
+    assert!(rt; write_cell_writes_json(&lab, node, 160, &mut writer).is_ok());
     assert_text(
         &rt,
         &writer,

@@ -1,17 +1,17 @@
 //! Answers that are texts, and refused lines that spell no command.
 
 ghost use Rattle.std.specs.Prelude.{◌≡◌, ◌++◌, [], Some};
-ghost use Rattle.ga_text.specs.Output.{WritesSome, WritesExactly};
+ghost use Rattle.ga_text.specs.Output.{WritesSomeText, WritesExactly};
 ghost use Rattle.ga_json.specs.Compact.{json_line};
 ghost use Rattle.ga_json.specs.Fields.{row_json};
 ghost use Rattle.ga_explorer.specs.inner.{explorer_state};
 ghost use Rattle.ga_explorer_json.specs.Rows.{IsJsonLine};
 ghost use Rattle.ga_explorer_json.specs.Texts.{text_answer_json, IsQueryText, line_refusal_json, long_line_json, syntax_json, syntax_refusal_json};
 
-use crate::bytes::hint_in;
+use crate::bytes::hint_of_refusal;
 use ga_debug_info::DebugInfo;
-use ga_display::Wording;
-use ga_explorer::{Query, suggestion, write_query_answer};
+use ga_display::RefusalWording;
+use ga_explorer::{Query, command_suggestion, write_query_answer};
 use ga_json::{Field, text_field, write_object};
 use ga_lab::Lab;
 use ga_text::{WriteResult, Writer};
@@ -30,7 +30,7 @@ pub(crate) fn write_query_text<W: Write>(
     asked: Query,
     writer: &mut Writer<'_, W>,
 ) -> WriteResult
-    ensures said { WritesSome result (IsJsonLine (IsQueryText command.now (explorer_state lab.old notes.now) asked)) W.contents writer.old writer.new }
+    ensures said { WritesSomeText result (IsJsonLine (IsQueryText command.now (explorer_state lab.old notes.now) asked)) W.contents writer.old writer.new }
     ensures same { lab.new ≡ lab.old }
 {
     let mut long = Vec::new(alloc);
@@ -98,7 +98,7 @@ pub(crate) fn write_long_line_json<W: Write>(writer: &mut Writer<'_, W>) -> Writ
     write_line_refusal(
         32,
         b"long",
-        hint_in(Wording::Advised.long_line_refusal()),
+        hint_of_refusal(RefusalWording::Advised.long_line_refusal()),
         writer,
     )
 }
@@ -110,7 +110,7 @@ pub(crate) fn write_long_line_json<W: Write>(writer: &mut Writer<'_, W>) -> Writ
 pub(crate) fn write_syntax_json<W: Write>(line: &[u8], writer: &mut Writer<'_, W>) -> WriteResult
     ensures { WritesExactly result (json_line (syntax_json line.now)) W.contents writer.old writer.new }
 {
-    write_syntax_refusal(suggestion(line), writer)
+    write_syntax_refusal(command_suggestion(line), writer)
 }
 
 /// Writes that a line spells no command, and what is the case or what to write in its place.

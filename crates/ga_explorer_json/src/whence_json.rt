@@ -5,24 +5,26 @@ ghost use Rattle.arrayvec.specs.ArrayVec.{array_vec_len};
 ghost use Rattle.ga_event.specs.Told.{count_steps};
 ghost use Rattle.ga_event.specs.Flow.{IsNodePart};
 ghost use Rattle.ga_lab.specs.Machine.{node_at_step};
-ghost use Rattle.ga_text.specs.Output.{WritesSome, WritesExactly};
+ghost use Rattle.ga_text.specs.Output.{WritesSomeText, WritesExactly};
 ghost use Rattle.ga_json.specs.Compact.{json_line};
 ghost use Rattle.ga_json.specs.Fields.{named_field_value, row_json};
-ghost use Rattle.ga_explorer_text.specs.Whence.{word_of_value, most_lines};
+ghost use Rattle.ga_explorer_text.specs.Whence.{word_of_value, last_written_line};
 ghost use Rattle.ga_explorer_json.specs.Rows.{IsJsonLine};
 ghost use Rattle.ga_explorer_json.specs.Parts.{value_fields};
-ghost use Rattle.ga_explorer_json.specs.Whence.{no_value_fields, made_fields, line_json, line_rows, whence_fields, line_to_go_on, lines_json, no_lines_json, IsValueJson, IsWhenceJson};
+ghost use Rattle.ga_explorer_json.specs.Whence.{no_value_fields, value_origin_fields, provenance_line_json, provenance_line_rows, whence_fields, next_provenance_line, provenance_lines_json, no_provenance_lines_json, IsValueJson, IsWhenceJson};
 
 use crate::event::{MAX_ACTION_FIELDS, push_action};
 use crate::part::{number_unless_zero, optional_number, value_fields};
 use crate::refusal::{write_lab_refusal, write_step_refusal};
 use crate::row::{NoRows, push_fields};
 use ga_event::NodePart;
-use ga_explorer_text::{lines_after, most_lines, selected_value, walked_word};
+use ga_explorer_text::{
+    last_written_line, provenance_lines_after, selected_value, word_after_walking_back,
+};
 use ga_grid::NodeId;
 use ga_json::{Field, MAX_FIELDS, RowCursor, RowFields, row_fields, write_report};
 use ga_lab::{Lab, LabFault, NodeWalk};
-use ga_provenance::{ProvenanceLine, Value, find_lines_at};
+use ga_provenance::{ProvenanceLine, Value, find_provenance_lines_at};
 use ga_text::{WriteResult, Writer};
 use ga_word::Word18;
 use std::alloc::Global;
@@ -51,7 +53,7 @@ pub fn write_whence_json<W: Write>(
     writer: &mut Writer<'_, W>,
 ) -> WriteResult
     requires { IfSome part IsNodePart }
-    ensures { WritesSome result (IsJsonLine (IsWhenceJson lab.now node step part first)) W.contents writer.old writer.new }
+    ensures { WritesSomeText result (IsJsonLine (IsWhenceJson lab.now node step part first)) W.contents writer.old writer.new }
 {
     if !lab.has_step((node, step)) {
         let count = lab.steps(node);
@@ -76,10 +78,10 @@ fn write_lines<'l, W: Write>(
 ) -> WriteResult
     requires part { IsNodePart value.part }
     requires near { near ≡ node_at_step lab.now query.node near.step }
-    ensures { WritesSome result (IsJsonLine (IsValueJson lab.now query.node query.step query.first (Some value))) W.contents writer.old writer.new }
+    ensures { WritesSomeText result (IsJsonLine (IsValueJson lab.now query.node query.step query.first (Some value))) W.contents writer.old writer.new }
 {
-    let most = most_lines(query.first);
-    match find_lines_at(alloc, lab, &near, query.node, value, most) {
+    let most = last_written_line(query.first);
+    match find_provenance_lines_at(alloc, lab, &near, query.node, value, most) {
         Ok(found) => {
             let lines = found.lines.as_slice();
             write_listed_lines(lab, near, query, value, lines, found.is_whole, writer)
@@ -99,11 +101,11 @@ fn write_listed_lines<'l, W: Write>(
     writer: &mut Writer<'_, W>,
 ) -> WriteResult
     requires near { near ≡ node_at_step lab.now query.node near.step }
-    requires most { length lines.now ≤ most_lines query.first }
-    ensures { WritesExactly result (json_line (lines_json lab.now query.node query.step query.first value lines.now is_whole)) W.contents writer.old writer.new }
+    requires most { length lines.now ≤ last_written_line query.first }
+    ensures { WritesExactly result (json_line (provenance_lines_json lab.now query.node query.step query.first value lines.now is_whole)) W.contents writer.old writer.new }
 {
     let word = word_of_value(lab, &near, query.node, value);
-    let more = line_to_go_on(lines.len() as u64, is_whole);
+    let more = next_provenance_line(lines.len() as u64, is_whole);
     let head = query_row(&query, &value_fields(value.part, word), more);
     let skipped = query.first.saturating_sub(1);
     let mut rows = LineRows {
@@ -111,14 +113,14 @@ fn write_listed_lines<'l, W: Write>(
         near,
         at: query.node,
         number: skipped,
-        rest: lines_after(lines, skipped),
+        rest: provenance_lines_after(lines, skipped),
     };
     write_report(head.as_slice(), &mut rows, writer)
 }
 
 /// Writes the answer for a step that selects no value.
 fn write_no_lines<W: Write>(query: LinesQuery, writer: &mut Writer<'_, W>) -> WriteResult
-    ensures { WritesExactly result (json_line (no_lines_json query.node query.step query.first)) W.contents writer.old writer.new }
+    ensures { WritesExactly result (json_line (no_provenance_lines_json query.node query.step query.first)) W.contents writer.old writer.new }
 {
     let head = query_row(&query, &no_value_fields(), None);
     write_report(head.as_slice(), &mut NoRows, writer)
@@ -137,7 +139,7 @@ struct LineRows<'l, 'r> {
 }
 
 impl<'l, 'r> RowCursor<'r> for LineRows<'l, 'r> {
-    ghost left = { λ rows. line_rows rows.lab.now rows.number rows.rest.now };
+    ghost left = { λ rows. provenance_line_rows rows.lab.now rows.number rows.rest.now };
 
     fn next(&mut self) -> Option<RowFields<'r>> {
         match self.rest.split_first() {
@@ -146,7 +148,7 @@ impl<'l, 'r> RowCursor<'r> for LineRows<'l, 'r> {
                 let Value { node, step, part } = line.value;
                 let place = step.min(self.lab.steps(node));
                 let walk = walk_to(self.lab, &self.near, self.at, node, place);
-                let word = walked_word(self.lab, node, place, &walk, part);
+                let word = word_after_walking_back(self.lab, node, place, &walk, part);
                 self.near = walk;
                 self.at = node;
                 self.number += 1;
@@ -188,13 +190,13 @@ fn word_of_value<'l>(lab: &'l Lab, near: &NodeWalk<'l>, at: NodeId, value: Value
     let Value { node, step, part } = value;
     let place = step.min(lab.steps(node));
     let walk = walk_to(lab, near, at, node, place);
-    walked_word(lab, node, place, &walk, part)
+    word_after_walking_back(lab, node, place, &walk, part)
 }
 
 /// The line from which to go on after so many.
-fn line_to_go_on(lines: u64, is_whole: bool) -> Option<u64>
+fn next_provenance_line(lines: u64, is_whole: bool) -> Option<u64>
     requires { lines < 2 ^ 32 }
-    ensures { result ≡ line_to_go_on lines is_whole }
+    ensures { result ≡ next_provenance_line lines is_whole }
 {
     if is_whole { None } else { Some(lines + 1) }
 }
@@ -231,7 +233,7 @@ fn no_value_fields() -> [Field<'static>; 3]
 
 /// A line with the word of its value, and how many values its run has.
 fn line_row<'r>(lab: &Lab, number: u32, line: ProvenanceLine, word: Word18) -> RowFields<'r>
-    ensures { row_json result.items ≡ line_json lab.now number line word }
+    ensures { row_json result.items ≡ provenance_line_json lab.now number line word }
 {
     let value = line.value;
     let mut row = row_fields(&[
@@ -249,7 +251,7 @@ fn line_row<'r>(lab: &Lab, number: u32, line: ProvenanceLine, word: Word18) -> R
 /// Adds what the step of a value did, or that the value was loaded.
 fn push_made<'r>(row: &mut RowFields<'r>, lab: &Lab, value: Value)
     requires { array_vec_len row.old + MAX_ACTION_FIELDS ≤ MAX_FIELDS }
-    ensures fields { map named_field_value row.new.items ≡ map named_field_value row.old.items ++ made_fields lab.now value }
+    ensures fields { map named_field_value row.new.items ≡ map named_field_value row.old.items ++ value_origin_fields lab.now value }
     ensures len { array_vec_len row.new ≤ array_vec_len row.old + MAX_ACTION_FIELDS }
 {
     if value.step == 0 {

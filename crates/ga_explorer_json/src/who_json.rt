@@ -2,13 +2,13 @@
 
 ghost use Rattle.std.specs.Prelude.{◌≡◌, ◌≤◌, ◌+◌, ◌++◌, map, IsTrue};
 ghost use Rattle.arrayvec.specs.ArrayVec.{array_vec_len};
-ghost use Rattle.ga_grid.specs.Grid.{optional_number};
+ghost use Rattle.ga_grid.specs.Grid.{optional_node_number};
 ghost use Rattle.ga_grid.specs.Chip.{records_of};
 ghost use Rattle.ga_causal.specs.Dependence.{is_marked};
-ghost use Rattle.ga_text.specs.Output.{WritesSome, WritesExactly};
+ghost use Rattle.ga_text.specs.Output.{WritesSomeText, WritesExactly};
 ghost use Rattle.ga_json.specs.Names.{is_field_name};
 ghost use Rattle.ga_json.specs.Compact.{json_line};
-ghost use Rattle.ga_json.specs.FieldValues.{value_json};
+ghost use Rattle.ga_json.specs.FieldValues.{field_value_json};
 ghost use Rattle.ga_json.specs.Fields.{named_field_value, row_json};
 ghost use Rattle.ga_explorer_text.specs.Waiting.{node_activity_text};
 ghost use Rattle.ga_explorer_json.specs.Rows.{IsJsonLine};
@@ -16,14 +16,17 @@ ghost use Rattle.ga_explorer_json.specs.Who.{neighbour_json, neighbour_activity_
 
 use crate::activity::activity_name;
 use crate::row::push_fields;
-use ga_explorer_text::{awaited_neighbour, ended_among, find_live, idle_among, idle_count};
+use ga_explorer_text::{
+    awaited_neighbour, count_idle_marked_nodes, find_ended_marked_nodes, find_live_nodes,
+    idle_count,
+};
 use ga_grid::{Chip, NodeId};
 use ga_json::{Field, MAX_FIELDS, RowCursor, RowFields, row_fields, write_report};
 use ga_lab::Lab;
 use ga_node::Wait;
 use ga_ports::Side;
 use ga_races::find_deadlocked;
-use ga_scheduler::find_idle;
+use ga_scheduler::find_idle_nodes;
 use ga_text::{WriteResult, Writer};
 use std::io::Write;
 
@@ -36,12 +39,12 @@ type NodeFlags = [bool; 144];
 /// # Errors
 /// A write failed.
 pub fn write_who_json<W: Write>(lab: &Lab, writer: &mut Writer<'_, W>) -> WriteResult
-    ensures { WritesSome result (IsJsonLine (IsWhoJson lab.now)) W.contents writer.old writer.new }
+    ensures { WritesSomeText result (IsJsonLine (IsWhoJson lab.now)) W.contents writer.old writer.new }
 {
     let chip = lab.chip();
     let stuck = find_deadlocked(chip);
-    let ended = ended_among(&stuck, &find_live(chip));
-    let idle = find_idle(lab);
+    let ended = find_ended_marked_nodes(&stuck, &find_live_nodes(chip));
+    let idle = find_idle_nodes(lab);
     write_waiting(chip, &stuck, &ended, &idle, writer)
 }
 
@@ -56,7 +59,7 @@ fn write_waiting<W: Write>(
     ensures { WritesExactly result (json_line (who_json (records_of chip.now) (is_marked stuck.now) (is_marked ended.now) (is_marked idle.now)))
         W.contents writer.old writer.new }
 {
-    let head = who_fields(idle_count(idle), idle_among(stuck, idle));
+    let head = who_fields(idle_count(idle), count_idle_marked_nodes(stuck, idle));
     let mut rows = WaitRows {
         chip,
         stuck,
@@ -188,7 +191,7 @@ fn push_awaited<'l>(
 fn neighbour_field(name: &'static [u8], neighbour: Option<NodeId>) -> Field<'static>
     requires { IsTrue (is_field_name name.now) }
     ensures name { result.name.now ≡ name.now }
-    ensures value { value_json result.value ≡ neighbour_json (optional_number neighbour) }
+    ensures value { field_value_json result.value ≡ neighbour_json (optional_node_number neighbour) }
 {
     match neighbour {
         Some(node) => Field::node(name, node),
@@ -200,7 +203,7 @@ fn neighbour_field(name: &'static [u8], neighbour: Option<NodeId>) -> Field<'sta
 fn neighbour_activity(name: &'static [u8], chip: &Chip, neighbour: Option<NodeId>) -> Field<'static>
     requires { IsTrue (is_field_name name.now) }
     ensures name { result.name.now ≡ name.now }
-    ensures value { value_json result.value ≡ neighbour_activity_json (records_of chip.now) (optional_number neighbour) }
+    ensures value { field_value_json result.value ≡ neighbour_activity_json (records_of chip.now) (optional_node_number neighbour) }
 {
     match neighbour {
         Some(node) => Field::text(name, activity_of(chip, node)),

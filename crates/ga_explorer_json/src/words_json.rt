@@ -21,7 +21,7 @@ use std::io::Write;
 ///
 /// # Errors
 /// A write failed.
-pub fn write_words_json<W: Write>(
+pub fn write_link_words_json<W: Write>(
     lab: &Lab,
     from: NodeId,
     to: NodeId,

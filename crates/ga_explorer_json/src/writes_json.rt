@@ -19,7 +19,7 @@ use std::io::Write;
 ///
 /// # Errors
 /// A write failed.
-pub fn write_writes_json<W: Write>(
+pub fn write_cell_writes_json<W: Write>(
     lab: &Lab,
     node: NodeId,
     address: u8,

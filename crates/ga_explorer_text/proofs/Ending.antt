@@ -14,7 +14,7 @@ use Rattle.ga_grid.specs.Chip.{record_at}
 use Rattle.ga_causal.specs.Dependence.{is_marked}
 use Rattle.ga_races.specs.Acts.{awaits, IsSubset}
 use Rattle.ga_event.proofs.Nexts.{neighbour_of-within}
-use Rattle.ga_explorer_text.specs.Ended.{is_ended_neighbour, is_side_ended, awaits_any, awaits_only_ended, is_ended_wait, has_ended, MarksEnded, ended_but}
+use Rattle.ga_explorer_text.specs.Ended.{is_ended_neighbour, is_side_ended, awaits_any_neighbour, awaits_only_ended, is_ended_wait, has_node_ended, MarksEndedNodes, is_not_live}
 
 -- where more nodes are marked, more have ended
 or_more : (a b c : Bool) → (b ≡ true → c ≡ true) → (a || b) ≡ true → (a || c) ≡ true
@@ -44,7 +44,7 @@ all_more true true true false p q v w f g h i t = absurd (true≢false (sym t))
 
 more_awaited : (chip : List NodeRecord) (marks others : ℕ → Bool) (n : ℕ) → n < 144 → IsSubset marks others → awaits_only_ended chip marks n ≡ true → awaits_only_ended chip others n ≡ true
 more_awaited chip marks others n within subset h =
-    and_more (awaits_any chip n) _ _
+    and_more (awaits_any_neighbour chip n) _ _
     (all_more _ _ _ _ _ _ _ _ (more_on chip marks others n Right within subset) (more_on chip marks others n Down within subset)
     (more_on chip marks others n Left within subset) (more_on chip marks others n Up within subset)) h
 
@@ -54,27 +54,27 @@ more_by (wait.Read sides) a b more h = more h
 more_by (wait.Write side) a b more h = absurd (true≢false (sym h))
 more_by wait.Nothing a b more h = absurd (true≢false (sym h))
 
-pub more_end : (chip : List NodeRecord) (marks others : ℕ → Bool) (n : ℕ) → n < 144 → IsSubset marks others → has_ended chip marks n ≡ true → has_ended chip others n ≡ true
-unfolding has_ended
+pub more_end : (chip : List NodeRecord) (marks others : ℕ → Bool) (n : ℕ) → n < 144 → IsSubset marks others → has_node_ended chip marks n ≡ true → has_node_ended chip others n ≡ true
+unfolding has_node_ended
 more_end chip marks others n within subset h = more_by (record_at chip n).wait _ _ (more_awaited chip marks others n within subset) h
 
 -- a node more that has ended, in each closed set
 pub one_more_ended : (chip : List NodeRecord) (live : List Bool) (at n : ℕ) (others : ℕ → Bool) → length live ≡ 144 → at ≡ n → n < 144
-    → has_ended chip (ended_but live) n ≡ true → MarksEnded chip others → IsSubset (ended_but live) others → IsSubset (ended_but (set live at false)) others
+    → has_node_ended chip (is_not_live live) n ≡ true → MarksEndedNodes chip others → IsSubset (is_not_live live) others → IsSubset (is_not_live (set live at false)) others
 one_more_ended chip live at n others size e l h closed subset = λ m k t. ⊎_elim
-    (λ q. subst (λ (z : ℕ). others z ≡ true) (sym (q ∙ e)) (closed n l (more_end chip (ended_but live) others n l subset h)))
+    (λ q. subst (λ (z : ℕ). others z ≡ true) (sym (q ∙ e)) (closed n l (more_end chip (is_not_live live) others n l subset h)))
     (λ ne. subset m k (sym (ap not (get_or-set_other live at m false false ne)) ∙ t))
     (cases_eq m at)
 
 -- at first none has ended
-pub none_ended : (n : ℕ) → n < 144 → ended_but (replicate 144 true) n ≡ true → ⊥
+pub none_ended : (n : ℕ) → n < 144 → is_not_live (replicate 144 true) n ≡ true → ⊥
 none_ended n l h = true≢false (sym h ∙ ap not (get_or-replicate 144 n true false l))
 
 -- if no live node has ended, the set is closed
-pub closed_last : (chip : List NodeRecord) (live : List Bool) → ((n : ℕ) → n < 144 → is_marked live n ≡ true → has_ended chip (ended_but live) n ≡ false) → MarksEnded chip (ended_but live)
+pub closed_last : (chip : List NodeRecord) (live : List Bool) → ((n : ℕ) → n < 144 → is_marked live n ≡ true → has_node_ended chip (is_not_live live) n ≡ false) → MarksEndedNodes chip (is_not_live live)
 closed_last chip live none n l h = by_mark (is_marked live n) refl
   where
-    by_mark : (b : Bool) → is_marked live n ≡ b → ended_but live n ≡ true
+    by_mark : (b : Bool) → is_marked live n ≡ b → is_not_live live n ≡ true
     by_mark true e = absurd (true≢false (sym h ∙ none n l e))
     by_mark false e = ap not e
 

@@ -2,7 +2,7 @@
 use Rattle.std.proofs.Common.{◌≡◌, ℕ, zero, suc, ◌+◌, List, [], ◌++◌, refl, sym, ap, ◌∙◌, append_assoc}
 use Rattle.std.proofs.lemmas.List.{append-nil}
 use Rattle.ga_lab.specs.Machine.{State}
-use Rattle.ga_explorer_text.specs.Texts.{node_symbol_text, node_symbols_text, row_text, rows_text}
+use Rattle.ga_explorer_text.specs.Texts.{node_symbol_text, node_symbols_text, chip_row_text, chip_rows_text}
 
 no_cells : (s : State) (n : ℕ) → node_symbols_text s n zero ≡ []
 unfolding node_symbols_text
@@ -12,12 +12,12 @@ one_cell : (s : State) (n more : ℕ) → node_symbols_text s n (suc more) ≡ n
 unfolding node_symbols_text
 one_cell s n more = refl
 
-no_rows : (s : State) → rows_text s zero ≡ []
-unfolding rows_text
+no_rows : (s : State) → chip_rows_text s zero ≡ []
+unfolding chip_rows_text
 no_rows s = refl
 
-one_row : (s : State) (row : ℕ) → rows_text s (suc row) ≡ row_text s row ++ rows_text s row
-unfolding rows_text
+one_row : (s : State) (row : ℕ) → chip_rows_text s (suc row) ≡ chip_row_text s row ++ chip_rows_text s row
+unfolding chip_rows_text
 one_row s row = refl
 
 pub same_cells : (s : State) (n k left more : ℕ) (out : List ℕ) → k ≡ n → left ≡ more → out ++ node_symbols_text s k left ≡ out ++ node_symbols_text s n more
@@ -34,12 +34,12 @@ pub all_cells : (s : State) (k left : ℕ) (out rest : List ℕ) → left ≡ ze
 all_cells s k left out rest e h =
     sym (append-nil out) ∙ ap (λ (z : List ℕ). out ++ z) (sym (no_cells s k)) ∙ ap (λ (z : ℕ). out ++ node_symbols_text s k z) (sym e) ∙ h
 
-pub next_row : (s : State) (row below : ℕ) (out new rest : List ℕ) → row ≡ suc below → new ≡ out ++ row_text s below
-    → out ++ rows_text s row ≡ rest → new ++ rows_text s below ≡ rest
+pub next_row : (s : State) (row below : ℕ) (out new rest : List ℕ) → row ≡ suc below → new ≡ out ++ chip_row_text s below
+    → out ++ chip_rows_text s row ≡ rest → new ++ chip_rows_text s below ≡ rest
 next_row s row below out new rest e g h =
-    ap (λ (z : List ℕ). z ++ rows_text s below) g ∙ append_assoc out (row_text s below) (rows_text s below)
-    ∙ ap (λ (z : List ℕ). out ++ z) (sym (one_row s below)) ∙ ap (λ (z : ℕ). out ++ rows_text s z) (sym e) ∙ h
+    ap (λ (z : List ℕ). z ++ chip_rows_text s below) g ∙ append_assoc out (chip_row_text s below) (chip_rows_text s below)
+    ∙ ap (λ (z : List ℕ). out ++ z) (sym (one_row s below)) ∙ ap (λ (z : ℕ). out ++ chip_rows_text s z) (sym e) ∙ h
 
-pub all_rows : (s : State) (row : ℕ) (out rest : List ℕ) → row ≡ zero → out ++ rows_text s row ≡ rest → out ≡ rest
+pub all_rows : (s : State) (row : ℕ) (out rest : List ℕ) → row ≡ zero → out ++ chip_rows_text s row ≡ rest → out ≡ rest
 all_rows s row out rest e h =
-    sym (append-nil out) ∙ ap (λ (z : List ℕ). out ++ z) (sym (no_rows s)) ∙ ap (λ (z : ℕ). out ++ rows_text s z) (sym e) ∙ h
+    sym (append-nil out) ∙ ap (λ (z : List ℕ). out ++ z) (sym (no_rows s)) ∙ ap (λ (z : ℕ). out ++ chip_rows_text s z) (sym e) ∙ h

@@ -1,13 +1,13 @@
 -- A text that is written line by line.
 use Rattle.std.proofs.Common.{◌≡◌, ℕ, List, ◌++◌, Option, Result, subst, ◌+◌, ◌<◌, ◌≤◌, [], ◌∷◌, Ok, Err, length, get_or, drop, refl, sym, ap, ◌∙◌, append_assoc, arith, zero, suc, ◌-◌, Some, None, ◌==◌, Bool, false, add-one, true, cond, nat_le, min, ◌⊎◌, inl, inr}
-use Rattle.ga_text.specs.Output.{IsWrittenOrTruncated, IsWritten, IsTruncated}
+use Rattle.ga_text.specs.Output.{IsTextWrittenOrTruncated, IsTextWritten, IsTextTruncated}
 use Rattle.ga_text.specs.declared.output.WriteError.{WriteError}
 use Rattle.std.specs.Prelude.{flat_map, if◌then◌else◌, IsOk, is_none, ◌&&◌, not}
 use Rattle.std.proofs.lemmas.List.{append-nil, drop_more, drop_all}
 use Rattle.ga_text.proofs.WriteLemmas.{written_as, said_assoc, cut_assoc, truncated_within}
 use Rattle.ga_grid.specs.declared.node_id.NodeId.{NodeId}
 use Rattle.ga_lab.specs.Machine.{State, has_step, history_of, chip_of, causes_of, rewind_answer}
-use Rattle.ga_provenance.specs.Writes.{cell_write_at, newer_write, newest_cell_write}
+use Rattle.ga_provenance.specs.Writes.{cell_write_at, newer_cell_write, newest_cell_write}
 use Rattle.ga_provenance.specs.declared.writes.CellWrite.{CellWrite}
 use Rattle.ga_provenance.proofs.Keeping.{written_step}
 use Rattle.ga_provenance.proofs.FirstLine.{first_line}
@@ -17,12 +17,12 @@ use Rattle.std.proofs.lemmas.Option.{same_Some}
 use Rattle.ga_debug_info.specs.declared.notes.DebugInfo.{DebugInfo}
 use Rattle.ga_provenance.specs.declared.value.Value.{Value}
 use Rattle.ga_provenance.specs.declared.lines.ProvenanceLine.{ProvenanceLine}
-use Rattle.ga_provenance.specs.Origins.{node_after, origin_of}
-use Rattle.ga_provenance.specs.Lines.{AreLinesOf}
+use Rattle.ga_provenance.specs.Origins.{node_after_steps, origin_of_value}
+use Rattle.ga_provenance.specs.Lines.{AreProvenanceLinesOf}
 use Rattle.ga_explorer_text.specs.inner.{is_first}
-use Rattle.ga_explorer_text.specs.Whence.{most_lines, more_lines_text, value_line_text, numbered_lines_text, lines_from, whence_lines_text, IsLinesAnswer, word_of_value, a_of_value, value_with_word_text, value_text}
+use Rattle.ga_explorer_text.specs.Whence.{last_written_line, more_lines_text, value_line_text, numbered_lines_text, provenance_lines_text_from, whence_lines_text, IsProvenanceLinesAnswer, word_of_value, register_a_after_value, value_with_word_text, value_text}
 use Rattle.ga_explorer_text.specs.Waiting.{texts_of_nodes, node_count, all_waiting_text, stuck_text, wait_cycles_text, ended_and_idle_text}
-use Rattle.ga_explorer_text.specs.Ended.{AreEnded}
+use Rattle.ga_explorer_text.specs.Ended.{AreEndedNodes}
 use Rattle.std.proofs.lemmas.Bool.Decides.{nat_tests}
 use Rattle.ga_event.specs.Told.{count_steps}
 use Rattle.ga_lab.specs.declared.fault.LabFault.TheVariants.{NoStep, Memory}
@@ -36,7 +36,7 @@ use Rattle.ga_races.specs.Acts.{AreDeadlocked, IsSubset}
 use Rattle.ga_scheduler.specs.Idle.{AreIdleMarks}
 use Rattle.ga_scheduler.specs.declared.effects.RollbackEffect.{RollbackEffect}
 use Rattle.ga_race_detector.specs.declared.races.Race.{Race}
-use Rattle.ga_race_detector.specs.Races.{requested_races, has_looks, first_ready_node}
+use Rattle.ga_race_detector.specs.Races.{requested_races, has_made_or_next_look, first_ready_node}
 use Rattle.ga_race_detector.specs.declared.readings.LookRace.{LookRace}
 use Rattle.ga_race_detector.specs.Readings.{IsReportedLookRace, HasAllNearLookRaces}
 use Rattle.ga_explorer_text.specs.Races.{listed_races_text, IsRacesAnswer}
@@ -46,22 +46,22 @@ use Rattle.ga_explorer_text.specs.Telling.{IsWhoAnswer}
 -- ---- A text that was said, under another name
 
 pub text_as : {T : Type 0} (result : Result T WriteError) (contents : Option (List ℕ)) (before said text other pending : List ℕ) → text ≡ other
-    → IsWrittenOrTruncated result contents before (said ++ text) pending → IsWrittenOrTruncated result contents before (said ++ other) pending
+    → IsTextWrittenOrTruncated result contents before (said ++ text) pending → IsTextWrittenOrTruncated result contents before (said ++ other) pending
 text_as result contents before said text other pending e h =
-    let P : List ℕ → Type 0 = λ t. IsWrittenOrTruncated result contents before (said ++ t) pending in subst P e h
+    let P : List ℕ → Type 0 = λ t. IsTextWrittenOrTruncated result contents before (said ++ t) pending in subst P e h
 
 -- a front of the whole was said, and the rest is to be
 pub record IsWrittenUpTo (contents : Option (List ℕ)) (before said whole rest pending : List ℕ) : Type 0 where
   pub front : List ℕ
   pub splits : front ++ rest ≡ whole
-  pub is_said : IsWritten contents before (said ++ front) pending
+  pub is_said : IsTextWritten contents before (said ++ front) pending
 
 -- one line more
 longer : (front line rest more whole : List ℕ) → rest ≡ line ++ more → front ++ rest ≡ whole → (front ++ line) ++ more ≡ whole
 longer front line rest more whole e f = append_assoc front line more ∙ ap (λ (z : List ℕ). front ++ z) (sym e) ∙ f
 
 pub line_written : (contents : Option (List ℕ)) (before said whole rest line more front pending : List ℕ) → rest ≡ line ++ more → front ++ rest ≡ whole
-    → IsWritten contents before ((said ++ front) ++ line) pending → IsWrittenUpTo contents before said whole more pending
+    → IsTextWritten contents before ((said ++ front) ++ line) pending → IsWrittenUpTo contents before said whole more pending
 line_written contents before said whole rest line more front pending e f h = record {
   front = front ++ line;
   splits = longer front line rest more whole e f;
@@ -69,13 +69,13 @@ line_written contents before said whole rest line more front pending e f h = rec
 }
 
 pub line_truncated : (contents : Option (List ℕ)) (before said whole rest line more front : List ℕ) → rest ≡ line ++ more → front ++ rest ≡ whole
-    → IsTruncated contents before ((said ++ front) ++ line) → IsTruncated contents before (said ++ whole)
+    → IsTextTruncated contents before ((said ++ front) ++ line) → IsTextTruncated contents before (said ++ whole)
 line_truncated contents before said whole rest line more front e f h =
     truncated_within contents before said (front ++ line) more whole (longer front line rest more whole e f) (cut_assoc contents before said front line h)
 
 -- nothing is left
 pub all_said : (contents : Option (List ℕ)) (before said whole rest pending : List ℕ) → rest ≡ [] → IsWrittenUpTo contents before said whole rest pending
-    → IsWritten contents before (said ++ whole) pending
+    → IsTextWritten contents before (said ++ whole) pending
 all_said contents before said whole rest pending e h =
     written_as contents before said h.front whole pending (sym (append-nil h.front) ∙ ap (λ (z : List ℕ). h.front ++ z) (sym e) ∙ h.splits) h.is_said
 
@@ -96,7 +96,7 @@ none_left (x ∷ xs) e = absurd (omega (arith, e))
 
 -- one text after another
 pub joined_written : {T : Type 0} (result : Result T WriteError) (contents : Option (List ℕ)) (before said text more pending : List ℕ)
-    → IsWrittenOrTruncated result contents before ((said ++ text) ++ more) pending → IsWrittenOrTruncated result contents before (said ++ (text ++ more)) pending
+    → IsTextWrittenOrTruncated result contents before ((said ++ text) ++ more) pending → IsTextWrittenOrTruncated result contents before (said ++ (text ++ more)) pending
 joined_written (Ok done) contents before said text more pending h = said_assoc contents before said text more pending h
 joined_written (Err why) contents before said text more pending h = cut_assoc contents before said text more h
 
@@ -119,7 +119,7 @@ no_write s node cell zero e = no_step s node cell
 no_write s node cell (suc k) e = go (cell_write_at s node.number cell k) refl (λ h. no_write s node cell k h) e
   where
     go : (o : Option CellWrite) → cell_write_at s node.number cell k ≡ o → (None ≡ newest_cell_write s node.number cell k → cell_writes s node cell k ≡ [])
-        → None ≡ newer_write o (newest_cell_write s node.number cell k) → cell_writes s node cell (suc k) ≡ []
+        → None ≡ newer_cell_write o (newest_cell_write s node.number cell k) → cell_writes s node cell (suc k) ≡ []
     go None is before h = passed s node cell k is ∙ before h
     go (Some wrote) is before h = absurd (cc)
 
@@ -131,7 +131,7 @@ newest s node cell (suc k) wrote e = go (cell_write_at s node.number cell k) ref
   where
     go : (o : Option CellWrite) → cell_write_at s node.number cell k ≡ o
         → (Some wrote ≡ newest_cell_write s node.number cell k → cell_writes s node cell k ≡ cell_write_text node (Some wrote) ++ cell_writes s node cell (wrote.step - 1))
-        → Some wrote ≡ newer_write o (newest_cell_write s node.number cell k)
+        → Some wrote ≡ newer_cell_write o (newest_cell_write s node.number cell k)
         → cell_writes s node cell (suc k) ≡ cell_write_text node (Some wrote) ++ cell_writes s node cell (wrote.step - 1)
     go None is before h = passed s node cell k is ∙ before h
     go (Some other) is before h =
@@ -151,27 +151,27 @@ by_first : (s : State) (step : ℕ) (value made : Value) (line : ProvenanceLine)
 by_first s step value made line [] e is = absurd (cc)
 by_first s step value made line (first ∷ lines) e is = ap (λ (l : ProvenanceLine). l.value.step == step) (same_Some _ _ e) ∙ ap (λ (v : Value). v.step == step) is
 
-some_line : (first : ℕ) → 0 < most_lines first
+some_line : (first : ℕ) → 0 < last_written_line first
 some_line first = omega arith
 
-pub made_by : (s : State) (step first : ℕ) (value : Value) (lines : List ProvenanceLine) (is_whole : Bool) → AreLinesOf s value lines is_whole → (is_whole ≡ false → length lines ≡ most_lines first)
-    → is_first step lines ≡ ((origin_of s value).step == step)
+pub made_by : (s : State) (step first : ℕ) (value : Value) (lines : List ProvenanceLine) (is_whole : Bool) → AreProvenanceLinesOf s value lines is_whole → (is_whole ≡ false → length lines ≡ last_written_line first)
+    → is_first step lines ≡ ((origin_of_value s value).step == step)
 made_by s step first value lines is_whole told cut =
-    let found = first_line s value lines is_whole (most_lines first) told cut (some_line first) in
-    by_first s step value (origin_of s value) found.line lines found.first found.made
+    let found = first_line s value lines is_whole (last_written_line first) told cut (some_line first) in
+    by_first s step value (origin_of_value s value) found.line lines found.first found.made
 
 -- the whole text
-pub lines_told : (notes : Option DebugInfo) (s : State) (node : NodeId) (step first : ℕ) (value : Value) (lines told : List ProvenanceLine) (is_whole : Bool) (text last : List ℕ) → AreLinesOf s value lines is_whole
-    → length lines ≤ most_lines first → (is_whole ≡ false → length lines ≡ most_lines first) → told ≡ lines → text ≡ lines_from notes s node step first value (not (is_first step told)) told
-    → last ≡ more_lines_text (length told) first is_whole → IsLinesAnswer notes s node step first value (text ++ last)
+pub lines_told : (notes : Option DebugInfo) (s : State) (node : NodeId) (step first : ℕ) (value : Value) (lines told : List ProvenanceLine) (is_whole : Bool) (text last : List ℕ) → AreProvenanceLinesOf s value lines is_whole
+    → length lines ≤ last_written_line first → (is_whole ≡ false → length lines ≡ last_written_line first) → told ≡ lines → text ≡ provenance_lines_text_from notes s node step first value (not (is_first step told)) told
+    → last ≡ more_lines_text (length told) first is_whole → IsProvenanceLinesAnswer notes s node step first value (text ++ last)
 lines_told notes s node step first value lines told is_whole text last are most cut same t l = record {
   lines = lines;
   is_whole = is_whole;
   told = are;
   most = most;
   cut = cut;
-  text = ap (λ z. z ++ last) (t ∙ ap (λ (z : List ProvenanceLine). lines_from notes s node step first value (not (is_first step z)) z) same
-      ∙ ap (λ (b : Bool). lines_from notes s node step first value (not b) lines) (made_by s step first value lines is_whole are cut))
+  text = ap (λ z. z ++ last) (t ∙ ap (λ (z : List ProvenanceLine). provenance_lines_text_from notes s node step first value (not (is_first step z)) z) same
+      ∙ ap (λ (b : Bool). provenance_lines_text_from notes s node step first value (not b) lines) (made_by s step first value lines is_whole are cut))
       ∙ ap (λ z. whence_lines_text notes s node step first value lines ++ z) (l ∙ ap (λ (z : List ProvenanceLine). more_lines_text (length z) first is_whole) same);
 }
 
@@ -187,7 +187,7 @@ pub none_numbered : (notes : Option DebugInfo) (s : State) (moved : Bool) (lines
 none_numbered notes s moved lines i number past = ap (numbered_lines_text notes s moved number) (drop_all i lines past)
 
 -- a line with the words of its value
-pub worded_as : (s : State) (value : Value) (word a : ℕ) → word ≡ word_of_value s value → a ≡ a_of_value s value → value_with_word_text s value word a ≡ value_text s value
+pub worded_as : (s : State) (value : Value) (word a : ℕ) → word ≡ word_of_value s value → a ≡ register_a_after_value s value → value_with_word_text s value word a ≡ value_text s value
 worded_as s value word a e f = ap (λ (w : ℕ). value_with_word_text s value w a) e ∙ ap (value_with_word_text s value (word_of_value s value)) f
 
 -- ---- texts of nodes, one node more at a time
@@ -261,10 +261,10 @@ next_place notes s node k last m l is =
 
 -- a step by its number, which is one more than its place
 pub placed : (notes : Option DebugInfo) (s : State) (node : NodeId) (k step : ℕ) → k ≡ step → 0 < step
-    → step_registers_text node k (slice_get (history_of s node.number) (k - 1)) (node_after s node.number k) ++ step_suffix_text notes s node k ≡ numbered_step_text notes s node (step - 1)
+    → step_registers_text node k (slice_get (history_of s node.number) (k - 1)) (node_after_steps s node.number k) ++ step_suffix_text notes s node k ≡ numbered_step_text notes s node (step - 1)
 placed notes s node k step is some =
-    ap (λ (n : ℕ). step_registers_text node n (slice_get (history_of s node.number) (n - 1)) (node_after s node.number n) ++ step_suffix_text notes s node n) is
-    ∙ ap (λ (n : ℕ). step_registers_text node n (slice_get (history_of s node.number) (step - 1)) (node_after s node.number n) ++ step_suffix_text notes s node n)
+    ap (λ (n : ℕ). step_registers_text node n (slice_get (history_of s node.number) (n - 1)) (node_after_steps s node.number n) ++ step_suffix_text notes s node n) is
+    ∙ ap (λ (n : ℕ). step_registers_text node n (slice_get (history_of s node.number) (step - 1)) (node_after_steps s node.number n) ++ step_suffix_text notes s node n)
     (let e : step ≡ step - 1 + 1 = omega (arith, some) in e)
 
 -- if the step exists, and if it doesn't
@@ -307,7 +307,7 @@ effects_refused notes s node step why text (inr wanting) t =
     inr (wanting.1, t ∙ ap (advised_step_refusal_text node (count_steps node.number s.kept)) wanting.0)
 
 pub who_told : (s : State) (chip : List NodeRecord) (marks ended over idle : ℕ → Bool) (first second third last : List ℕ) → chip ≡ chip_of s → AreDeadlocked chip marks
-    → ((others : ℕ → Bool) → AreDeadlocked chip others → IsSubset others marks) → AreEnded chip ended → ((n : ℕ) → n < 144 → over n ≡ (marks n && ended n))
+    → ((others : ℕ → Bool) → AreDeadlocked chip others → IsSubset others marks) → AreEndedNodes chip ended → ((n : ℕ) → n < 144 → over n ≡ (marks n && ended n))
     → AreIdleMarks s idle → first ≡ all_waiting_text chip idle
     → second ≡ stuck_text marks over idle → third ≡ wait_cycles_text chip marks → last ≡ ended_and_idle_text over idle → IsWhoAnswer s (first ++ second ++ third ++ last)
 who_told s chip marks ended over idle first second third last e stuck greatest done both silent f g h i = record {
@@ -315,7 +315,7 @@ who_told s chip marks ended over idle first second third last e stuck greatest d
   stuck = subst (λ z. AreDeadlocked z marks) e stuck;
   greatest = λ others h. greatest others (subst (λ z. AreDeadlocked z others) (sym e) h);
   ended = ended;
-  done = subst (λ z. AreEnded z ended) e done;
+  done = subst (λ z. AreEndedNodes z ended) e done;
   over = over;
   both = both;
   idle = idle;
@@ -324,7 +324,7 @@ who_told s chip marks ended over idle first second third last e stuck greatest d
 }
 
 pub races_found : (s : State) (only : Option NodeId) (races : List Race) (readings : List LookRace) (looks quiet : Bool) (text : List ℕ) → races ≡ requested_races s only
-    → All (IsReportedLookRace s only) readings → HasAllNearLookRaces s only readings → looks ≡ has_looks (causes_of s) (chip_of s) → quiet ≡ is_none (first_ready_node (chip_of s))
+    → All (IsReportedLookRace s only) readings → HasAllNearLookRaces s only readings → looks ≡ has_made_or_next_look (causes_of s) (chip_of s) → quiet ≡ is_none (first_ready_node (chip_of s))
     → text ≡ listed_races_text only races readings looks quiet → IsRacesAnswer s only text
 races_found s only races readings looks quiet text r told found l q t =
     inl (
@@ -332,7 +332,7 @@ races_found s only races readings looks quiet text r told found l q t =
       told,
       found,
       t ∙ ap (λ (z : List Race). listed_races_text only z readings looks quiet) r ∙ ap (λ (z : Bool). listed_races_text only (requested_races s only) readings z quiet) l
-          ∙ ap (listed_races_text only (requested_races s only) readings (has_looks (causes_of s) (chip_of s))) q,
+          ∙ ap (listed_races_text only (requested_races s only) readings (has_made_or_next_look (causes_of s) (chip_of s))) q,
     )
 
 pub races_refused : (s : State) (only : Option NodeId) (why : LabFault) (text : List ℕ) → why ≡ Memory → text ≡ advised_refusal_text why → IsRacesAnswer s only text

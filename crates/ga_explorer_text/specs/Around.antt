@@ -9,7 +9,7 @@ use Rattle.ga_grid.specs.declared.node_id.NodeId.{NodeId}
 use Rattle.ga_event.specs.Told.{count_steps}
 use Rattle.ga_event.specs.declared.made.Made.{Made}
 use Rattle.ga_lab.specs.Machine.{State, has_step, history_of}
-use Rattle.ga_provenance.specs.Origins.{node_after}
+use Rattle.ga_provenance.specs.Origins.{node_after_steps}
 use Rattle.ga_text.specs.Digits.{step_text}
 use Rattle.ga_display.specs.Texts.{register_text, missing_step_text}
 use Rattle.ga_debug_info.specs.declared.notes.DebugInfo.{DebugInfo}
@@ -34,7 +34,7 @@ step_registers_text node step (Some made) behind = step_text node step ++ codes 
 -- the step after the first `k` of the node
 abbrev pub numbered_step_text : Option DebugInfo → State → NodeId → ℕ → Text
 numbered_step_text notes s node k =
-    step_registers_text node (k + 1) (slice_get (history_of s node.number) k) (node_after s node.number (k + 1)) ++ step_suffix_text notes s node (k + 1)
+    step_registers_text node (k + 1) (slice_get (history_of s node.number) k) (node_after_steps s node.number (k + 1)) ++ step_suffix_text notes s node (k + 1)
 
 -- the text of `n` steps of the node, from the step after the first `k` on
 unfoldable pub numbered_steps_text : Option DebugInfo → State → NodeId → ℕ → ℕ → Text

@@ -14,11 +14,11 @@ use Rattle.ga_display.specs.Texts.{register_text, missing_step_text}
 use Rattle.ga_debug_info.specs.declared.notes.DebugInfo.{DebugInfo}
 use Rattle.ga_explorer_text.specs.Deeds.{action_text}
 use Rattle.ga_explorer_text.specs.SourceSuffix.{step_suffix_text}
-use Rattle.ga_explorer_text.specs.Whence.{part_name, indented_value_text}
+use Rattle.ga_explorer_text.specs.Whence.{node_part_name, indented_value_text}
 
 -- the register that a step of the node's own tested, with its word; a transferred word is in the text already
 abbrev pub tested_register_text : Made → NodePart → ℕ → Text
-tested_register_text (Own node step kind) at word = register_text (part_name at) word
+tested_register_text (Own node step kind) at word = register_text (node_part_name at) word
 tested_register_text (Pass writer i reader j word) at other = []
 
 -- the step of a decision, what it did and what it tested

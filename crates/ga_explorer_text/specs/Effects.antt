@@ -15,19 +15,19 @@ use Rattle.ga_debug_info.specs.declared.notes.DebugInfo.{DebugInfo}
 use Rattle.ga_explorer_text.specs.SourceSuffix.{step_suffix_text}
 
 -- what would go of a node: its first step that would, and how many would
-abbrev pub effect_front : RollbackEffect → Text
-effect_front effect = step_text effect.node effect.first ++ codes " " ++ decimal effect.steps
+abbrev pub effect_summary_text : RollbackEffect → Text
+effect_summary_text effect = step_text effect.node effect.first ++ codes " " ++ decimal effect.steps
 
 -- its line, which the source of its first step that would go ends
-abbrev pub effect_text : Option DebugInfo → State → RollbackEffect → Text
-effect_text notes s effect = effect_front effect ++ step_suffix_text notes s effect.node effect.first
+abbrev pub rollback_effect_text : Option DebugInfo → State → RollbackEffect → Text
+rollback_effect_text notes s effect = effect_summary_text effect ++ step_suffix_text notes s effect.node effect.first
 
 -- how many events would go, and of how many nodes
 abbrev pub effects_head : ℕ → ℕ → Text
 effects_head events nodes = codes "effects " ++ decimal events ++ codes " " ++ decimal nodes ++ codes "\n"
 
 abbrev pub effects_text : Option DebugInfo → State → ℕ → List RollbackEffect → Text
-effects_text notes s events effects = effects_head events (length effects) ++ flat_map (effect_text notes s) effects
+effects_text notes s events effects = effects_head events (length effects) ++ flat_map (rollback_effect_text notes s) effects
 
 -- the text about a rollback, by what `rewind` would answer
 abbrev pub effects_answer : Option DebugInfo → State → NodeId → List RollbackEffect → Result ℕ LabFault → Text

@@ -25,17 +25,17 @@ abbrev pub has_awaited_neighbour : Option ℕ → Bool → Bool
 has_awaited_neighbour None awaited = false
 has_awaited_neighbour (Some m) awaited = awaited
 
-abbrev pub awaits_on : List NodeRecord → ℕ → Side → Bool
-awaits_on chip n side = has_awaited_neighbour (neighbour_of n side) (awaits (record_at chip n).wait side)
+abbrev pub awaits_neighbour_on_side : List NodeRecord → ℕ → Side → Bool
+awaits_neighbour_on_side chip n side = has_awaited_neighbour (neighbour_of n side) (awaits (record_at chip n).wait side)
 
 -- the node awaits a neighbour
-abbrev pub awaits_any : List NodeRecord → ℕ → Bool
-awaits_any chip n = awaits_on chip n Right || (awaits_on chip n Down || (awaits_on chip n Left || awaits_on chip n Up))
+abbrev pub awaits_any_neighbour : List NodeRecord → ℕ → Bool
+awaits_any_neighbour chip n = awaits_neighbour_on_side chip n Right || (awaits_neighbour_on_side chip n Down || (awaits_neighbour_on_side chip n Left || awaits_neighbour_on_side chip n Up))
 
 -- the node awaits marked neighbours, and no other
 abbrev pub awaits_only_ended : List NodeRecord → (ℕ → Bool) → ℕ → Bool
 awaits_only_ended chip marks n =
-    awaits_any chip n && (is_side_ended chip marks n Right && (is_side_ended chip marks n Down && (is_side_ended chip marks n Left && is_side_ended chip marks n Up)))
+    awaits_any_neighbour chip n && (is_side_ended chip marks n Right && (is_side_ended chip marks n Down && (is_side_ended chip marks n Left && is_side_ended chip marks n Up)))
 
 -- the node has ended if the marked ones have: it waits for code, or to read from marked nodes alone
 abbrev pub is_ended_wait : Wait → Bool → Bool
@@ -44,18 +44,18 @@ is_ended_wait (wait.Read sides) ended = ended
 is_ended_wait (wait.Write side) ended = false
 is_ended_wait wait.Nothing ended = false
 
-unfoldable pub has_ended : List NodeRecord → (ℕ → Bool) → ℕ → Bool
-has_ended chip marks n = is_ended_wait (record_at chip n).wait (awaits_only_ended chip marks n)
+unfoldable pub has_node_ended : List NodeRecord → (ℕ → Bool) → ℕ → Bool
+has_node_ended chip marks n = is_ended_wait (record_at chip n).wait (awaits_only_ended chip marks n)
 
 -- each node is marked that has ended if the marked ones have
-abbrev pub MarksEnded : List NodeRecord → (ℕ → Bool) → Type 0
-MarksEnded chip marks = (n : ℕ) → n < 144 → has_ended chip marks n ≡ true → marks n ≡ true
+abbrev pub MarksEndedNodes : List NodeRecord → (ℕ → Bool) → Type 0
+MarksEndedNodes chip marks = (n : ℕ) → n < 144 → has_node_ended chip marks n ≡ true → marks n ≡ true
 
 -- The marked nodes have ended: the least set of this kind, in which no nodes wait for one another alone.
-pub record AreEnded (chip : List NodeRecord) (marks : ℕ → Bool) : Type 0 where
-  pub closed : MarksEnded chip marks
-  pub least : (others : ℕ → Bool) → MarksEnded chip others → IsSubset marks others
+pub record AreEndedNodes (chip : List NodeRecord) (marks : ℕ → Bool) : Type 0 where
+  pub closed : MarksEndedNodes chip marks
+  pub least : (others : ℕ → Bool) → MarksEndedNodes chip others → IsSubset marks others
 
 -- all nodes but the live ones
-abbrev pub ended_but : List Bool → ℕ → Bool
-ended_but live n = not (is_marked live n)
+abbrev pub is_not_live : List Bool → ℕ → Bool
+is_not_live live n = not (is_marked live n)

@@ -10,7 +10,7 @@ use Rattle.ga_lab.specs.declared.fault.LabFault.TheVariants.{Memory}
 use Rattle.ga_race_detector.specs.declared.races.Race.{Race}
 use Rattle.ga_race_detector.specs.declared.readings.LookRace.{LookRace}
 use Rattle.ga_race_detector.specs.Readings.{rollback_step_of, IsReportedLookRace, HasAllNearLookRaces}
-use Rattle.ga_race_detector.specs.Races.{requested_races, has_looks, first_ready_node}
+use Rattle.ga_race_detector.specs.Races.{requested_races, has_made_or_next_look, first_ready_node}
 use Rattle.ga_text.specs.Digits.{name_of_node, step_text}
 use Rattle.ga_display.specs.Texts.{advised_refusal_text}
 
@@ -64,7 +64,7 @@ listed_races_text only races readings looks quiet =
 -- the answer to `races`, with these looks
 abbrev pub races_text : State → Option NodeId → List LookRace → Text
 races_text s only readings =
-    listed_races_text only (requested_races s only) readings (has_looks (causes_of s) (chip_of s)) (is_none (first_ready_node (chip_of s)))
+    listed_races_text only (requested_races s only) readings (has_made_or_next_look (causes_of s) (chip_of s)) (is_none (first_ready_node (chip_of s)))
 
 -- all races of passes are listed, and the looks that could have read another word, all that a near change leads to; or an
 -- allocation failed

@@ -12,15 +12,15 @@ abbrev pub step_command_line : NodeId → Text
 step_command_line node = space_separated (codes "step" ∷ name_of_node node ∷ [])
 
 -- the line of a kept event: the step of its node, of a pass of the writer
-abbrev pub saved_line : Event → Text
-saved_line e = step_command_line (acting_node e)
+abbrev pub saved_event_line : Event → Text
+saved_event_line e = step_command_line (acting_node e)
 
-abbrev pub saved_lines : State → List Line
-saved_lines s = map saved_line s.kept
+abbrev pub saved_session_lines : State → List Line
+saved_session_lines s = map saved_event_line s.kept
 
 -- a line, ended by a line feed
-abbrev pub with_feed : Text → Text
-with_feed line = line ++ codes "\n"
+abbrev pub with_line_feed : Text → Text
+with_line_feed line = line ++ codes "\n"
 
 abbrev pub saved_text : State → Text
-saved_text s = flat_map with_feed (saved_lines s)
+saved_text s = flat_map with_line_feed (saved_session_lines s)

@@ -5,7 +5,7 @@ use Rattle.ga_text.specs.Lines.{Text}
 use Rattle.ga_node.specs.declared.place.Place.{Place}
 use Rattle.ga_node.specs.declared.place.Place.TheVariants as place
 use Rattle.ga_grid.specs.declared.node_id.NodeId.{NodeId}
-use Rattle.ga_image.specs.Given.{is_given}
+use Rattle.ga_image.specs.Given.{is_word_given}
 use Rattle.ga_event.specs.Told.{count_steps}
 use Rattle.ga_lab.specs.Machine.{State}
 use Rattle.ga_event.specs.declared.flow.part.NodePart.{NodePart}
@@ -13,7 +13,7 @@ use Rattle.ga_event.specs.declared.flow.part.NodePart.TheVariants as part
 use Rattle.ga_debug_info.specs.declared.notes.DebugInfo.{DebugInfo}
 use Rattle.ga_debug_info.specs.Notes.{first_cell_source_text, is_first_cell_source_long, slot_text}
 use Rattle.ga_provenance.specs.declared.value.Value.{Value}
-use Rattle.ga_provenance.specs.Origins.{node_after}
+use Rattle.ga_provenance.specs.Origins.{node_after_steps}
 use Rattle.ga_provenance.specs.Fetched.{fetched_cell}
 
 -- the source line of a cell of a node; nothing for an image
@@ -34,36 +34,36 @@ abbrev pub source_suffix_line : Option DebugInfo → NodeId → Option ℕ → �
 source_suffix_line notes node cell slot = source_note_text notes node cell slot ++ codes "\n"
 
 -- the slot that was next before a step of a node: 4 before a fetch
-abbrev pub slot_before : State → NodeId → ℕ → ℕ
-slot_before s node step = (node_after s node.number (min (step - 1) (count_steps node.number s.kept))).slot
+abbrev pub slot_before_step : State → NodeId → ℕ → ℕ
+slot_before_step s node step = (node_after_steps s node.number (min (step - 1) (count_steps node.number s.kept))).slot
 
 -- after a step of a node: the cell from which its instruction word was fetched, and the slot that it ran
 abbrev pub step_suffix_text : Option DebugInfo → State → NodeId → ℕ → Text
-step_suffix_text notes s node step = source_suffix_line notes node (fetched_cell s node step) (slot_before s node step)
+step_suffix_text notes s node step = source_suffix_line notes node (fetched_cell s node step) (slot_before_step s node step)
 
 -- the cell that a part of a node is
-abbrev pub part_cell : NodePart → Option ℕ
-part_cell (part.Ram k) = Some k
-part_cell (part.Rom k) = Some (128 + k % 64)
-part_cell _ = None
+abbrev pub cell_of_node_part : NodePart → Option ℕ
+cell_of_node_part (part.Ram k) = Some k
+cell_of_node_part (part.Rom k) = Some (128 + k % 64)
+cell_of_node_part _ = None
 
 -- The place by which a part is given: A, B, P and each cell are given alone. All else is given only with all words, as T is.
-abbrev pub listed_place : NodePart → Place
-listed_place part.A = place.A
-listed_place part.B = place.B
-listed_place part.P = place.P
-listed_place (part.Ram k) = place.Ram k
-listed_place (part.Rom k) = place.Rom k
-listed_place _ = place.T
+abbrev pub given_place_of_part : NodePart → Place
+given_place_of_part part.A = place.A
+given_place_of_part part.B = place.B
+given_place_of_part part.P = place.P
+given_place_of_part (part.Ram k) = place.Ram k
+given_place_of_part (part.Rom k) = place.Rom k
+given_place_of_part _ = place.T
 
 -- after a loaded value: whether neither image nor source gave it
 abbrev pub never_set_text : Option DebugInfo → NodeId → NodePart → Text
 never_set_text None node part = []
-never_set_text (Some notes) node part = if is_given notes.given node (listed_place part) then [] else codes ", never set"
+never_set_text (Some notes) node part = if is_word_given notes.given node (given_place_of_part part) then [] else codes ", never set"
 
 -- after a loaded value: that, and the text of its cell, from the word that begins it
 abbrev pub loaded_suffix_text : Option DebugInfo → NodeId → NodePart → Text
-loaded_suffix_text notes node part = never_set_text notes node part ++ source_suffix_line notes node (part_cell part) 4
+loaded_suffix_text notes node part = never_set_text notes node part ++ source_suffix_line notes node (cell_of_node_part part) 4
 
 -- after a value: that of the step that made it, or of the load
 abbrev pub value_suffix_text : Option DebugInfo → State → Value → Text

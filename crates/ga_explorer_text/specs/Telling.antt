@@ -4,7 +4,7 @@ use Rattle.ga_text.specs.Lines.{Text}
 use Rattle.ga_lab.specs.Machine.{State, chip_of}
 use Rattle.ga_races.specs.Acts.{AreDeadlocked, IsSubset}
 use Rattle.ga_scheduler.specs.Idle.{AreIdleMarks}
-use Rattle.ga_explorer_text.specs.Ended.{AreEnded}
+use Rattle.ga_explorer_text.specs.Ended.{AreEndedNodes}
 use Rattle.ga_explorer_text.specs.Waiting.{who_text}
 
 -- For each node that waits, unless it is idle, the answer has for whom it waits; which nodes are deadlocked: the greatest set of
@@ -14,7 +14,7 @@ pub record IsWhoAnswer (s : State) (answer : Text) : Type 0 where
   pub stuck : AreDeadlocked (chip_of s) marks
   pub greatest : (others : ℕ → Bool) → AreDeadlocked (chip_of s) others → IsSubset others marks
   pub ended : ℕ → Bool
-  pub done : AreEnded (chip_of s) ended
+  pub done : AreEndedNodes (chip_of s) ended
   pub over : ℕ → Bool
   pub both : (n : ℕ) → n < 144 → over n ≡ (marks n && ended n)
   pub idle : ℕ → Bool

@@ -2,7 +2,7 @@
 use Rattle.std.specs.Prelude.{ℕ, zero, suc, ◌+◌, ◌*◌, ◌==◌, nat_lt, if◌then◌else◌, [], ◌++◌, flat_map, codes, decimal, Option, Some, None}
 use Rattle.ga_text.specs.Lines.{Text}
 use Rattle.ga_word.specs.Word.{hex6_of}
-use Rattle.ga_ports.specs.Address.{only}
+use Rattle.ga_ports.specs.Address.{single_side_set}
 use Rattle.ga_node.specs.declared.wait.Wait.{Wait}
 use Rattle.ga_node.specs.declared.wait.Wait.TheVariants as wait
 use Rattle.ga_grid.specs.Chip.{record_at}
@@ -12,11 +12,11 @@ use Rattle.ga_lab.specs.Machine.{State, chip_of}
 use Rattle.ga_lab.specs.declared.fault.LabFault.{LabFault}
 use Rattle.ga_lab.specs.declared.fault.LabFault.TheVariants.{Waiting, Stopped, Full, Memory, Empty, NoStep, Spent}
 use Rattle.ga_races.specs.HappensBefore.{are_neighbours}
-use Rattle.ga_scheduler.specs.Words.{words_of, link_transfer_count}
+use Rattle.ga_scheduler.specs.Words.{link_transfers, link_transfer_count}
 use Rattle.ga_scheduler.specs.declared.words.Transfer.{Transfer}
 use Rattle.ga_scheduler.specs.declared.running.RunEnd.{RunEnd}
 use Rattle.ga_scheduler.specs.declared.running.RunEnd.TheVariants.{Reached, Made, Quiet, Refused}
-use Rattle.ga_display.specs.Texts.{event_text, removed_text, advice_text}
+use Rattle.ga_display.specs.Texts.{event_text, removed_events_text, advice_text}
 use Rattle.ga_text.specs.Digits.{name_of_node, step_text}
 
 -- ---- `run`
@@ -57,7 +57,7 @@ side_letter sides =
 abbrev pub activity_symbol : Wait → ℕ → Text
 activity_symbol (wait.Fetch sides) stop = codes " @" ++ side_letter sides
 activity_symbol (wait.Read sides) stop = codes " ?" ++ side_letter sides
-activity_symbol (wait.Write side) stop = codes " !" ++ side_letter (only side)
+activity_symbol (wait.Write side) stop = codes " !" ++ side_letter (single_side_set side)
 activity_symbol wait.Nothing stop = if stop == 0 then codes "  *" else codes "  x"
 
 -- what a node does; of one that made no step, that it is as at load
@@ -72,22 +72,22 @@ node_symbols_text s n zero = []
 node_symbols_text s n (suc more) = node_symbol_text s n ++ node_symbols_text s (n + 1) more
 
 -- a row: its number and its eighteen nodes
-abbrev pub row_text : State → ℕ → Text
-row_text s row = decimal row ++ node_symbols_text s (18 * row) 18 ++ codes "\n"
+abbrev pub chip_row_text : State → ℕ → Text
+chip_row_text s row = decimal row ++ node_symbols_text s (18 * row) 18 ++ codes "\n"
 
 -- the rows below this one, the upmost first
-unfoldable pub rows_text : State → ℕ → Text
-rows_text s zero = []
-rows_text s (suc row) = row_text s row ++ rows_text s row
+unfoldable pub chip_rows_text : State → ℕ → Text
+chip_rows_text s zero = []
+chip_rows_text s (suc row) = chip_row_text s row ++ chip_rows_text s row
 
 abbrev pub chip_text : State → Text
-chip_text s = rows_text s 8
+chip_text s = chip_rows_text s 8
 
 -- ---- `back until`
 
 -- how many events went, and how many are kept then; or that none went
 abbrev pub back_text : Option ℕ → ℕ → Text
-back_text (Some gone) kept = removed_text gone kept
+back_text (Some gone) kept = removed_events_text gone kept
 back_text None kept = codes "none\n"
 
 -- ---- `words`
@@ -103,12 +103,12 @@ abbrev pub words_head : NodeId → NodeId → ℕ → Text
 words_head from to count = codes "words " ++ name_of_node from ++ codes " " ++ name_of_node to ++ codes " " ++ decimal count ++ codes "\n"
 
 -- the nodes are no neighbours
-abbrev pub no_link : Text
-no_link = codes "no 34 nolink: only neighbours pass words\n"
+abbrev pub no_link_refusal : Text
+no_link_refusal = codes "no 34 nolink: only neighbours pass words\n"
 
 -- the link between two neighbours, and the words of it that are kept
 abbrev pub transfers_text : State → NodeId → NodeId → Text
-transfers_text s from to = words_head from to (link_transfer_count s from.number to.number) ++ flat_map (transfer_line_text from to) (words_of s from.number to.number)
+transfers_text s from to = words_head from to (link_transfer_count s from.number to.number) ++ flat_map (transfer_line_text from to) (link_transfers s from.number to.number)
 
 abbrev pub link_words_text : State → NodeId → NodeId → Text
-link_words_text s from to = if are_neighbours from.number to.number then transfers_text s from to else no_link
+link_words_text s from to = if are_neighbours from.number to.number then transfers_text s from to else no_link_refusal

@@ -109,16 +109,16 @@ abbrev pub awaited_neighbour : List NodeRecord → ℕ → Side → Option ℕ
 awaited_neighbour chip n side = if awaits (record_at chip n).wait side then neighbour_of n side else None
 
 -- the one that is there of four, where no other is
-abbrev pub only_present : Option ℕ → Option ℕ → Option ℕ → Option ℕ → Option ℕ
-only_present (Some m) None None None = Some m
-only_present None (Some m) None None = Some m
-only_present None None (Some m) None = Some m
-only_present None None None (Some m) = Some m
-only_present right down left up = None
+abbrev pub single_of_four_options : Option ℕ → Option ℕ → Option ℕ → Option ℕ → Option ℕ
+single_of_four_options (Some m) None None None = Some m
+single_of_four_options None (Some m) None None = Some m
+single_of_four_options None None (Some m) None = Some m
+single_of_four_options None None None (Some m) = Some m
+single_of_four_options right down left up = None
 
 -- the neighbour that a node awaits, where it awaits no other
 abbrev pub only_awaited_neighbour : List NodeRecord → ℕ → Option ℕ
-only_awaited_neighbour chip n = only_present (awaited_neighbour chip n Right) (awaited_neighbour chip n Down) (awaited_neighbour chip n Left) (awaited_neighbour chip n Up)
+only_awaited_neighbour chip n = single_of_four_options (awaited_neighbour chip n Right) (awaited_neighbour chip n Down) (awaited_neighbour chip n Left) (awaited_neighbour chip n Up)
 
 -- The names of the nodes by which a wait cycle leads to its first node, each awaited only by the one before, if at most `left`
 -- are left: none if it doesn't return there, or passes a node of a lower number, which is the first of that cycle.

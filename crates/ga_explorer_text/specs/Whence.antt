@@ -18,8 +18,8 @@ use Rattle.ga_event.specs.declared.flow.part.NodePart.{NodePart}
 use Rattle.ga_event.specs.declared.flow.part.NodePart.TheVariants as part
 use Rattle.ga_provenance.specs.declared.value.Value.{Value}
 use Rattle.ga_provenance.specs.declared.lines.ProvenanceLine.{ProvenanceLine}
-use Rattle.ga_provenance.specs.Origins.{value_of_step, node_after, origin_of}
-use Rattle.ga_provenance.specs.Lines.{AreLinesOf}
+use Rattle.ga_provenance.specs.Origins.{value_of_step, node_after_steps, origin_of_value}
+use Rattle.ga_provenance.specs.Lines.{AreProvenanceLinesOf}
 use Rattle.ga_provenance.specs.Asked.{queried_value}
 use Rattle.ga_display.specs.Texts.{register_text, missing_step_text, advised_refusal_text}
 use Rattle.ga_debug_info.specs.declared.notes.DebugInfo.{DebugInfo}
@@ -27,39 +27,39 @@ use Rattle.ga_explorer_text.specs.Deeds.{action_text}
 use Rattle.ga_explorer_text.specs.SourceSuffix.{step_suffix_text, value_suffix_text}
 
 -- how many lines of values an answer has at most
-abbrev pub max_lines : ℕ
-max_lines = 100
+abbrev pub max_provenance_lines : ℕ
+max_provenance_lines = 100
 
 -- the name of a part: of a cell its address; T, S and R have letters of their own
-abbrev pub data_name : ℕ → Text
-data_name k = if k == 0 then codes "t" else if k == 1 then codes "s" else codes "d" ++ decimal k
+abbrev pub data_stack_part_name : ℕ → Text
+data_stack_part_name k = if k == 0 then codes "t" else if k == 1 then codes "s" else codes "d" ++ decimal k
 
-abbrev pub return_name : ℕ → Text
-return_name k = if k == 0 then codes "r" else codes "r" ++ decimal k
+abbrev pub return_stack_part_name : ℕ → Text
+return_stack_part_name k = if k == 0 then codes "r" else codes "r" ++ decimal k
 
-abbrev pub part_name : NodePart → Text
-part_name (part.Data k) = data_name k
-part_name (part.Return k) = return_name k
-part_name (part.Ram k) = hex2_of k
-part_name (part.Rom k) = hex2_of (128 + k % 64)
-part_name part.A = codes "a"
-part_name part.B = codes "b"
-part_name part.P = codes "p"
-part_name part.I = codes "i"
-part_name part.Io = codes "io"
-part_name part.Carry = codes "carry"
-part_name part.Slot = codes "slot"
-part_name part.Wait = codes "wait"
-part_name part.Stop = codes "stop"
-part_name part.Outside = codes "outside"
+abbrev pub node_part_name : NodePart → Text
+node_part_name (part.Data k) = data_stack_part_name k
+node_part_name (part.Return k) = return_stack_part_name k
+node_part_name (part.Ram k) = hex2_of k
+node_part_name (part.Rom k) = hex2_of (128 + k % 64)
+node_part_name part.A = codes "a"
+node_part_name part.B = codes "b"
+node_part_name part.P = codes "p"
+node_part_name part.I = codes "i"
+node_part_name part.Io = codes "io"
+node_part_name part.Carry = codes "carry"
+node_part_name part.Slot = codes "slot"
+node_part_name part.Wait = codes "wait"
+node_part_name part.Stop = codes "stop"
+node_part_name part.Outside = codes "outside"
 
 -- The name of a part follows what a step did, but for T, the instruction word and a cell, which are implied.
-abbrev pub part_mark_text : NodePart → Text
-part_mark_text (part.Data k) = if k == 0 then [] else codes " " ++ data_name k
-part_mark_text (part.Ram k) = []
-part_mark_text (part.Rom k) = []
-part_mark_text part.I = []
-part_mark_text at = codes " " ++ part_name at
+abbrev pub part_name_suffix : NodePart → Text
+part_name_suffix (part.Data k) = if k == 0 then [] else codes " " ++ data_stack_part_name k
+part_name_suffix (part.Ram k) = []
+part_name_suffix (part.Rom k) = []
+part_name_suffix part.I = []
+part_name_suffix at = codes " " ++ node_part_name at
 
 -- what a step with this report did
 abbrev pub step_event_text : Option Made → ℕ → Text
@@ -72,11 +72,11 @@ step_action_text s node step = step_text node step ++ codes " " ++ step_event_te
 
 -- the word of a value: the one in its part after its step, or after the last step of a node that made fewer
 abbrev pub word_of_value : State → Value → ℕ
-word_of_value s value = part_value 0 (node_after s value.node.number (min value.step (count_steps value.node.number s.kept))) value.part
+word_of_value s value = part_value 0 (node_after_steps s value.node.number (min value.step (count_steps value.node.number s.kept))) value.part
 
 -- A after the step of a value
-abbrev pub a_of_value : State → Value → ℕ
-a_of_value s value = word_of_value s (value_of_step value.node value.step part.A)
+abbrev pub register_a_after_value : State → Value → ℕ
+register_a_after_value s value = word_of_value s (value_of_step value.node value.step part.A)
 
 -- the word that a step left in a part, where A was this after it: `+*` makes both T and A, and a transferred word, in T or the
 -- instruction word, is in the text of the transfer
@@ -100,36 +100,36 @@ step_result_text None at word a = codes " " ++ hex6_of word
 
 -- a value with this word, where A was this after its step: that it was loaded, or the step that made it
 abbrev pub loaded_value_text : Value → ℕ → Text
-loaded_value_text value word = name_of_node value.node ++ codes " load " ++ part_name value.part ++ (codes " " ++ hex6_of word)
+loaded_value_text value word = name_of_node value.node ++ codes " load " ++ node_part_name value.part ++ (codes " " ++ hex6_of word)
 
 abbrev pub value_with_word_text : State → Value → ℕ → ℕ → Text
 value_with_word_text s value word a =
     if value.step == 0 then loaded_value_text value word
-    else step_action_text s value.node value.step ++ part_mark_text value.part ++ step_result_text (slice_get (history_of s value.node.number) (value.step - 1)) value.part word a
+    else step_action_text s value.node value.step ++ part_name_suffix value.part ++ step_result_text (slice_get (history_of s value.node.number) (value.step - 1)) value.part word a
 
 abbrev pub value_text : State → Value → Text
-value_text s value = value_with_word_text s value (word_of_value s value) (a_of_value s value)
+value_text s value = value_with_word_text s value (word_of_value s value) (register_a_after_value s value)
 
 -- the queried value of a step, by the name of its part; the word that a step sent, T before it, is in the text of the transfer
 abbrev pub queried_transfer_text : ℕ → Value → ℕ → Text
-queried_transfer_text step value word = if value.step == step then register_text (part_name value.part) word else []
+queried_transfer_text step value word = if value.step == step then register_text (node_part_name value.part) word else []
 
 abbrev pub queried_value_text : Option Made → ℕ → Value → ℕ → Text
 queried_value_text (Some (Pass writer i reader j sent)) step value word = queried_transfer_text step value word
-queried_value_text (Some (Own node k what)) step value word = register_text (part_name value.part) word
-queried_value_text None step value word = register_text (part_name value.part) word
+queried_value_text (Some (Own node k what)) step value word = register_text (node_part_name value.part) word
+queried_value_text None step value word = register_text (node_part_name value.part) word
 
 -- the line of a value without numbers, two blanks deeper
 abbrev pub indented_value_text : Option DebugInfo → State → Value → Text
 indented_value_text notes s value = (codes "  " ++ value_text s value) ++ value_suffix_text notes s value
 
 -- the number of a line, and that of the line that used its value
-abbrev pub user_text : Option ℕ → Text
-user_text None = []
-user_text (Some user) = codes ">" ++ decimal user
+abbrev pub using_line_suffix : Option ℕ → Text
+using_line_suffix None = []
+using_line_suffix (Some user) = codes ">" ++ decimal user
 
 abbrev pub line_number_text : ℕ → Option ℕ → Text
-line_number_text number user = decimal number ++ user_text user ++ codes " "
+line_number_text number user = decimal number ++ using_line_suffix user ++ codes " "
 
 -- how many values a run has, if more than one
 abbrev pub run_count_text : ℕ → Text
@@ -139,20 +139,20 @@ run_count_text count = if nat_lt 1 count then codes " x" ++ decimal count else [
 abbrev pub queried_step_text : Option DebugInfo → State → NodeId → ℕ → Text
 queried_step_text notes s node step = step_action_text s node step ++ step_suffix_text notes s node step
 
-abbrev pub step_with_queried_value : State → NodeId → ℕ → Value → Text
-step_with_queried_value s node step value = line_number_text 0 None ++ step_action_text s node step ++ queried_value_text (slice_get (history_of s node.number) (step - 1)) step value (word_of_value s value)
+abbrev pub step_with_queried_value_text : State → NodeId → ℕ → Value → Text
+step_with_queried_value_text s node step value = line_number_text 0 None ++ step_action_text s node step ++ queried_value_text (slice_get (history_of s node.number) (step - 1)) step value (word_of_value s value)
 
 abbrev pub queried_step_line : Option DebugInfo → State → NodeId → ℕ → Value → Text
-queried_step_line notes s node step value = step_with_queried_value s node step value ++ step_suffix_text notes s node step
+queried_step_line notes s node step value = step_with_queried_value_text s node step value ++ step_suffix_text notes s node step
 
 -- The first line has a user, line 0, if another step than that of the query made the value.
-abbrev pub user_of_line : Bool → ℕ → ℕ → Option ℕ
-user_of_line moved number user = if moved || nat_lt 1 number then Some user else None
+abbrev pub using_line_number : Bool → ℕ → ℕ → Option ℕ
+using_line_number moved number user = if moved || nat_lt 1 number then Some user else None
 
 -- a line of a value, by its number
 abbrev pub value_line_text : Option DebugInfo → State → Bool → ℕ → ProvenanceLine → Text
 value_line_text notes s moved number line =
-    ((line_number_text number (user_of_line moved number line.user) ++ value_text s line.value) ++ run_count_text line.count) ++ value_suffix_text notes s line.value
+    ((line_number_text number (using_line_number moved number line.user) ++ value_text s line.value) ++ run_count_text line.count) ++ value_suffix_text notes s line.value
 
 -- some lines, of which `k` come before
 abbrev pub numbered_lines_text : Option DebugInfo → State → Bool → ℕ → List ProvenanceLine → Text
@@ -160,11 +160,11 @@ numbered_lines_text notes s moved k [] = []
 numbered_lines_text notes s moved k (line ∷ rest) = value_line_text notes s moved (k + 1) line ++ numbered_lines_text notes s moved (k + 1) rest
 
 -- Line 0 is the step of the query, if another step made the value. It is written before line 1.
-abbrev pub has_head : Bool → ℕ → Bool
-has_head moved first = moved && (first == 1)
+abbrev pub has_queried_step_line : Bool → ℕ → Bool
+has_queried_step_line moved first = moved && (first == 1)
 
-abbrev pub head_text : Option DebugInfo → State → NodeId → ℕ → Value → Bool → Text
-head_text notes s node step value written = if written then queried_step_line notes s node step value else []
+abbrev pub optional_queried_step_line : Option DebugInfo → State → NodeId → ℕ → Value → Bool → Text
+optional_queried_step_line notes s node step value written = if written then queried_step_line notes s node step value else []
 
 -- the line after the lines: from where to go on, if these are not all, or that there are none
 abbrev pub more_lines_text : ℕ → ℕ → Bool → Text
@@ -172,30 +172,30 @@ more_lines_text lines first true = if nat_lt lines first then codes "none\n" els
 more_lines_text lines first false = codes "more from " ++ decimal (lines + 1) ++ codes "\n"
 
 -- the lines from one on, where another step than that of the query made the value, or not
-abbrev pub lines_from : Option DebugInfo → State → NodeId → ℕ → ℕ → Value → Bool → List ProvenanceLine → Text
-lines_from notes s node step first value moved lines =
-    head_text notes s node step value (has_head moved first) ++ numbered_lines_text notes s moved (first - 1) (drop (first - 1) lines)
+abbrev pub provenance_lines_text_from : Option DebugInfo → State → NodeId → ℕ → ℕ → Value → Bool → List ProvenanceLine → Text
+provenance_lines_text_from notes s node step first value moved lines =
+    optional_queried_step_line notes s node step value (has_queried_step_line moved first) ++ numbered_lines_text notes s moved (first - 1) (drop (first - 1) lines)
 
 abbrev pub whence_lines_text : Option DebugInfo → State → NodeId → ℕ → ℕ → Value → List ProvenanceLine → Text
-whence_lines_text notes s node step first value lines = lines_from notes s node step first value (not ((origin_of s value).step == step)) lines
+whence_lines_text notes s node step first value lines = provenance_lines_text_from notes s node step first value (not ((origin_of_value s value).step == step)) lines
 
 -- the number of the last line that is written: lines are numbered below 2^32
-abbrev pub most_lines : ℕ → ℕ
-most_lines first = min ((first - 1) + max_lines) 4294967295
+abbrev pub last_written_line : ℕ → ℕ
+last_written_line first = min ((first - 1) + max_provenance_lines) 4294967295
 
 -- The lines of the value are written from one on, all or as many as allowed; or an allocation failed.
-pub record IsLinesAnswer (notes : Option DebugInfo) (s : State) (node : NodeId) (step first : ℕ) (value : Value) (answer : Text) : Type 0 where
+pub record IsProvenanceLinesAnswer (notes : Option DebugInfo) (s : State) (node : NodeId) (step first : ℕ) (value : Value) (answer : Text) : Type 0 where
   pub lines : List ProvenanceLine
   pub is_whole : Bool
-  pub told : AreLinesOf s value lines is_whole
-  pub most : length lines ≤ most_lines first
-  pub cut : is_whole ≡ false → length lines ≡ most_lines first
+  pub told : AreProvenanceLinesOf s value lines is_whole
+  pub most : length lines ≤ last_written_line first
+  pub cut : is_whole ≡ false → length lines ≡ last_written_line first
   pub text : answer ≡ whence_lines_text notes s node step first value lines ++ more_lines_text (length lines) first is_whole
 
 -- the text about a step for which this value is queried; the step alone if it made none
 abbrev pub IsStepOrLinesAnswer : Option DebugInfo → State → NodeId → ℕ → ℕ → Option Value → Text → Type 0
 IsStepOrLinesAnswer notes s node step first None answer = answer ≡ queried_step_text notes s node step
-IsStepOrLinesAnswer notes s node step first (Some value) answer = (answer ≡ advised_refusal_text Memory) ⊎ IsLinesAnswer notes s node step first value answer
+IsStepOrLinesAnswer notes s node step first (Some value) answer = (answer ≡ advised_refusal_text Memory) ⊎ IsProvenanceLinesAnswer notes s node step first value answer
 
 -- the value of a part after a step, or the one that the step selects where no part is named
 abbrev pub selected_value : State → NodeId → ℕ → Option NodePart → Option Value

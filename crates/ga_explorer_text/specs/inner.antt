@@ -11,7 +11,7 @@ use Rattle.ga_event.specs.declared.event.Event.{Event}
 use Rattle.ga_event.specs.declared.event.Cause.{Cause}
 use Rattle.ga_event.specs.declared.made.Made.{Made}
 use Rattle.ga_event.specs.declared.made.Made.TheVariants.{Own, Pass}
-use Rattle.ga_explorer_text.specs.Saved.{saved_line, with_feed}
+use Rattle.ga_explorer_text.specs.Saved.{saved_event_line, with_line_feed}
 use Rattle.ga_provenance.specs.declared.lines.ProvenanceLine.{ProvenanceLine}
 
 -- ---- what private contracts cite
@@ -24,11 +24,11 @@ actor_in (Pass writer k reader j word) = writer
 -- the line of an event, where there is one
 abbrev pub line_at : Option Event → Text
 line_at None = []
-line_at (Some e) = with_feed (saved_line e)
+line_at (Some e) = with_line_feed (saved_event_line e)
 
 -- the line of an event that is listed with its cause
 abbrev pub cause_line : Cause → Text
-cause_line cause = with_feed (saved_line cause.event)
+cause_line cause = with_line_feed (saved_event_line cause.event)
 
 -- ---- which step the first of some lines is of
 

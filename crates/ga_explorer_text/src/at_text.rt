@@ -1,7 +1,7 @@
 //! The steps around one, each with the registers after it, written line by line.
 
 ghost use Rattle.std.specs.Prelude.{◌≡◌, ◌<◌, ◌≤◌, ◌+◌, ◌-◌};
-ghost use Rattle.ga_text.specs.Output.{WritesSome};
+ghost use Rattle.ga_text.specs.Output.{WritesSomeText};
 ghost use Rattle.ga_explorer_text.specs.Around.{steps_around_text};
 
 use crate::passed_text::step_registers_line;
@@ -26,7 +26,7 @@ pub fn write_steps_around<W: Write>(
     around: u32,
     writer: &mut Writer<'_, W>,
 ) -> WriteResult
-    ensures { WritesSome result (λ text. text ≡ steps_around_text notes.now lab.now node step around) W.contents writer.old writer.new }
+    ensures { WritesSomeText result (λ text. text ≡ steps_around_text notes.now lab.now node step around) W.contents writer.old writer.new }
 {
     if lab.has_step((node, step)) {
         let first = (step - 1).saturating_sub(around);
@@ -41,13 +41,13 @@ impl<'l> StepContext<'l> {
     ghost use Rattle.std.specs.Prelude.{◌≡◌, ◌<◌, ◌≤◌, ◌-◌};
     ghost use Rattle.std.specs.List.{slice_get};
     ghost use Rattle.ga_lab.specs.Machine.{history_of};
-    ghost use Rattle.ga_provenance.specs.Origins.{node_after};
-    ghost use Rattle.ga_text.specs.Output.{WritesSome, WritesExactly};
+    ghost use Rattle.ga_provenance.specs.Origins.{node_after_steps};
+    ghost use Rattle.ga_text.specs.Output.{WritesSomeText, WritesExactly};
     ghost use Rattle.ga_explorer_text.specs.Around.{step_registers_text, numbered_step_text, numbered_steps_text};
 
     /// Says the steps from one place on, the first of which is at place 0, up to the step to which the node is walked back.
     fn say_places<W: Write>(&self, first: u32, writer: &mut Writer<'_, W>) -> WriteResult
-        ensures { WritesSome result (λ text. text ≡ numbered_steps_text self.now.notes.now self.now.lab.now self.now.node first (self.now.near.step - first))
+        ensures { WritesSomeText result (λ text. text ≡ numbered_steps_text self.now.notes.now self.now.lab.now self.now.node first (self.now.near.step - first))
             W.contents writer.old writer.new }
     {
         let last = self.near.step();
@@ -79,7 +79,7 @@ impl<'l> StepContext<'l> {
     fn place_line(&self) -> TextBuffer
         requires { 0 < self.now.near.step }
         ensures { result.items ≡ step_registers_text self.now.node self.now.near.step (slice_get (history_of self.now.lab.now self.now.node.number) (self.now.near.step - 1))
-            (node_after self.now.lab.now self.now.node.number self.now.near.step) }
+            (node_after_steps self.now.lab.now self.now.node.number self.now.near.step) }
     {
         let step = self.near.step();
         match self.lab.made_event_of_step(self.node, step - 1) {

@@ -1,11 +1,11 @@
 //! Back to where a condition held, and how many events went.
 
 ghost use Rattle.std.specs.Prelude.{◌≡◌, length};
-ghost use Rattle.ga_text.specs.Output.{WritesSome};
-ghost use Rattle.ga_scheduler.specs.Backward.{find_newest_holding, machine_back_at_place, removed_event_count};
+ghost use Rattle.ga_text.specs.Output.{WritesSomeText};
+ghost use Rattle.ga_scheduler.specs.Backward.{find_newest_matching_event, machine_after_back_until, removed_event_count};
 ghost use Rattle.ga_explorer_text.specs.Texts.{back_text};
 
-use ga_display::write_removed;
+use ga_display::write_removed_events;
 use ga_grid::NodeId;
 use ga_lab::Lab;
 use ga_scheduler::{Condition, back_until};
@@ -22,11 +22,11 @@ pub fn write_back_until<W: Write>(
     only: Option<NodeId>,
     writer: &mut Writer<'_, W>,
 ) -> WriteResult
-    ensures said { WritesSome result (λ text. text ≡ back_text (removed_event_count only lab.old (find_newest_holding until.now only lab.old)) (length lab.new.kept)) W.contents writer.old writer.new }
-    ensures state { lab.new ≡ machine_back_at_place only lab.old (find_newest_holding until.now only lab.old) }
+    ensures said { WritesSomeText result (λ text. text ≡ back_text (removed_event_count only lab.old (find_newest_matching_event until.now only lab.old)) (length lab.new.kept)) W.contents writer.old writer.new }
+    ensures state { lab.new ≡ machine_after_back_until only lab.old (find_newest_matching_event until.now only lab.old) }
 {
     match back_until(lab, until, only) {
-        Some(gone) => write_removed(writer, gone, lab.counts().kept),
+        Some(gone) => write_removed_events(writer, gone, lab.counts().kept),
         None => writer.write_text(b"none\n"),
     }
 }

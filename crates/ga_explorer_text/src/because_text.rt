@@ -1,7 +1,7 @@
 //! The steps at which a value decided where a node continued, written line by line.
 
 ghost use Rattle.std.specs.Prelude.{◌≡◌, ◌+◌, ◌-◌, ◌≤◌, ◌<◌, ◌^◌, ◌++◌};
-ghost use Rattle.ga_text.specs.Output.{WritesSome};
+ghost use Rattle.ga_text.specs.Output.{WritesSomeText};
 ghost use Rattle.ga_explorer_text.specs.Because.{decision_step_text, because_text};
 
 use crate::deed_text::push_action;
@@ -29,7 +29,7 @@ pub fn write_because<W: Write>(
     most: u32,
     writer: &mut Writer<'_, W>,
 ) -> WriteResult
-    ensures { WritesSome result (λ text. text ≡ because_text notes.now lab.now node step most) W.contents writer.old writer.new }
+    ensures { WritesSomeText result (λ text. text ≡ because_text notes.now lab.now node step most) W.contents writer.old writer.new }
 {
     if lab.has_step((node, step)) {
         StepContext::new(lab, notes, node, step).write_decisions(most, writer)
@@ -54,7 +54,7 @@ fn decided_line(node: NodeId, decision: Decision) -> TextBuffer
 
 impl<'l> StepContext<'l> {
     ghost use Rattle.std.specs.Prelude.{◌≡◌, ◌-◌};
-    ghost use Rattle.ga_text.specs.Output.{WritesSome, WritesExactly};
+    ghost use Rattle.ga_text.specs.Output.{WritesSomeText, WritesExactly};
     ghost use Rattle.ga_provenance.specs.Origins.{IsMovedValue};
     ghost use Rattle.ga_provenance.specs.Deciding.{newest_decision};
     ghost use Rattle.ga_explorer_text.specs.Because.{decision_text, decisions_text, decisions_or_none_text};
@@ -62,7 +62,7 @@ impl<'l> StepContext<'l> {
 
     /// Writes those before the step to which the node is walked back, or `none`.
     fn write_decisions<W: Write>(&self, most: u32, writer: &mut Writer<'_, W>) -> WriteResult
-        ensures { WritesSome result (λ text. text ≡ decisions_or_none_text self.now.notes.now self.now.lab.now self.now.node most (self.now.near.step - 1)
+        ensures { WritesSomeText result (λ text. text ≡ decisions_or_none_text self.now.notes.now self.now.lab.now self.now.node most (self.now.near.step - 1)
             (newest_decision self.now.lab.now self.now.node (self.now.near.step - 1))) W.contents writer.old writer.new }
     {
         let mut decisions = Decisions::before(self.lab, &self.near, self.node);
@@ -84,7 +84,7 @@ impl<'l> StepContext<'l> {
         writer: &mut Writer<'_, W>,
     ) -> WriteResult
         requires { decisions.old ≡ node_at_step self.now.lab.now self.now.node decisions.old.step }
-        ensures { WritesSome result (λ text. text ≡ decisions_text self.now.notes.now self.now.lab.now self.now.node most decisions.old.step)
+        ensures { WritesSomeText result (λ text. text ≡ decisions_text self.now.notes.now self.now.lab.now self.now.node most decisions.old.step)
             W.contents writer.old writer.new }
     {
         let mut left = most;

@@ -2,7 +2,7 @@
 
 ghost use Rattle.std.specs.Prelude.{◌≡◌, ◌+◌, ◌*◌, ◌-◌, ◌<◌, ◌≤◌, ◌++◌, ◌∷◌, []};
 ghost use Rattle.arrayvec.specs.ArrayVec.{array_vec_len};
-ghost use Rattle.ga_explorer_text.specs.Texts.{chip_text, row_text, node_symbol_text, node_symbols_text, side_letter, activity_symbol};
+ghost use Rattle.ga_explorer_text.specs.Texts.{chip_text, chip_row_text, node_symbol_text, node_symbols_text, side_letter, activity_symbol};
 
 use arrayvec::ArrayVec;
 use ga_grid::NodeId;
@@ -42,7 +42,7 @@ pub fn chip_overview(lab: &Lab) -> ChipText
 fn push_row(out: &mut ChipText, lab: &Lab, row: u8)
     requires row { row < 8 }
     requires room { array_vec_len out.old + ROW_ROOM ≤ CHIP_ROOM }
-    ensures text { out.new.items ≡ out.old.items ++ row_text lab.now row }
+    ensures text { out.new.items ≡ out.old.items ++ chip_row_text lab.now row }
     ensures len { array_vec_len out.new ≡ array_vec_len out.old + ROW_ROOM }
 {
     push_digit(out, row);

@@ -2,8 +2,8 @@
 
 ghost use Rattle.std.specs.Prelude.{◌≡◌, ◌+◌, ◌≤◌, ◌++◌, ◌%◌, length};
 ghost use Rattle.arrayvec.specs.ArrayVec.{array_vec_len};
-ghost use Rattle.ga_slots.specs.Codes.{name_of, op_of};
-ghost use Rattle.ga_explorer_text.specs.Deeds.{action_text, kind_name, pass_text};
+ghost use Rattle.ga_slots.specs.Codes.{name_of, op_of_code};
+ghost use Rattle.ga_explorer_text.specs.Deeds.{action_text, own_event_kind_name, pass_text};
 
 use ga_grid::NodeId;
 use ga_lab::Made;
@@ -66,7 +66,7 @@ fn push_pass(out: &mut TextBuffer, way: &[u8], word: Word18, end: &[u8], other: 
 /// Adds what an event of a node's own was.
 fn push_kind(out: &mut TextBuffer, kind: OwnEventKind)
     requires { array_vec_len out.old + KIND_ROOM ≤ 256 }
-    ensures text { out.new.items ≡ out.old.items ++ kind_name kind }
+    ensures text { out.new.items ≡ out.old.items ++ own_event_kind_name kind }
     ensures len { array_vec_len out.new ≤ array_vec_len out.old + KIND_ROOM }
 {
     match kind {
@@ -82,7 +82,7 @@ fn push_kind(out: &mut TextBuffer, kind: OwnEventKind)
 
 /// The name of the opcode with this code.
 fn opcode_name(code: u8) -> &'static [u8]
-    ensures text { result.now ≡ name_of (op_of (code % 32)) }
+    ensures text { result.now ≡ name_of (op_of_code (code % 32)) }
     ensures len { length result.now ≤ NAME_ROOM }
 {
     Op::from_code(code % 32).name().as_bytes()

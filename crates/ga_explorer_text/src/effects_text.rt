@@ -1,8 +1,8 @@
 //! What a rollback would remove, written line by line.
 
 ghost use Rattle.std.specs.Prelude.{◌≡◌};
-ghost use Rattle.ga_text.specs.Output.{WritesSome, WritesExactly};
-ghost use Rattle.ga_explorer_text.specs.Effects.{effect_text, effect_front, effects_head, effects_text, IsEffectsAnswer};
+ghost use Rattle.ga_text.specs.Output.{WritesSomeText, WritesExactly};
+ghost use Rattle.ga_explorer_text.specs.Effects.{rollback_effect_text, effect_summary_text, effects_head, effects_text, IsEffectsAnswer};
 
 use crate::source_suffix::StepContext;
 use arrayvec::ArrayVec;
@@ -29,7 +29,7 @@ pub fn write_effects<W: Write>(
     step: u32,
     writer: &mut Writer<'_, W>,
 ) -> WriteResult
-    ensures said { WritesSome result (IsEffectsAnswer notes.now lab.old node step) W.contents writer.old writer.new }
+    ensures said { WritesSomeText result (IsEffectsAnswer notes.now lab.old node step) W.contents writer.old writer.new }
     ensures same { lab.new ≡ lab.old }
 {
     match find_rollback_effects(alloc, lab, node, step) {
@@ -48,7 +48,7 @@ fn say_found<W: Write>(
     effects: &Effects,
     writer: &mut Writer<'_, W>,
 ) -> WriteResult
-    ensures { WritesSome result (λ text. text ≡ effects_text notes.now lab.now effects.now.events effects.now.nodes.items)
+    ensures { WritesSomeText result (λ text. text ≡ effects_text notes.now lab.now effects.now.events effects.now.nodes.items)
         W.contents writer.old writer.new }
 {
     say_nodes(lab, notes, effects.events, effects.nodes.as_slice(), writer)
@@ -61,7 +61,7 @@ fn say_nodes<W: Write>(
     nodes: &[RollbackEffect],
     writer: &mut Writer<'_, W>,
 ) -> WriteResult
-    ensures { WritesSome result (λ text. text ≡ effects_text notes.now lab.now events nodes.now)
+    ensures { WritesSomeText result (λ text. text ≡ effects_text notes.now lab.now events nodes.now)
         W.contents writer.old writer.new }
 {
     writer.write_blocks(head_line(events, nodes.len()).as_slice())?;
@@ -78,9 +78,9 @@ fn say_effect<W: Write>(
     effect: RollbackEffect,
     writer: &mut Writer<'_, W>,
 ) -> WriteResult
-    ensures { WritesExactly result (effect_text notes.now lab.now effect) W.contents writer.old writer.new }
+    ensures { WritesExactly result (rollback_effect_text notes.now lab.now effect) W.contents writer.old writer.new }
 {
-    writer.write_blocks(effect_front(effect).as_slice())?;
+    writer.write_blocks(effect_summary_text(effect).as_slice())?;
     let newest = lab.steps(effect.node);
     let context = StepContext::new(lab, notes, effect.node, newest);
     context.write_step_suffix(effect.node, effect.first, writer)
@@ -100,8 +100,8 @@ fn head_line(events: u32, nodes: usize) -> TextBuffer
 }
 
 /// What would go of a node, without the end of the line.
-fn effect_front(effect: RollbackEffect) -> TextBuffer
-    ensures { result.items ≡ effect_front effect }
+fn effect_summary_text(effect: RollbackEffect) -> TextBuffer
+    ensures { result.items ≡ effect_summary_text effect }
 {
     let mut out = ArrayVec::new();
     push_step(&mut out, effect.node, effect.first);

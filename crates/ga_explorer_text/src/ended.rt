@@ -3,7 +3,7 @@
 ghost use Rattle.std.specs.Prelude.{◌≡◌, ◌<◌, ◌&&◌, not, ℕ, Bool, true, false, length, IfSome, IfNone};
 ghost use Rattle.ga_grid.specs.Chip.{records_of};
 ghost use Rattle.ga_causal.specs.Dependence.{is_marked};
-ghost use Rattle.ga_explorer_text.specs.Ended.{is_side_ended, awaits_on, awaits_any, awaits_only_ended, has_ended, AreEnded, ended_but};
+ghost use Rattle.ga_explorer_text.specs.Ended.{is_side_ended, awaits_neighbour_on_side, awaits_any_neighbour, awaits_only_ended, has_node_ended, AreEndedNodes, is_not_live};
 
 use ga_grid::{Chip, NodeId, neighbour};
 use ga_node::Wait;
@@ -12,7 +12,7 @@ use ga_races::awaits;
 
 // Whether a node awaits no neighbour on a side but one that isn't among the live ones.
 fn is_ended_on(chip: &Chip, live: &[bool; 144], node: NodeId, side: Side) -> bool
-    ensures { result ≡ is_side_ended (records_of chip.now) (ended_but live.now) node.number side }
+    ensures { result ≡ is_side_ended (records_of chip.now) (is_not_live live.now) node.number side }
 {
     if !awaits(&chip.node(node).wait(), side) {
         return true;
@@ -24,8 +24,8 @@ fn is_ended_on(chip: &Chip, live: &[bool; 144], node: NodeId, side: Side) -> boo
 }
 
 // Whether a node awaits a neighbour on a side.
-fn awaits_on(chip: &Chip, node: NodeId, side: Side) -> bool
-    ensures { result ≡ awaits_on (records_of chip.now) node.number side }
+fn awaits_neighbour_on_side(chip: &Chip, node: NodeId, side: Side) -> bool
+    ensures { result ≡ awaits_neighbour_on_side (records_of chip.now) node.number side }
 {
     match neighbour(node, side) {
         Some(_) => awaits(&chip.node(node).wait(), side),
@@ -34,32 +34,32 @@ fn awaits_on(chip: &Chip, node: NodeId, side: Side) -> bool
 }
 
 // Whether a node awaits a neighbour.
-fn awaits_any(chip: &Chip, node: NodeId) -> bool
-    ensures { result ≡ awaits_any (records_of chip.now) node.number }
+fn awaits_any_neighbour(chip: &Chip, node: NodeId) -> bool
+    ensures { result ≡ awaits_any_neighbour (records_of chip.now) node.number }
 {
-    let right = awaits_on(chip, node, Side::Right);
-    let down = awaits_on(chip, node, Side::Down);
-    let left = awaits_on(chip, node, Side::Left);
-    let up = awaits_on(chip, node, Side::Up);
+    let right = awaits_neighbour_on_side(chip, node, Side::Right);
+    let down = awaits_neighbour_on_side(chip, node, Side::Down);
+    let left = awaits_neighbour_on_side(chip, node, Side::Left);
+    let up = awaits_neighbour_on_side(chip, node, Side::Up);
     right || (down || (left || up))
 }
 
 // Whether a node awaits neighbours, and none of the live ones.
 fn awaits_only_ended(chip: &Chip, live: &[bool; 144], node: NodeId) -> bool
-    ensures { result ≡ awaits_only_ended (records_of chip.now) (ended_but live.now) node.number }
+    ensures { result ≡ awaits_only_ended (records_of chip.now) (is_not_live live.now) node.number }
 {
     let right = is_ended_on(chip, live, node, Side::Right);
     let down = is_ended_on(chip, live, node, Side::Down);
     let left = is_ended_on(chip, live, node, Side::Left);
     let up = is_ended_on(chip, live, node, Side::Up);
-    let any = awaits_any(chip, node);
+    let any = awaits_any_neighbour(chip, node);
     any && (right && (down && (left && up)))
 }
 
 // Whether a node has ended if all but the live ones have.
-#[tactic(auto, unfolding(crate::specs::Ended::has_ended))]
-fn has_ended(chip: &Chip, live: &[bool; 144], node: NodeId) -> bool
-    ensures { result ≡ has_ended (records_of chip.now) (ended_but live.now) node.number }
+#[tactic(auto, unfolding(crate::specs::Ended::has_node_ended))]
+fn has_node_ended(chip: &Chip, live: &[bool; 144], node: NodeId) -> bool
+    ensures { result ≡ has_node_ended (records_of chip.now) (is_not_live live.now) node.number }
 {
     match chip.node(node).wait() {
         Wait::Fetch(_) => true,
@@ -72,13 +72,13 @@ fn has_ended(chip: &Chip, live: &[bool; 144], node: NodeId) -> bool
 // A live node that has ended if all but the live ones have.
 fn first_ended(chip: &Chip, live: &[bool; 144]) -> Option<NodeId>
     ensures live { IfSome result (λ node. is_marked live.now node.number ≡ true) }
-    ensures ended { IfSome result (λ node. has_ended (records_of chip.now) (ended_but live.now) node.number ≡ true) }
+    ensures ended { IfSome result (λ node. has_node_ended (records_of chip.now) (is_not_live live.now) node.number ≡ true) }
     ensures none { IfNone result ((n : ℕ) → n < 144 → is_marked live.now n ≡ true →
-        has_ended (records_of chip.now) (ended_but live.now) n ≡ false) }
+        has_node_ended (records_of chip.now) (is_not_live live.now) n ≡ false) }
 {
     for number in 0..144u8 {
         let node = NodeId::new(number);
-        if live[number as usize] && has_ended(chip, live, node) {
+        if live[number as usize] && has_node_ended(chip, live, node) {
             return Some(node);
         }
     }
@@ -86,8 +86,8 @@ fn first_ended(chip: &Chip, live: &[bool; 144]) -> Option<NodeId>
 }
 
 /// The nodes that have not ended: a flag for each node. One that has waits for code, or to read from such nodes alone.
-pub fn find_live(chip: &Chip) -> [bool; 144]
-    ensures ended { AreEnded (records_of chip.now) (ended_but result) }
+pub fn find_live_nodes(chip: &Chip) -> [bool; 144]
+    ensures ended { AreEndedNodes (records_of chip.now) (is_not_live result) }
     ensures size { length result ≡ 144 }
 {
     let mut live = [true; 144];
@@ -98,8 +98,8 @@ pub fn find_live(chip: &Chip) -> [bool; 144]
 }
 
 /// The marked nodes that have ended.
-pub fn ended_among(marks: &[bool; 144], live: &[bool; 144]) -> [bool; 144]
-    ensures { (n : ℕ) → n < 144 → is_marked result n ≡ (is_marked marks.now n && ended_but live.now n) }
+pub fn find_ended_marked_nodes(marks: &[bool; 144], live: &[bool; 144]) -> [bool; 144]
+    ensures { (n : ℕ) → n < 144 → is_marked result n ≡ (is_marked marks.now n && is_not_live live.now n) }
 {
     let mut ended = [false; 144];
     'nodes: for number in 0..144u8 {
@@ -110,7 +110,7 @@ pub fn ended_among(marks: &[bool; 144], live: &[bool; 144]) -> [bool; 144]
 
 // Whether a marked node has ended.
 fn is_ended_neighbour(marks: &[bool; 144], live: &[bool; 144], node: NodeId) -> bool
-    ensures { result ≡ (is_marked marks.now node.number && ended_but live.now node.number) }
+    ensures { result ≡ (is_marked marks.now node.number && is_not_live live.now node.number) }
 {
     marks[node.index()] && !live[node.index()]
 }

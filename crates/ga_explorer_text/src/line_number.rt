@@ -2,7 +2,7 @@
 
 ghost use Rattle.std.specs.Prelude.{◌≡◌, ◌+◌, ◌^◌, ◌<◌, ◌≤◌, ◌++◌};
 ghost use Rattle.arrayvec.specs.ArrayVec.{array_vec_len};
-ghost use Rattle.ga_explorer_text.specs.Whence.{user_text, line_number_text, run_count_text, user_of_line, has_head, most_lines, more_lines_text};
+ghost use Rattle.ga_explorer_text.specs.Whence.{using_line_suffix, line_number_text, run_count_text, using_line_number, has_queried_step_line, last_written_line, more_lines_text};
 
 use arrayvec::ArrayVec;
 use ga_text::{MAX_NUMBER_DIGITS, TextBuffer, push_number, push_text};
@@ -20,22 +20,22 @@ pub(crate) const MAX_LINE_NUMBER_BYTES: usize = MAX_NUMBER_DIGITS + MAX_USER_BYT
 pub(crate) const MAX_RUN_COUNT_BYTES: usize = 2 + MAX_NUMBER_DIGITS;
 
 /// The number of the last line that is written, from line `first` on.
-pub fn most_lines(first: u32) -> u32
-    ensures { result ≡ most_lines first }
+pub fn last_written_line(first: u32) -> u32
+    ensures { result ≡ last_written_line first }
 {
     first.saturating_sub(1).saturating_add(MAX_LINES)
 }
 
 /// Whether line 0 is written.
-pub(crate) fn has_head(is_moved: bool, first: u32) -> bool
-    ensures { result ≡ has_head is_moved first }
+pub(crate) fn has_queried_step_line(is_moved: bool, first: u32) -> bool
+    ensures { result ≡ has_queried_step_line is_moved first }
 {
     is_moved && first == 1
 }
 
 /// The number of the line that used the value of a line, where one did.
-pub(crate) fn user_of_line(is_moved: bool, number: u32, user: u32) -> Option<u32>
-    ensures { result ≡ user_of_line is_moved number user }
+pub(crate) fn using_line_number(is_moved: bool, number: u32, user: u32) -> Option<u32>
+    ensures { result ≡ using_line_number is_moved number user }
 {
     if is_moved || number > 1 {
         Some(user)
@@ -76,7 +76,7 @@ pub(crate) fn push_line_number(out: &mut TextBuffer, number: u32, user: Option<u
 /// Adds the number of the line that used a value.
 fn push_user(out: &mut TextBuffer, user: Option<u32>)
     requires { array_vec_len out.old + MAX_USER_BYTES ≤ 256 }
-    ensures text { out.new.items ≡ out.old.items ++ user_text user }
+    ensures text { out.new.items ≡ out.old.items ++ using_line_suffix user }
     ensures len { array_vec_len out.new ≤ array_vec_len out.old + MAX_USER_BYTES }
 {
     if let Some(user) = user {

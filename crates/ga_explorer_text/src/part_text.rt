@@ -3,7 +3,7 @@
 ghost use Rattle.std.specs.Prelude.{◌≡◌, ◌+◌, ◌≤◌, ◌++◌};
 ghost use Rattle.arrayvec.specs.ArrayVec.{array_vec_len};
 ghost use Rattle.ga_display.specs.Texts.{register_text};
-ghost use Rattle.ga_explorer_text.specs.Whence.{data_name, return_name, part_name, part_mark_text};
+ghost use Rattle.ga_explorer_text.specs.Whence.{data_stack_part_name, return_stack_part_name, node_part_name, part_name_suffix};
 
 use ga_event::NodePart;
 use ga_text::{
@@ -21,7 +21,7 @@ pub(crate) const MAX_NAMED_WORD_BYTES: usize = 1 + MAX_PART_BYTES + 1 + WORD_DIG
 /// Adds the name of a part: of a cell its address.
 pub(crate) fn push_part(out: &mut TextBuffer, part: NodePart)
     requires { array_vec_len out.old + MAX_PART_BYTES ≤ 256 }
-    ensures text { out.new.items ≡ out.old.items ++ part_name part }
+    ensures text { out.new.items ≡ out.old.items ++ node_part_name part }
     ensures len { array_vec_len out.new ≤ array_vec_len out.old + MAX_PART_BYTES }
 {
     match part {
@@ -45,7 +45,7 @@ pub(crate) fn push_part(out: &mut TextBuffer, part: NodePart)
 /// Adds the name of a word of the data stack.
 fn push_data(out: &mut TextBuffer, k: u8)
     requires { array_vec_len out.old + MAX_PART_BYTES ≤ 256 }
-    ensures text { out.new.items ≡ out.old.items ++ data_name k }
+    ensures text { out.new.items ≡ out.old.items ++ data_stack_part_name k }
     ensures len { array_vec_len out.new ≤ array_vec_len out.old + MAX_PART_BYTES }
 {
     if k == 0 {
@@ -61,7 +61,7 @@ fn push_data(out: &mut TextBuffer, k: u8)
 /// Adds the name of a word of the return stack.
 fn push_return(out: &mut TextBuffer, k: u8)
     requires { array_vec_len out.old + MAX_PART_BYTES ≤ 256 }
-    ensures text { out.new.items ≡ out.old.items ++ return_name k }
+    ensures text { out.new.items ≡ out.old.items ++ return_stack_part_name k }
     ensures len { array_vec_len out.new ≤ array_vec_len out.old + MAX_PART_BYTES }
 {
     push_text(out, b"r");
@@ -73,7 +73,7 @@ fn push_return(out: &mut TextBuffer, k: u8)
 /// Adds the name of the part in which a step left what it made, but for T, the instruction word and a cell.
 pub(crate) fn push_part_suffix(out: &mut TextBuffer, part: NodePart)
     requires { array_vec_len out.old + 1 + MAX_PART_BYTES ≤ 256 }
-    ensures text { out.new.items ≡ out.old.items ++ part_mark_text part }
+    ensures text { out.new.items ≡ out.old.items ++ part_name_suffix part }
     ensures len { array_vec_len out.new ≤ array_vec_len out.old + 1 + MAX_PART_BYTES }
 {
     match part {
@@ -91,7 +91,7 @@ pub(crate) fn push_part_suffix(out: &mut TextBuffer, part: NodePart)
 /// Adds the name of a part, and its word.
 pub(crate) fn push_named_word(out: &mut TextBuffer, part: NodePart, word: Word18)
     requires { array_vec_len out.old + MAX_NAMED_WORD_BYTES ≤ 256 }
-    ensures text { out.new.items ≡ out.old.items ++ register_text (part_name part) word }
+    ensures text { out.new.items ≡ out.old.items ++ register_text (node_part_name part) word }
     ensures len { array_vec_len out.new ≤ array_vec_len out.old + MAX_NAMED_WORD_BYTES }
 {
     push_text(out, b" ");

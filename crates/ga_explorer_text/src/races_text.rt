@@ -3,7 +3,7 @@
 ghost use Rattle.std.specs.Prelude.{◌≡◌, ◌≤◌, ◌+◌, ◌++◌, flat_map, codes};
 ghost use Rattle.arrayvec.specs.ArrayVec.{array_vec_len};
 ghost use Rattle.ga_word.specs.Word.{hex6_of};
-ghost use Rattle.ga_text.specs.Output.{WritesSome, WritesExactly};
+ghost use Rattle.ga_text.specs.Output.{WritesSomeText, WritesExactly};
 ghost use Rattle.ga_text.specs.Digits.{name_of_node};
 ghost use Rattle.ga_race_detector.specs.Readings.{rollback_step_of};
 ghost use Rattle.ga_explorer_text.specs.Races.{race_text, look_race_text, before_or_after_text, races_head, race_lines_text, races_last_line, listed_races_text, IsRacesAnswer};
@@ -34,7 +34,7 @@ pub fn write_races<W: Write>(
     only: Option<NodeId>,
     writer: &mut Writer<'_, W>,
 ) -> WriteResult
-    ensures said { WritesSome result (IsRacesAnswer lab.old only) W.contents writer.old writer.new }
+    ensures said { WritesSomeText result (IsRacesAnswer lab.old only) W.contents writer.old writer.new }
     ensures same { lab.new ≡ lab.old }
 {
     match find_races(alloc, lab, only) {
@@ -49,7 +49,7 @@ fn say_found<W: Write>(
     races: &Races,
     writer: &mut Writer<'_, W>,
 ) -> WriteResult
-    ensures { WritesSome result (λ text. text ≡ listed_races_text only races.now.list.items races.now.readings.items races.now.looks races.now.quiet)
+    ensures { WritesSomeText result (λ text. text ≡ listed_races_text only races.now.list.items races.now.readings.items races.now.looks races.now.quiet)
         W.contents writer.old writer.new }
 {
     let list = races.list.as_slice();
@@ -62,7 +62,7 @@ fn say_found<W: Write>(
 
 /// Writes that `count` lines of steps follow, then each of these passes.
 fn say_list<W: Write>(races: &[Race], count: u64, writer: &mut Writer<'_, W>) -> WriteResult
-    ensures { WritesSome result (λ text. text ≡ race_lines_text races.now count)
+    ensures { WritesSomeText result (λ text. text ≡ race_lines_text races.now count)
         W.contents writer.old writer.new }
 {
     writer.write_blocks(head_line(count).as_slice())?;
@@ -78,7 +78,7 @@ fn say_rest<W: Write>(
     last: &'static [u8],
     writer: &mut Writer<'_, W>,
 ) -> WriteResult
-    ensures { WritesSome result (λ text. text ≡ flat_map look_race_text readings.now ++ last.now)
+    ensures { WritesSomeText result (λ text. text ≡ flat_map look_race_text readings.now ++ last.now)
         W.contents writer.old writer.new }
 {
     'readings: for reading in readings {

@@ -1,11 +1,11 @@
 //! Wait cycles of deadlocked nodes, written line by line.
 
-ghost use Rattle.ga_text.specs.Output.{WritesSome};
+ghost use Rattle.ga_text.specs.Output.{WritesSomeText};
 ghost use Rattle.std.specs.Prelude.{◌≡◌, ◌+◌, [], Some};
-ghost use Rattle.ga_grid.specs.Grid.{optional_number};
+ghost use Rattle.ga_grid.specs.Grid.{optional_node_number};
 ghost use Rattle.ga_grid.specs.Chip.{records_of};
 ghost use Rattle.ga_causal.specs.Dependence.{is_marked};
-ghost use Rattle.ga_explorer_text.specs.Waiting.{awaited_neighbour, only_present, only_awaited_neighbour, wait_cycle_names, wait_cycle_line, wait_cycle_text, wait_cycles_text};
+ghost use Rattle.ga_explorer_text.specs.Waiting.{awaited_neighbour, single_of_four_options, only_awaited_neighbour, wait_cycle_names, wait_cycle_line, wait_cycle_text, wait_cycles_text};
 
 use arrayvec::ArrayVec;
 use ga_grid::{Chip, NodeId, neighbour};
@@ -26,7 +26,7 @@ pub(crate) fn write_wait_cycles<W: Write>(
     stuck: &[bool; 144],
     writer: &mut Writer<'_, W>,
 ) -> WriteResult
-    ensures { WritesSome result (λ text. text ≡ wait_cycles_text (records_of chip.now) (is_marked stuck.now))
+    ensures { WritesSomeText result (λ text. text ≡ wait_cycles_text (records_of chip.now) (is_marked stuck.now))
         W.contents writer.old writer.new }
 {
     'nodes: for number in 0..144u8 {
@@ -75,23 +75,23 @@ fn ring_from(chip: &Chip, first: NodeId) -> RingLine
 
 /// The neighbour that a node awaits, where it awaits no other.
 fn only_awaited_neighbour(chip: &Chip, node: NodeId) -> Option<NodeId>
-    ensures { optional_number result ≡ only_awaited_neighbour (records_of chip.now) node.number }
+    ensures { optional_node_number result ≡ only_awaited_neighbour (records_of chip.now) node.number }
 {
     let right = awaited_neighbour(chip, node, Side::Right);
     let down = awaited_neighbour(chip, node, Side::Down);
     let left = awaited_neighbour(chip, node, Side::Left);
     let up = awaited_neighbour(chip, node, Side::Up);
-    only_present(right, down, left, up)
+    single_of_four_options(right, down, left, up)
 }
 
 /// The one that is there of four, where no other is.
-fn only_present(
+fn single_of_four_options(
     right: Option<NodeId>,
     down: Option<NodeId>,
     left: Option<NodeId>,
     up: Option<NodeId>,
 ) -> Option<NodeId>
-    ensures { optional_number result ≡ only_present (optional_number right) (optional_number down) (optional_number left) (optional_number up) }
+    ensures { optional_node_number result ≡ single_of_four_options (optional_node_number right) (optional_node_number down) (optional_node_number left) (optional_node_number up) }
 {
     match (right, down, left, up) {
         (Some(node), None, None, None) => Some(node),
@@ -104,7 +104,7 @@ fn only_present(
 
 /// The neighbour on a side, where the node awaits it.
 pub fn awaited_neighbour(chip: &Chip, node: NodeId, side: Side) -> Option<NodeId>
-    ensures { optional_number result ≡ awaited_neighbour (records_of chip.now) node.number side }
+    ensures { optional_node_number result ≡ awaited_neighbour (records_of chip.now) node.number side }
 {
     if awaits(&chip.node(node).wait(), side) {
         neighbour(node, side)

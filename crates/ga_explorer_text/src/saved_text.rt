@@ -3,8 +3,8 @@
 ghost use Rattle.std.specs.Prelude.{◌≡◌, flat_map};
 ghost use Rattle.std.specs.List.{slice_get};
 ghost use Rattle.ga_lab.specs.Machine.{acting_node};
-ghost use Rattle.ga_text.specs.Output.{WritesSome, WritesExactly};
-ghost use Rattle.ga_explorer_text.specs.Saved.{step_command_line, with_feed, saved_text};
+ghost use Rattle.ga_text.specs.Output.{WritesSomeText, WritesExactly};
+ghost use Rattle.ga_explorer_text.specs.Saved.{step_command_line, with_line_feed, saved_text};
 ghost use Rattle.ga_explorer_text.specs.inner.{actor_in, line_at, cause_line};
 
 use arrayvec::ArrayVec;
@@ -32,7 +32,7 @@ pub fn write_save<W: Write>(lab: &Lab, writer: &mut Writer<'_, W>) -> WriteResul
 
 /// Says the lines of these events.
 fn say_listed<W: Write>(causes: &[Cause], writer: &mut Writer<'_, W>) -> WriteResult
-    ensures { WritesSome result (λ text. text ≡ flat_map cause_line causes.now)
+    ensures { WritesSomeText result (λ text. text ≡ flat_map cause_line causes.now)
         W.contents writer.old writer.new }
 {
     'causes: for cause in causes {
@@ -43,7 +43,7 @@ fn say_listed<W: Write>(causes: &[Cause], writer: &mut Writer<'_, W>) -> WriteRe
 
 /// Says the line of an event.
 fn say_event<W: Write>(event: Event, writer: &mut Writer<'_, W>) -> WriteResult
-    ensures { WritesExactly result (with_feed (step_command_line (acting_node event))) W.contents writer.old writer.new }
+    ensures { WritesExactly result (with_line_feed (step_command_line (acting_node event))) W.contents writer.old writer.new }
 {
     writer.write_blocks(step_command_line(acting_node(event)).as_slice())
 }
@@ -60,7 +60,7 @@ fn acting_node(event: Event) -> NodeId
 
 /// Writes the lines of the history, each of whose events is looked up separately.
 fn say_unlisted<W: Write>(lab: &Lab, writer: &mut Writer<'_, W>) -> WriteResult
-    ensures { WritesSome result (λ text. text ≡ saved_text lab.now)
+    ensures { WritesSomeText result (λ text. text ≡ saved_text lab.now)
         W.contents writer.old writer.new }
 {
     'places: for place in 0..lab.counts().kept {
@@ -71,7 +71,7 @@ fn say_unlisted<W: Write>(lab: &Lab, writer: &mut Writer<'_, W>) -> WriteResult
 
 /// Says the line of the event at a place.
 fn say_step<W: Write>(lab: &Lab, place: u32, writer: &mut Writer<'_, W>) -> WriteResult
-    ensures { WritesSome result (λ text. text ≡ line_at (slice_get lab.now.kept place))
+    ensures { WritesSomeText result (λ text. text ≡ line_at (slice_get lab.now.kept place))
         W.contents writer.old writer.new }
 {
     // So the history is the one that is written.
@@ -94,7 +94,7 @@ fn actor(made: &Made) -> NodeId
 
 /// `step NNN`
 fn step_command_line(node: NodeId) -> TextBuffer
-    ensures { result.items ≡ with_feed (step_command_line node) }
+    ensures { result.items ≡ with_line_feed (step_command_line node) }
 {
     let mut out = ArrayVec::new();
     push_text(&mut out, b"step ");

@@ -4,9 +4,9 @@ ghost use Rattle.std.specs.Prelude.{◌≡◌, ◌≤◌};
 ghost use Rattle.ga_node.specs.Record.{record_of};
 ghost use Rattle.ga_event.specs.Told.{count_steps};
 ghost use Rattle.ga_lab.specs.Machine.{node_at_step};
-ghost use Rattle.ga_provenance.specs.Origins.{node_after};
+ghost use Rattle.ga_provenance.specs.Origins.{node_after_steps};
 ghost use Rattle.ga_text.specs.Output.{WritesExactly};
-ghost use Rattle.ga_explorer_text.specs.SourceSuffix.{cell_note_text, slot_note_text as noted_slot_of, source_suffix_line, part_cell, listed_place, never_set_text, loaded_suffix_text};
+ghost use Rattle.ga_explorer_text.specs.SourceSuffix.{cell_note_text, slot_note_text as noted_slot_of, source_suffix_line, cell_of_node_part, given_place_of_part, never_set_text, loaded_suffix_text};
 
 use ga_debug_info::DebugInfo;
 use ga_event::NodePart;
@@ -47,8 +47,8 @@ fn slot_note_text(notes: &Option<DebugInfo>, node: NodeId, cell: Option<u8>, slo
 }
 
 /// The cell that a part of a node is.
-fn part_cell(part: NodePart) -> Option<u8>
-    ensures { result ≡ part_cell part }
+fn cell_of_node_part(part: NodePart) -> Option<u8>
+    ensures { result ≡ cell_of_node_part part }
 {
     match part {
         NodePart::Ram(cell) => Some(cell),
@@ -58,8 +58,8 @@ fn part_cell(part: NodePart) -> Option<u8>
 }
 
 /// The place by which a part is given: that of T represents all parts that only an image of format 2 gives.
-fn listed_place(part: NodePart) -> Place
-    ensures { result ≡ listed_place part }
+fn given_place_of_part(part: NodePart) -> Place
+    ensures { result ≡ given_place_of_part part }
 {
     match part {
         NodePart::A => Place::A,
@@ -77,7 +77,7 @@ fn never_set_text(notes: &Option<DebugInfo>, node: NodeId, part: NodePart) -> &'
 {
     match notes {
         Some(notes) => {
-            if notes.is_given(node, listed_place(part)) {
+            if notes.is_word_given(node, given_place_of_part(part)) {
                 b""
             } else {
                 b", never set"
@@ -120,14 +120,14 @@ fn say_loaded<W: Write>(
     ensures { WritesExactly result (loaded_suffix_text notes.now node part) W.contents writer.old writer.new }
 {
     writer.write_blocks(never_set_text(notes, node, part))?;
-    say_tail(notes, node, part_cell(part), FETCH, writer)
+    say_tail(notes, node, cell_of_node_part(part), FETCH, writer)
 }
 
 /// The slot of a node that is walked back to its first `place` steps.
 fn walked_slot(lab: &Lab, node: NodeId, place: u32, walk: &NodeWalk<'_>) -> u32
     requires within { place ≤ count_steps node.number lab.now.kept }
     requires walk { walk.now ≡ node_at_step lab.now node place }
-    ensures { result ≡ (node_after lab.now node.number place).slot }
+    ensures { result ≡ (node_after_steps lab.now node.number place).slot }
 {
     slot_of(walk.node())
 }
@@ -149,8 +149,8 @@ impl<'l> StepContext<'l> {
     ghost use Rattle.ga_lab.specs.Machine.{node_at_step};
     ghost use Rattle.ga_text.specs.Output.{WritesExactly};
     ghost use Rattle.ga_provenance.specs.Fetched.{fetched_cell as cell_fetched};
-    ghost use Rattle.ga_provenance.specs.Origins.{node_after};
-    ghost use Rattle.ga_explorer_text.specs.SourceSuffix.{source_note_text, slot_before, step_suffix_text, value_suffix_text};
+    ghost use Rattle.ga_provenance.specs.Origins.{node_after_steps};
+    ghost use Rattle.ga_explorer_text.specs.SourceSuffix.{source_note_text, slot_before_step, step_suffix_text, value_suffix_text};
 
     /// An outlook from a node that is walked back to its step.
     pub fn new(lab: &'l Lab, notes: &'l Option<DebugInfo>, node: NodeId, step: u32) -> Self
@@ -199,14 +199,14 @@ impl<'l> StepContext<'l> {
     /// The slot after the first `place` steps of a node, which is walked back there.
     fn slot_near(&self, node: NodeId, place: u32) -> u32
         requires { place ≤ count_steps node.number self.now.lab.now.kept }
-        ensures { result ≡ (node_after self.now.lab.now node.number place).slot }
+        ensures { result ≡ (node_after_steps self.now.lab.now node.number place).slot }
     {
         walked_slot(self.lab, node, place, &self.walk_back_to_step(node, place))
     }
 
     /// The slot that was next before a step.
     fn before_step(&self, node: NodeId, step: u32) -> usize
-        ensures { result ≡ slot_before self.now.lab.now node step }
+        ensures { result ≡ slot_before_step self.now.lab.now node step }
     {
         let place = step.saturating_sub(1).min(self.lab.steps(node));
         self.slot_near(node, place) as usize
@@ -214,7 +214,7 @@ impl<'l> StepContext<'l> {
 
     /// The slot that was next before a step, if the source has slots of the cell; else that before a fetch.
     fn step_slot(&self, node: NodeId, step: u32, cell: Option<u8>) -> usize
-        ensures { source_note_text self.now.notes.now node cell result ≡ source_note_text self.now.notes.now node cell (slot_before self.now.lab.now node step) }
+        ensures { source_note_text self.now.notes.now node cell result ≡ source_note_text self.now.notes.now node cell (slot_before_step self.now.lab.now node step) }
     {
         match self.notes {
             Some(notes) => {

@@ -6,7 +6,7 @@ ghost use Rattle.ga_node.specs.Record.{record_of};
 ghost use Rattle.ga_event.specs.Flow.{part_value};
 ghost use Rattle.ga_event.specs.Told.{count_steps};
 ghost use Rattle.ga_lab.specs.Machine.{history_of, node_at_step};
-ghost use Rattle.ga_provenance.specs.Origins.{is_made_with_t, node_after};
+ghost use Rattle.ga_provenance.specs.Origins.{is_made_with_a_or_carry, node_after_steps};
 ghost use Rattle.ga_explorer_text.specs.inner.{is_transferred, has_no_word};
 
 use crate::source_suffix::StepContext;
@@ -103,7 +103,7 @@ fn part_word(node: &Node, part: NodePart) -> u32
 }
 
 /// The word in a part of a node that is walked back to its first `place` steps.
-pub fn walked_word(
+pub fn word_after_walking_back(
     lab: &Lab,
     node: NodeId,
     place: u32,
@@ -112,7 +112,7 @@ pub fn walked_word(
 ) -> Word18
     requires within { place ≤ count_steps node.number lab.now.kept }
     requires walk { walk.now ≡ node_at_step lab.now node place }
-    ensures { result ≡ part_value 0 (node_after lab.now node.number place) part }
+    ensures { result ≡ part_value 0 (node_after_steps lab.now node.number place) part }
 {
     Word18::from_low_bits(part_word(walk.node(), part))
 }
@@ -143,8 +143,8 @@ fn is_transferred(part: NodePart) -> bool
 }
 
 /// Whether the step of a value, as made, may have made T with A or the carry.
-fn is_made_with_t(lab: &Lab, value: Value) -> bool
-    ensures { result ≡ is_made_with_t (slice_get (history_of lab.now value.node.number) (value.step - 1)) }
+fn is_made_with_a_or_carry(lab: &Lab, value: Value) -> bool
+    ensures { result ≡ is_made_with_a_or_carry (slice_get (history_of lab.now value.node.number) (value.step - 1)) }
 {
     match lab.made_event_of_step(value.node, value.step.saturating_sub(1)) {
         Some(Made::Own { kind, .. }) => match kind {
@@ -161,8 +161,8 @@ impl<'l> StepContext<'l> {
     ghost use Rattle.std.specs.List.{slice_get};
     ghost use Rattle.ga_event.specs.Flow.{IsNodePart};
     ghost use Rattle.ga_lab.specs.Machine.{history_of};
-    ghost use Rattle.ga_provenance.specs.Origins.{is_made_with_t, origin_of, IsMovedValue};
-    ghost use Rattle.ga_explorer_text.specs.Whence.{word_of_value, a_of_value, value_with_word_text, value_text};
+    ghost use Rattle.ga_provenance.specs.Origins.{is_made_with_a_or_carry, origin_of_value, IsMovedValue};
+    ghost use Rattle.ga_explorer_text.specs.Whence.{word_of_value, register_a_after_value, value_with_word_text, value_text};
 
     /// The context of the step of a value.
     pub fn context_of_value(&self, value: Value) -> StepContext<'l>
@@ -233,22 +233,22 @@ impl<'l> StepContext<'l> {
     /// Reads the words of a value. Takes time linear in the number of steps that its node is walked back.
     pub fn words_of(&self, value: Value) -> ValueWords
         ensures word { result.word ≡ word_of_value self.now.lab.now value }
-        ensures a { result.a ≡ a_of_value self.now.lab.now value }
+        ensures a { result.a ≡ register_a_after_value self.now.lab.now value }
     {
         let Value { node, step, part } = value;
         let place = step.min(self.lab.steps(node));
         let walk = self.walk_back_to_step(node, place);
         ValueWords {
-            word: walked_word(self.lab, node, place, &walk, part),
-            a: walked_word(self.lab, node, place, &walk, NodePart::A),
+            word: word_after_walking_back(self.lab, node, place, &walk, part),
+            a: word_after_walking_back(self.lab, node, place, &walk, NodePart::A),
         }
     }
 
     /// The word of a value that was only moved since the step that made it, unless this may have made T with it.
     fn word_of_use(&self, used: Value) -> Word18
         requires part { IsNodePart used.part }
-        requires apart { is_made_with_t (slice_get (history_of self.now.lab.now used.node.number) ((origin_of self.now.lab.now used).step - 1)) ≡ false }
-        ensures { result ≡ word_of_value self.now.lab.now (origin_of self.now.lab.now used) }
+        requires apart { is_made_with_a_or_carry (slice_get (history_of self.now.lab.now used.node.number) ((origin_of_value self.now.lab.now used).step - 1)) ≡ false }
+        ensures { result ≡ word_of_value self.now.lab.now (origin_of_value self.now.lab.now used) }
     {
         let Value { node, step, part } = used;
         // This is called only for its contract, that the chip has all its nodes.
@@ -256,7 +256,7 @@ impl<'l> StepContext<'l> {
         let place = step.min(self.lab.steps(node));
         let walk = self.walk_back_to_step(node, place);
         walk.node().has_sizes();
-        walked_word(self.lab, node, place, &walk, part)
+        word_after_walking_back(self.lab, node, place, &walk, part)
     }
 
     /// The words of the line of a value that was used there: it has the same word there, unless its step may have made T with it.
@@ -270,7 +270,7 @@ impl<'l> StepContext<'l> {
                 word: none,
                 a: none,
             }
-        } else if is_made_with_t(self.lab, value) {
+        } else if is_made_with_a_or_carry(self.lab, value) {
             self.words_of(value)
         } else {
             ValueWords {

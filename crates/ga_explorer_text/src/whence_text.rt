@@ -1,13 +1,13 @@
 //! The provenance of a value, written line by line.
 
 ghost use Rattle.std.specs.Prelude.{◌≡◌, drop, IfSome};
-ghost use Rattle.ga_text.specs.Output.{WritesSome};
+ghost use Rattle.ga_text.specs.Output.{WritesSomeText};
 ghost use Rattle.ga_explorer_text.specs.Whence.{selected_value, IsWhenceAnswer};
 ghost use Rattle.ga_event.specs.Flow.{IsNodePart};
 ghost use Rattle.ga_lab.specs.Machine.{node_at_step};
 ghost use Rattle.ga_explorer_text.specs.inner.{is_first};
 
-use crate::line_number::{has_head, more_lines, most_lines, user_of_line};
+use crate::line_number::{has_queried_step_line, last_written_line, more_lines, using_line_number};
 use crate::source_suffix::StepContext;
 use crate::value_line::{head_line, indented_line, numbered_line, queried_line};
 use ga_debug_info::DebugInfo;
@@ -15,7 +15,7 @@ use ga_display::{advised_refusal_text, missing_step_refusal};
 use ga_event::NodePart;
 use ga_grid::NodeId;
 use ga_lab::{Lab, LabFault, NodeWalk};
-use ga_provenance::{ProvenanceLine, Value, find_lines_at, queried_value_at};
+use ga_provenance::{ProvenanceLine, Value, find_provenance_lines_at, queried_value_at};
 use ga_text::{WriteResult, Writer};
 use std::alloc::Global;
 use std::io::Write;
@@ -36,7 +36,7 @@ pub fn write_whence<W: Write>(
     writer: &mut Writer<'_, W>,
 ) -> WriteResult
     requires { IfSome part IsNodePart }
-    ensures { WritesSome result (IsWhenceAnswer notes.now lab.now node step part first) W.contents writer.old writer.new }
+    ensures { WritesSomeText result (IsWhenceAnswer notes.now lab.now node step part first) W.contents writer.old writer.new }
 {
     if !lab.has_step((node, step)) {
         return writer.write_blocks(missing_step_refusal(node, lab.steps(node)).as_slice());
@@ -81,7 +81,7 @@ fn is_first(step: u32, lines: &[ProvenanceLine]) -> bool
 }
 
 /// The lines after the first `skipped`.
-pub fn lines_after(lines: &[ProvenanceLine], skipped: u32) -> &[ProvenanceLine]
+pub fn provenance_lines_after(lines: &[ProvenanceLine], skipped: u32) -> &[ProvenanceLine]
     ensures { result.now ≡ drop skipped lines.now }
 {
     let skipped = lines.len().min(skipped as usize);
@@ -91,9 +91,9 @@ pub fn lines_after(lines: &[ProvenanceLine], skipped: u32) -> &[ProvenanceLine]
 impl<'l> StepContext<'l> {
     ghost use Rattle.std.specs.Prelude.{◌≡◌, ◌+◌, ◌^◌, ◌<◌, not, Some, All, length};
     ghost use Rattle.ga_event.specs.Flow.{IsNodePart};
-    ghost use Rattle.ga_text.specs.Output.{WritesSome, WritesExactly};
-    ghost use Rattle.ga_explorer_text.specs.Whence.{head_text, value_line_text, numbered_lines_text, lines_from, indented_value_text, queried_step_text, IsStepOrLinesAnswer};
-    ghost use Rattle.ga_provenance.specs.Lines.{IsMovedLine};
+    ghost use Rattle.ga_text.specs.Output.{WritesSomeText, WritesExactly};
+    ghost use Rattle.ga_explorer_text.specs.Whence.{optional_queried_step_line, value_line_text, numbered_lines_text, provenance_lines_text_from, indented_value_text, queried_step_text, IsStepOrLinesAnswer};
+    ghost use Rattle.ga_provenance.specs.Lines.{IsLineOfMovedValue};
     ghost use Rattle.ga_provenance.specs.Origins.{IsMovedValue};
     ghost use Rattle.ga_explorer_text.specs.inner.{is_first};
 
@@ -106,16 +106,16 @@ impl<'l> StepContext<'l> {
         writer: &mut Writer<'_, W>,
     ) -> WriteResult
         requires { IsNodePart value.part }
-        ensures { WritesSome result (λ text. IsStepOrLinesAnswer self.now.notes.now self.now.lab.now self.now.node self.now.near.step first (Some value) text)
+        ensures { WritesSomeText result (λ text. IsStepOrLinesAnswer self.now.notes.now self.now.lab.now self.now.node self.now.near.step first (Some value) text)
             W.contents writer.old writer.new }
     {
-        match find_lines_at(
+        match find_provenance_lines_at(
             alloc,
             self.lab,
             &self.near,
             self.node,
             value,
-            most_lines(first),
+            last_written_line(first),
         ) {
             Ok(found) => {
                 let lines = found.lines.as_slice();
@@ -136,14 +136,14 @@ impl<'l> StepContext<'l> {
         writer: &mut Writer<'_, W>,
     ) -> WriteResult
         requires most { length lines.now < 2 ^ 32 }
-        requires used { All (IsMovedLine self.now.lab.now) lines.now }
-        ensures { WritesSome result (λ text. text ≡ lines_from self.now.notes.now self.now.lab.now self.now.node self.now.near.step first value (not (is_first self.now.near.step lines.now)) lines.now)
+        requires used { All (IsLineOfMovedValue self.now.lab.now) lines.now }
+        ensures { WritesSomeText result (λ text. text ≡ provenance_lines_text_from self.now.notes.now self.now.lab.now self.now.node self.now.near.step first value (not (is_first self.now.near.step lines.now)) lines.now)
             W.contents writer.old writer.new }
     {
         let is_moved = !is_first(self.near.step(), lines);
-        self.say_queried(value, has_head(is_moved, first), writer)?;
+        self.say_queried(value, has_queried_step_line(is_moved, first), writer)?;
         let skipped = first.saturating_sub(1);
-        let written = lines_after(lines, skipped);
+        let written = provenance_lines_after(lines, skipped);
         let root = self.root(lines);
         root.say_lines(self.copy(), is_moved, skipped, written, writer)
     }
@@ -155,7 +155,7 @@ impl<'l> StepContext<'l> {
         is_written: bool,
         writer: &mut Writer<'_, W>,
     ) -> WriteResult
-        ensures { WritesSome result (λ text. text ≡ head_text self.now.notes.now self.now.lab.now self.now.node self.now.near.step value is_written)
+        ensures { WritesSomeText result (λ text. text ≡ optional_queried_step_line self.now.notes.now self.now.lab.now self.now.node self.now.near.step value is_written)
             W.contents writer.old writer.new }
     {
         if !is_written {
@@ -169,7 +169,7 @@ impl<'l> StepContext<'l> {
 
     /// Says the step asked for, to which its node is walked back.
     fn say_head<W: Write>(&self, writer: &mut Writer<'_, W>) -> WriteResult
-        ensures { WritesSome result (λ text. text ≡ queried_step_text self.now.notes.now self.now.lab.now self.now.node self.now.near.step)
+        ensures { WritesSomeText result (λ text. text ≡ queried_step_text self.now.notes.now self.now.lab.now self.now.node self.now.near.step)
             W.contents writer.old writer.new }
     {
         writer.write_blocks(head_line(self.lab, self.node, self.near.step()).as_slice())?;
@@ -200,8 +200,8 @@ impl<'l> StepContext<'l> {
         requires lab { start.lab.now ≡ self.now.lab.now }
         requires notes { start.notes.now ≡ self.now.notes.now }
         requires most { skipped + length lines.now < 2 ^ 32 }
-        requires used { All (IsMovedLine self.now.lab.now) lines.now }
-        ensures { WritesSome result (λ text. text ≡ numbered_lines_text self.now.notes.now self.now.lab.now is_moved skipped lines.now) W.contents writer.old writer.new }
+        requires used { All (IsLineOfMovedValue self.now.lab.now) lines.now }
+        ensures { WritesSomeText result (λ text. text ≡ numbered_lines_text self.now.notes.now self.now.lab.now is_moved skipped lines.now) W.contents writer.old writer.new }
     {
         let mut here = start;
         let mut number = skipped;
@@ -221,11 +221,11 @@ impl<'l> StepContext<'l> {
         line: ProvenanceLine,
         writer: &mut Writer<'_, W>,
     ) -> WriteResult
-        requires { IsMovedLine self.now.lab.now line }
+        requires { IsLineOfMovedValue self.now.lab.now line }
         ensures { WritesExactly result (value_line_text self.now.notes.now self.now.lab.now is_moved number line) W.contents writer.old writer.new }
     {
         let words = self.words_of_used(line.value, line.used);
-        let user = user_of_line(is_moved, number, line.user);
+        let user = using_line_number(is_moved, number, line.user);
         writer.write_blocks(numbered_line(self.lab, number, user, line, words).as_slice())?;
         self.write_value_suffix(line.value, writer)
     }

@@ -2,14 +2,14 @@
 
 ghost use Rattle.std.specs.Prelude.{◌≡◌, ◌++◌, ◌+◌, ◌≤◌, ◌&&◌, not, if◌then◌else◌, length};
 ghost use Rattle.arrayvec.specs.ArrayVec.{array_vec_len};
-ghost use Rattle.ga_grid.specs.Grid.{optional_number};
+ghost use Rattle.ga_grid.specs.Grid.{optional_node_number};
 ghost use Rattle.ga_grid.specs.Chip.{records_of};
 ghost use Rattle.ga_causal.specs.Dependence.{is_marked};
-ghost use Rattle.ga_text.specs.Output.{WritesSome, WritesExactly};
+ghost use Rattle.ga_text.specs.Output.{WritesSomeText, WritesExactly};
 ghost use Rattle.ga_explorer_text.specs.Waiting.{activity_name, node_activity_text, neighbour_activity_text, awaited_neighbour_text, waiting_node_line, waiting_node_text, non_idle_node_text, all_waiting_text, name_if_marked, non_idle_names, node_count, idle_count_suffix, stuck_line, stuck_text, ended_line, idle_line, ended_and_idle_text};
 ghost use Rattle.ga_explorer_text.specs.Telling.{IsWhoAnswer};
 
-use super::ended::{ended_among, find_live};
+use super::ended::{find_ended_marked_nodes, find_live_nodes};
 use super::ring_text::write_wait_cycles;
 use arrayvec::ArrayVec;
 use ga_grid::{Chip, NodeId, neighbour};
@@ -17,7 +17,7 @@ use ga_lab::Lab;
 use ga_node::{Node, Wait};
 use ga_ports::Side;
 use ga_races::{awaits, find_deadlocked};
-use ga_scheduler::find_idle;
+use ga_scheduler::find_idle_nodes;
 use ga_text::{
     MAX_NUMBER_DIGITS, TextBuffer, WriteResult, Writer, push_node, push_number, push_text,
 };
@@ -62,12 +62,12 @@ type RestLines = ArrayVec<u8, REST_ROOM>;
 /// # Errors
 /// A write failed.
 pub fn write_who<W: Write>(lab: &Lab, writer: &mut Writer<'_, W>) -> WriteResult
-    ensures { WritesSome result (IsWhoAnswer lab.now) W.contents writer.old writer.new }
+    ensures { WritesSomeText result (IsWhoAnswer lab.now) W.contents writer.old writer.new }
 {
     let chip = lab.chip();
     let stuck = find_deadlocked(chip);
-    let ended = ended_among(&stuck, &find_live(chip));
-    let idle = find_idle(lab);
+    let ended = find_ended_marked_nodes(&stuck, &find_live_nodes(chip));
+    let idle = find_idle_nodes(lab);
     say_waiting(chip, &idle, writer)?;
     writer.write_blocks(stuck_line(&stuck, &ended, &idle).as_slice())?;
     write_wait_cycles(chip, &stuck, writer)?;
@@ -76,7 +76,7 @@ pub fn write_who<W: Write>(lab: &Lab, writer: &mut Writer<'_, W>) -> WriteResult
 
 /// Says the lines of the nodes that wait and are not idle.
 fn say_waiting<W: Write>(chip: &Chip, idle: &[bool; 144], writer: &mut Writer<'_, W>) -> WriteResult
-    ensures { WritesSome result (λ text. text ≡ all_waiting_text (records_of chip.now) (is_marked idle.now))
+    ensures { WritesSomeText result (λ text. text ≡ all_waiting_text (records_of chip.now) (is_marked idle.now))
         W.contents writer.old writer.new }
 {
     'nodes: for number in 0..144u8 {
@@ -179,7 +179,7 @@ fn push_awaited(out: &mut TextBuffer, chip: &Chip, node: NodeId, side: Side, let
 /// Adds a neighbour, where there is one.
 fn push_beside(out: &mut TextBuffer, chip: &Chip, beside: Option<NodeId>, letter: u8)
     requires { array_vec_len out.old + BESIDE_ROOM ≤ 256 }
-    ensures text { out.new.items ≡ out.old.items ++ neighbour_activity_text (records_of chip.now) (optional_number beside) letter }
+    ensures text { out.new.items ≡ out.old.items ++ neighbour_activity_text (records_of chip.now) (optional_node_number beside) letter }
     ensures len { array_vec_len out.new ≤ array_vec_len out.old + BESIDE_ROOM }
 {
     if let Some(other) = beside {
@@ -196,7 +196,7 @@ fn stuck_line(marks: &[bool; 144], ended: &[bool; 144], idle: &[bool; 144]) -> S
 {
     line_of_names(
         non_idle_names(marks, ended).as_slice(),
-        idle_among(marks, idle),
+        count_idle_marked_nodes(marks, idle),
     )
 }
 
@@ -260,7 +260,7 @@ fn push_name_if(out: &mut Names, node: NodeId, named: bool)
 }
 
 /// How many of the marked nodes are idle.
-pub fn idle_among(marks: &[bool; 144], idle: &[bool; 144]) -> u8
+pub fn count_idle_marked_nodes(marks: &[bool; 144], idle: &[bool; 144]) -> u8
     ensures { result ≡ node_count (λ n. is_marked marks.now n && is_marked idle.now n) 144 }
 {
     let mut count = 0;

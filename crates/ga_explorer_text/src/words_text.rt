@@ -1,7 +1,7 @@
 //! The transferred words of a link, written line by line.
 
 ghost use Rattle.std.specs.Prelude.{◌≡◌};
-ghost use Rattle.ga_text.specs.Output.{WritesSome, WritesExactly};
+ghost use Rattle.ga_text.specs.Output.{WritesSomeText, WritesExactly};
 ghost use Rattle.ga_explorer_text.specs.Texts.{transfer_line_text, words_head, transfers_text, link_words_text};
 
 use arrayvec::ArrayVec;
@@ -18,13 +18,13 @@ use std::io::Write;
 ///
 /// # Errors
 /// A write failed.
-pub fn write_words<W: Write>(
+pub fn write_link_words<W: Write>(
     lab: &Lab,
     from: NodeId,
     to: NodeId,
     writer: &mut Writer<'_, W>,
 ) -> WriteResult
-    ensures { WritesSome result (λ text. text ≡ link_words_text lab.now from to) W.contents writer.old writer.new }
+    ensures { WritesSomeText result (λ text. text ≡ link_words_text lab.now from to) W.contents writer.old writer.new }
 {
     if are_neighbours(from, to) {
         say_linked(lab, from, to, writer)
@@ -40,7 +40,7 @@ fn say_linked<W: Write>(
     to: NodeId,
     writer: &mut Writer<'_, W>,
 ) -> WriteResult
-    ensures { WritesSome result (λ text. text ≡ transfers_text lab.now from to)
+    ensures { WritesSomeText result (λ text. text ≡ transfers_text lab.now from to)
         W.contents writer.old writer.new }
 {
     let count = count_transfers(lab, from, to);

@@ -3,7 +3,7 @@ use Rattle.std.proofs.Common.{◌≡◌, ◌≢◌, ℕ, ◌<◌, arith, Option,
 use Rattle.std.specs.Prelude.{Some, option_map}
 use Rattle.ga_ports.specs.declared.side.Side.{Side}
 use Rattle.ga_ports.specs.declared.side.Side.TheVariants.{Right, Down, Left, Up}
-use Rattle.ga_grid.specs.Grid.{neighbour_of, optional_number, node_id}
+use Rattle.ga_grid.specs.Grid.{neighbour_of, optional_node_number, node_id}
 use Rattle.std.proofs.Math.Bridge.{le_prop}
 use Rattle.std.proofs.Math.Nat.{mod-eq_of_lt}
 use Rattle.ga_grid.specs.declared.node_id.NodeId.{NodeId}
@@ -36,9 +36,9 @@ pub node_id-number : (a : NodeId) → node_id a.number ≡ a
 node_id-number a = NodeId-same (node_id a.number) a (mod-eq_of_lt a.in_range)
 
 -- a node that is known by its number
-pub node_id-number_in : (found : Option NodeId) → option_map node_id (optional_number found) ≡ found
+pub node_id-number_in : (found : Option NodeId) → option_map node_id (optional_node_number found) ≡ found
 node_id-number_in None = refl
 node_id-number_in (Some a) = ap Some (node_id-number a)
 
-pub from_number_in : (found : Option NodeId) (number : Option ℕ) → optional_number found ≡ number → found ≡ option_map node_id number
+pub from_number_in : (found : Option NodeId) (number : Option ℕ) → optional_node_number found ≡ number → found ≡ option_map node_id number
 from_number_in found number e = sym (node_id-number_in found) ∙ ap (λ z. option_map node_id z) e

@@ -6,12 +6,12 @@ use Rattle.ga_node.specs.contracts.node.Node.{the_row as node_row}
 use Rattle.ga_grid.specs.contracts.chip.Chip.{the_row}
 
 -- the node that is read where there is none
-abbrev pub nowhere : NodeState
-nowhere = fresh_node 0
+abbrev pub default_node : NodeState
+default_node = fresh_node 0
 
 -- the node at a number
 abbrev pub node_at : List NodeState → ℕ → NodeState
-node_at chip n = slice_index_or chip n nowhere
+node_at chip n = slice_index_or chip n default_node
 
 -- the chip with another node at a number
 abbrev pub with_node : List NodeState → ℕ → NodeState → List NodeState
@@ -23,7 +23,7 @@ records_of chip = map record_of chip
 
 -- the record at a number
 abbrev pub record_at : List NodeRecord → ℕ → NodeRecord
-record_at chip n = slice_index_or chip n (record_of nowhere)
+record_at chip n = slice_index_or chip n (record_of default_node)
 
 -- ---- chips whose nodes are steady
 

@@ -7,7 +7,7 @@ use Rattle.ga_ports.specs.declared.side.Side.TheVariants.{Right, Down, Left, Up}
 use Rattle.std.proofs.Common.{lit<}
 use Rattle.std.proofs.Math.Nat.{mod-lt}
 use Rattle.ga_grid.specs.declared.node_id.NodeId.{NodeId}
-use Rattle.ga_ports.specs.Address.{only}
+use Rattle.ga_ports.specs.Address.{single_side_set}
 use Rattle.std.specs.List.{range_with_len}
 use Rattle.ga_node.specs.Record.{NodeState, fresh_node}
 
@@ -57,9 +57,9 @@ neighbour_of n Down = option_map (λ row. 18 * row + column_of n) (adjacent_plac
 neighbour_of n Up = option_map (λ row. 18 * row + column_of n) (adjacent_place (row_of n) 8 (not (is_even (row_of n))))
 
 -- the number of a node where there is one
-abbrev pub optional_number : Option NodeId → Option ℕ
-optional_number None = None
-optional_number (Some node) = Some node.number
+abbrev pub optional_node_number : Option NodeId → Option ℕ
+optional_node_number None = None
+optional_node_number (Some node) = Some node.number
 
 -- the node of a number; from 144 on the nodes begin again
 abbrev pub node_id : ℕ → NodeId
@@ -69,7 +69,7 @@ node_id n = record { number = n % 144; in_range = mod-lt n (lit< tt) }
 
 -- the number of a side where the node has a neighbour there, else 0
 abbrev pub linked_side_value : ℕ → Side → ℕ
-linked_side_value n side = if is_some (neighbour_of n side) then only side else 0
+linked_side_value n side = if is_some (neighbour_of n side) then single_side_set side else 0
 
 -- the ports are in bits 7 to 4 of an address, exclusive-ored with 155
 abbrev pub load_p_of : ℕ → ℕ

@@ -1,7 +1,7 @@
 //! The links between neighbours.
 
 ghost use Rattle.std.specs.Prelude.{◌≡◌, ◌≢◌, ◌<◌, Some, IfSome, option_map};
-ghost use Rattle.ga_grid.specs.Grid.{adjacent_place, neighbour_of, optional_number, node_id};
+ghost use Rattle.ga_grid.specs.Grid.{adjacent_place, neighbour_of, optional_node_number, node_id};
 
 use crate::node_id::NodeId;
 use ga_ports::Side;
@@ -42,7 +42,7 @@ fn number_beside(number: u8, side: Side) -> Option<u8>
 /// The node at the other end of the link on this side, or none at the edge of the grid. Both ends of a link have the same
 /// side (DB002, links).
 pub fn neighbour(node: NodeId, side: Side) -> Option<NodeId>
-    ensures value { optional_number result ≡ neighbour_of node.number side }
+    ensures value { optional_node_number result ≡ neighbour_of node.number side }
     ensures node { result ≡ option_map node_id (neighbour_of node.number side) }
     ensures back { IfSome result (λ other. neighbour_of other.number side ≡ Some node.number) }
     ensures other { IfSome result (λ other. other.number ≢ node.number) }

@@ -17,7 +17,7 @@ pub struct NodeId {
 
 impl NodeId {
     ghost use Rattle.std.specs.Prelude.{◌≡◌, ◌≢◌, ◌<◌, ℕ, Some, IfSome, IfNone, option_map};
-    ghost use Rattle.ga_grid.specs.Grid.{yxx_of, number_of_yxx, optional_number, node_id};
+    ghost use Rattle.ga_grid.specs.Grid.{yxx_of, number_of_yxx, optional_node_number, node_id};
 
     /// The node with this number.
     #[inline(always)]
@@ -30,7 +30,7 @@ impl NodeId {
 
     /// The node that is named by 100 times its row plus its column, where there is one.
     pub fn from_yxx(yxx: u32) -> Option<Self>
-        ensures value { optional_number result ≡ number_of_yxx yxx }
+        ensures value { optional_node_number result ≡ number_of_yxx yxx }
         ensures node { result ≡ option_map node_id (number_of_yxx yxx) }
         ensures named { IfSome result (λ node. yxx_of node.number ≡ yxx) }
         ensures none { IfNone result ((n : ℕ) → n < 144 → yxx_of n ≢ yxx) }

@@ -13,11 +13,11 @@ use Rattle.ga_image.specs.declared.field.Field.TheVariants.{A, B, P, I, Io, Carr
 use Rattle.ga_image.specs.declared.field.RunState.{RunState}
 use Rattle.ga_image.specs.inner.{HasCell}
 use Rattle.ga_image.specs.Fields.{field_writes, field_number, exceeds_field, load_run_state, run_state_after}
-use Rattle.ga_image.specs.Spelling.{Form, Node, Words, End, IsTextOfForm}
-use Rattle.ga_image.specs.Grammar.{header, format_of, field_line_writes}
-use Rattle.ga_image.specs.Reading.{Progress, Stage, fault_of, line_fault, later_fault, form_in_format, is_misplaced, is_header, after_line, progress_after_form, with_field_writes, with_block, no_fields_given, start}
+use Rattle.ga_image.specs.Spelling.{LineForm, Node, Words, End, IsTextOfForm}
+use Rattle.ga_image.specs.Grammar.{header, format_of_header, field_line_writes}
+use Rattle.ga_image.specs.Reading.{ImageReadProgress, ImageReadStage, first_fault_of_line, line_fault, fault_after_header, form_in_format, is_misplaced_line, is_header, progress_after_line, progress_after_form, with_field_writes, with_block, no_fields_given, initial_progress}
 use Rattle.ga_image.specs.Reading as stage
-use Rattle.ga_image.specs.FirstFault.{AreTextsOfFieldLines, HasLastFieldLines, format_in, HoldsForOne, IsEndLine, IsNodeLineOf, IsNodeLine, HasWordForField, IsFieldGiven}
+use Rattle.ga_image.specs.FirstFault.{AreTextsOfFieldLines, HasLastFieldLines, format_of_first_line, HoldsForOneElement, IsEndLine, IsNodeLineOf, IsNodeLine, HasWordForField, IsFieldGiven}
 use Rattle.ga_image.proofs.Spellings.{kept_spelled}
 use Rattle.ga_image.proofs.Meanings.{none_flagged, marked, in_memory, line_later, past_later, short_past, all_written}
 use Rattle.ga_image.proofs.Found.{not_short, neither, some_form, node_ok, field_ok, yxx_of_node, held-append, header_named}
@@ -27,22 +27,22 @@ use Rattle.ga_image.proofs.LineCauses.{each_has_cell, in_block}
 
 -- ---- one line more
 
-pub one_front : (Holds : List ℕ → Type 0) (xs : List (List ℕ)) (y : List ℕ) → HoldsForOne Holds xs → HoldsForOne Holds (xs ++ y ∷ [])
+pub one_front : (Holds : List ℕ → Type 0) (xs : List (List ℕ)) (y : List ℕ) → HoldsForOneElement Holds xs → HoldsForOneElement Holds (xs ++ y ∷ [])
 one_front Holds [] y none = absurd none
 one_front Holds (x ∷ xs) y (inl here) = inl here
 one_front Holds (x ∷ xs) y (inr there) = inr (one_front Holds xs y there)
 
-pub one_last : (Holds : List ℕ → Type 0) (xs : List (List ℕ)) (y : List ℕ) → Holds y → HoldsForOne Holds (xs ++ y ∷ [])
+pub one_last : (Holds : List ℕ → Type 0) (xs : List (List ℕ)) (y : List ℕ) → Holds y → HoldsForOneElement Holds (xs ++ y ∷ [])
 one_last Holds [] y here = inl here
 one_last Holds (x ∷ xs) y here = inr (one_last Holds xs y here)
 
-pub one_split : (Holds : List ℕ → Type 0) (xs : List (List ℕ)) (y : List ℕ) → HoldsForOne Holds (xs ++ y ∷ []) → HoldsForOne Holds xs ⊎ Holds y
+pub one_split : (Holds : List ℕ → Type 0) (xs : List (List ℕ)) (y : List ℕ) → HoldsForOneElement Holds (xs ++ y ∷ []) → HoldsForOneElement Holds xs ⊎ Holds y
 one_split Holds [] y (inl here) = inr here
 one_split Holds [] y (inr none) = absurd none
 one_split Holds (x ∷ xs) y (inl here) = inl (inl here)
 one_split Holds (x ∷ xs) y (inr there) = elim (one_split Holds xs y there) [ inl front ↦ inl (inr front) | inr last ↦ inr last ]
 
-none_more : (Holds : List ℕ → Type 0) (xs : List (List ℕ)) (y : List ℕ) → ¬ HoldsForOne Holds xs → ¬ Holds y → ¬ HoldsForOne Holds (xs ++ y ∷ [])
+none_more : (Holds : List ℕ → Type 0) (xs : List (List ℕ)) (y : List ℕ) → ¬ HoldsForOneElement Holds xs → ¬ Holds y → ¬ HoldsForOneElement Holds (xs ++ y ∷ [])
 none_more Holds xs y none other = λ some. elim (one_split Holds xs y some) [ inl front ↦ none front | inr last ↦ other last ]
 
 given_last : (before : List (List ℕ)) (line : List ℕ) (field : Field) → HasWordForField field line → IsFieldGiven (before ++ line ∷ []) field
@@ -165,31 +165,31 @@ is_numbered f g first second = (
   λ e. elim (eqb_tells (field_number f) (field_number g)) [ inl same ↦ same.0 | inr other ↦ absurd (other.1 (ap field_number e)) ],
 )
 
-numbered : (field : Field) (ws : List (Field × ℕ)) → HasCell field → AllByRecursion (λ w. HasCell w.0) ws → Decides (any_numbered (field_number field) ws) (HoldsForOne (λ w. w.0 ≡ field) ws)
+numbered : (field : Field) (ws : List (Field × ℕ)) → HasCell field → AllByRecursion (λ w. HasCell w.0) ws → Decides (any_numbered (field_number field) ws) (HoldsForOneElement (λ w. w.0 ≡ field) ws)
 numbered field [] cell cells = (λ e. cc, λ none. absurd none)
 numbered field (w ∷ ws) cell cells = Decides-or _ _ (is_numbered w.0 field cells.0 cell) (numbered field ws cell cells.1)
 
 -- ---- the state after a line without fault
 
-not_ended : (st : Stage) (f : Form) (before : List (List ℕ)) → st ≢ stage.Header → StandsAt st before → is_misplaced st (Some f) ≡ false → ¬ HoldsForOne IsEndLine before
+not_ended : (st : ImageReadStage) (f : LineForm) (before : List (List ℕ)) → st ≢ stage.Header → StandsAt st before → is_misplaced_line st (Some f) ≡ false → ¬ HoldsForOneElement IsEndLine before
 not_ended stage.Header f before behind stands placed = absurd (behind refl)
 not_ended stage.Open f before behind stands placed = stands.1
 not_ended (stage.Block node) f before behind stands placed = stands.1
 not_ended stage.Ended f before behind stands placed = cc
 
 -- the blocks are unchanged after a line that begins none
-blocks_kept : (progress : Progress) (before : List (List ℕ)) (line : List ℕ) → IsAfter progress before → ((yxx : ℕ) → ¬ IsNodeLineOf yxx line)
-    → (yxx n : ℕ) → number_of_yxx yxx ≡ Some n → Decides (get_or progress.blocks n false) (HoldsForOne (IsNodeLineOf yxx) (before ++ line ∷ []))
+blocks_kept : (progress : ImageReadProgress) (before : List (List ℕ)) (line : List ℕ) → IsAfter progress before → ((yxx : ℕ) → ¬ IsNodeLineOf yxx line)
+    → (yxx n : ℕ) → number_of_yxx yxx ≡ Some n → Decides (get_or progress.blocks n false) (HoldsForOneElement (IsNodeLineOf yxx) (before ++ line ∷ []))
 blocks_kept progress before line after other yxx n is =
     Decides-like (get_or progress.blocks n false) (one_front (IsNodeLineOf yxx) before line)
     (λ some. elim (one_split (IsNodeLineOf yxx) before line some) [ inl front ↦ front | inr last ↦ absurd (other yxx last) ]) (after.blocks yxx n is)
 
 -- the format is that of the first line
-format_more : (before : List (List ℕ)) (line : List ℕ) → before ≢ [] → format_in before ≡ format_in (before ++ line ∷ [])
+format_more : (before : List (List ℕ)) (line : List ℕ) → before ≢ [] → format_of_first_line before ≡ format_of_first_line (before ++ line ∷ [])
 format_more [] line some = absurd (some refl)
 format_more (first ∷ before) line some = refl
 
-format_kept : (progress : Progress) (before : List (List ℕ)) (line : List ℕ) → IsAfter progress before → progress.stage ≢ stage.Header → progress.format ≡ format_in (before ++ line ∷ [])
+format_kept : (progress : ImageReadProgress) (before : List (List ℕ)) (line : List ℕ) → IsAfter progress before → progress.stage ≢ stage.Header → progress.format ≡ format_of_first_line (before ++ line ∷ [])
 format_kept progress before line after behind =
     let some = later progress.stage before behind after.stands in after.format some ∙ format_more before line some
 
@@ -215,7 +215,7 @@ held_more held (f ∷ fs) field words =
     ∙ held_more (run_state_after held (field_writes f.0 f.1)) fs field words
     ∙ sym (held-append held (field_writes f.0 f.1) (field_line_writes (fs ++ (field, words) ∷ [])))
 
-after_end : (progress : Progress) (before : List (List ℕ)) (line : List ℕ) → IsAfter progress before → progress.stage ≢ stage.Header → IsTextOfForm line End → IsAfter (record progress { stage = stage.Ended }) (before ++ line ∷ [])
+after_end : (progress : ImageReadProgress) (before : List (List ℕ)) (line : List ℕ) → IsAfter progress before → progress.stage ≢ stage.Header → IsTextOfForm line End → IsAfter (record progress { stage = stage.Ended }) (before ++ line ∷ [])
 after_end progress before line after behind end = record {
   stands = (some_more before line, one_last IsEndLine before line end);
   sized = record { blocks = after.sized.blocks; given = after.sized.given };
@@ -225,11 +225,11 @@ after_end progress before line after behind end = record {
   held = λ node e. absurd (let never : stage.Ended ≡ stage.Block node = e in let clash : true ≡ false = cc in cc);
 }
 
-after_header : (progress : Progress) (before : List (List ℕ)) (line : List ℕ) → IsAfter progress before → progress.stage ≡ stage.Header → line ≡ header (format_of line) → IsAfter (record progress { format = format_of line; stage = stage.Open }) (before ++ line ∷ [])
+after_header : (progress : ImageReadProgress) (before : List (List ℕ)) (line : List ℕ) → IsAfter progress before → progress.stage ≡ stage.Header → line ≡ header (format_of_header line) → IsAfter (record progress { format = format_of_header line; stage = stage.Open }) (before ++ line ∷ [])
 after_header progress before line after is first =
-    let formless = header_formless line (format_of line) first in
-    let none : before ≡ [] = let Q : Stage → Type 0 = λ st. StandsAt st before in subst Q is after.stands in
-    let no_line : (Holds : List ℕ → Type 0) → ¬ HoldsForOne Holds before = λ Holds some. let Q : List (List ℕ) → Type 0 = HoldsForOne Holds in absurd (subst Q none some) in
+    let formless = header_formless line (format_of_header line) first in
+    let none : before ≡ [] = let Q : ImageReadStage → Type 0 = λ st. StandsAt st before in subst Q is after.stands in
+    let no_line : (Holds : List ℕ → Type 0) → ¬ HoldsForOneElement Holds before = λ Holds some. let Q : List (List ℕ) → Type 0 = HoldsForOneElement Holds in absurd (subst Q none some) in
     record {
       stands = (
         some_more before line,
@@ -239,7 +239,7 @@ after_header progress before line after is first =
       sized = record { blocks = after.sized.blocks; given = after.sized.given };
       blocks = blocks_kept progress before line after (λ yxx begins_with_text. formless (Node yxx) begins_with_text);
       given = λ node e. absurd (let never : stage.Open ≡ stage.Block node = e in let clash : true ≡ false = cc in cc);
-      format = λ some. ap (λ (b : List (List ℕ)). format_in (b ++ line ∷ [])) (sym none);
+      format = λ some. ap (λ (b : List (List ℕ)). format_of_first_line (b ++ line ∷ [])) (sym none);
       held = λ node e. absurd (let never : stage.Open ≡ stage.Block node = e in let clash : true ≡ false = cc in cc);
     }
 
@@ -247,8 +247,8 @@ in_node : (y n m k : ℕ) → number_of_yxx y ≡ Some n → number_of_yxx m ≡
 in_node y n m k first second same =
     (yxx_of_node y n first).0 ∙ ap yxx_of same ∙ sym (yxx_of_node m k second).0
 
-after_node : (progress : Progress) (before : List (List ℕ)) (line : List ℕ) (y n : ℕ) → IsAfter progress before → IsTextOfForm line (Node y) → progress.stage ≢ stage.Header
-    → is_misplaced progress.stage (Some (Node y)) ≡ false → number_of_yxx y ≡ Some n
+after_node : (progress : ImageReadProgress) (before : List (List ℕ)) (line : List ℕ) (y n : ℕ) → IsAfter progress before → IsTextOfForm line (Node y) → progress.stage ≢ stage.Header
+    → is_misplaced_line progress.stage (Some (Node y)) ≡ false → number_of_yxx y ≡ Some n
     → IsAfter (record progress { stage = stage.Block n; blocks = set progress.blocks n true; given = no_fields_given; held = load_run_state }) (before ++ line ∷ [])
 after_node progress before line y n after spelled behind placed is =
     let within : n < length progress.blocks = let small = (yxx_of_node y n is).1 in omega (arith, after.sized.blocks) in
@@ -289,17 +289,17 @@ after_node progress before line y n after spelled behind placed is =
       );
     }
 
-after_words : (progress : Progress) (before : List (List ℕ)) (line : List ℕ) (node : ℕ) (field : Field) (words : List ℕ) → IsAfter progress before → IsTextOfForm line (Words field words)
+after_words : (progress : ImageReadProgress) (before : List (List ℕ)) (line : List ℕ) (node : ℕ) (field : Field) (words : List ℕ) → IsAfter progress before → IsTextOfForm line (Words field words)
     → progress.stage ≡ stage.Block node → exceeds_field field (length words) ≡ false → IsAfter (with_field_writes progress (field_writes field words)) (before ++ line ∷ [])
 after_words progress before line node field words after spelled is inside =
     let ws = field_writes field words in
     let cells = each_has_cell field words inside in
-    let Q : Stage → Type 0 = λ st. StandsAt st before in
+    let Q : ImageReadStage → Type 0 = λ st. StandsAt st before in
     let stood = subst Q is after.stands in
-    let R : Stage → Type 0 = λ st. StandsAt st (before ++ line ∷ []) in
+    let R : ImageReadStage → Type 0 = λ st. StandsAt st (before ++ line ∷ []) in
     let no_node : ¬ IsNodeLine line = λ begins_with_text. node_no_words line begins_with_text.0 field words begins_with_text.1 spelled in
     let stands = subst R (sym is) (some_more before line, none_more IsEndLine before line stood.1 (λ end. end_no_words line field words end spelled), one_front IsNodeLine before line stood.2) in
-    subst (λ (p : Progress). IsAfter p (before ++ line ∷ [])) (sym (all_written progress ws)) (record {
+    subst (λ (p : ImageReadProgress). IsAfter p (before ++ line ∷ [])) (sym (all_written progress ws)) (record {
       stands = stands;
       sized = record { blocks = after.sized.blocks; given = length-marked progress.given ws ∙ after.sized.given };
       format = λ some. format_kept progress before line after (rw is (λ e. cc));
@@ -320,27 +320,27 @@ after_words progress before line node field words after spelled is inside =
                 let forms : Words last.0 last.1 ≡ Words field words = one_form line _ _ last.2 spelled in
                 let fields : last.0 ≡ field = cc in
                 let word_lists : last.1 ≡ words = cc in
-                let U : List ℕ → Type 0 = λ vs. HoldsForOne (λ w. w.0 ≡ g) (field_writes field vs) in
-                let V : Field → Type 0 = λ f. HoldsForOne (λ w. w.0 ≡ g) (field_writes f last.1) in
+                let U : List ℕ → Type 0 = λ vs. HoldsForOneElement (λ w. w.0 ≡ g) (field_writes field vs) in
+                let V : Field → Type 0 = λ f. HoldsForOneElement (λ w. w.0 ≡ g) (field_writes f last.1) in
                 inr (subst U word_lists (subst V fields last.3))
           ])
           (Decides-or _ _ (after.given node is g cell) (numbered g ws cell cells)));
     })
 
-after_form_of : (progress : Progress) (before : List (List ℕ)) (line : List ℕ) (f : Form) → IsAfter progress before → IsTextOfForm line f → progress.stage ≢ stage.Header
-    → later_fault progress (Some f) ≡ None → IsAfter (progress_after_form progress (Some f)) (before ++ line ∷ [])
+after_form_of : (progress : ImageReadProgress) (before : List (List ℕ)) (line : List ℕ) (f : LineForm) → IsAfter progress before → IsTextOfForm line f → progress.stage ≢ stage.Header
+    → fault_after_header progress (Some f) ≡ None → IsAfter (progress_after_form progress (Some f)) (before ++ line ∷ [])
 after_form_of progress before line End after spelled behind none = after_end progress before line after behind spelled
 after_form_of progress before line (Node y) after spelled behind none =
     let ok = node_ok progress y none in
-    let placed = (neither (is_misplaced progress.stage (Some (Node y))) _ _ none).0 in
+    let placed = (neither (is_misplaced_line progress.stage (Some (Node y))) _ _ none).0 in
     let Q : Option ℕ → Type 0 = λ o. IsAfter (with_block progress o) (before ++ line ∷ []) in
     subst Q (sym ok.1) (after_node progress before line y ok.0 after spelled behind placed ok.1)
 after_form_of progress before line (Words field words) after spelled behind none =
-    let placed = (neither (is_misplaced progress.stage (Some (Words field words))) _ _ none).0 in
+    let placed = (neither (is_misplaced_line progress.stage (Some (Words field words))) _ _ none).0 in
     let block = in_block progress.stage field words placed in
     after_words progress before line block.0 field words after spelled block.1 (in_memory field (length words) (field_ok progress field words none).0.0)
 
-header_line : (st : Stage) (progress : Progress) (line : List ℕ) → st ≡ stage.Header → line_fault st progress line ≡ None → line ≡ header (format_of line)
+header_line : (st : ImageReadStage) (progress : ImageReadProgress) (line : List ℕ) → st ≡ stage.Header → line_fault st progress line ≡ None → line ≡ header (format_of_header line)
 header_line stage.Header progress line is none = header_named line (accepted (is_header line) none) where
   accepted : (b : Bool) → cond b None (Some cause.Header) ≡ None → b ≡ true
   accepted true e = refl
@@ -350,23 +350,23 @@ header_line (stage.Block node) progress line is none = cc
 header_line stage.Ended progress line is none = cc
 
 -- a line without fault leads to the state after it
-pub after_one : (progress : Progress) (before : List (List ℕ)) (line : List ℕ) → IsAfter progress before → fault_of progress line ≡ None → IsAfter (after_line progress line) (before ++ line ∷ [])
+pub after_one : (progress : ImageReadProgress) (before : List (List ℕ)) (line : List ℕ) → IsAfter progress before → first_fault_of_line progress line ≡ None → IsAfter (progress_after_line progress line) (before ++ line ∷ [])
 after_one progress before line after none =
-    let Q : Progress → Type 0 = λ p. IsAfter p (before ++ line ∷ []) in
+    let Q : ImageReadProgress → Type 0 = λ p. IsAfter p (before ++ line ∷ []) in
     elim (known progress.stage) [
       | inl is ↦ subst Q (sym (past_start progress line is)) (after_header progress before line after is (header_line progress.stage progress line is (not_short progress line none)))
       | inr later ↦
-          let none_later : later_fault progress (form_in_format progress.format line) ≡ None = sym (line_later progress.stage progress line later) ∙ not_short progress line none in
-          let placed = neither (is_misplaced progress.stage (form_in_format progress.format line)) _ _ none_later in
+          let none_later : fault_after_header progress (form_in_format progress.format line) ≡ None = sym (line_later progress.stage progress line later) ∙ not_short progress line none in
+          let placed = neither (is_misplaced_line progress.stage (form_in_format progress.format line)) _ _ none_later in
           let meaning = some_form progress.stage (form_in_format progress.format line) later placed.0 in
-          let fault : later_fault progress (Some meaning.0) ≡ None = ap (later_fault progress) (sym meaning.1) ∙ none_later in
-          let past : after_line progress line ≡ progress_after_form progress (Some meaning.0) = short_past progress line ∙ past_later progress.stage progress line later ∙ ap (progress_after_form progress) meaning.1 in
+          let fault : fault_after_header progress (Some meaning.0) ≡ None = ap (fault_after_header progress) (sym meaning.1) ∙ none_later in
+          let past : progress_after_line progress line ≡ progress_after_form progress (Some meaning.0) = short_past progress line ∙ past_later progress.stage progress line later ∙ ap (progress_after_form progress) meaning.1 in
           subst Q (sym past) (after_form_of progress before line meaning.0 after (kept_spelled progress.format line meaning.0 meaning.1).0 later fault)
     ]
 
 -- before the first line
-pub after_none : IsAfter start []
-unfolding start
+pub after_none : IsAfter initial_progress []
+unfolding initial_progress
 after_none = record {
   stands = refl;
   sized = record { blocks = refl; given = refl };

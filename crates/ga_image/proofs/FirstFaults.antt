@@ -9,12 +9,12 @@ use Rattle.ga_image.specs.declared.field.Field.{Field}
 use Rattle.ga_image.specs.declared.field.Format.{Format}
 use Rattle.ga_image.specs.declared.field.Format.TheVariants.{One, Two}
 use Rattle.ga_image.specs.declared.field.RunState.{RunState}
-use Rattle.ga_image.specs.Spelling.{Form, Node, Words, End, IsTextOfForm}
+use Rattle.ga_image.specs.Spelling.{LineForm, Node, Words, End, IsTextOfForm}
 use Rattle.ga_text.specs.Lines.{max_input_line}
 use Rattle.ga_image.specs.Grammar.{header, is_header_of}
-use Rattle.ga_image.specs.Reading.{Progress, Stage, fault_of, line_fault, later_fault, form_fault, is_misplaced, ends_inconsistent_block, form_in_format, is_header, reading, refused, result_at_end, after_line, start, Gives}
+use Rattle.ga_image.specs.Reading.{ImageReadProgress, ImageReadStage, first_fault_of_line, line_fault, fault_after_header, line_form_fault, is_misplaced_line, ends_inconsistent_block, form_in_format, is_header, result_of_lines, fault_or_result, result_at_image_end, progress_after_line, initial_progress, IsImageReadResult}
 use Rattle.ga_image.specs.Reading as stage
-use Rattle.ga_image.specs.FirstFault.{HasLastFieldLines, causes, memory_fault, HoldsForOne, IsEndLine, IsFirstCause, HasNoneOfCauses, AreFaultless, IsLineFault, IsEndMissing, IsFirstFault}
+use Rattle.ga_image.specs.FirstFault.{HasLastFieldLines, ordered_line_causes, memory_fault, HoldsForOneElement, IsEndLine, IsFirstRefusalCause, HasNoneOfRefusalCauses, AreLinesFaultless, IsLineFault, IsEndMissing, IsFirstFault}
 use Rattle.ga_image.proofs.Spellings.{kept_spelled}
 use Rattle.ga_image.proofs.Meanings.{or_false}
 use Rattle.ga_image.proofs.Found.{some_form, header_named}
@@ -47,14 +47,14 @@ end_tells before line end = (
   ),
 )
 
-words_steady : (st : Stage) (held : RunState) (field : Field) (words : List ℕ) → ends_inconsistent_block st held (Some (Words field words)) ≡ false
+words_steady : (st : ImageReadStage) (held : RunState) (field : Field) (words : List ℕ) → ends_inconsistent_block st held (Some (Words field words)) ≡ false
 words_steady stage.Header held field words = refl
 words_steady stage.Open held field words = refl
 words_steady (stage.Block node) held field words = refl
 words_steady stage.Ended held field words = refl
 
-form_tells : (progress : Progress) (before : List (List ℕ)) (line : List ℕ) (f : Form) → IsAfter progress before → IsTextOfForm line f
-    → is_misplaced progress.stage (Some f) ≡ false → Tells before line standing.after_line (cond (ends_inconsistent_block progress.stage progress.held (Some f)) (Some cause.State) (form_fault progress (Some f)))
+form_tells : (progress : ImageReadProgress) (before : List (List ℕ)) (line : List ℕ) (f : LineForm) → IsAfter progress before → IsTextOfForm line f
+    → is_misplaced_line progress.stage (Some f) ≡ false → Tells before line standing.progress_after_line (cond (ends_inconsistent_block progress.stage progress.held (Some f)) (Some cause.State) (line_form_fault progress (Some f)))
 form_tells progress before line (Node y) after spelled placed =
     tested before line cause.State after_state (ends_inconsistent_block progress.stage progress.held (Some (Node y))) _
     (node_unsteady progress.stage progress before line y after refl after.stands placed spelled) (λ steady. node_tells progress before line y after spelled)
@@ -71,15 +71,15 @@ form_tells progress before line End after spelled placed =
     tested before line cause.State after_state (ends_inconsistent_block progress.stage progress.held (Some End)) _
     (end_unsteady progress.stage progress before line after refl after.stands placed spelled) (λ steady. end_tells before line spelled)
 
-later_tells : (progress : Progress) (before : List (List ℕ)) (line : List ℕ) → IsAfter progress before → progress.stage ≢ stage.Header
-    → Tells before line after_long (later_fault progress (form_in_format progress.format line))
+later_tells : (progress : ImageReadProgress) (before : List (List ℕ)) (line : List ℕ) → IsAfter progress before → progress.stage ≢ stage.Header
+    → Tells before line after_long (fault_after_header progress (form_in_format progress.format line))
 later_tells progress before line after behind =
     let some = later progress.stage before behind after.stands in
     passed_over before line cause.Header after_header _ (λ other. some other.0)
-    (tested before line cause.Line standing.after_line (is_misplaced progress.stage (form_in_format progress.format line)) _ (misplaced progress.stage progress.format (form_in_format progress.format line) before line (after.format some) refl behind after.stands) (λ placed.
+    (tested before line cause.Line standing.progress_after_line (is_misplaced_line progress.stage (form_in_format progress.format line)) _ (misplaced progress.stage progress.format (form_in_format progress.format line) before line (after.format some) refl behind after.stands) (λ placed.
     let f = some_form progress.stage (form_in_format progress.format line) behind placed in
-    let Q : Option Form → Type 0 = λ o. Tells before line standing.after_line (cond (ends_inconsistent_block progress.stage progress.held o) (Some cause.State) (form_fault progress o)) in
-    subst Q (sym f.1) (form_tells progress before line f.0 after (kept_spelled progress.format line f.0 f.1).0 (ap (is_misplaced progress.stage) (sym f.1) ∙ placed))))
+    let Q : Option LineForm → Type 0 = λ o. Tells before line standing.progress_after_line (cond (ends_inconsistent_block progress.stage progress.held o) (Some cause.State) (line_form_fault progress o)) in
+    subst Q (sym f.1) (form_tells progress before line f.0 after (kept_spelled progress.format line f.0 f.1).0 (ap (is_misplaced_line progress.stage) (sym f.1) ∙ placed))))
 
 no_header : (line : List ℕ) (format : Format) → is_header line ≡ false → line ≢ header format
 no_header line One other is = let parts = or_false (is_header_of line One) (is_header_of line Two) other in not_from_Decides (is_header_of line One) (bytes_eq-Decides line (header One)) parts.0 is
@@ -111,7 +111,7 @@ header_tells before line true is first =
       ),
     )
 
-line_tells : (st : Stage) (progress : Progress) (before : List (List ℕ)) (line : List ℕ) → progress.stage ≡ st → IsAfter progress before
+line_tells : (st : ImageReadStage) (progress : ImageReadProgress) (before : List (List ℕ)) (line : List ℕ) → progress.stage ≡ st → IsAfter progress before
     → Tells before line after_long (line_fault st progress line)
 line_tells stage.Header progress before line is after =
     let first : StandsAt stage.Header before = subst (λ st. StandsAt st before) is after.stands in
@@ -121,45 +121,45 @@ line_tells (stage.Block node) progress before line is after = later_tells progre
 line_tells stage.Ended progress before line is after = later_tells progress before line after (rw is (λ e. cc))
 
 -- what is found wrong with a line is the first of its causes
-pub fault_tells : (progress : Progress) (before : List (List ℕ)) (line : List ℕ) → IsAfter progress before → Tells before line causes (fault_of progress line)
-unfolding fault_of
+pub fault_tells : (progress : ImageReadProgress) (before : List (List ℕ)) (line : List ℕ) → IsAfter progress before → Tells before line ordered_line_causes (first_fault_of_line progress line)
+unfolding first_fault_of_line
 fault_tells progress before line after =
     tested before line cause.Long after_long (nat_lt max_input_line (length line)) (line_fault progress.stage progress line) (Decides-ltb max_input_line (length line))
     (λ short. line_tells progress.stage progress before line refl after)
 
 -- ---- the first cause of a line
 
-none_first : (before : List (List ℕ)) (line : List ℕ) (left : List ImageCause) (first : ImageCause) → HasNoneOfCauses before line left → ¬ IsFirstCause before line left first
+none_first : (before : List (List ℕ)) (line : List ℕ) (left : List ImageCause) (first : ImageCause) → HasNoneOfRefusalCauses before line left → ¬ IsFirstRefusalCause before line left first
 none_first before line [] first none = λ is. is
 none_first before line (c ∷ left) first none = λ is. elim is [ inl here ↦ none.0 here.1 | inr there ↦ none_first before line left first none.1 there.1 ]
 
-one_first : (before : List (List ℕ)) (line : List ℕ) (left : List ImageCause) (first second : ImageCause) → IsFirstCause before line left first → IsFirstCause before line left second → first ≡ second
+one_first : (before : List (List ℕ)) (line : List ℕ) (left : List ImageCause) (first second : ImageCause) → IsFirstRefusalCause before line left first → IsFirstRefusalCause before line left second → first ≡ second
 one_first before line [] first second p q = absurd p
 one_first before line (c ∷ left) first second (inl p) (inl q) = p.0 ∙ sym q.0
 one_first before line (c ∷ left) first second (inl p) (inr q) = absurd (q.0 p.1)
 one_first before line (c ∷ left) first second (inr p) (inl q) = absurd (p.0 q.1)
 one_first before line (c ∷ left) first second (inr p) (inr q) = one_first before line left first second p.1 q.1
 
-no_fault : (before : List (List ℕ)) (line : List ℕ) (found : Option ImageCause) → Tells before line causes found → HasNoneOfCauses before line causes → found ≡ None
+no_fault : (before : List (List ℕ)) (line : List ℕ) (found : Option ImageCause) → Tells before line ordered_line_causes found → HasNoneOfRefusalCauses before line ordered_line_causes → found ≡ None
 no_fault before line None tells none = refl
-no_fault before line (Some c) tells none = absurd (none_first before line causes c none tells)
+no_fault before line (Some c) tells none = absurd (none_first before line ordered_line_causes c none tells)
 
-the_fault : (before : List (List ℕ)) (line : List ℕ) (found : Option ImageCause) (first : ImageCause) → Tells before line causes found → IsFirstCause before line causes first → found ≡ Some first
-the_fault before line None first tells is = absurd (none_first before line causes first tells is)
-the_fault before line (Some c) first tells is = ap (λ x. Some x) (one_first before line causes c first tells is)
+the_fault : (before : List (List ℕ)) (line : List ℕ) (found : Option ImageCause) (first : ImageCause) → Tells before line ordered_line_causes found → IsFirstRefusalCause before line ordered_line_causes first → found ≡ Some first
+the_fault before line None first tells is = absurd (none_first before line ordered_line_causes first tells is)
+the_fault before line (Some c) first tells is = ap (λ x. Some x) (one_first before line ordered_line_causes c first tells is)
 
 -- ---- what reading refuses
 
-one_more : (before lines : List (List ℕ)) (line : List ℕ) → AreFaultless before lines → HasNoneOfCauses (before ++ lines) line causes → AreFaultless before (lines ++ line ∷ [])
-one_more before [] line each none = (subst (λ (b : List (List ℕ)). HasNoneOfCauses b line causes) (append-nil before) none, tt)
+one_more : (before lines : List (List ℕ)) (line : List ℕ) → AreLinesFaultless before lines → HasNoneOfRefusalCauses (before ++ lines) line ordered_line_causes → AreLinesFaultless before (lines ++ line ∷ [])
+one_more before [] line each none = (subst (λ (b : List (List ℕ)). HasNoneOfRefusalCauses b line ordered_line_causes) (append-nil before) none, tt)
 one_more before (first ∷ lines) line each none =
-    (each.0, one_more (before ++ first ∷ []) lines line each.1 (subst (λ (b : List (List ℕ)). HasNoneOfCauses b line causes) (sym (append_assoc before (first ∷ []) lines)) none))
+    (each.0, one_more (before ++ first ∷ []) lines line each.1 (subst (λ (b : List (List ℕ)). HasNoneOfRefusalCauses b line ordered_line_causes) (sym (append_assoc before (first ∷ []) lines)) none))
 
-not_at_end : (st : Stage) (chip : List NodeState) (line : ℕ) (before : List (List ℕ)) (fault : ImageFault) → StandsAt st before → result_at_end st chip line ≡ Err fault
-    → (¬ HoldsForOne IsEndLine before) × (record { line = line; cause = cause.Truncated } ≡ fault)
+not_at_end : (st : ImageReadStage) (chip : List NodeState) (line : ℕ) (before : List (List ℕ)) (fault : ImageFault) → StandsAt st before → result_at_image_end st chip line ≡ Err fault
+    → (¬ HoldsForOneElement IsEndLine before) × (record { line = line; cause = cause.Truncated } ≡ fault)
 not_at_end stage.Header chip line before fault stands e =
     let same : record { line = line; cause = cause.Truncated } ≡ fault = cc in
-    let Q : List (List ℕ) → Type 0 = HoldsForOne IsEndLine in (λ some. let none : HoldsForOne IsEndLine [] = subst Q stands some in none, same)
+    let Q : List (List ℕ) → Type 0 = HoldsForOneElement IsEndLine in (λ some. let none : HoldsForOneElement IsEndLine [] = subst Q stands some in none, same)
 not_at_end stage.Open chip line before fault stands e = let same : record { line = line; cause = cause.Truncated } ≡ fault = cc in (stands.1, same)
 not_at_end (stage.Block node) chip line before fault stands e = let same : record { line = line; cause = cause.Truncated } ≡ fault = cc in (stands.1, same)
 not_at_end stage.Ended chip line before fault stands e = cc
@@ -168,15 +168,15 @@ longer : (before : List (List ℕ)) (line : List ℕ) → length (before ++ line
 longer before line = length-append before (line ∷ [])
 
 -- a refusal is of this line or of a later one
-either_refused : (found : Option ImageCause) (number : ℕ) (others : Result (List NodeState) ImageFault) (fault : ImageFault) → refused found number others ≡ Err fault
+either_refused : (found : Option ImageCause) (number : ℕ) (others : Result (List NodeState) ImageFault) (fault : ImageFault) → fault_or_result found number others ≡ Err fault
     → ((c : ImageCause) × (found ≡ Some c) × (record { line = number; cause = c } ≡ fault)) ⊎ ((found ≡ None) × (others ≡ Err fault))
 either_refused None number others fault e = inr (refl, e)
 either_refused (Some c) number others fault e = let same : record { line = number; cause = c } ≡ fault = cc in inl (c, refl, same)
 
 -- a fault that reading finds after these lines is the first of the whole text
-found_behind : (lines : List (List ℕ)) (progress : Progress) (before : List (List ℕ)) (fault : ImageFault) → IsAfter progress before → AreFaultless [] before
-    → reading progress (length before + 1) lines ≡ Err fault → IsFirstFault (before ++ lines) fault
-unfolding reading
+found_behind : (lines : List (List ℕ)) (progress : ImageReadProgress) (before : List (List ℕ)) (fault : ImageFault) → IsAfter progress before → AreLinesFaultless [] before
+    → result_of_lines progress (length before + 1) lines ≡ Err fault → IsFirstFault (before ++ lines) fault
+unfolding result_of_lines
 found_behind [] progress before fault after each e =
     let end = not_at_end progress.stage progress.chip (length before + 1) before fault after.stands e in
     subst (λ (texts : List (List ℕ)). IsFirstFault texts fault) (sym (append-nil before)) (inr (record {
@@ -187,8 +187,8 @@ found_behind [] progress before fault after each e =
     }))
 found_behind (line ∷ lines) progress before fault after each e =
     let tells = fault_tells progress before line after in
-    let T : Option ImageCause → Type 0 = Tells before line causes in
-    elim (either_refused (fault_of progress line) (length before + 1) (reading (after_line progress line) (length before + 1 + 1) lines) fault e) [
+    let T : Option ImageCause → Type 0 = Tells before line ordered_line_causes in
+    elim (either_refused (first_fault_of_line progress line) (length before + 1) (result_of_lines (progress_after_line progress line) (length before + 1 + 1) lines) fault e) [
       | inl (c, is, same) ↦
           inl (record {
             before = before;
@@ -196,73 +196,73 @@ found_behind (line ∷ lines) progress before fault after each e =
             after = lines;
             parts = refl;
             faultless = each;
-            cause = let Q : ImageFault → Type 0 = λ f. IsFirstCause before line causes f.cause in subst Q same (subst T is tells);
+            cause = let Q : ImageFault → Type 0 = λ f. IsFirstRefusalCause before line ordered_line_causes f.cause in subst Q same (subst T is tells);
             number = ap (λ f. f.line) (sym same);
           })
       | inr (none, others) ↦
           let more = one_more [] before line each (subst T none tells) in
-          let onward = ap (λ (n : ℕ). reading (after_line progress line) (n + 1) lines) (longer before line) ∙ others in
-          let rest = found_behind lines (after_line progress line) (before ++ line ∷ []) fault (after_one progress before line after none) more onward in
+          let onward = ap (λ (n : ℕ). result_of_lines (progress_after_line progress line) (n + 1) lines) (longer before line) ∙ others in
+          let rest = found_behind lines (progress_after_line progress line) (before ++ line ∷ []) fault (after_one progress before line after none) more onward in
           subst (λ (texts : List (List ℕ)). IsFirstFault texts fault) (append_assoc before (line ∷ []) lines) rest
     ]
 
 -- what reading refuses is the first fault
-pub refused_first : (texts : List (List ℕ)) (fault : ImageFault) → reading start 1 texts ≡ Err fault → IsFirstFault texts fault
-refused_first texts fault e = found_behind texts start [] fault after_none tt e
+pub refused_first : (texts : List (List ℕ)) (fault : ImageFault) → result_of_lines initial_progress 1 texts ≡ Err fault → IsFirstFault texts fault
+refused_first texts fault e = found_behind texts initial_progress [] fault after_none tt e
 
 -- ---- the first fault is what reading refuses
 
 -- faultless lines are read
-read_on : (lines : List (List ℕ)) (rest : List (List ℕ)) (progress : Progress) (before : List (List ℕ)) → IsAfter progress before → AreFaultless before lines
-    → (next : Progress) × IsAfter next (before ++ lines) × (reading progress (length before + 1) (lines ++ rest) ≡ reading next (length (before ++ lines) + 1) rest)
-unfolding reading
+read_on : (lines : List (List ℕ)) (rest : List (List ℕ)) (progress : ImageReadProgress) (before : List (List ℕ)) → IsAfter progress before → AreLinesFaultless before lines
+    → (next : ImageReadProgress) × IsAfter next (before ++ lines) × (result_of_lines progress (length before + 1) (lines ++ rest) ≡ result_of_lines next (length (before ++ lines) + 1) rest)
+unfolding result_of_lines
 read_on [] rest progress before after each =
-    (progress, subst (IsAfter progress) (sym (append-nil before)) after, ap (λ (b : List (List ℕ)). reading progress (length b + 1) rest) (sym (append-nil before)))
+    (progress, subst (IsAfter progress) (sym (append-nil before)) after, ap (λ (b : List (List ℕ)). result_of_lines progress (length b + 1) rest) (sym (append-nil before)))
 read_on (line ∷ lines) rest progress before after each =
-    let none = no_fault before line (fault_of progress line) (fault_tells progress before line after) each.0 in
-    let more = read_on lines rest (after_line progress line) (before ++ line ∷ []) (after_one progress before line after none) each.1 in
+    let none = no_fault before line (first_fault_of_line progress line) (fault_tells progress before line after) each.0 in
+    let more = read_on lines rest (progress_after_line progress line) (before ++ line ∷ []) (after_one progress before line after none) each.1 in
     let same = append_assoc before (line ∷ []) lines in
-    let here : reading progress (length before + 1) (line ∷ (lines ++ rest)) ≡ reading (after_line progress line) (length before + 1 + 1) (lines ++ rest) = rw none refl in (
+    let here : result_of_lines progress (length before + 1) (line ∷ (lines ++ rest)) ≡ result_of_lines (progress_after_line progress line) (length before + 1 + 1) (lines ++ rest) = rw none refl in (
       more.0,
       subst (IsAfter more.0) same more.1,
-      here ∙ ap (λ (n : ℕ). reading (after_line progress line) (n + 1) (lines ++ rest)) (sym (longer before line)) ∙ more.2
-          ∙ ap (λ (b : List (List ℕ)). reading more.0 (length b + 1) rest) same,
+      here ∙ ap (λ (n : ℕ). result_of_lines (progress_after_line progress line) (n + 1) (lines ++ rest)) (sym (longer before line)) ∙ more.2
+          ∙ ap (λ (b : List (List ℕ)). result_of_lines more.0 (length b + 1) rest) same,
     )
 
-read_fault : (progress : Progress) (number : ℕ) (line : List ℕ) (rest : List (List ℕ)) (fault : ImageFault) → fault_of progress line ≡ Some fault.cause → fault.line ≡ number → reading progress number (line ∷ rest) ≡ Err fault
-unfolding reading
+read_fault : (progress : ImageReadProgress) (number : ℕ) (line : List ℕ) (rest : List (List ℕ)) (fault : ImageFault) → first_fault_of_line progress line ≡ Some fault.cause → fault.line ≡ number → result_of_lines progress number (line ∷ rest) ≡ Err fault
+unfolding result_of_lines
 read_fault progress number line rest fault is same = rw (is, ← same) refl
 
-read_end : (progress : Progress) (texts : List (List ℕ)) (fault : ImageFault) → IsAfter progress texts → ¬ HoldsForOne IsEndLine texts → fault.cause ≡ cause.Truncated → fault.line ≡ length texts + 1 → reading progress (length texts + 1) [] ≡ Err fault
-unfolding reading
+read_end : (progress : ImageReadProgress) (texts : List (List ℕ)) (fault : ImageFault) → IsAfter progress texts → ¬ HoldsForOneElement IsEndLine texts → fault.cause ≡ cause.Truncated → fault.line ≡ length texts + 1 → result_of_lines progress (length texts + 1) [] ≡ Err fault
+unfolding result_of_lines
 read_end progress texts fault after unended from_low_bits number = at_stage progress.stage after.stands ∙ ap (λ f. Err f) same where
   same : record { line = length texts + 1; cause = cause.Truncated } ≡ fault
   same = rw (← number, ← from_low_bits) refl
 
-  at_stage : (st : Stage) → StandsAt st texts → result_at_end st progress.chip (length texts + 1) ≡ Err (record { line = length texts + 1; cause = cause.Truncated })
+  at_stage : (st : ImageReadStage) → StandsAt st texts → result_at_image_end st progress.chip (length texts + 1) ≡ Err (record { line = length texts + 1; cause = cause.Truncated })
   at_stage stage.Header stands = refl
   at_stage stage.Open stands = refl
   at_stage (stage.Block node) stands = refl
   at_stage stage.Ended stands = absurd (unended stands.1)
 
-first_refused_at : (texts : List (List ℕ)) (fault : ImageFault) → IsLineFault texts fault → reading start 1 texts ≡ Err fault
+first_refused_at : (texts : List (List ℕ)) (fault : ImageFault) → IsLineFault texts fault → result_of_lines initial_progress 1 texts ≡ Err fault
 first_refused_at texts fault at =
-    let on = read_on at.before (at.line ∷ at.after) start [] after_none at.faultless in
+    let on = read_on at.before (at.line ∷ at.after) initial_progress [] after_none at.faultless in
     let here = read_fault on.0 (length at.before + 1) at.line at.after fault (the_fault at.before at.line _ fault.cause (fault_tells on.0 at.before at.line on.1) at.cause) at.number in
-    ap (reading start 1) at.parts ∙ on.2 ∙ here
+    ap (result_of_lines initial_progress 1) at.parts ∙ on.2 ∙ here
 
-first_refused_end : (texts : List (List ℕ)) (fault : ImageFault) → IsEndMissing texts fault → reading start 1 texts ≡ Err fault
+first_refused_end : (texts : List (List ℕ)) (fault : ImageFault) → IsEndMissing texts fault → result_of_lines initial_progress 1 texts ≡ Err fault
 first_refused_end texts fault end =
-    let on = read_on texts [] start [] after_none end.faultless in
-    ap (reading start 1) (sym (append-nil texts)) ∙ on.2 ∙ read_end on.0 texts fault on.1 end.unended end.cause end.number
+    let on = read_on texts [] initial_progress [] after_none end.faultless in
+    ap (result_of_lines initial_progress 1) (sym (append-nil texts)) ∙ on.2 ∙ read_end on.0 texts fault on.1 end.unended end.cause end.number
 
 -- the first fault is what reading refuses
-pub first_refused : (texts : List (List ℕ)) (fault : ImageFault) → IsFirstFault texts fault → reading start 1 texts ≡ Err fault
+pub first_refused : (texts : List (List ℕ)) (fault : ImageFault) → IsFirstFault texts fault → result_of_lines initial_progress 1 texts ≡ Err fault
 first_refused texts fault (inl at) = first_refused_at texts fault at
 first_refused texts fault (inr end) = first_refused_end texts fault end
 
 -- what a call refused is the first fault, unless memory was refused
-pub refused_by : (result : Result (List NodeState) ImageFault) (texts : List (List ℕ)) → Gives result (reading start 1 texts) → IfErr result (λ fault. (fault ≡ memory_fault) ⊎ IsFirstFault texts fault)
+pub refused_by : (result : Result (List NodeState) ImageFault) (texts : List (List ℕ)) → IsImageReadResult result (result_of_lines initial_progress 1 texts) → IfErr result (λ fault. (fault ≡ memory_fault) ⊎ IsFirstFault texts fault)
 refused_by (Ok chip) texts gives = tt
 refused_by (Err fault) texts (inl memory) = inl memory
 refused_by (Err fault) texts (inr fails) = inr (refused_first texts fault fails)

@@ -5,13 +5,13 @@ use Rattle.std.proofs.Common.{◌≡◌, sym, ◌∙◌, cond, ℕ, ◌+◌, ◌
 use Rattle.std.proofs.lemmas.Bool.Decides.{nat_tests, Decides-or, Decides-ltb}
 use Rattle.std.proofs.lemmas.List.{drop_more}
 use Rattle.ga_node.specs.declared.place.Place.TheVariants as place
-use Rattle.ga_node.specs.Places.{greatest_value}
+use Rattle.ga_node.specs.Places.{greatest_place_value}
 use Rattle.ga_image.specs.declared.field.Field.{Field}
 use Rattle.ga_image.specs.declared.field.Field.TheVariants.{A, B, P, I, Io, Carry, Slot, Wait, Stop, Data, Return, Ram, Rom}
 use Rattle.ga_image.specs.declared.fault.ImageCause.TheVariants.{Repeated}
 use Rattle.ga_image.specs.inner.{HasCell, HoldsCode, AreCodes}
-use Rattle.ga_image.specs.Fields.{exceeds_field, greatest, next_field, field_number, field_writes, has_repeated_field, has_too_great_word}
-use Rattle.ga_image.specs.Reading.{Progress, words_fault, with_field_write, with_field_writes, Stage, node_fault, is_misplaced, has_block}
+use Rattle.ga_image.specs.Fields.{exceeds_field, greatest_field_word, next_field, field_number, field_writes, has_repeated_field, has_too_great_word}
+use Rattle.ga_image.specs.Reading.{ImageReadProgress, field_line_fault, with_field_write, with_field_writes, ImageReadStage, node_fault, is_misplaced_line, node_has_block}
 use Rattle.std.specs.Bool.{Decides}
 use Rattle.std.specs.List.{AllByRecursion, IsDistinct, list_any}
 use Rattle.std.proofs.lemmas.Bool.{ne_eqb}
@@ -20,7 +20,7 @@ use Rattle.ga_image.specs.declared.fault.ImageCause.TheVariants as cause
 use Rattle.ga_image.specs.Spelling.{Node, Words, IsTextOfForm, HasWordCount}
 use Rattle.ga_image.specs.Grammar.{IsWithinField}
 use Rattle.ga_image.specs.Reading as stage
-use Rattle.ga_image.specs.FirstFault.{HoldsForOne, IsNodeLineOf, IsFieldGiven, HasUnknownNode, HasCellOutOfRange, HasWordOutOfRange, IsRepeatedNode, IsRepeatedField}
+use Rattle.ga_image.specs.FirstFault.{HoldsForOneElement, IsNodeLineOf, IsFieldGiven, HasUnknownNode, HasCellOutOfRange, HasWordOutOfRange, IsRepeatedNode, IsRepeatedField}
 use Rattle.ga_image.proofs.Short.{count_spelled}
 use Rattle.ga_image.proofs.Meanings.{AreFree, AreBelow, apart_once, once_apart, or_false, in_memory, numbers, repeats_numbers, field_below}
 use Rattle.ga_image.proofs.Found.{within, named as known}
@@ -59,21 +59,21 @@ next_fits (Ram cell) count less e fits = grind (arith, nat_tests)
 next_fits (Rom cell) count less e fits = grind (arith, nat_tests)
 
 -- every word of a stack may be as great as a word
-data_greatest : (k : ℕ) → greatest (Data k) ≡ 0x3ffff
+data_greatest : (k : ℕ) → greatest_field_word (Data k) ≡ 0x3ffff
 data_greatest k = either (k == 0) (k == 1) where
-  either : (b c : Bool) → greatest_value (cond b place.T (cond c place.S (place.DataCell (k - 2)))) ≡ 0x3ffff
+  either : (b c : Bool) → greatest_place_value (cond b place.T (cond c place.S (place.DataCell (k - 2)))) ≡ 0x3ffff
   either true c = refl
   either false true = refl
   either false false = refl
 
-return_greatest : (k : ℕ) → greatest (Return k) ≡ 0x3ffff
+return_greatest : (k : ℕ) → greatest_field_word (Return k) ≡ 0x3ffff
 return_greatest k = either (k == 0) where
-  either : (b : Bool) → greatest_value (cond b place.R (place.ReturnCell (k - 1))) ≡ 0x3ffff
+  either : (b : Bool) → greatest_place_value (cond b place.R (place.ReturnCell (k - 1))) ≡ 0x3ffff
   either true = refl
   either false = refl
 
 -- the words of a stack and the cells of a memory hold the same words
-pub next_greatest : (field : Field) → greatest (next_field field) ≡ greatest field
+pub next_greatest : (field : Field) → greatest_field_word (next_field field) ≡ greatest_field_word field
 next_greatest A = refl
 next_greatest B = refl
 next_greatest P = refl
@@ -97,8 +97,8 @@ pub repeats_here : (given : List Bool) (field : Field) (words : List ℕ) (i : �
 repeats_here given field words i within is = rw (one_write field words i within, is) refl
 
 -- the only fault of a field line
-pub repeated_field : (progress : Progress) (field : Field) (words : List ℕ) → exceeds_field field (length words) ≡ false → has_too_great_word field words ≡ false → has_repeated_field progress.given (field_writes field words) ≡ true → words_fault progress field words ≡ Some Repeated
-unfolding words_fault
+pub repeated_field : (progress : ImageReadProgress) (field : Field) (words : List ℕ) → exceeds_field field (length words) ≡ false → has_too_great_word field words ≡ false → has_repeated_field progress.given (field_writes field words) ≡ true → field_line_fault progress field words ≡ Some Repeated
+unfolding field_line_fault
 repeated_field progress field words fits small again = rw (fits, small, again) refl
 
 -- past a word for a field that was not given
@@ -107,7 +107,7 @@ pub repeats_later : (given : List Bool) (field : Field) (words : List ℕ) (i : 
 repeats_later given field words i within free = rw (one_write field words i within, free) refl
 
 -- one word is written, then the others
-pub written_later : (progress : Progress) (field : Field) (words : List ℕ) (i : ℕ) → i < length words
+pub written_later : (progress : ImageReadProgress) (field : Field) (words : List ℕ) (i : ℕ) → i < length words
     → with_field_writes progress (field_writes field (drop i words)) ≡ with_field_writes (with_field_write progress (field, get_or words i 0)) (field_writes (next_field field) (drop (i + 1) words))
 written_later progress field words i within = ap (with_field_writes progress) (one_write field words i within)
 
@@ -144,22 +144,22 @@ no_node before line y spelled = (
       let number : y ≡ names.0 = cc in (is_missing (number_of_yxx y)).1 (ap number_of_yxx number ∙ names.2),
 )
 
-repeated_node : (progress : Progress) (before : List (List ℕ)) (line : List ℕ) (y n : ℕ) → IsAfter progress before → IsTextOfForm line (Node y) → number_of_yxx y ≡ Some n
-    → Decides (has_block progress (number_of_yxx y)) (IsRepeatedNode before line ⊎ IsRepeatedField before line)
+repeated_node : (progress : ImageReadProgress) (before : List (List ℕ)) (line : List ℕ) (y n : ℕ) → IsAfter progress before → IsTextOfForm line (Node y) → number_of_yxx y ≡ Some n
+    → Decides (node_has_block progress (number_of_yxx y)) (IsRepeatedNode before line ⊎ IsRepeatedField before line)
 repeated_node progress before line y n after spelled is =
     let block = after.blocks y n is in
-    let same : has_block progress (number_of_yxx y) ≡ get_or progress.blocks n false = ap (has_block progress) is in (
+    let same : node_has_block progress (number_of_yxx y) ≡ get_or progress.blocks n false = ap (node_has_block progress) is in (
       λ e. inl (y, spelled, block.0 (sym same ∙ e)),
       λ has_repeated_field. elim has_repeated_field [
         | inl node ↦
             let form_is : Node node.0 ≡ Node y = one_form line _ _ node.1 spelled in
             let number : node.0 ≡ y = cc in
-            same ∙ block.1 (subst (λ (k : ℕ). HoldsForOne (IsNodeLineOf k) before) number node.2)
+            same ∙ block.1 (subst (λ (k : ℕ). HoldsForOneElement (IsNodeLineOf k) before) number node.2)
         | inr field ↦ absurd (node_no_words line y field.1.0 field.1.1 spelled field.1.2)
       ],
     )
 
-pub node_tells : (progress : Progress) (before : List (List ℕ)) (line : List ℕ) (y : ℕ) → IsAfter progress before → IsTextOfForm line (Node y)
+pub node_tells : (progress : ImageReadProgress) (before : List (List ℕ)) (line : List ℕ) (y : ℕ) → IsAfter progress before → IsTextOfForm line (Node y)
     → Tells before line after_state (node_fault progress y)
 unfolding node_fault
 node_tells progress before line y after spelled =
@@ -167,7 +167,7 @@ node_tells progress before line y after spelled =
     let node = known (number_of_yxx y) some in
     passed_over before line cause.Place after_place _ (λ gives. node_no_words line y gives.0 gives.1 spelled gives.2)
     (passed_over before line cause.Word after_word _ (λ gives. node_no_words line y gives.0 gives.1 spelled gives.2)
-    (tested before line cause.Repeated [] (has_block progress (number_of_yxx y)) None (repeated_node progress before line y node.0 after spelled node.1) (λ e. tt))))
+    (tested before line cause.Repeated [] (node_has_block progress (number_of_yxx y)) None (repeated_node progress before line y node.0 after spelled node.1) (λ e. tt))))
 
 -- ---- a field line
 
@@ -188,20 +188,20 @@ no_cell before line field words spelled =
           decides.1 (subst P (sym word_lists) (subst Q (sym fields) gives.3)),
     )
 
-any_greater : (most : ℕ) (words : List ℕ) → Decides (list_any (λ word. nat_lt most word) words) (HoldsForOne (λ word. most < word) words)
+any_greater : (most : ℕ) (words : List ℕ) → Decides (list_any (λ word. nat_lt most word) words) (HoldsForOneElement (λ word. most < word) words)
 any_greater most [] = (λ e. cc, λ none. absurd none)
 any_greater most (word ∷ words) = Decides-or (nat_lt most word) _ (Decides-ltb most word) (any_greater most words)
 
 great_word : (before : List (List ℕ)) (line : List ℕ) (field : Field) (words : List ℕ) → IsTextOfForm line (Words field words) → Decides (has_too_great_word field words) (HasWordOutOfRange line)
 great_word before line field words spelled =
-    let decides = any_greater (greatest field) words in (
+    let decides = any_greater (greatest_field_word field) words in (
       λ e. (field, words, spelled, decides.0 e),
       λ gives.
           let same : Words field words ≡ Words gives.0 gives.1 = one_form line _ _ spelled gives.2 in
           let fields : field ≡ gives.0 = cc in
           let word_lists : words ≡ gives.1 = cc in
-          let P : List ℕ → Type 0 = λ ws. HoldsForOne (λ word. greatest field < word) ws in
-          let Q : Field → Type 0 = λ f. HoldsForOne (λ word. greatest f < word) gives.1 in
+          let P : List ℕ → Type 0 = λ ws. HoldsForOneElement (λ word. greatest_field_word field < word) ws in
+          let Q : Field → Type 0 = λ f. HoldsForOneElement (λ word. greatest_field_word f < word) gives.1 in
           decides.1 (subst P (sym word_lists) (subst Q (sym fields) gives.3)),
     )
 
@@ -302,24 +302,24 @@ repeats_marked given field words size fit count =
     (λ once. free_unmarked given (field_writes field words) (once_apart given _ below once).0)
     (λ none. apart_once given _ below (none_marked given _ none) (once_each field words count))
 
-any_given : (progress : Progress) (before : List (List ℕ)) (node : ℕ) (ws : List (Field × ℕ)) → IsAfter progress before → progress.stage ≡ stage.Block node → AllByRecursion (λ w. HasCell w.0) ws
-    → Decides (any_marked progress.given ws) (HoldsForOne (λ w. IsFieldGiven before w.0) ws)
+any_given : (progress : ImageReadProgress) (before : List (List ℕ)) (node : ℕ) (ws : List (Field × ℕ)) → IsAfter progress before → progress.stage ≡ stage.Block node → AllByRecursion (λ w. HasCell w.0) ws
+    → Decides (any_marked progress.given ws) (HoldsForOneElement (λ w. IsFieldGiven before w.0) ws)
 any_given progress before node [] after block cells = (λ e. cc, λ none. absurd none)
 any_given progress before node (w ∷ ws) after block cells =
     Decides-or (get_or progress.given (field_number w.0) false) _ (after.given node block w.0 cells.0) (any_given progress before node ws after block cells.1)
 
 -- one of the fields, with the fact that it was given
-found_field : (before : List (List ℕ)) (ws : List (Field × ℕ)) → HoldsForOne (λ w. IsFieldGiven before w.0) ws → (field : Field) × HoldsForOne (λ w. w.0 ≡ field) ws × IsFieldGiven before field
+found_field : (before : List (List ℕ)) (ws : List (Field × ℕ)) → HoldsForOneElement (λ w. IsFieldGiven before w.0) ws → (field : Field) × HoldsForOneElement (λ w. w.0 ≡ field) ws × IsFieldGiven before field
 found_field before [] none = absurd none
 found_field before (w ∷ ws) (inl here) = (w.0, inl refl, here)
 found_field before (w ∷ ws) (inr there) = let rest = found_field before ws there in (rest.0, inr rest.1, rest.2)
 
-field_found : (before : List (List ℕ)) (ws : List (Field × ℕ)) (field : Field) → HoldsForOne (λ w. w.0 ≡ field) ws → IsFieldGiven before field → HoldsForOne (λ w. IsFieldGiven before w.0) ws
+field_found : (before : List (List ℕ)) (ws : List (Field × ℕ)) (field : Field) → HoldsForOneElement (λ w. w.0 ≡ field) ws → IsFieldGiven before field → HoldsForOneElement (λ w. IsFieldGiven before w.0) ws
 field_found before [] field none given = absurd none
 field_found before (w ∷ ws) field (inl here) given = inl (subst (IsFieldGiven before) (sym here) given)
 field_found before (w ∷ ws) field (inr there) given = inr (field_found before ws field there given)
 
-field_repeated : (progress : Progress) (before : List (List ℕ)) (line : List ℕ) (node : ℕ) (field : Field) (words : List ℕ) → IsAfter progress before → progress.stage ≡ stage.Block node
+field_repeated : (progress : ImageReadProgress) (before : List (List ℕ)) (line : List ℕ) (node : ℕ) (field : Field) (words : List ℕ) → IsAfter progress before → progress.stage ≡ stage.Block node
     → IsTextOfForm line (Words field words) → exceeds_field field (length words) ≡ false → Decides (has_repeated_field progress.given (field_writes field words)) (IsRepeatedNode before line ⊎ IsRepeatedField before line)
 field_repeated progress before line node field words after block spelled inside =
     let same = repeats_marked progress.given field words after.sized.given (within field (length words) inside) (count_spelled line field words spelled) in
@@ -331,21 +331,21 @@ field_repeated progress before line node field words after block spelled inside 
             let form_is : Words gives.1.0 gives.1.1 ≡ Words field words = one_form line _ _ gives.1.2 spelled in
             let fields : gives.1.0 ≡ field = cc in
             let word_lists : gives.1.1 ≡ words = cc in
-            let P : List ℕ → Type 0 = λ ws. HoldsForOne (λ w. w.0 ≡ gives.0) (field_writes field ws) in
-            let Q : Field → Type 0 = λ f. HoldsForOne (λ w. w.0 ≡ gives.0) (field_writes f gives.1.1) in
+            let P : List ℕ → Type 0 = λ ws. HoldsForOneElement (λ w. w.0 ≡ gives.0) (field_writes field ws) in
+            let Q : Field → Type 0 = λ f. HoldsForOneElement (λ w. w.0 ≡ gives.0) (field_writes f gives.1.1) in
             same ∙ decides.1 (field_found before (field_writes field words) gives.0 (subst P word_lists (subst Q fields gives.1.3)) gives.2)
       ],
     )
 
-pub in_block : (st : Stage) (field : Field) (words : List ℕ) → is_misplaced st (Some (Words field words)) ≡ false → (node : ℕ) × (st ≡ stage.Block node)
+pub in_block : (st : ImageReadStage) (field : Field) (words : List ℕ) → is_misplaced_line st (Some (Words field words)) ≡ false → (node : ℕ) × (st ≡ stage.Block node)
 in_block stage.Header field words e = cc
 in_block stage.Open field words e = cc
 in_block (stage.Block node) field words e = (node, refl)
 in_block stage.Ended field words e = cc
 
-pub words_tell : (progress : Progress) (before : List (List ℕ)) (line : List ℕ) (field : Field) (words : List ℕ) → IsAfter progress before → IsTextOfForm line (Words field words)
-    → is_misplaced progress.stage (Some (Words field words)) ≡ false → Tells before line after_state (words_fault progress field words)
-unfolding words_fault
+pub words_tell : (progress : ImageReadProgress) (before : List (List ℕ)) (line : List ℕ) (field : Field) (words : List ℕ) → IsAfter progress before → IsTextOfForm line (Words field words)
+    → is_misplaced_line progress.stage (Some (Words field words)) ≡ false → Tells before line after_state (field_line_fault progress field words)
+unfolding field_line_fault
 words_tell progress before line field words after spelled placed =
     let block = in_block progress.stage field words placed in
     passed_over before line cause.Node after_node _ (λ names. node_no_words line names.0 field words names.1 spelled)

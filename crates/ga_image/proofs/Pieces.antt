@@ -8,10 +8,10 @@ use Rattle.ga_word.specs.Word.{hex6_of, hex_digit}
 use Rattle.ga_image.specs.declared.field.Field.{Field}
 use Rattle.ga_node.specs.Record.{NodeRecord}
 use Rattle.ga_grid.specs.Grid.{yxx_of}
-use Rattle.ga_image.specs.Spelling.{Node, End, Form, Words, side_letter_or_hyphen, side_set_text, wait_text, field_name, field_numbers_text, code_text, HasWordCount, IsTextOfWords, IsFieldCode, IsTextOfCode, IsTextOfField, IsTextInFormat}
+use Rattle.ga_image.specs.Spelling.{Node, End, LineForm, Words, side_letter_or_hyphen, side_set_text, wait_text, field_name, field_numbers_text, field_code_text, HasWordCount, IsTextOfWords, IsFieldCode, IsTextOfCode, IsTextOfField, IsTextInFormat}
 use Rattle.ga_text.specs.Digits.{words_text, decimal3_of, hex2_of}
 use Rattle.ga_image.specs.Grammar.{Block, field_line_form, block_forms, AreLinesOfForms, header}
-use Rattle.ga_image.specs.Printing.{AreWords, lines_text, line_text, field_text, line_unless_default, word_line_unless_default, row_start_cells, lines_at, block_unless_empty, blocks_from, printed_image}
+use Rattle.ga_image.specs.Printing.{AreEighteenBitWords, lines_text, line_text, field_text, line_unless_default, word_line_unless_default, row_start_cells, changed_lines_of_node, block_unless_empty, blocks_from_node, printed_image}
 use Rattle.ga_image.specs.inner.{fields_text, blocks_text}
 use Rattle.std.specs.Char.{to_ascii_lowercase}
 use Rattle.std.specs.Str.{str_to_ascii_lowercase}
@@ -21,7 +21,7 @@ use Rattle.hex.specs.Hex.{hex_digit_value, lower_digits}
 use Rattle.hex.proofs.HexLemmas.{IsDigits-lower_digits}
 use Rattle.ga_image.specs.declared.field.Field.TheVariants.{A, B, P, I, Io, Carry, Slot, Wait, Stop, Data, Return, Ram, Rom}
 use Rattle.ga_image.specs.declared.field.Format.TheVariants.{Two}
-use Rattle.ga_text.specs.Lines.{lines_of, with_byte}
+use Rattle.ga_text.specs.Lines.{lines_of, lines_with_first_byte}
 use Rattle.ga_text.proofs.Numbers.{digit_spelled, past_byte}
 use Rattle.ga_image.proofs.Spelled.{AreSix}
 
@@ -34,13 +34,13 @@ pub words_more : (words : List ℕ) (i : ℕ) → i < length words → words_tex
 words_more words i within = ap words_text (take_more words i 0 within) ∙ flat_map-append (λ word. 32 ∷ hex6_of word) (take i words) (get_or words i 0 ∷ [])
 
 -- each of the words is one
-pub each_word : (words : List ℕ) (i : ℕ) → i < length words → AreWords words → get_or words i 0 < 2 ^ 18
+pub each_word : (words : List ℕ) (i : ℕ) → i < length words → AreEighteenBitWords words → get_or words i 0 < 2 ^ 18
 each_word [] i within small = absurd (omega arith)
 each_word (word ∷ words) zero within small = small.0
 each_word (word ∷ words) (suc i) within small = each_word words i (omega arith) small.1
 
 -- and one more
-pub words_push : (words : List ℕ) (word : ℕ) → AreWords words → word < 2 ^ 18 → AreWords (words ++ word ∷ [])
+pub words_push : (words : List ℕ) (word : ℕ) → AreEighteenBitWords words → word < 2 ^ 18 → AreEighteenBitWords (words ++ word ∷ [])
 words_push [] word small last = (last, tt)
 words_push (first ∷ words) word small last = (small.0, words_push words word small.1 last)
 
@@ -138,22 +138,22 @@ blocks_append xs ys =
 
 -- the blocks of the nodes from a number on are the block of that node and those after it
 pub blocks_more : (nodes : List NodeRecord) (i : ℕ) (d : NodeRecord) → i < length nodes
-    → blocks_text (blocks_from i (drop i nodes)) ≡ blocks_text (block_unless_empty i (lines_at i (get_or nodes i d))) ++ blocks_text (blocks_from (i + 1) (drop (i + 1) nodes))
-unfolding blocks_from
+    → blocks_text (blocks_from_node i (drop i nodes)) ≡ blocks_text (block_unless_empty i (changed_lines_of_node i (get_or nodes i d))) ++ blocks_text (blocks_from_node (i + 1) (drop (i + 1) nodes))
+unfolding blocks_from_node
 blocks_more nodes i d within =
-    ap (λ left. blocks_text (blocks_from i left)) (drop_more nodes i d within)
-    ∙ blocks_append (block_unless_empty i (lines_at i (get_or nodes i d))) (blocks_from (i + 1) (drop (i + 1) nodes))
+    ap (λ left. blocks_text (blocks_from_node i left)) (drop_more nodes i d within)
+    ∙ blocks_append (block_unless_empty i (changed_lines_of_node i (get_or nodes i d))) (blocks_from_node (i + 1) (drop (i + 1) nodes))
 
 -- after the last node there are none
-pub blocks_end : (nodes : List NodeRecord) (i : ℕ) → length nodes ≤ i → blocks_text (blocks_from i (drop i nodes)) ≡ []
-unfolding blocks_from
-blocks_end nodes i past = ap (λ left. blocks_text (blocks_from i left)) (drop_all i nodes past)
+pub blocks_end : (nodes : List NodeRecord) (i : ℕ) → length nodes ≤ i → blocks_text (blocks_from_node i (drop i nodes)) ≡ []
+unfolding blocks_from_node
+blocks_end nodes i past = ap (λ left. blocks_text (blocks_from_node i left)) (drop_all i nodes past)
 
 -- the whole text
-pub whole : (nodes : List NodeRecord) → printed_image nodes ≡ codes "ga144 2\n" ++ (blocks_text (blocks_from 0 nodes) ++ codes "end\n")
+pub whole : (nodes : List NodeRecord) → printed_image nodes ≡ codes "ga144 2\n" ++ (blocks_text (blocks_from_node 0 nodes) ++ codes "end\n")
 unfolding printed_image
 whole nodes =
-    let forms = flat_map block_forms (blocks_from 0 nodes) in
+    let forms = flat_map block_forms (blocks_from_node 0 nodes) in
     ap (λ texts. codes "ga144 2\n" ++ lines_text texts) (map-append line_text forms (End ∷ []))
     ∙ ap (λ text. codes "ga144 2\n" ++ text) (flat_map-append (λ line. line ++ 10 ∷ []) (map line_text forms) (codes "end" ∷ []))
 
@@ -183,19 +183,19 @@ block_dropped old t1 t2 t3 t4 number lines first second third fourth same =
     ∙ ap (λ xs. old ++ xs) (sym (no_block_text number lines none))
 
 -- one block more
-pub next_block : (nodes : List NodeRecord) (i : ℕ) (d : NodeRecord) (text new all : List ℕ) → i < length nodes → text ++ blocks_text (blocks_from i (drop i nodes)) ≡ all
-    → new ≡ text ++ blocks_text (block_unless_empty i (lines_at i (get_or nodes i d))) → new ++ blocks_text (blocks_from (i + 1) (drop (i + 1) nodes)) ≡ all
+pub next_block : (nodes : List NodeRecord) (i : ℕ) (d : NodeRecord) (text new all : List ℕ) → i < length nodes → text ++ blocks_text (blocks_from_node i (drop i nodes)) ≡ all
+    → new ≡ text ++ blocks_text (block_unless_empty i (changed_lines_of_node i (get_or nodes i d))) → new ++ blocks_text (blocks_from_node (i + 1) (drop (i + 1) nodes)) ≡ all
 next_block nodes i d text new all within before piece =
-    let block = blocks_text (block_unless_empty i (lines_at i (get_or nodes i d))) in
-    let left = blocks_text (blocks_from (i + 1) (drop (i + 1) nodes)) in
+    let block = blocks_text (block_unless_empty i (changed_lines_of_node i (get_or nodes i d))) in
+    let left = blocks_text (blocks_from_node (i + 1) (drop (i + 1) nodes)) in
     ap (λ xs. xs ++ left) piece ∙ append_assoc text block left ∙ ap (λ xs. text ++ xs) (sym (blocks_more nodes i d within)) ∙ before
 
 -- the end after the last
-pub finished : (nodes : List NodeRecord) (i : ℕ) (text new : List ℕ) → length nodes ≤ i → text ++ blocks_text (blocks_from i (drop i nodes)) ≡ codes "ga144 2\n" ++ blocks_text (blocks_from 0 nodes)
+pub finished : (nodes : List NodeRecord) (i : ℕ) (text new : List ℕ) → length nodes ≤ i → text ++ blocks_text (blocks_from_node i (drop i nodes)) ≡ codes "ga144 2\n" ++ blocks_text (blocks_from_node 0 nodes)
     → new ≡ text ++ codes "end\n" → new ≡ printed_image nodes
 finished nodes i text new past before last =
-    let all : text ≡ codes "ga144 2\n" ++ blocks_text (blocks_from 0 nodes) = sym (append-nil text) ∙ ap (λ xs. text ++ xs) (sym (blocks_end nodes i past)) ∙ before in
-    last ∙ ap (λ xs. xs ++ codes "end\n") all ∙ append_assoc (codes "ga144 2\n") (blocks_text (blocks_from 0 nodes)) (codes "end\n") ∙ sym (whole nodes)
+    let all : text ≡ codes "ga144 2\n" ++ blocks_text (blocks_from_node 0 nodes) = sym (append-nil text) ∙ ap (λ xs. text ++ xs) (sym (blocks_end nodes i past)) ∙ before in
+    last ∙ ap (λ xs. xs ++ codes "end\n") all ∙ append_assoc (codes "ga144 2\n") (blocks_text (blocks_from_node 0 nodes)) (codes "end\n") ∙ sym (whole nodes)
 
 -- ---- digits
 
@@ -247,7 +247,7 @@ IsLine Stop words = IsCodeLine Stop words
 IsLine field words = IsWordLine field words
 
 -- a form that can be printed
-abbrev pub IsPrintable : Form → Type 0
+abbrev pub IsPrintable : LineForm → Type 0
 IsPrintable (Node yxx) = yxx < 1000
 IsPrintable (Words field words) = IsLine field words
 IsPrintable End = Unit {0}
@@ -261,12 +261,12 @@ words_spelled field words is = record {
   digits = lower_numbers field words;
 }
 
-code_spelled : (field : Field) (words : List ℕ) → IsCodeLine field words → IsTextOfCode (field_name field ++ code_text field (slice_index words 0)) field words
+code_spelled : (field : Field) (words : List ℕ) → IsCodeLine field words → IsTextOfCode (field_name field ++ field_code_text field (slice_index words 0)) field words
 code_spelled field words is = record {
   code = is.0;
   one = is.1;
   valid = is.2;
-  parts = ap (λ (ws : List ℕ). field_name field ++ code_text field (slice_index ws 0)) is.1;
+  parts = ap (λ (ws : List ℕ). field_name field ++ field_code_text field (slice_index ws 0)) is.1;
 }
 
 field_spelled : (field : Field) (words : List ℕ) → IsLine field words → IsTextOfField (field_text field words) field words
@@ -284,15 +284,15 @@ field_spelled (Return k) words is = words_spelled (Return k) words is
 field_spelled (Ram cell) words is = words_spelled (Ram cell) words is
 field_spelled (Rom cell) words is = words_spelled (Rom cell) words is
 
-form_printed : (form : Form) → IsPrintable form → IsTextInFormat Two (line_text form) form
+form_printed : (line_form : LineForm) → IsPrintable line_form → IsTextInFormat Two (line_text line_form) line_form
 form_printed (Node yxx) is = ((is, refl), tt)
 form_printed (Words field words) is = (field_spelled field words is, refl)
 form_printed End is = (refl, tt)
 
 -- the printed lines parse as the forms
-pub forms_printed : (forms : List Form) → AllByRecursion IsPrintable forms → AreLinesOfForms Two (map line_text forms) forms
+pub forms_printed : (forms : List LineForm) → AllByRecursion IsPrintable forms → AreLinesOfForms Two (map line_text forms) forms
 forms_printed [] each = tt
-forms_printed (form ∷ forms) each = (form_printed form each.0, forms_printed forms each.1)
+forms_printed (line_form ∷ forms) each = (form_printed line_form each.0, forms_printed forms each.1)
 
 -- ---- line feeds
 
@@ -374,21 +374,21 @@ no_feed_field (Return k) words = no_feed_append (field_name (Return k)) (words_t
 no_feed_field (Ram cell) words = no_feed_append (field_name (Ram cell)) (hex2_of cell ++ words_text words) (no_feed_name (Ram cell)) (no_feed_cell cell words)
 no_feed_field (Rom cell) words = no_feed_append (field_name (Rom cell)) (hex2_of cell ++ words_text words) (no_feed_name (Rom cell)) (no_feed_cell cell words)
 
-no_feed_line : (form : Form) → HasNoLineFeed (line_text form)
+no_feed_line : (line_form : LineForm) → HasNoLineFeed (line_text line_form)
 no_feed_line (Node yxx) = no_feed_append (codes "node ") (decimal3_of yxx) (no_feed_tested (codes "node ") refl) (omega arith, (omega arith, (omega arith, tt)))
 no_feed_line (Words field words) = no_feed_field field words
 no_feed_line End = no_feed_tested (codes "end") refl
 
-pub no_feed_lines : (forms : List Form) → AllByRecursion HasNoLineFeed (map line_text forms)
+pub no_feed_lines : (forms : List LineForm) → AllByRecursion HasNoLineFeed (map line_text forms)
 no_feed_lines [] = tt
-no_feed_lines (form ∷ forms) = (no_feed_line form, no_feed_lines forms)
+no_feed_lines (line_form ∷ forms) = (no_feed_line line_form, no_feed_lines forms)
 
 pub no_feed_header : HasNoLineFeed (header Two)
 no_feed_header = no_feed_tested (header Two) refl
 
 line_ends : (line text : List ℕ) → HasNoLineFeed line → lines_of (line ++ 10 ∷ text) ≡ line ∷ lines_of text
 line_ends [] text none = refl
-line_ends (b ∷ line) text none = past_byte b (line ++ 10 ∷ text) none.0 ∙ ap (with_byte b) (line_ends line text none.1)
+line_ends (b ∷ line) text none = past_byte b (line ++ 10 ∷ text) none.0 ∙ ap (lines_with_first_byte b) (line_ends line text none.1)
 
 -- lines that are each ended are the lines of their text
 pub lines_again : (lines : List (List ℕ)) → AllByRecursion HasNoLineFeed lines → lines_of (lines_text lines) ≡ lines

@@ -14,7 +14,7 @@ use Rattle.ga_node.specs.declared.wait.Wait.{Wait as NodeWait}
 use Rattle.ga_node.specs.State.{wait_code}
 use Rattle.ga_node.specs.Record.{NodeState, fresh_node, NodeRecord, record_of, fresh_record, IsConsistentWait, HasConsistentWait}
 use Rattle.ga_grid.specs.Grid.{yxx_of, load_p_of, default_chip}
-use Rattle.ga_grid.specs.Chip.{nowhere, node_at, with_node, records_of, record_at, HaveConsistentWaits}
+use Rattle.ga_grid.specs.Chip.{default_node, node_at, with_node, records_of, record_at, HaveConsistentWaits}
 use Rattle.ga_grid.proofs.Chips.{node_at-with_node_same, node_at-with_node_other, length-with_node, records_of-with_node, node_at-default_chip, length-default_chip}
 use Rattle.ga_image.specs.declared.field.RunState.{RunState}
 use Rattle.ga_image.specs.declared.field.Field.{Field}
@@ -23,8 +23,8 @@ use Rattle.ga_image.specs.declared.field.Format.TheVariants.{Two}
 use Rattle.ga_image.specs.Fields.{field_writes, field_number, load_run_state, run_state_after, is_inconsistent_state}
 use Rattle.ga_text.specs.Lines.{lines_of}
 use Rattle.ga_image.specs.Spelling.{Node, End}
-use Rattle.ga_image.specs.Grammar.{header, Block, field_line_form, block_forms, field_line_writes, IsFieldLine, IsBlock, with_field_word, with_word, chip_with_words, chip_with_blocks, IsImage}
-use Rattle.ga_image.specs.Printing.{line_text, line_unless_default, word_line_unless_default, row_of_words, memory_lines, register_lines, state_lines, changed_lines, lines_at, block_unless_empty, blocks_from, forms_of, printed_image, HasWaitSides, IsSoundRecord, AreSoundRecords, IsImageOfRecords}
+use Rattle.ga_image.specs.Grammar.{header, Block, field_line_form, block_forms, field_line_writes, IsFieldLine, IsBlock, with_field_word, chip_with_word, chip_with_words, chip_with_blocks, IsImage}
+use Rattle.ga_image.specs.Printing.{line_text, line_unless_default, word_line_unless_default, row_of_words, memory_lines, register_lines, state_lines, changed_lines_from_fresh, changed_lines_of_node, block_unless_empty, blocks_from_node, line_forms_after_header, printed_image, HasWaitSides, IsSoundRecord, AreSoundRecords, IsImageOfRecords}
 use Rattle.ga_image.proofs.Found.{held-append}
 use Rattle.ga_image.proofs.Pieces.{IsPrintable, forms_printed, no_feed_lines, no_feed_header, lines_again}
 use Rattle.ga_image.proofs.PrintedFields.{IsGood, all_append, lines_good, lines_apart}
@@ -88,7 +88,7 @@ memory_held held field memory plain =
     (lines_held (row 56) (record { holds = refl }))))))))
 
 -- the wait, stop and slot that the lines of a node give
-lines_hold : (p : ℕ) (node : NodeRecord) → run_state_after load_run_state (field_line_writes (changed_lines (fresh_record p) node)) ≡ record { wait = wait_code node.wait; stop = node.stop; slot = node.slot }
+lines_hold : (p : ℕ) (node : NodeRecord) → run_state_after load_run_state (field_line_writes (changed_lines_from_fresh (fresh_record p) node)) ≡ record { wait = wait_code node.wait; stop = node.stop; slot = node.slot }
 lines_hold p node =
     let fresh = fresh_record p in
     let slot_only : RunState = record { wait = 0; stop = 0; slot = node.slot } in
@@ -107,7 +107,7 @@ lines_hold p node =
     (lines_held (plain_unless slot_only 0x15555 (Return 0) node.r tt)
     (lines_held (word_held (λ n. record { wait = n; stop = 0; slot = node.slot }) 0 Wait (wait_code node.wait) refl)
     (word_held (λ n. record { wait = wait_code node.wait; stop = n; slot = node.slot }) 0 Stop node.stop refl))))) in
-    let all : Holds load_run_state (changed_lines fresh node) last =
+    let all : Holds load_run_state (changed_lines_from_fresh fresh node) last =
     lines_held registers
     (lines_held state
     (lines_held (memory_held last Ram node.ram (λ _. tt))
@@ -134,10 +134,10 @@ good_lines : (lines : List (Field × List ℕ)) → AllByRecursion IsGood lines 
 good_lines [] each = tt
 good_lines (line ∷ lines) each = (each.0.1, good_lines lines each.1)
 
-block_good : (n : ℕ) (node : NodeRecord) → n < 144 → IsWhole node → AllByRecursion IsBlock (block_unless_empty n (lines_at n node))
-unfolding lines_at
-block_good n node small is = either (changed_lines (fresh_record (load_p_of n)) node) refl where
-  either : (lines : List (Field × List ℕ)) → changed_lines (fresh_record (load_p_of n)) node ≡ lines → AllByRecursion IsBlock (block_unless_empty n lines)
+block_good : (n : ℕ) (node : NodeRecord) → n < 144 → IsWhole node → AllByRecursion IsBlock (block_unless_empty n (changed_lines_of_node n node))
+unfolding changed_lines_of_node
+block_good n node small is = either (changed_lines_from_fresh (fresh_record (load_p_of n)) node) refl where
+  either : (lines : List (Field × List ℕ)) → changed_lines_from_fresh (fresh_record (load_p_of n)) node ≡ lines → AllByRecursion IsBlock (block_unless_empty n lines)
   either [] same = tt
   either (line ∷ lines) same =
       let p = load_p_of n in (
@@ -150,11 +150,11 @@ block_good n node small is = either (changed_lines (fresh_record (load_p_of n)) 
         tt,
       )
 
-blocks_good : (n : ℕ) (nodes : List NodeRecord) → n + length nodes ≤ 144 → AllByRecursion IsWhole nodes → AllByRecursion IsBlock (blocks_from n nodes)
-unfolding blocks_from
+blocks_good : (n : ℕ) (nodes : List NodeRecord) → n + length nodes ≤ 144 → AllByRecursion IsWhole nodes → AllByRecursion IsBlock (blocks_from_node n nodes)
+unfolding blocks_from_node
 blocks_good n [] small each = tt
 blocks_good n (node ∷ nodes) small each =
-    all_append IsBlock (block_unless_empty n (lines_at n node)) (blocks_from (n + 1) nodes) (block_good n node (omega arith) each.0) (blocks_good (n + 1) nodes (omega arith) each.1)
+    all_append IsBlock (block_unless_empty n (changed_lines_of_node n node)) (blocks_from_node (n + 1) nodes) (block_good n node (omega arith) each.0) (blocks_good (n + 1) nodes (omega arith) each.1)
 
 -- ---- no node has two blocks
 
@@ -165,11 +165,11 @@ past_weaker : (n m : ℕ) (blocks : List Block) → n ≤ m → ArePast m blocks
 past_weaker n m [] less past = tt
 past_weaker n m (block ∷ blocks) less past = (let h = past.0 in omega arith, past_weaker n m blocks less past.1)
 
-blocks_past : (n : ℕ) (nodes : List NodeRecord) → ArePast n (blocks_from n nodes)
-unfolding blocks_from
+blocks_past : (n : ℕ) (nodes : List NodeRecord) → ArePast n (blocks_from_node n nodes)
+unfolding blocks_from_node
 blocks_past n [] = tt
 blocks_past n (node ∷ nodes) =
-    all_append (λ block. n ≤ block.node) (block_unless_empty n (lines_at n node)) (blocks_from (n + 1) nodes) (either (lines_at n node)) (past_weaker n (n + 1) (blocks_from (n + 1) nodes) (omega arith) (blocks_past (n + 1) nodes)) where
+    all_append (λ block. n ≤ block.node) (block_unless_empty n (changed_lines_of_node n node)) (blocks_from_node (n + 1) nodes) (either (changed_lines_of_node n node)) (past_weaker n (n + 1) (blocks_from_node (n + 1) nodes) (omega arith) (blocks_past (n + 1) nodes)) where
       either : (lines : List (Field × List ℕ)) → ArePast n (block_unless_empty n lines)
       either [] = tt
       either (line ∷ lines) = (omega arith, tt)
@@ -186,10 +186,10 @@ no_blocks_apart : IsDistinct nat_eq []
 unfolding IsDistinct
 no_blocks_apart = tt
 
-blocks_apart : (n : ℕ) (nodes : List NodeRecord) → IsDistinct nat_eq (map (λ block. block.node) (blocks_from n nodes))
-unfolding blocks_from
+blocks_apart : (n : ℕ) (nodes : List NodeRecord) → IsDistinct nat_eq (map (λ block. block.node) (blocks_from_node n nodes))
+unfolding blocks_from_node
 blocks_apart n [] = no_blocks_apart
-blocks_apart n (node ∷ nodes) = block_apart n (lines_at n node) (blocks_from (n + 1) nodes) (blocks_past (n + 1) nodes) (blocks_apart (n + 1) nodes)
+blocks_apart n (node ∷ nodes) = block_apart n (changed_lines_of_node n node) (blocks_from_node (n + 1) nodes) (blocks_past (n + 1) nodes) (blocks_apart (n + 1) nodes)
 
 -- ---- the lines
 
@@ -202,25 +202,25 @@ block_printable n [] small each = tt
 block_printable n (line ∷ lines) small each =
     all_append IsPrintable (Node (yxx_of n) ∷ map field_line_form (line ∷ lines)) [] (let row : n / 18 < 8 = omega arith in omega arith, good_forms (line ∷ lines) each) tt
 
-blocks_printable : (n : ℕ) (nodes : List NodeRecord) → n + length nodes ≤ 144 → AllByRecursion IsWhole nodes → AllByRecursion IsPrintable (flat_map block_forms (blocks_from n nodes))
-unfolding blocks_from lines_at
+blocks_printable : (n : ℕ) (nodes : List NodeRecord) → n + length nodes ≤ 144 → AllByRecursion IsWhole nodes → AllByRecursion IsPrintable (flat_map block_forms (blocks_from_node n nodes))
+unfolding blocks_from_node changed_lines_of_node
 blocks_printable n [] small each = tt
 blocks_printable n (node ∷ nodes) small each =
-    subst (AllByRecursion IsPrintable) (sym (flat_map-append block_forms (block_unless_empty n (lines_at n node)) (blocks_from (n + 1) nodes)))
-    (all_append IsPrintable (flat_map block_forms (block_unless_empty n (lines_at n node))) (flat_map block_forms (blocks_from (n + 1) nodes))
-    (block_printable n (lines_at n node) (omega arith) (lines_good (load_p_of n) node each.0.0))
+    subst (AllByRecursion IsPrintable) (sym (flat_map-append block_forms (block_unless_empty n (changed_lines_of_node n node)) (blocks_from_node (n + 1) nodes)))
+    (all_append IsPrintable (flat_map block_forms (block_unless_empty n (changed_lines_of_node n node))) (flat_map block_forms (blocks_from_node (n + 1) nodes))
+    (block_printable n (changed_lines_of_node n node) (omega arith) (lines_good (load_p_of n) node each.0.0))
     (blocks_printable (n + 1) nodes (omega arith) each.1))
 
 -- the lines of the text are those that were printed
-lines_printed : (nodes : List NodeRecord) → lines_of (printed_image nodes) ≡ header Two ∷ map line_text (forms_of nodes)
+lines_printed : (nodes : List NodeRecord) → lines_of (printed_image nodes) ≡ header Two ∷ map line_text (line_forms_after_header nodes)
 unfolding printed_image
-lines_printed nodes = lines_again (header Two ∷ map line_text (forms_of nodes)) (no_feed_header, no_feed_lines (forms_of nodes))
+lines_printed nodes = lines_again (header Two ∷ map line_text (line_forms_after_header nodes)) (no_feed_header, no_feed_lines (line_forms_after_header nodes))
 
 -- ---- the chip that they describe
 
 pub written_given : (n : ℕ) (chip : List NodeState) (ws : List (Field × ℕ)) → n < length chip → chip_with_words n chip ws ≡ with_node chip n (given (node_at chip n) ws)
-unfolding with_word
-written_given n chip [] small = sym (set-get_or chip n nowhere)
+unfolding chip_with_word
+written_given n chip [] small = sym (set-get_or chip n default_node)
 written_given n chip (w ∷ ws) small =
     let node = with_field_word (node_at chip n) w.0 w.1 in
     let next = with_node chip n node in
@@ -233,7 +233,7 @@ loaded_append chip [] ys = refl
 loaded_append chip (x ∷ xs) ys = loaded_append (chip_with_words x.node chip (field_line_writes x.field_lines)) xs ys
 
 block_loaded : (n : ℕ) (chip : List NodeState) (lines : List (Field × List ℕ)) → n < length chip → chip_with_blocks chip (block_unless_empty n lines) ≡ with_node chip n (given (node_at chip n) (field_line_writes lines))
-block_loaded n chip [] small = sym (set-get_or chip n nowhere)
+block_loaded n chip [] small = sym (set-get_or chip n default_node)
 block_loaded n chip (line ∷ lines) small = written_given n chip (field_line_writes (line ∷ lines)) small
 
 -- the nodes from a number on are at load
@@ -241,14 +241,14 @@ abbrev AreFresh : ℕ → List NodeState → Type 0
 AreFresh n chip = (k : ℕ) → n ≤ k → k < 144 → node_at chip k ≡ fresh_node (load_p_of k)
 
 nodes_loaded : (n : ℕ) (nodes : List NodeRecord) (chip : List NodeState) → length chip ≡ 144 → n + length nodes ≡ 144 → AreFresh n chip → AllByRecursion IsWhole nodes
-    → records_of (chip_with_blocks chip (blocks_from n nodes)) ≡ take n (records_of chip) ++ nodes
-unfolding blocks_from lines_at
+    → records_of (chip_with_blocks chip (blocks_from_node n nodes)) ≡ take n (records_of chip) ++ nodes
+unfolding blocks_from_node changed_lines_of_node
 nodes_loaded n [] chip size fits fresh each =
     let counted = length-map chip record_of in
     sym (append-nil (take n (records_of chip)) ∙ take_all n (records_of chip) (omega arith))
 nodes_loaded n (node ∷ nodes) chip size fits fresh each =
     let p = load_p_of n in
-    let lines = changed_lines (fresh_record p) node in
+    let lines = changed_lines_from_fresh (fresh_record p) node in
     let within : n < length chip = omega arith in
     let next = with_node chip n (made_of node) in
     let made : given (node_at chip n) (field_line_writes lines) ≡ made_of node = ap (λ (at : NodeState). given at (field_line_writes lines)) (fresh n (omega arith) (omega arith)) ∙ node_given p node each.0.0 each.0.1 in
@@ -258,7 +258,7 @@ nodes_loaded n (node ∷ nodes) chip size fits fresh each =
     let one : take (n + 1) (records_of next) ≡ take n (records_of chip) ++ node ∷ [] =
     ap (take (n + 1)) (records_of-with_node chip n (made_of node) ∙ ap (set (records_of chip) n) (record_made node))
     ∙ take_more_set (records_of chip) n node (omega arith) in
-    ap records_of (loaded_append chip (block_unless_empty n lines) (blocks_from (n + 1) nodes) ∙ ap (λ (c : List NodeState). chip_with_blocks c (blocks_from (n + 1) nodes)) first)
+    ap records_of (loaded_append chip (block_unless_empty n lines) (blocks_from_node (n + 1) nodes) ∙ ap (λ (c : List NodeState). chip_with_blocks c (blocks_from_node (n + 1) nodes)) first)
     ∙ nodes_loaded (n + 1) nodes next (length-with_node chip n (made_of node) ∙ size) (omega arith) still each.1
     ∙ ap (λ xs. xs ++ nodes) one
     ∙ append_assoc (take n (records_of chip)) (node ∷ []) nodes
@@ -273,14 +273,14 @@ pub print_parse_round_trips : (nodes : List NodeRecord) → AreSoundRecords node
 print_parse_round_trips nodes sound steady =
     let size = sound.size in
     let whole = whole_from nodes sound.each (λ n small. steady n (omega arith)) in
-    let blocks = blocks_from 0 nodes in
-    let printable : AllByRecursion IsPrintable (forms_of nodes) = all_append IsPrintable (flat_map block_forms blocks) (End ∷ []) (blocks_printable 0 nodes (omega arith) whole) (tt, tt) in
+    let blocks = blocks_from_node 0 nodes in
+    let printable : AllByRecursion IsPrintable (line_forms_after_header nodes) = all_append IsPrintable (flat_map block_forms blocks) (End ∷ []) (blocks_printable 0 nodes (omega arith) whole) (tt, tt) in
     let image : IsImage (lines_of (printed_image nodes)) (chip_with_blocks default_chip blocks) = record {
       format = Two;
-      lines = map line_text (forms_of nodes);
+      lines = map line_text (line_forms_after_header nodes);
       blocks = blocks;
       starts = lines_printed nodes;
-      spelled = forms_printed (forms_of nodes) printable;
+      spelled = forms_printed (line_forms_after_header nodes) printable;
       each = blocks_good 0 nodes (omega arith) whole;
       apart = blocks_apart 0 nodes;
       describes = refl;

@@ -11,13 +11,13 @@ use Rattle.ga_stacks.specs.Ring.{fresh_word}
 use Rattle.ga_ports.specs.declared.side.Side.TheVariants.{Right, Down, Left, Up}
 use Rattle.ga_node.specs.declared.wait.Wait.TheVariants.{Nothing, Fetch, Read, Write}
 use Rattle.ga_node.specs.declared.wait.Wait.{Wait as NodeWait}
-use Rattle.ga_node.specs.State.{wait_code, IsWaitCode, wait_of}
+use Rattle.ga_node.specs.State.{wait_code, IsWaitCode, wait_of_code}
 use Rattle.ga_node.specs.Record.{NodeRecord, fresh_record}
 use Rattle.ga_image.specs.declared.field.Field.{Field}
 use Rattle.ga_image.specs.declared.field.Field.TheVariants.{A, B, P, I, Io, Carry, Slot, Wait, Stop, Data, Return, Ram, Rom}
 use Rattle.ga_image.specs.Fields.{field_writes, field_number}
 use Rattle.ga_image.specs.Grammar.{field_line_writes, IsFieldLine}
-use Rattle.ga_image.specs.Printing.{AreWords, line_unless_default, row_of_words, memory_lines, register_lines, state_lines, changed_lines, IsSoundRecord, HasWaitSides, AreBankWords}
+use Rattle.ga_image.specs.Printing.{AreEighteenBitWords, line_unless_default, row_of_words, memory_lines, register_lines, state_lines, changed_lines_from_fresh, IsSoundRecord, HasWaitSides, AreStackOrMemoryWords}
 use Rattle.ga_image.proofs.Pieces.{IsLine}
 use Rattle.ga_image.proofs.Spelled.{AreSix}
 use Rattle.std.proofs.Math.Seq.{take-add}
@@ -56,20 +56,20 @@ IsGood line = IsLine line.0 line.1 × IsFieldLine line
 pub other_word : (at_load word : ℕ) → list_all (λ w. w == at_load) (word ∷ []) ≡ false → word ≢ at_load
 other_word at_load word some same = false≢true (sym some ∙ rw (eq-eqb word at_load same) refl)
 
-small_six : (words : List ℕ) → AreWords words → AreSix words
+small_six : (words : List ℕ) → AreEighteenBitWords words → AreSix words
 small_six [] small = tt
 small_six (w ∷ words) small = (let h = small.0 in omega arith, small_six words small.1)
 
-small_greatest : (words : List ℕ) → AreWords words → AllByRecursion (λ word. word ≤ 0x3ffff) words
+small_greatest : (words : List ℕ) → AreEighteenBitWords words → AllByRecursion (λ word. word ≤ 0x3ffff) words
 small_greatest [] small = tt
 small_greatest (w ∷ words) small = (let h = small.0 in omega arith, small_greatest words small.1)
 
-small_take : (n : ℕ) (words : List ℕ) → AreWords words → AreWords (take n words)
+small_take : (n : ℕ) (words : List ℕ) → AreEighteenBitWords words → AreEighteenBitWords (take n words)
 small_take zero words small = tt
 small_take (suc n) [] small = tt
 small_take (suc n) (w ∷ words) small = (small.0, small_take n words small.1)
 
-small_drop : (n : ℕ) (words : List ℕ) → AreWords words → AreWords (drop n words)
+small_drop : (n : ℕ) (words : List ℕ) → AreEighteenBitWords words → AreEighteenBitWords (drop n words)
 small_drop zero words small = small
 small_drop (suc n) [] small = tt
 small_drop (suc n) (w ∷ words) small = small_drop n words small.1
@@ -99,16 +99,16 @@ carry_fits false = omega arith
 row_size : (memory : List ℕ) (cell : ℕ) → length memory ≡ 64 → cell ≤ 56 → length (row_of_words memory cell) ≡ 8
 row_size memory cell size small = length-take-le 8 (drop cell memory) (omega (arith, length-drop cell memory))
 
-row_small : (memory : List ℕ) (cell : ℕ) → AreWords memory → AreWords (row_of_words memory cell)
+row_small : (memory : List ℕ) (cell : ℕ) → AreEighteenBitWords memory → AreEighteenBitWords (row_of_words memory cell)
 row_small memory cell small = small_take 8 (drop cell memory) (small_drop cell memory small)
 
-ram_good : (memory : List ℕ) (cell : ℕ) → AreWords memory → length memory ≡ 64 → cell ≤ 56 → IsGood (Ram cell, row_of_words memory cell)
+ram_good : (memory : List ℕ) (cell : ℕ) → AreEighteenBitWords memory → length memory ≡ 64 → cell ≤ 56 → IsGood (Ram cell, row_of_words memory cell)
 ram_good memory cell small size low =
     let count = row_size memory cell size low in
     let words = row_small memory cell small in
     (((omega arith, omega arith, omega arith), small_six (row_of_words memory cell) words), (omega arith, small_greatest (row_of_words memory cell) words))
 
-rom_good : (memory : List ℕ) (cell : ℕ) → AreWords memory → length memory ≡ 64 → cell ≤ 56 → IsGood (Rom cell, row_of_words memory cell)
+rom_good : (memory : List ℕ) (cell : ℕ) → AreEighteenBitWords memory → length memory ≡ 64 → cell ≤ 56 → IsGood (Rom cell, row_of_words memory cell)
 rom_good memory cell small size low =
     let count = row_size memory cell size low in
     let words = row_small memory cell small in
@@ -145,7 +145,7 @@ state_good p node is =
     (each_unless IsGood 0 Stop (node.stop ∷ []) (λ some. let other = other_word 0 node.stop some in let h = is.state.stop in ((node.stop, refl, (omega arith, is.state.stop)), (tt, (is.state.stop, tt)))))))))
 
 -- each line of a node can be printed and read
-pub lines_good : (p : ℕ) (node : NodeRecord) → IsSoundRecord node → AllByRecursion IsGood (changed_lines (fresh_record p) node)
+pub lines_good : (p : ℕ) (node : NodeRecord) → IsSoundRecord node → AllByRecursion IsGood (changed_lines_from_fresh (fresh_record p) node)
 lines_good p node is =
     let good =
     each_append IsGood (registers_good (fresh_record p) node is)
@@ -282,19 +282,19 @@ state_climbs p node is =
     (unless_climbs 27 0 Stop (node.stop ∷ []) 28 (omega arith) (omega arith, omega arith))))))
 
 -- no field of a node is given twice
-pub lines_apart : (p : ℕ) (node : NodeRecord) → IsSoundRecord node → IsDistinct nat_eq (numbers_in (changed_lines (fresh_record p) node))
+pub lines_apart : (p : ℕ) (node : NodeRecord) → IsSoundRecord node → IsDistinct nat_eq (numbers_in (changed_lines_from_fresh (fresh_record p) node))
 lines_apart p node is =
-    let climbing : DoClimb 0 (changed_lines (fresh_record p) node) 156 =
+    let climbing : DoClimb 0 (changed_lines_from_fresh (fresh_record p) node) 156 =
     lines_climb (registers_climb (fresh_record p) node)
     (lines_climb (state_climbs p node is)
     (lines_climb (rows_climb 28 Ram node.ram (λ cell low. ram_climbs cell (row_of_words node.ram cell) (cell + 8) (let size = row_size node.ram cell is.ram.1 low in omega arith)))
     (rows_climb 92 Rom node.rom (λ cell low. rom_climbs cell (row_of_words node.rom cell) (cell + 8) (let size = row_size node.rom cell is.rom.1 low in omega arith))))) in
-    climbs_apart 0 (numbers_in (changed_lines (fresh_record p) node)) 156 climbing.climb
+    climbs_apart 0 (numbers_in (changed_lines_from_fresh (fresh_record p) node)) 156 climbing.climb
 
 -- ---- whatever is printed is sound
 
 -- the wait of a number names a side at least, where it is for one of a set
-pub sides_of : (code : ℕ) → IsWaitCode code → HasWaitSides (wait_of code)
+pub sides_of : (code : ℕ) → IsWaitCode code → HasWaitSides (wait_of_code code)
 sides_of code (inl is) = rw is tt
 sides_of code (inr (inl low)) =
     let more = low.0 in
@@ -319,19 +319,19 @@ pub whole_row : (words : List ℕ) (size : ℕ) → length words ≡ size → ta
 whole_row words size count = take_all size words (omega arith)
 
 -- and its words are known
-pub holds_row : (size : ℕ) (found words : List ℕ) → found ≡ take size (drop 0 words) → AreWords found → length words ≡ size → AreBankWords size words
-holds_row size found words row each count = (subst AreWords (row ∙ whole_row words size count) each, count)
+pub holds_row : (size : ℕ) (found words : List ℕ) → found ≡ take size (drop 0 words) → AreEighteenBitWords found → length words ≡ size → AreStackOrMemoryWords size words
+holds_row size found words row each count = (subst AreEighteenBitWords (row ∙ whole_row words size count) each, count)
 
 -- one row more
-pub rows_words : (memory : List ℕ) (number : ℕ) → AreWords (take (8 * number) memory) → AreWords (row_of_words memory (8 * number)) → AreWords (take (8 * (number + 1)) memory)
+pub rows_words : (memory : List ℕ) (number : ℕ) → AreEighteenBitWords (take (8 * number) memory) → AreEighteenBitWords (row_of_words memory (8 * number)) → AreEighteenBitWords (take (8 * (number + 1)) memory)
 rows_words memory number before row =
     let next : 8 * (number + 1) ≡ 8 * number + 8 = omega arith in
     let longer : take (8 * (number + 1)) memory ≡ take (8 * number) memory ++ row_of_words memory (8 * number) = ap (λ (n : ℕ). take n memory) next ∙ take-add (8 * number) 8 memory in
-    subst AreWords (sym longer) (all_append (λ word. word < 2 ^ 18) (take (8 * number) memory) (row_of_words memory (8 * number)) before row)
+    subst AreEighteenBitWords (sym longer) (all_append (λ word. word < 2 ^ 18) (take (8 * number) memory) (row_of_words memory (8 * number)) before row)
 
 -- all rows
-pub memory_words : (memory : List ℕ) (number : ℕ) → 8 ≤ number → length memory ≡ 64 → AreWords (take (8 * number) memory) → AreBankWords 64 memory
-memory_words memory number past size words = (subst AreWords (take_all (8 * number) memory (omega arith)) words, size)
+pub memory_words : (memory : List ℕ) (number : ℕ) → 8 ≤ number → length memory ≡ 64 → AreEighteenBitWords (take (8 * number) memory) → AreStackOrMemoryWords 64 memory
+memory_words memory number past size words = (subst AreEighteenBitWords (take_all (8 * number) memory (omega arith)) words, size)
 
 -- one more of a list
 pub all_more : {X : Type 0} (Q : X → Type 0) (xs : List X) (n : ℕ) (d : X) → n < length xs → AllByRecursion Q (take n xs) → Q (get_or xs n d) → AllByRecursion Q (take (n + 1) xs)

@@ -11,13 +11,13 @@ use Rattle.ga_stacks.specs.Ring.{Ring, fresh_ring, fresh_word, words_of_stack}
 use Rattle.ga_ports.specs.declared.side.Side.TheVariants.{Right, Down, Left, Up}
 use Rattle.ga_node.specs.declared.wait.Wait.TheVariants.{Nothing, Fetch, Read, Write}
 use Rattle.ga_node.specs.declared.wait.Wait.{Wait as NodeWait}
-use Rattle.ga_node.specs.State.{wait_code, wait_of}
+use Rattle.ga_node.specs.State.{wait_code, wait_of_code}
 use Rattle.ga_node.specs.Record.{NodeState, fresh_node, NodeRecord, record_of, fresh_record, IsConsistentWait, HasConsistentWait}
 use Rattle.ga_image.specs.declared.field.Field.{Field}
 use Rattle.ga_image.specs.declared.field.Field.TheVariants.{A, B, P, I, Io, Carry, Slot, Wait, Stop, Data, Return, Ram, Rom}
 use Rattle.ga_image.specs.Fields.{field_writes}
 use Rattle.ga_image.specs.Grammar.{field_line_writes, with_field_word}
-use Rattle.ga_image.specs.Printing.{line_unless_default, word_line_unless_default, row_of_words, memory_lines, register_lines, state_lines, changed_lines, IsSoundRecord, HasWaitSides}
+use Rattle.ga_image.specs.Printing.{line_unless_default, word_line_unless_default, row_of_words, memory_lines, register_lines, state_lines, changed_lines_from_fresh, IsSoundRecord, HasWaitSides}
 use Rattle.ga_image.proofs.PrintedFields.{other_word}
 use Rattle.ga_image.proofs.Found.{sizes as both_true}
 
@@ -83,7 +83,7 @@ carry_back : (carry : Bool) → (from_bool carry == 1) ≡ carry
 carry_back true = refl
 carry_back false = refl
 
-wait_back : (wait : NodeWait) → HasWaitSides wait → wait_of (wait_code wait) ≡ wait
+wait_back : (wait : NodeWait) → HasWaitSides wait → wait_of_code (wait_code wait) ≡ wait
 wait_back Nothing sides = refl
 wait_back (Fetch s) sides =
     let h = sides.0 in
@@ -237,7 +237,7 @@ state_given p a b q i io ram rom node is steady =
     ap (λ words. at d (ring_of 1 words) node.carry node.slot Nothing 0) (ap (λ (n : ℕ). replicate n fresh_word) (sym is.state.r.1) ∙ sym (same_words node.r fresh_word same)) in
     let data_words = unless_given s2 s3 fresh_word (Data 0) node.d fresh_d (λ _. data_given (fresh_ring 1) ram rom a b q i io node.carry node.slot Nothing 0 node.d is.state.d.1) in
     let return_words = unless_given s3 s4 fresh_word (Return 0) node.r fresh_r (λ _. return_given d ram rom a b q i io node.carry node.slot Nothing 0 node.r is.state.r.1) in
-    let wait : Gives s4 (word_line_unless_default 0 Wait (wait_code node.wait)) s5 = then_same (word_given (λ n. at d r node.carry node.slot (wait_of n) 0) 0 Wait (wait_code node.wait) refl)
+    let wait : Gives s4 (word_line_unless_default 0 Wait (wait_code node.wait)) s5 = then_same (word_given (λ n. at d r node.carry node.slot (wait_of_code n) 0) 0 Wait (wait_code node.wait) refl)
     (ap (λ (w : NodeWait). at d r node.carry node.slot w 0) (wait_back node.wait is.state.wait)) in
     let none : list_all (λ word. word == 0) (node.stop ∷ []) ≡ true → s5 ≡ s6 = λ same. ap (λ (n : ℕ). at d r node.carry node.slot node.wait n) (sym (same_word node.stop 0 same)) in
     let some : list_all (λ word. word == 0) (node.stop ∷ []) ≡ false → given s5 ((Stop, node.stop) ∷ []) ≡ s6 = λ other.
@@ -250,13 +250,13 @@ state_given p a b q i io ram rom node is steady =
     (unless_given s5 s6 0 Stop (node.stop ∷ []) none some)))))
 
 -- the node at load with the lines of another is that other, its stacks with their newest cells at 0
-pub node_given : (p : ℕ) (node : NodeRecord) → IsSoundRecord node → HasConsistentWait node → given (fresh_node p) (field_line_writes (changed_lines (fresh_record p) node)) ≡ made_of node
+pub node_given : (p : ℕ) (node : NodeRecord) → IsSoundRecord node → HasConsistentWait node → given (fresh_node p) (field_line_writes (changed_lines_from_fresh (fresh_record p) node)) ≡ made_of node
 node_given p node is steady =
     let zeros : List ℕ = replicate 64 0 in
     let at : List ℕ → List ℕ → NodeState = λ ram rom. held (ring_of 2 node.d) (ring_of 1 node.r) ram rom node.a node.b node.p node.i node.io node.carry node.slot node.wait node.stop in
     let rams : IsMemory (λ ram. at ram zeros) Ram = record { writes_one = λ memory cell word. refl; next = λ cell words word. refl } in
     let roms : IsMemory (λ rom. at node.ram rom) Rom = record { writes_one = λ memory cell word. refl; next = λ cell words word. refl } in
-    let all : Gives (fresh_node p) (changed_lines (fresh_record p) node) (made_of node) =
+    let all : Gives (fresh_node p) (changed_lines_from_fresh (fresh_record p) node) (made_of node) =
     lines_given (registers_given p node)
     (lines_given (state_given p node.a node.b node.p node.i node.io zeros zeros node is steady)
     (lines_given (memory_given (λ ram. at ram zeros) Ram rams node.ram is.ram.1)

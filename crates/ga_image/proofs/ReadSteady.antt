@@ -5,11 +5,11 @@ use Rattle.std.proofs.Common.{◌≡◌, ◌≢◌, ℕ, ◌<◌, ◌⊎◌, inl
 use Rattle.std.proofs.lemmas.Bool.{eqb-true, eqb-false}
 use Rattle.std.proofs.lemmas.Bool.Decides.{eqb_tells}
 use Rattle.std.proofs.lemmas.Map.Keys.{IsDistinct-head, IsDistinct-tail}
-use Rattle.ga_ports.specs.Address.{side_of}
+use Rattle.ga_ports.specs.Address.{side_of_single_set}
 use Rattle.ga_node.specs.declared.wait.Wait.TheVariants.{Nothing, Fetch, Read, Write}
 use Rattle.ga_node.specs.declared.wait.Wait.{Wait as NodeWait}
 use Rattle.ga_node.specs.declared.place.Place.TheVariants as place
-use Rattle.ga_node.specs.State.{wait_of, with_value}
+use Rattle.ga_node.specs.State.{wait_of_code, with_value}
 use Rattle.ga_node.specs.Record.{NodeState, fresh_node, record_of, IsConsistentWait, HasConsistentWait}
 use Rattle.ga_grid.specs.Grid.{load_p_of, default_chip}
 use Rattle.ga_grid.specs.Chip.{node_at, with_node, records_of, HaveConsistentWaits}
@@ -25,14 +25,14 @@ use Rattle.ga_image.proofs.PrintedBack.{written_given}
 -- a node has its block's wait, stop and slot, except for a wait or a stop that a later word cleared
 record IsTied (node : NodeState) (held : RunState) : Type 0 where
   slot : node.slot ≡ held.slot
-  wait : (node.wait ≡ Nothing) ⊎ (node.wait ≡ wait_of held.wait)
+  wait : (node.wait ≡ Nothing) ⊎ (node.wait ≡ wait_of_code held.wait)
   stop : (node.stop ≡ 0) ⊎ (node.stop ≡ held.stop)
 
 -- a node with the same three
 same_tied : (node other : NodeState) (held : RunState) → other.slot ≡ node.slot → other.wait ≡ node.wait → other.stop ≡ node.stop → IsTied node held → IsTied other held
 same_tied node other held slot wait stop tied = record {
   slot = slot ∙ tied.slot;
-  wait = subst (λ (w : NodeWait). (w ≡ Nothing) ⊎ (w ≡ wait_of held.wait)) (sym wait) tied.wait;
+  wait = subst (λ (w : NodeWait). (w ≡ Nothing) ⊎ (w ≡ wait_of_code held.wait)) (sym wait) tied.wait;
   stop = subst (λ (n : ℕ). (n ≡ 0) ⊎ (n ≡ held.stop)) (sym stop) tied.stop;
 }
 
@@ -71,7 +71,7 @@ words_tied node held (w ∷ ws) tied = words_tied (with_field_word node w.0 w.1)
 -- what is not unsteady fits
 fits : (zero low middle none due : Bool) (code slot stop : ℕ) → (none ≡ true → stop ≡ 0) → (due ≡ true → slot ≡ 4) → (due ≡ false → slot ≢ 4)
     → (not zero && (not none || cond low (not due) due)) ≡ false
-    → IsConsistentWait (cond zero Nothing (cond low (Fetch (code - 16)) (cond middle (Read (code - 32)) (Write (side_of (code - 48)))))) slot stop
+    → IsConsistentWait (cond zero Nothing (cond low (Fetch (code - 16)) (cond middle (Read (code - 32)) (Write (side_of_single_set (code - 48)))))) slot stop
 fits true low middle none due code slot stop runs_on is other test = tt
 fits false low middle false due code slot stop runs_on is other test = cc
 fits false true middle true true code slot stop runs_on is other test = (is refl, runs_on refl)

@@ -5,7 +5,7 @@ use Rattle.std.specs.Str.{str_to_ascii_lowercase}
 use Rattle.std.proofs.Common.{◌≡◌, ℕ, ◌+◌, ◌*◌, ◌<◌, ◌≤◌, Bool, true, false, cond, List, [], ◌∷◌, length, refl, sym, ◌∙◌, ap, arith, length-append, take, drop, Option, Some, None, append_assoc}
 use Rattle.ga_image.specs.declared.field.Field.{Field}
 use Rattle.ga_image.specs.declared.field.Field.TheVariants.{A, B, P, I, Io, Carry, Slot, Wait, Stop, Data, Return, Ram, Rom}
-use Rattle.ga_image.specs.Spelling.{Form, Node, Words, End, IsTextOfForm, IsTextOfField, IsTextOfWords, IsTextOfCode, HasWordCount, side_set_text, wait_text, code_text, field_name, field_numbers_text, spaced_words, words_in_row, few}
+use Rattle.ga_image.specs.Spelling.{LineForm, Node, Words, End, IsTextOfForm, IsTextOfField, IsTextOfWords, IsTextOfCode, HasWordCount, side_set_text, wait_text, field_code_text, field_name, field_numbers_text, spaced_words, words_in_row, within_row_size}
 use Rattle.ga_text.specs.Digits.{words_text}
 use Rattle.std.specs.Cmp.Lexicographic.{pointwise}
 use Rattle.std.proofs.lemmas.Bool.Decides.{nat_tests}
@@ -66,7 +66,7 @@ wait_length code = either (nat_lt code 32) (nat_lt code 48) where
   either false true = omega arith
   either false false = omega arith
 
-code_length : (field : Field) (code : ℕ) → length (field_name field ++ code_text field code) ≤ 200
+code_length : (field : Field) (code : ℕ) → length (field_name field ++ field_code_text field code) ≤ 200
 code_length A code = omega arith
 code_length B code = omega arith
 code_length P code = omega arith
@@ -100,7 +100,7 @@ short_field text (Ram cell) ws is = short_words text (Ram cell) ws is
 short_field text (Rom cell) ws is = short_words text (Rom cell) ws is
 
 -- a line with a form has at most 200 bytes
-pub short_spelled : (text : List ℕ) (f : Form) → IsTextOfForm text f → length text ≤ 200
+pub short_spelled : (text : List ℕ) (f : LineForm) → IsTextOfForm text f → length text ≤ 200
 short_spelled text (Node yxx) is = let same = ap length is.1 in omega arith
 short_spelled text (Words field ws) is = short_field text field ws is
 short_spelled text End is = let same = ap length is in omega arith
@@ -129,7 +129,7 @@ some_spelled text field ws is = (counted field (length ws) (count_spelled text f
 
 -- the words seen so far and those of a text, if there are at most 16
 unfoldable pub words_after : List ℕ → List ℕ → Option (List ℕ)
-words_after seen text = spaced_words text >>= λ found. few (seen ++ found)
+words_after seen text = spaced_words text >>= λ found. within_row_size (seen ++ found)
 
 -- one word, then the others
 pub one_word : List ℕ → List ℕ → Option (List ℕ)
@@ -137,14 +137,14 @@ one_word digits text = hex6_value digits >>= λ word. spaced_words text >>= λ f
 
 short : (text : List ℕ) → 0 < length text → length text < 7 → spaced_words text ≡ None
 unfolding spaced_words
-short [] some few = absurd (omega arith)
-short (a ∷ []) some few = refl
-short (a ∷ b ∷ []) some few = refl
-short (a ∷ b ∷ c ∷ []) some few = refl
-short (a ∷ b ∷ c ∷ d ∷ []) some few = refl
-short (a ∷ b ∷ c ∷ d ∷ e ∷ []) some few = refl
-short (a ∷ b ∷ c ∷ d ∷ e ∷ f ∷ []) some few = refl
-short (a ∷ b ∷ c ∷ d ∷ e ∷ f ∷ g ∷ text) some few = absurd (omega arith)
+short [] some within_row_size = absurd (omega arith)
+short (a ∷ []) some within_row_size = refl
+short (a ∷ b ∷ []) some within_row_size = refl
+short (a ∷ b ∷ c ∷ []) some within_row_size = refl
+short (a ∷ b ∷ c ∷ d ∷ []) some within_row_size = refl
+short (a ∷ b ∷ c ∷ d ∷ e ∷ []) some within_row_size = refl
+short (a ∷ b ∷ c ∷ d ∷ e ∷ f ∷ []) some within_row_size = refl
+short (a ∷ b ∷ c ∷ d ∷ e ∷ f ∷ g ∷ text) some within_row_size = absurd (omega arith)
 
 and_true : (b : Bool) → (b && true) ≡ b
 and_true true = refl
@@ -168,7 +168,7 @@ long (a ∷ b ∷ c ∷ d ∷ e ∷ f ∷ []) many = absurd (omega arith)
 -- nothing is read from fewer than seven bytes
 pub too_short : (seen text : List ℕ) → 0 < length text → length text < 7 → words_after seen text ≡ None
 unfolding words_after
-too_short seen text some few = rw (short text some few) refl
+too_short seen text some within_row_size = rw (short text some within_row_size) refl
 
 -- nor if there is no space in front
 pub no_space : (seen text : List ℕ) → 7 ≤ length text → has_space text ≡ false → words_after seen text ≡ None
@@ -180,7 +180,7 @@ pub no_digits : (seen text : List ℕ) → 7 ≤ length text → has_space text 
 unfolding words_after one_word
 no_digits seen text many space none = rw (long text many, space, none) refl
 
-regroup : (seen : List ℕ) (word : ℕ) (found : Option (List ℕ)) → (found >>= λ ws. few ((seen ++ word ∷ []) ++ ws)) ≡ ((found >>= λ ws. Some (word ∷ ws)) >>= λ ws. few (seen ++ ws))
+regroup : (seen : List ℕ) (word : ℕ) (found : Option (List ℕ)) → (found >>= λ ws. within_row_size ((seen ++ word ∷ []) ++ ws)) ≡ ((found >>= λ ws. Some (word ∷ ws)) >>= λ ws. within_row_size (seen ++ ws))
 regroup seen word None = refl
 regroup seen word (Some ws) = rw (append_assoc seen (word ∷ []) ws) refl
 
@@ -189,15 +189,15 @@ pub next_word : (seen text : List ℕ) (word : ℕ) → 7 ≤ length text → ha
 unfolding words_after one_word
 next_word seen text word many space is = rw (long text many, space, is) (regroup seen word (spaced_words (drop 7 text)))
 
-overfull : (seen ws : List ℕ) (word : ℕ) → length seen ≡ 16 → few (seen ++ word ∷ ws) ≡ None
+overfull : (seen ws : List ℕ) (word : ℕ) → length seen ≡ 16 → within_row_size (seen ++ word ∷ ws) ≡ None
 overfull seen ws word full = grind (arith, nat_tests, length-append seen (word ∷ ws))
 
-no_more : (seen : List ℕ) (word : Option ℕ) (found : Option (List ℕ)) → length seen ≡ 16 → ((word >>= λ w. found >>= λ ws. Some (w ∷ ws)) >>= λ ws. few (seen ++ ws)) ≡ None
+no_more : (seen : List ℕ) (word : Option ℕ) (found : Option (List ℕ)) → length seen ≡ 16 → ((word >>= λ w. found >>= λ ws. Some (w ∷ ws)) >>= λ ws. within_row_size (seen ++ ws)) ≡ None
 no_more seen None found full = refl
 no_more seen (Some w) None full = refl
 no_more seen (Some w) (Some ws) full = overfull seen ws w full
 
-past_sixteen : (seen : List ℕ) (space : Bool) (word : Option ℕ) (found : Option (List ℕ)) → length seen ≡ 16 → (cond space (word >>= λ w. found >>= λ ws. Some (w ∷ ws)) None >>= λ ws. few (seen ++ ws)) ≡ None
+past_sixteen : (seen : List ℕ) (space : Bool) (word : Option ℕ) (found : Option (List ℕ)) → length seen ≡ 16 → (cond space (word >>= λ w. found >>= λ ws. Some (w ∷ ws)) None >>= λ ws. within_row_size (seen ++ ws)) ≡ None
 past_sixteen seen true word found full = no_more seen word found full
 past_sixteen seen false word found full = refl
 
@@ -218,7 +218,7 @@ no_words = refl
 -- words that were seen up to the end
 pub all_words : (seen : List ℕ) → 0 < length seen → length seen ≤ 16 → words_after seen [] ≡ Some seen
 unfolding words_after spaced_words
-all_words seen some few = rw (append_nothing seen) (grind (arith, nat_tests))
+all_words seen some within_row_size = rw (append_nothing seen) (grind (arith, nat_tests))
 
 -- before the first word
 pub from_start : (text : List ℕ) → words_after [] text ≡ words_in_row text

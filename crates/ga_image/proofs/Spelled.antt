@@ -4,7 +4,7 @@ use Rattle.std.proofs.lemmas.Bool.{eqb-true}
 use Rattle.std.proofs.Common.{◌≡◌, ℕ, zero, suc, ◌+◌, ◌*◌, ◌/◌, ◌%◌, ◌<◌, ◌≤◌, inl, inr, true, false, List, [], ◌∷◌, Option, Some, None, refl, ◌∙◌, ap, arith, ◌^◌, Bool, cond, ◌&&◌, ◌++◌, length, take, drop, sym, subst, append_assoc}
 use Rattle.ga_ports.specs.Address.{side_value, parse_side_set, is_single_side}
 use Rattle.ga_ports.specs.Steps.{◌>>=◌}
-use Rattle.ga_image.specs.Spelling.{side_letter_or_hyphen, side_set_text, Form, Node, Words, End, wait_text, field_name, field_numbers_text, code_text, HasWordCount, IsTextOfWords, IsFieldCode, IsTextOfCode, IsTextOfField, IsTextOfForm, form, spaced_words, few, words_in_row, word_form, cells_form, stack_form, digit_form, set_form, side_form, wait_form, node_form, wide_form, state_form, begins_with_text}
+use Rattle.ga_image.specs.Spelling.{side_letter_or_hyphen, side_set_text, LineForm, Node, Words, End, wait_text, field_name, field_numbers_text, field_code_text, HasWordCount, IsTextOfWords, IsFieldCode, IsTextOfCode, IsTextOfField, IsTextOfForm, line_form, spaced_words, within_row_size, words_in_row, word_form, cells_form, stack_form, digit_form, side_set_wait_form, side_write_wait_form, wait_form, node_form, stack_memory_or_node_form, state_form, begins_with_text}
 use Rattle.ga_text.proofs.Numbers.{chosen, word_spelled, word_read, cell_spelled, node_spelled, between}
 use Rattle.std.specs.List.{AllByRecursion}
 use Rattle.std.specs.Char.{to_ascii_lowercase}
@@ -170,18 +170,18 @@ words_read (a ∷ b ∷ c ∷ d ∷ f ∷ g ∷ h ∷ text) (w ∷ ws) six e =
     let more = words_read text ws six.1 parts.2 in
     rw (space, word, more) refl
 
-few_is : (found ws : List ℕ) → few found ≡ Some ws → (found ≡ ws) × (1 ≤ length ws) × (length ws ≤ 16)
+few_is : (found ws : List ℕ) → within_row_size found ≡ Some ws → (found ≡ ws) × (1 ≤ length ws) × (length ws ≤ 16)
 few_is found ws e =
     let (test, same) = guarded (nat_le 1 (length found) && nat_le (length found) 16) found ws e in
-    let (some, few) = both_true (nat_le 1 (length found)) (nat_le (length found) 16) test in
+    let (some, within_row_size) = both_true (nat_le 1 (length found)) (nat_le (length found) 16) test in
     rw (← same) (refl, grind (arith, nat_tests), grind (arith, nat_tests))
 
 -- a text that parses as 1 to 16 words is their text
 row_spelled : (text ws : List ℕ) → words_in_row text ≡ Some ws → AreSix ws × (str_to_ascii_lowercase text ≡ words_text ws) × (1 ≤ length ws) × (length ws ≤ 16)
 unfolding words_in_row
 row_spelled text ws e =
-    let (found, spaced, few) = first_step (spaced_words text) few ws e in
-    let (same, some, most) = few_is found ws few in
+    let (found, spaced, within_row_size) = first_step (spaced_words text) within_row_size ws e in
+    let (same, some, most) = few_is found ws within_row_size in
     let (six, digits) = words_spelled text ws (spaced ∙ ap (λ (xs : List ℕ). Some xs) same) in
     (six, digits, some, most)
 
@@ -208,7 +208,7 @@ branch true x y z p q e = p refl e
 branch false x y z p q e = q e
 
 -- a register's line
-register_spelled : (text : List ℕ) (field : Field) (f : Form) → ((words : List ℕ) → field_numbers_text field words ≡ words_text words) → ((count : ℕ) → count ≡ 1 → HasWordCount field count)
+register_spelled : (text : List ℕ) (field : Field) (f : LineForm) → ((words : List ℕ) → field_numbers_text field words ≡ words_text words) → ((count : ℕ) → count ≡ 1 → HasWordCount field count)
     → (digits : List ℕ) → text ≡ (field_name field ++ 32 ∷ []) ++ digits → word_form field digits ≡ Some f → ((words : List ℕ) → IsTextOfWords text field words → IsTextOfField text field words) → IsTextOfForm text f
 unfolding word_form
 register_spelled text field f plain counted tail is e wide =
@@ -223,7 +223,7 @@ register_spelled text field f plain counted tail is e wide =
       digits = ap (λ xs. 32 ∷ xs) lower ∙ sym (plain (word ∷ []));
     }))
 
-cells_parts : (text : List ℕ) (field : ℕ → Field) (f : Form) → cells_form field text ≡ Some f
+cells_parts : (text : List ℕ) (field : ℕ → Field) (f : LineForm) → cells_form field text ≡ Some f
     → (cell : ℕ) × (ws : List ℕ) × (Words (field cell) ws ≡ f) × (cell < 256) × AreSix ws × (str_to_ascii_lowercase text ≡ hex2_of cell ++ words_text ws) × (1 ≤ length ws) × (length ws ≤ 16)
 unfolding cells_form
 cells_parts [] field f e = cc
@@ -237,7 +237,7 @@ cells_parts (x ∷ y ∷ text) field f e =
     (cell, ws, same, small, six, ap (λ xs. xs ++ str_to_ascii_lowercase text) front ∙ ap (λ xs. hex2_of cell ++ xs) back, some, most)
 
 -- a line of cells
-cells_spelled : (text : List ℕ) (field : ℕ → Field) (f : Form) → ((cell : ℕ) (words : List ℕ) → field_numbers_text (field cell) words ≡ hex2_of cell ++ words_text words)
+cells_spelled : (text : List ℕ) (field : ℕ → Field) (f : LineForm) → ((cell : ℕ) (words : List ℕ) → field_numbers_text (field cell) words ≡ hex2_of cell ++ words_text words)
     → ((cell count : ℕ) → cell < 256 → 1 ≤ count → count ≤ 16 → HasWordCount (field cell) count) → ((cell : ℕ) → text ≡ field_name (field cell) ++ drop 4 text) → cells_form field (drop 4 text) ≡ Some f
     → ((cell : ℕ) (words : List ℕ) → IsTextOfWords text (field cell) words → IsTextOfField text (field cell) words) → IsTextOfForm text f
 cells_spelled text field f plain counted is e wide =
@@ -251,7 +251,7 @@ cells_spelled text field f plain counted is e wide =
     }))
 
 -- a line of a stack
-stack_spelled : (text : List ℕ) (field : Field) (count : ℕ) (f : Form) → ((words : List ℕ) → field_numbers_text field words ≡ words_text words) → HasWordCount field count → text ≡ field_name field ++ drop 1 text
+stack_spelled : (text : List ℕ) (field : Field) (count : ℕ) (f : LineForm) → ((words : List ℕ) → field_numbers_text field words ≡ words_text words) → HasWordCount field count → text ≡ field_name field ++ drop 1 text
     → stack_form field count (drop 1 text) ≡ Some f → ((words : List ℕ) → IsTextOfWords text field words → IsTextOfField text field words) → IsTextOfForm text f
 unfolding stack_form
 stack_spelled text field count f plain counted is e wide =
@@ -267,7 +267,7 @@ stack_spelled text field count f plain counted is e wide =
     }))
 
 -- a line of one digit
-digit_spelled : (field : Field) (least most : ℕ) (text : List ℕ) (f : Form) → digit_form field least most text ≡ Some f
+digit_spelled : (field : Field) (least most : ℕ) (text : List ℕ) (f : LineForm) → digit_form field least most text ≡ Some f
     → (code : ℕ) × (Words field (code ∷ []) ≡ f) × (least ≤ code) × (code ≤ most) × (text ≡ (48 + code) ∷ [])
 unfolding digit_form
 digit_spelled field least most [] f e = cc
@@ -279,12 +279,12 @@ digit_spelled field least most (c ∷ []) f e =
 digit_spelled field least most (c ∷ d ∷ text) f e = cc
 
 -- a line of a code
-code_spelled : (text : List ℕ) (field : Field) (code : ℕ) (f : Form) → Words field (code ∷ []) ≡ f → IsFieldCode field code → text ≡ field_name field ++ code_text field code
+code_spelled : (text : List ℕ) (field : Field) (code : ℕ) (f : LineForm) → Words field (code ∷ []) ≡ f → IsFieldCode field code → text ≡ field_name field ++ field_code_text field code
     → ((words : List ℕ) → IsTextOfCode text field words → IsTextOfField text field words) → IsTextOfForm text f
 code_spelled text field code f same valid is wide = subst (IsTextOfForm text) same (wide (code ∷ []) (record { code = code; one = refl; valid = valid; parts = is }))
 
-set_parts : (kind : ℕ) (text : List ℕ) (f : Form) → set_form kind text ≡ Some f → (sides : ℕ) × (Words Wait ((kind + sides) ∷ []) ≡ f) × (0 < sides) × (sides < 16) × (text ≡ side_set_text sides)
-unfolding set_form
+set_parts : (kind : ℕ) (text : List ℕ) (f : LineForm) → side_set_wait_form kind text ≡ Some f → (sides : ℕ) × (Words Wait ((kind + sides) ∷ []) ≡ f) × (0 < sides) × (sides < 16) × (text ≡ side_set_text sides)
+unfolding side_set_wait_form
 set_parts kind text f e =
     let (sides, letters, made) = first_step (parse_side_set text) _ f e in
     let (small, is) = set_spelled text sides letters in
@@ -292,15 +292,15 @@ set_parts kind text f e =
     (λ none never. absurd (let clash : true ≡ false = cc in cc))
     (λ found. let same : Words Wait ((kind + sides) ∷ []) ≡ f = cc in (sides, same, some_sides sides kind f made, small, is))
     made where
-      some_sides : (sides kind : ℕ) (f : Form) → cond (sides == 0) None (Some (Words Wait ((kind + sides) ∷ []))) ≡ Some f → 0 < sides
+      some_sides : (sides kind : ℕ) (f : LineForm) → cond (sides == 0) None (Some (Words Wait ((kind + sides) ∷ []))) ≡ Some f → 0 < sides
       some_sides zero kind f made = cc
       some_sides (suc sides) kind f made = omega arith
 
 single_side : (sides : ℕ) → is_single_side sides ≡ true → IsWaitCode (48 + sides)
 single_side sides e = grind (arith, nat_tests)
 
-side_parts : (text : List ℕ) (f : Form) → side_form text ≡ Some f → (sides : ℕ) × (Words Wait ((48 + sides) ∷ []) ≡ f) × IsWaitCode (48 + sides) × (sides < 16) × (text ≡ side_set_text sides)
-unfolding side_form
+side_parts : (text : List ℕ) (f : LineForm) → side_write_wait_form text ≡ Some f → (sides : ℕ) × (Words Wait ((48 + sides) ∷ []) ≡ f) × IsWaitCode (48 + sides) × (sides < 16) × (text ≡ side_set_text sides)
+unfolding side_write_wait_form
 side_parts text f e =
     let (sides, letters, made) = first_step (parse_side_set text) _ f e in
     let (small, is) = set_spelled text sides letters in
@@ -325,10 +325,10 @@ write_text sides =
     let same : 48 + sides - 48 ≡ sides = omega arith in rw (past, over, same) refl
 
 -- a wait, and what is read of it
-abbrev WaitParts : List ℕ → Form → Type 0
+abbrev WaitParts : List ℕ → LineForm → Type 0
 WaitParts text f = (code : ℕ) × (Words Wait (code ∷ []) ≡ f) × IsFieldCode Wait code × (text ≡ wait_text code)
 
-wait_parts : (text : List ℕ) (f : Form) → wait_form text ≡ Some f → WaitParts text f
+wait_parts : (text : List ℕ) (f : LineForm) → wait_form text ≡ Some f → WaitParts text f
 unfolding wait_form
 wait_parts text f =
     branch _ _ _ _ (λ b e.
@@ -342,7 +342,7 @@ wait_parts text f =
     (48 + sides, same, (valid, λ none. absurd (omega arith)), begun text (codes "write ") b ∙ ap (λ xs. codes "write " ++ xs) is ∙ sym (write_text sides)))
     (λ never. absurd (let clash : true ≡ false = cc in cc))))
 
-node_line_spelled : (text : List ℕ) (f : Form) → text ≡ codes "node " ++ drop 5 text → node_form (drop 5 text) ≡ Some f → IsTextOfForm text f
+node_line_spelled : (text : List ℕ) (f : LineForm) → text ≡ codes "node " ++ drop 5 text → node_form (drop 5 text) ≡ Some f → IsTextOfForm text f
 unfolding node_form
 node_line_spelled text f is e =
     let (yxx, digits, made) = first_step (parse_node_name (drop 5 text)) _ f e in
@@ -350,13 +350,13 @@ node_line_spelled text f is e =
     let (small, spelled) = node_spelled (drop 5 text) yxx digits in
     subst (IsTextOfForm text) same (small, is ∙ ap (λ xs. codes "node " ++ xs) spelled)
 
-end_spelled : (text : List ℕ) (f : Form) → cond (pointwise nat_eq text (codes "end")) (Some End) None ≡ Some f → IsTextOfForm text f
+end_spelled : (text : List ℕ) (f : LineForm) → cond (pointwise nat_eq text (codes "end")) (Some End) None ≡ Some f → IsTextOfForm text f
 end_spelled text f e =
     let (test, same) = guarded (pointwise nat_eq text (codes "end")) End f e in
     subst (IsTextOfForm text) same ((bytes_eq-Decides text (codes "end")).0 test)
 
-wide_spelled : (text : List ℕ) (f : Form) → wide_form text ≡ Some f → IsTextOfForm text f
-unfolding wide_form
+wide_spelled : (text : List ℕ) (f : LineForm) → stack_memory_or_node_form text ≡ Some f → IsTextOfForm text f
+unfolding stack_memory_or_node_form
 wide_spelled text f =
     branch _ _ _ _ (λ b e. stack_spelled text (Data 0) 10 f (λ words. refl) (refl, refl) (begun text (codes "d") b) e (λ words is. is))
     (branch _ _ _ _ (λ b e. cells_spelled text Ram f (λ cell words. refl) (λ cell count small some most. (small, some, most)) (λ cell. begun text (codes "ram ") b) e (λ cell words is. is))
@@ -365,7 +365,7 @@ wide_spelled text f =
     (branch _ _ _ _ (λ b e. node_line_spelled text f (begun text (codes "node ") b) e)
     (end_spelled text f)))))
 
-state_spelled : (text : List ℕ) (f : Form) → state_form text ≡ Some f → IsTextOfForm text f
+state_spelled : (text : List ℕ) (f : LineForm) → state_form text ≡ Some f → IsTextOfForm text f
 unfolding state_form
 state_spelled text f =
     branch _ _ _ _ (λ b e. let (code, same, least, most, is) = digit_spelled Carry 0 1 (drop 6 text) f e in
@@ -379,8 +379,8 @@ state_spelled text f =
     (wide_spelled text f))))
 
 -- a line is a text of the form that it parses as
-pub form_spelled : (text : List ℕ) (f : Form) → form text ≡ Some f → IsTextOfForm text f
-unfolding form
+pub form_spelled : (text : List ℕ) (f : LineForm) → line_form text ≡ Some f → IsTextOfForm text f
+unfolding line_form
 form_spelled text f =
     branch _ _ _ _ (λ b e. register_spelled text A f (λ words. refl) (λ count one. one) (drop 2 text) (begun text (codes "a ") b) e (λ words is. is))
     (branch _ _ _ _ (λ b e. register_spelled text B f (λ words. refl) (λ count one. one) (drop 2 text) (begun text (codes "b ") b) e (λ words is. is))

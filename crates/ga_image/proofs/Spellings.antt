@@ -1,7 +1,7 @@
 -- A text of a form parses as the form, in each format.
-use Rattle.ga_image.specs.declared.parser.Stage.TheVariants as expects
+use Rattle.ga_image.specs.declared.parser.ImageReadStage.TheVariants as expects
 use Rattle.std.proofs.Common.{◌≢◌, refl, ◌≡◌, ℕ, ◌+◌, inl, inr, ◌<◌, ◌≤◌, true, false, ◌&&◌, List, [], ◌∷◌, ◌++◌, length, map, Option, Some, None, sym, ◌∙◌, ap, subst, arith}
-use Rattle.ga_image.specs.declared.parser.Stage.{Stage as Expects}
+use Rattle.ga_image.specs.declared.parser.ImageReadStage.{ImageReadStage as Expects}
 use Rattle.ga_image.specs.inner.{stage_of, IsAfterHeader, HoldsCode, AreCodes}
 use Rattle.std.specs.Prelude.{nat_le, codes, ◌==◌, ◌-◌}
 use Rattle.std.specs.Char.{to_ascii_lowercase}
@@ -13,8 +13,8 @@ use Rattle.ga_image.specs.declared.field.Field.{Field}
 use Rattle.ga_image.specs.declared.field.Field.TheVariants.{A, B, P, I, Io, Carry, Slot, Wait, Stop, Data, Return, Ram, Rom}
 use Rattle.ga_node.specs.State.{IsWaitCode}
 use Rattle.ga_image.specs.declared.field.Format.{Format}
-use Rattle.ga_image.specs.Fields.{has_field}
-use Rattle.ga_image.specs.Spelling.{Form, Node, Words, End, side_set_text, wait_text, field_name, code_text, IsTextOfWords, IsTextOfCode, IsTextOfField, IsTextOfForm, IsFormOf, IsTextInFormat, form, word_form, cells_form, stack_form, digit_form, set_form, side_form, wait_form, node_form, wide_form, state_form}
+use Rattle.ga_image.specs.Fields.{format_has_field}
+use Rattle.ga_image.specs.Spelling.{LineForm, Node, Words, End, side_set_text, wait_text, field_name, field_code_text, IsTextOfWords, IsTextOfCode, IsTextOfField, IsTextOfForm, IsFormOfFormat, IsTextInFormat, line_form, word_form, cells_form, stack_form, digit_form, side_set_wait_form, side_write_wait_form, wait_form, node_form, stack_memory_or_node_form, state_form}
 use Rattle.ga_text.specs.Digits.{decimal3_of, hex2_of, words_text}
 use Rattle.ga_image.specs.Reading.{form_in_format, allowed_form}
 use Rattle.ga_image.specs.Grammar.{AreLinesOfForms}
@@ -59,30 +59,30 @@ cells_read field cell (x ∷ y ∷ text) ws small six is some most =
     let rest : str_to_ascii_lowercase text ≡ words_text ws = cc in
     rw (cell_read x y cell small high low, row_read text ws six rest some most) refl
 
-register_read : (field : Field) (name : List ℕ) → ((digits : List ℕ) (w : ℕ) → hex6_value digits ≡ Some w → form (name ++ 32 ∷ digits) ≡ Some (Words field (w ∷ [])))
-    → (text numbers ws : List ℕ) → text ≡ name ++ numbers → length ws ≡ 1 → AreSix ws → str_to_ascii_lowercase numbers ≡ words_text ws → form text ≡ Some (Words field ws)
+register_read : (field : Field) (name : List ℕ) → ((digits : List ℕ) (w : ℕ) → hex6_value digits ≡ Some w → line_form (name ++ 32 ∷ digits) ≡ Some (Words field (w ∷ [])))
+    → (text numbers ws : List ℕ) → text ≡ name ++ numbers → length ws ≡ 1 → AreSix ws → str_to_ascii_lowercase numbers ≡ words_text ws → line_form text ≡ Some (Words field ws)
 register_read field name reads text numbers ws parts one six is =
     let (digits, w, single, spaced, word) = register_numbers numbers ws one six is in
-    ap form (parts ∙ ap (λ xs. name ++ xs) spaced) ∙ reads digits w word ∙ ap (λ xs. Some (Words field xs)) (sym single)
+    ap line_form (parts ∙ ap (λ xs. name ++ xs) spaced) ∙ reads digits w word ∙ ap (λ xs. Some (Words field xs)) (sym single)
 
-a_read : (digits : List ℕ) (w : ℕ) → hex6_value digits ≡ Some w → form (codes "a" ++ 32 ∷ digits) ≡ Some (Words A (w ∷ []))
-unfolding form word_form
+a_read : (digits : List ℕ) (w : ℕ) → hex6_value digits ≡ Some w → line_form (codes "a" ++ 32 ∷ digits) ≡ Some (Words A (w ∷ []))
+unfolding line_form word_form
 a_read digits w is = rw is refl
 
-b_read : (digits : List ℕ) (w : ℕ) → hex6_value digits ≡ Some w → form (codes "b" ++ 32 ∷ digits) ≡ Some (Words B (w ∷ []))
-unfolding form word_form
+b_read : (digits : List ℕ) (w : ℕ) → hex6_value digits ≡ Some w → line_form (codes "b" ++ 32 ∷ digits) ≡ Some (Words B (w ∷ []))
+unfolding line_form word_form
 b_read digits w is = rw is refl
 
-p_read : (digits : List ℕ) (w : ℕ) → hex6_value digits ≡ Some w → form (codes "p" ++ 32 ∷ digits) ≡ Some (Words P (w ∷ []))
-unfolding form word_form
+p_read : (digits : List ℕ) (w : ℕ) → hex6_value digits ≡ Some w → line_form (codes "p" ++ 32 ∷ digits) ≡ Some (Words P (w ∷ []))
+unfolding line_form word_form
 p_read digits w is = rw is refl
 
-i_read : (digits : List ℕ) (w : ℕ) → hex6_value digits ≡ Some w → form (codes "i" ++ 32 ∷ digits) ≡ Some (Words I (w ∷ []))
-unfolding form word_form
+i_read : (digits : List ℕ) (w : ℕ) → hex6_value digits ≡ Some w → line_form (codes "i" ++ 32 ∷ digits) ≡ Some (Words I (w ∷ []))
+unfolding line_form word_form
 i_read digits w is = rw is refl
 
-io_read : (digits : List ℕ) (w : ℕ) → hex6_value digits ≡ Some w → form (codes "io" ++ 32 ∷ digits) ≡ Some (Words Io (w ∷ []))
-unfolding form word_form
+io_read : (digits : List ℕ) (w : ℕ) → hex6_value digits ≡ Some w → line_form (codes "io" ++ 32 ∷ digits) ≡ Some (Words Io (w ∷ []))
+unfolding line_form word_form
 io_read digits w is = rw is refl
 
 stack_read : (field : Field) (count : ℕ) (numbers ws : List ℕ) → length ws ≡ count → 1 ≤ count → count ≤ 16 → AreSix ws → str_to_ascii_lowercase numbers ≡ words_text ws → stack_form field count numbers ≡ Some (Words field ws)
@@ -98,36 +98,36 @@ spaced numbers [] some lower = absurd (omega arith)
 spaced [] (w ∷ ws) some lower = cc
 spaced (s ∷ rest) (w ∷ ws) some lower = let space : to_ascii_lowercase s ≡ 32 = cc in (rest, ap (λ c. c ∷ rest) (lower_space s space))
 
-data_form : (rest : List ℕ) → form (codes "d" ++ 32 ∷ rest) ≡ stack_form (Data 0) 10 (32 ∷ rest)
-unfolding form state_form wide_form
+data_form : (rest : List ℕ) → line_form (codes "d" ++ 32 ∷ rest) ≡ stack_form (Data 0) 10 (32 ∷ rest)
+unfolding line_form state_form stack_memory_or_node_form
 data_form rest = refl
 
-return_form : (rest : List ℕ) → form (codes "r" ++ 32 ∷ rest) ≡ stack_form (Return 0) 9 (32 ∷ rest)
-unfolding form state_form wide_form
+return_form : (rest : List ℕ) → line_form (codes "r" ++ 32 ∷ rest) ≡ stack_form (Return 0) 9 (32 ∷ rest)
+unfolding line_form state_form stack_memory_or_node_form
 return_form rest = refl
 
-stack_line_read : (field : Field) (count : ℕ) (name : List ℕ) → ((rest : List ℕ) → form (name ++ 32 ∷ rest) ≡ stack_form field count (32 ∷ rest)) → (text numbers ws : List ℕ) → text ≡ name ++ numbers
-    → length ws ≡ count → 1 ≤ count → count ≤ 16 → AreSix ws → str_to_ascii_lowercase numbers ≡ words_text ws → form text ≡ Some (Words field ws)
+stack_line_read : (field : Field) (count : ℕ) (name : List ℕ) → ((rest : List ℕ) → line_form (name ++ 32 ∷ rest) ≡ stack_form field count (32 ∷ rest)) → (text numbers ws : List ℕ) → text ≡ name ++ numbers
+    → length ws ≡ count → 1 ≤ count → count ≤ 16 → AreSix ws → str_to_ascii_lowercase numbers ≡ words_text ws → line_form text ≡ Some (Words field ws)
 stack_line_read field count name reads text numbers ws parts counted some most six lower =
     let (rest, space) = spaced numbers ws (omega arith) lower in
-    ap form (parts ∙ ap (λ xs. name ++ xs) space) ∙ reads rest ∙ ap (stack_form field count) (sym space) ∙ stack_read field count numbers ws counted some most six lower
+    ap line_form (parts ∙ ap (λ xs. name ++ xs) space) ∙ reads rest ∙ ap (stack_form field count) (sym space) ∙ stack_read field count numbers ws counted some most six lower
 
-data_line_read : (text : List ℕ) (k : ℕ) (ws : List ℕ) → IsTextOfWords text (Data k) ws → form text ≡ Some (Words (Data k) ws)
+data_line_read : (text : List ℕ) (k : ℕ) (ws : List ℕ) → IsTextOfWords text (Data k) ws → line_form text ≡ Some (Words (Data k) ws)
 data_line_read text k ws is =
     stack_line_read (Data 0) 10 (codes "d") data_form text is.numbers ws is.parts is.count.1 (omega arith) (omega arith) is.six_digits is.digits
     ∙ ap (λ (n : ℕ). Some (Words (Data n) ws)) (sym is.count.0)
 
-return_line_read : (text : List ℕ) (k : ℕ) (ws : List ℕ) → IsTextOfWords text (Return k) ws → form text ≡ Some (Words (Return k) ws)
+return_line_read : (text : List ℕ) (k : ℕ) (ws : List ℕ) → IsTextOfWords text (Return k) ws → line_form text ≡ Some (Words (Return k) ws)
 return_line_read text k ws is =
     stack_line_read (Return 0) 9 (codes "r") return_form text is.numbers ws is.parts is.count.1 (omega arith) (omega arith) is.six_digits is.digits
     ∙ ap (λ (n : ℕ). Some (Words (Return n) ws)) (sym is.count.0)
 
-ram_form : (numbers : List ℕ) → form (codes "ram " ++ numbers) ≡ cells_form Ram numbers
-unfolding form state_form wide_form
+ram_form : (numbers : List ℕ) → line_form (codes "ram " ++ numbers) ≡ cells_form Ram numbers
+unfolding line_form state_form stack_memory_or_node_form
 ram_form numbers = refl
 
-rom_form : (numbers : List ℕ) → form (codes "rom " ++ numbers) ≡ cells_form Rom numbers
-unfolding form state_form wide_form
+rom_form : (numbers : List ℕ) → line_form (codes "rom " ++ numbers) ≡ cells_form Rom numbers
+unfolding line_form state_form stack_memory_or_node_form
 rom_form numbers = refl
 
 digit_read : (field : Field) (least most code : ℕ) → least ≤ code → code ≤ most → digit_form field least most ((48 + code) ∷ []) ≡ Some (Words field (code ∷ []))
@@ -137,32 +137,32 @@ digit_read field least most code low high =
     let same : 48 + code - 48 ≡ code = omega arith in
     rw (test, same) refl
 
-carry_form : (text : List ℕ) → form (codes "carry " ++ text) ≡ digit_form Carry 0 1 text
-unfolding form state_form
+carry_form : (text : List ℕ) → line_form (codes "carry " ++ text) ≡ digit_form Carry 0 1 text
+unfolding line_form state_form
 carry_form text = refl
 
-slot_form : (text : List ℕ) → form (codes "slot " ++ text) ≡ digit_form Slot 0 4 text
-unfolding form state_form
+slot_form : (text : List ℕ) → line_form (codes "slot " ++ text) ≡ digit_form Slot 0 4 text
+unfolding line_form state_form
 slot_form text = refl
 
-stop_form : (text : List ℕ) → form (codes "stop " ++ text) ≡ digit_form Stop 1 3 text
-unfolding form state_form
+stop_form : (text : List ℕ) → line_form (codes "stop " ++ text) ≡ digit_form Stop 1 3 text
+unfolding line_form state_form
 stop_form text = refl
 
-wait_line_form : (text : List ℕ) → form (codes "wait " ++ text) ≡ wait_form text
-unfolding form state_form
+wait_line_form : (text : List ℕ) → line_form (codes "wait " ++ text) ≡ wait_form text
+unfolding line_form state_form
 wait_line_form text = refl
 
 fetch_read : (sides : ℕ) → 0 < sides → sides < 16 → wait_form (codes "fetch " ++ side_set_text sides) ≡ Some (Words Wait ((16 + sides) ∷ []))
-unfolding wait_form set_form
+unfolding wait_form side_set_wait_form
 fetch_read sides some small = let other : (sides == 0) ≡ false = grind (arith, nat_tests) in rw (set_read sides small, other) refl
 
 read_read : (sides : ℕ) → 0 < sides → sides < 16 → wait_form (codes "read " ++ side_set_text sides) ≡ Some (Words Wait ((32 + sides) ∷ []))
-unfolding wait_form set_form
+unfolding wait_form side_set_wait_form
 read_read sides some small = let other : (sides == 0) ≡ false = grind (arith, nat_tests) in rw (set_read sides small, other) refl
 
 write_read : (sides : ℕ) → is_single_side sides ≡ true → sides < 16 → wait_form (codes "write " ++ side_set_text sides) ≡ Some (Words Wait ((48 + sides) ∷ []))
-unfolding wait_form side_form
+unfolding wait_form side_write_wait_form
 write_read sides single small = rw (set_read sides small, single) refl
 
 -- the three kinds of waits
@@ -180,10 +180,10 @@ wait_read code (inr (inr (inr one))) some =
     let small : code - 48 < 16 = grind (arith, one) in
     ap (λ (n : ℕ). wait_form (wait_text n)) whole ∙ ap wait_form (write_text (code - 48)) ∙ write_read (code - 48) single small ∙ ap (λ (n : ℕ). Some (Words Wait (n ∷ []))) (sym whole)
 
-code_line_read : (text : List ℕ) (field : Field) (ws : List ℕ) (is : IsTextOfCode text field ws) → form (field_name field ++ code_text field is.code) ≡ Some (Words field (is.code ∷ [])) → form text ≡ Some (Words field ws)
-code_line_read text field ws is reads = ap form is.parts ∙ reads ∙ ap (λ xs. Some (Words field xs)) (sym is.one)
+code_line_read : (text : List ℕ) (field : Field) (ws : List ℕ) (is : IsTextOfCode text field ws) → line_form (field_name field ++ field_code_text field is.code) ≡ Some (Words field (is.code ∷ [])) → line_form text ≡ Some (Words field ws)
+code_line_read text field ws is reads = ap line_form is.parts ∙ reads ∙ ap (λ xs. Some (Words field xs)) (sym is.one)
 
-words_line_read : (text : List ℕ) (field : Field) (ws : List ℕ) → IsTextOfField text field ws → form text ≡ Some (Words field ws)
+words_line_read : (text : List ℕ) (field : Field) (ws : List ℕ) → IsTextOfField text field ws → line_form text ≡ Some (Words field ws)
 words_line_read text A ws is = register_read A (codes "a") a_read text is.numbers ws is.parts is.count is.six_digits is.digits
 words_line_read text B ws is = register_read B (codes "b") b_read text is.numbers ws is.parts is.count is.six_digits is.digits
 words_line_read text P ws is = register_read P (codes "p") p_read text is.numbers ws is.parts is.count is.six_digits is.digits
@@ -195,42 +195,42 @@ words_line_read text Wait ws is = code_line_read text Wait ws is (wait_line_form
 words_line_read text Stop ws is = code_line_read text Stop ws is (stop_form ((48 + is.code) ∷ []) ∙ digit_read Stop 1 3 is.code is.valid.0 is.valid.1)
 words_line_read text (Data k) ws is = data_line_read text k ws is
 words_line_read text (Return k) ws is = return_line_read text k ws is
-words_line_read text (Ram cell) ws is = ap form is.parts ∙ ram_form is.numbers ∙ cells_read Ram cell is.numbers ws is.count.0 is.six_digits is.digits is.count.1 is.count.2
-words_line_read text (Rom cell) ws is = ap form is.parts ∙ rom_form is.numbers ∙ cells_read Rom cell is.numbers ws is.count.0 is.six_digits is.digits is.count.1 is.count.2
+words_line_read text (Ram cell) ws is = ap line_form is.parts ∙ ram_form is.numbers ∙ cells_read Ram cell is.numbers ws is.count.0 is.six_digits is.digits is.count.1 is.count.2
+words_line_read text (Rom cell) ws is = ap line_form is.parts ∙ rom_form is.numbers ∙ cells_read Rom cell is.numbers ws is.count.0 is.six_digits is.digits is.count.1 is.count.2
 
-node_line_read : (text : List ℕ) (yxx : ℕ) → yxx < 1000 → text ≡ codes "node " ++ decimal3_of yxx → form text ≡ Some (Node yxx)
-unfolding form state_form wide_form node_form
+node_line_read : (text : List ℕ) (yxx : ℕ) → yxx < 1000 → text ≡ codes "node " ++ decimal3_of yxx → line_form text ≡ Some (Node yxx)
+unfolding line_form state_form stack_memory_or_node_form node_form
 node_line_read text yxx small is = rw is (rw (node_read yxx small) refl)
 
-end_line_read : form (codes "end") ≡ Some End
-unfolding form state_form wide_form
+end_line_read : line_form (codes "end") ≡ Some End
+unfolding line_form state_form stack_memory_or_node_form
 end_line_read = refl
 
 -- a text of a form parses as the form
-pub form_read : (text : List ℕ) (f : Form) → IsTextOfForm text f → form text ≡ Some f
+pub form_read : (text : List ℕ) (f : LineForm) → IsTextOfForm text f → line_form text ≡ Some f
 form_read text (Node yxx) is = node_line_read text yxx is.0 is.1
 form_read text (Words field ws) is = words_line_read text field ws is
-form_read text End is = ap form is ∙ end_line_read
+form_read text End is = ap line_form is ∙ end_line_read
 
-kept_parts : (format : Format) (found : Option Form) (f : Form) → allowed_form format found ≡ Some f → (found ≡ Some f) × IsFormOf format f
+kept_parts : (format : Format) (found : Option LineForm) (f : LineForm) → allowed_form format found ≡ Some f → (found ≡ Some f) × IsFormOfFormat format f
 kept_parts format None f e = cc
-kept_parts format (Some (Node yxx)) f e = (e, let same : Node yxx ≡ f = cc in subst (IsFormOf format) same tt)
-kept_parts format (Some End) f e = (e, let same : End ≡ f = cc in subst (IsFormOf format) same tt)
+kept_parts format (Some (Node yxx)) f e = (e, let same : Node yxx ≡ f = cc in subst (IsFormOfFormat format) same tt)
+kept_parts format (Some End) f e = (e, let same : End ≡ f = cc in subst (IsFormOfFormat format) same tt)
 kept_parts format (Some (Words field ws)) f e =
-    let (test, same) = guarded (has_field format field) (Words field ws) f e in
-    (ap (λ g. Some g) same, subst (IsFormOf format) same test)
+    let (test, same) = guarded (format_has_field format field) (Words field ws) f e in
+    (ap (λ g. Some g) same, subst (IsFormOfFormat format) same test)
 
 -- a line that parses as a form in a format is a text of it in the format
-pub kept_spelled : (format : Format) (text : List ℕ) (f : Form) → form_in_format format text ≡ Some f → IsTextInFormat format text f
-kept_spelled format text f e = let (found, has) = kept_parts format (form text) f e in (form_spelled text f found, has)
+pub kept_spelled : (format : Format) (text : List ℕ) (f : LineForm) → form_in_format format text ≡ Some f → IsTextInFormat format text f
+kept_spelled format text f e = let (found, has) = kept_parts format (line_form text) f e in (form_spelled text f found, has)
 
-kept : (format : Format) (f : Form) → IsFormOf format f → allowed_form format (Some f) ≡ Some f
+kept : (format : Format) (f : LineForm) → IsFormOfFormat format f → allowed_form format (Some f) ≡ Some f
 kept format (Node yxx) has = refl
 kept format (Words field ws) has = rw has refl
 kept format End has = refl
 
 -- and the other way
-pub kept_read : (format : Format) (text : List ℕ) (f : Form) → IsTextInFormat format text f → form_in_format format text ≡ Some f
+pub kept_read : (format : Format) (text : List ℕ) (f : LineForm) → IsTextInFormat format text f → form_in_format format text ≡ Some f
 kept_read format text f is = ap (allowed_form format) (form_read text f is.0) ∙ kept format f is.1
 
 each_code : (field : Field) (ws : List ℕ) → ((w : ℕ) → HoldsCode field w) → AreCodes field ws
@@ -254,7 +254,7 @@ codes_spelled text (Ram cell) ws is = each_code (Ram cell) ws (λ w. tt)
 codes_spelled text (Rom cell) ws is = each_code (Rom cell) ws (λ w. tt)
 
 -- lines that parse as forms are texts of them
-pub forms_spelled : (format : Format) (texts : List (List ℕ)) (forms : List Form) → map (form_in_format format) texts ≡ map (λ f. Some f) forms → AreLinesOfForms format texts forms
+pub forms_spelled : (format : Format) (texts : List (List ℕ)) (forms : List LineForm) → map (form_in_format format) texts ≡ map (λ f. Some f) forms → AreLinesOfForms format texts forms
 forms_spelled format [] [] e = tt
 forms_spelled format [] (f ∷ forms) e = cc
 forms_spelled format (text ∷ texts) [] e = cc
@@ -264,7 +264,7 @@ forms_spelled format (text ∷ texts) (f ∷ forms) e =
     (kept_spelled format text f first, forms_spelled format texts forms others)
 
 -- and the other way
-pub forms_read : (format : Format) (texts : List (List ℕ)) (forms : List Form) → AreLinesOfForms format texts forms → map (form_in_format format) texts ≡ map (λ f. Some f) forms
+pub forms_read : (format : Format) (texts : List (List ℕ)) (forms : List LineForm) → AreLinesOfForms format texts forms → map (form_in_format format) texts ≡ map (λ f. Some f) forms
 forms_read format [] [] is = refl
 forms_read format [] (f ∷ forms) is = absurd is
 forms_read format (text ∷ texts) [] is = absurd is

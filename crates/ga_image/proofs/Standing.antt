@@ -10,11 +10,11 @@ use Rattle.ga_image.specs.declared.field.Format.{Format}
 use Rattle.ga_image.specs.declared.field.Format.TheVariants.{One, Two}
 use Rattle.ga_image.specs.inner.{HasCell}
 use Rattle.ga_image.specs.Fields.{field_number, load_run_state, run_state_after, is_inconsistent_state}
-use Rattle.ga_image.specs.Spelling.{Form, Node, Words, End, IsTextOfForm, form, state_form, wide_form}
+use Rattle.ga_image.specs.Spelling.{LineForm, Node, Words, End, IsTextOfForm, line_form, state_form, stack_memory_or_node_form}
 use Rattle.ga_image.specs.Grammar.{header, field_line_writes}
-use Rattle.ga_image.specs.Reading.{Progress, Stage, is_misplaced, ends_inconsistent_block, form_in_format}
+use Rattle.ga_image.specs.Reading.{ImageReadProgress, ImageReadStage, is_misplaced_line, ends_inconsistent_block, form_in_format}
 use Rattle.ga_image.specs.Reading as stage
-use Rattle.ga_image.specs.FirstFault.{AreTextsOfFieldLines, HasLastFieldLines, format_in, IsInconsistentBlockEnd, HoldsForOne, IsEndLine, IsNodeLineOf, IsNodeLine, IsFieldGiven, HasNoForm, IsInvalidLine, HasCause, IsFirstCause, HasNoneOfCauses}
+use Rattle.ga_image.specs.FirstFault.{AreTextsOfFieldLines, HasLastFieldLines, format_of_first_line, IsInconsistentBlockEnd, HoldsForOneElement, IsEndLine, IsNodeLineOf, IsNodeLine, IsFieldGiven, HasNoLineForm, IsInvalidLine, HasRefusalCause, IsFirstRefusalCause, HasNoneOfRefusalCauses}
 use Rattle.ga_image.proofs.Spellings.{form_read, kept_spelled, kept_read}
 use Rattle.ga_image.proofs.Room.{IsSized}
 
@@ -22,8 +22,8 @@ use Rattle.ga_image.proofs.Room.{IsSized}
 
 -- what was found among these causes
 abbrev pub Tells : List (List ℕ) → List ℕ → List ImageCause → Option ImageCause → Type 0
-Tells before line left None = HasNoneOfCauses before line left
-Tells before line left (Some first) = IsFirstCause before line left first
+Tells before line left None = HasNoneOfRefusalCauses before line left
+Tells before line left (Some first) = IsFirstRefusalCause before line left first
 
 -- the causes after the first, after the second and so on
 abbrev pub after_word : List ImageCause
@@ -38,31 +38,31 @@ after_node = cause.Place ∷ after_place
 abbrev pub after_state : List ImageCause
 after_state = cause.Node ∷ after_node
 
-abbrev pub after_line : List ImageCause
-after_line = cause.State ∷ after_state
+abbrev pub progress_after_line : List ImageCause
+progress_after_line = cause.State ∷ after_state
 
 abbrev pub after_header : List ImageCause
-after_header = cause.Line ∷ after_line
+after_header = cause.Line ∷ progress_after_line
 
 abbrev pub after_long : List ImageCause
 after_long = cause.Header ∷ after_header
 
 -- a test for the first of the causes, and others for the rest
 pub tested : (before : List (List ℕ)) (line : List ℕ) (c : ImageCause) (left : List ImageCause) (b : Bool) (others : Option ImageCause)
-    → Decides b (HasCause before line c) → (b ≡ false → Tells before line left others) → Tells before line (c ∷ left) (cond b (Some c) others)
+    → Decides b (HasRefusalCause before line c) → (b ≡ false → Tells before line left others) → Tells before line (c ∷ left) (cond b (Some c) others)
 tested before line c left true others decides rest = inl (refl, decides.0 refl)
 tested before line c left false None decides rest = (not_from_Decides false decides refl, rest refl)
 tested before line c left false (Some d) decides rest = inr (not_from_Decides false decides refl, rest refl)
 
 -- a cause that the line doesn't have
 pub passed_over : (before : List (List ℕ)) (line : List ℕ) (c : ImageCause) (left : List ImageCause) (found : Option ImageCause)
-    → ¬ HasCause before line c → Tells before line left found → Tells before line (c ∷ left) found
+    → ¬ HasRefusalCause before line c → Tells before line left found → Tells before line (c ∷ left) found
 passed_over before line c left None never rest = (never, rest)
 passed_over before line c left (Some d) never rest = inr (never, rest)
 
 -- ---- a line has one form
 
-pub one_form : (line : List ℕ) (f g : Form) → IsTextOfForm line f → IsTextOfForm line g → f ≡ g
+pub one_form : (line : List ℕ) (f g : LineForm) → IsTextOfForm line f → IsTextOfForm line g → f ≡ g
 one_form line f g first second = let same : Some f ≡ Some g = sym (form_read line f first) ∙ form_read line g second in cc
 
 pub node_no_words : (line : List ℕ) (y : ℕ) (field : Field) (words : List ℕ) → IsTextOfForm line (Node y) → ¬ IsTextOfForm line (Words field words)
@@ -74,53 +74,53 @@ end_no_words line field words end = λ is. let same : End ≡ Words field words 
 pub node_no_end : (line : List ℕ) (y : ℕ) → IsTextOfForm line (Node y) → ¬ IsTextOfForm line End
 node_no_end line y node = λ is. let same : Node y ≡ End = one_form line _ _ node is in let never : true ≡ false = cc in cc
 
-no_form : (format : Format) (line : List ℕ) → form_in_format format line ≡ None → HasNoForm format line
+no_form : (format : Format) (line : List ℕ) → form_in_format format line ≡ None → HasNoLineForm format line
 no_form format line none = λ f is. absurd (let clash : Some f ≡ None = sym (kept_read format line f is) ∙ none in let never : true ≡ false = cc in cc)
 
-header_form : (format : Format) → form (header format) ≡ None
-unfolding form state_form wide_form
+header_form : (format : Format) → line_form (header format) ≡ None
+unfolding line_form state_form stack_memory_or_node_form
 header_form One = refl
 header_form Two = refl
 
 -- a header has none of the forms
-pub header_formless : (line : List ℕ) (format : Format) → line ≡ header format → (f : Form) → ¬ IsTextOfForm line f
-header_formless line format is = λ f spelled. absurd (let clash : Some f ≡ None = sym (form_read line f spelled) ∙ ap form is ∙ header_form format in let never : true ≡ false = cc in cc)
+pub header_formless : (line : List ℕ) (format : Format) → line ≡ header format → (f : LineForm) → ¬ IsTextOfForm line f
+header_formless line format is = λ f spelled. absurd (let clash : Some f ≡ None = sym (form_read line f spelled) ∙ ap line_form is ∙ header_form format in let never : true ≡ false = cc in cc)
 
 -- ---- the state after lines
 
 -- what may come next, by the lines so far
-abbrev pub StandsAt : Stage → List (List ℕ) → Type 0
+abbrev pub StandsAt : ImageReadStage → List (List ℕ) → Type 0
 StandsAt stage.Header before = before ≡ []
-StandsAt stage.Open before = (before ≢ []) × (¬ HoldsForOne IsEndLine before) × (¬ HoldsForOne IsNodeLine before)
-StandsAt (stage.Block node) before = (before ≢ []) × (¬ HoldsForOne IsEndLine before) × HoldsForOne IsNodeLine before
-StandsAt stage.Ended before = (before ≢ []) × HoldsForOne IsEndLine before
+StandsAt stage.Open before = (before ≢ []) × (¬ HoldsForOneElement IsEndLine before) × (¬ HoldsForOneElement IsNodeLine before)
+StandsAt (stage.Block node) before = (before ≢ []) × (¬ HoldsForOneElement IsEndLine before) × HoldsForOneElement IsNodeLine before
+StandsAt stage.Ended before = (before ≢ []) × HoldsForOneElement IsEndLine before
 
 -- the state is that after the lines so far
-pub record IsAfter (progress : Progress) (before : List (List ℕ)) : Type 0 where
+pub record IsAfter (progress : ImageReadProgress) (before : List (List ℕ)) : Type 0 where
   pub stands : StandsAt progress.stage before
   pub sized : IsSized progress
-  pub format : before ≢ [] → progress.format ≡ format_in before
+  pub format : before ≢ [] → progress.format ≡ format_of_first_line before
   pub held : (node : ℕ) → progress.stage ≡ stage.Block node → (field_lines : List (Field × List ℕ)) × HasLastFieldLines before field_lines × (progress.held ≡ run_state_after load_run_state (field_line_writes field_lines))
-  pub blocks : (yxx n : ℕ) → number_of_yxx yxx ≡ Some n → Decides (get_or progress.blocks n false) (HoldsForOne (IsNodeLineOf yxx) before)
+  pub blocks : (yxx n : ℕ) → number_of_yxx yxx ≡ Some n → Decides (get_or progress.blocks n false) (HoldsForOneElement (IsNodeLineOf yxx) before)
   pub given : (node : ℕ) → progress.stage ≡ stage.Block node → (field : Field) → HasCell field → Decides (get_or progress.given (field_number field) false) (IsFieldGiven before field)
 
 -- ---- a line after the header that is not allowed there
 
-pub later : (st : Stage) (before : List (List ℕ)) → st ≢ stage.Header → StandsAt st before → before ≢ []
+pub later : (st : ImageReadStage) (before : List (List ℕ)) → st ≢ stage.Header → StandsAt st before → before ≢ []
 later stage.Header before behind stands = absurd (behind refl)
 later stage.Open before behind stands = stands.0
 later (stage.Block node) before behind stands = stands.0
 later stage.Ended before behind stands = stands.0
 
-pub misplaced : (st : Stage) (format : Format) (found : Option Form) (before : List (List ℕ)) (line : List ℕ) → format ≡ format_in before → form_in_format format line ≡ found → st ≢ stage.Header → StandsAt st before → Decides (is_misplaced st found) (IsInvalidLine before line)
+pub misplaced : (st : ImageReadStage) (format : Format) (found : Option LineForm) (before : List (List ℕ)) (line : List ℕ) → format ≡ format_of_first_line before → form_in_format format line ≡ found → st ≢ stage.Header → StandsAt st before → Decides (is_misplaced_line st found) (IsInvalidLine before line)
 misplaced stage.Header format found before line same is behind stands = absurd (behind refl)
 misplaced stage.Open format None before line same is behind stands =
-    (λ e. (stands.0, inl (subst (λ (g : Format). HasNoForm g line) same (no_form format line is))), λ no. refl)
+    (λ e. (stands.0, inl (subst (λ (g : Format). HasNoLineForm g line) same (no_form format line is))), λ no. refl)
 misplaced stage.Open format (Some (Node y)) before line same is behind stands =
     let spelled = kept_spelled format line (Node y) is in (
       λ e. cc,
       λ no. elim no.1 [
-        | inl formless ↦ absurd (subst (λ (g : Format). HasNoForm g line) (sym same) formless (Node y) spelled)
+        | inl formless ↦ absurd (subst (λ (g : Format). HasNoLineForm g line) (sym same) formless (Node y) spelled)
         | inr (inl field) ↦ absurd (node_no_words line y field.0.0 field.0.1 spelled.0 field.0.2)
         | inr (inr end) ↦ absurd (stands.1 end)
       ],
@@ -131,17 +131,17 @@ misplaced stage.Open format (Some End) before line same is behind stands =
     let spelled = kept_spelled format line End is in (
       λ e. cc,
       λ no. elim no.1 [
-        | inl formless ↦ absurd (subst (λ (g : Format). HasNoForm g line) (sym same) formless End spelled)
+        | inl formless ↦ absurd (subst (λ (g : Format). HasNoLineForm g line) (sym same) formless End spelled)
         | inr (inl field) ↦ absurd (end_no_words line field.0.0 field.0.1 spelled.0 field.0.2)
         | inr (inr end) ↦ absurd (stands.1 end)
       ],
     )
 misplaced (stage.Block node) format None before line same is behind stands =
-    (λ e. (stands.0, inl (subst (λ (g : Format). HasNoForm g line) same (no_form format line is))), λ no. refl)
+    (λ e. (stands.0, inl (subst (λ (g : Format). HasNoLineForm g line) same (no_form format line is))), λ no. refl)
 misplaced (stage.Block node) format (Some f) before line same is behind stands = (
   λ e. cc,
   λ no. elim no.1 [
-    | inl formless ↦ absurd (subst (λ (g : Format). HasNoForm g line) (sym same) formless f (kept_spelled format line f is))
+    | inl formless ↦ absurd (subst (λ (g : Format). HasNoLineForm g line) (sym same) formless f (kept_spelled format line f is))
     | inr (inl field) ↦ absurd (field.1 stands.2)
     | inr (inr end) ↦ absurd (stands.1 end)
   ],
@@ -151,7 +151,7 @@ misplaced stage.Ended format found before line same is behind stands = (λ e. (s
 -- ---- a line that ends a block
 
 -- where lines give field lines of a block, one of them begins it
-lines_begin : (before : List (List ℕ)) (field_lines : List (Field × List ℕ)) → HasLastFieldLines before field_lines → HoldsForOne IsNodeLine before
+lines_begin : (before : List (List ℕ)) (field_lines : List (Field × List ℕ)) → HasLastFieldLines before field_lines → HoldsForOneElement IsNodeLine before
 lines_begin [] field_lines none = absurd none
 lines_begin (line ∷ before) field_lines (inl later) = inr (lines_begin before field_lines later)
 lines_begin (line ∷ before) field_lines (inr here) = inl here.0
@@ -189,7 +189,7 @@ lines_same (line ∷ before) fs gs (inl first) (inr second) = absurd (fields_beg
 lines_same (line ∷ before) fs gs (inr first) (inl second) = absurd (fields_begin_none before fs gs first.1 second)
 lines_same (line ∷ before) fs gs (inr first) (inr second) = fields_same before fs gs first.1 second.1
 
-block_unsteady : (progress : Progress) (before : List (List ℕ)) (line : List ℕ) (node : ℕ) → IsAfter progress before → progress.stage ≡ stage.Block node → IsNodeLine line ⊎ IsEndLine line
+block_unsteady : (progress : ImageReadProgress) (before : List (List ℕ)) (line : List ℕ) (node : ℕ) → IsAfter progress before → progress.stage ≡ stage.Block node → IsNodeLine line ⊎ IsEndLine line
     → Decides (is_inconsistent_state progress.held) (IsInconsistentBlockEnd before line)
 block_unsteady progress before line node after is ends =
     let held = after.held node is in (
@@ -200,17 +200,17 @@ block_unsteady progress before line node after is ends =
     )
 
 -- before the first block
-open_steady : (before : List (List ℕ)) (line : List ℕ) → ¬ HoldsForOne IsNodeLine before → Decides false (IsInconsistentBlockEnd before line)
+open_steady : (before : List (List ℕ)) (line : List ℕ) → ¬ HoldsForOneElement IsNodeLine before → Decides false (IsInconsistentBlockEnd before line)
 open_steady before line none = (λ e. cc, λ unsteady. absurd (none (lines_begin before unsteady.1.0 unsteady.1.1)))
 
-pub end_unsteady : (st : Stage) (progress : Progress) (before : List (List ℕ)) (line : List ℕ) → IsAfter progress before → progress.stage ≡ st → StandsAt st before → is_misplaced st (Some End) ≡ false → IsEndLine line
+pub end_unsteady : (st : ImageReadStage) (progress : ImageReadProgress) (before : List (List ℕ)) (line : List ℕ) → IsAfter progress before → progress.stage ≡ st → StandsAt st before → is_misplaced_line st (Some End) ≡ false → IsEndLine line
     → Decides (ends_inconsistent_block st progress.held (Some End)) (IsInconsistentBlockEnd before line)
 end_unsteady stage.Header progress before line after is stands placed end = cc
 end_unsteady stage.Open progress before line after is stands placed end = open_steady before line stands.2
 end_unsteady (stage.Block node) progress before line after is stands placed end = block_unsteady progress before line node after is (inr end)
 end_unsteady stage.Ended progress before line after is stands placed end = cc
 
-pub node_unsteady : (st : Stage) (progress : Progress) (before : List (List ℕ)) (line : List ℕ) (y : ℕ) → IsAfter progress before → progress.stage ≡ st → StandsAt st before → is_misplaced st (Some (Node y)) ≡ false → IsTextOfForm line (Node y)
+pub node_unsteady : (st : ImageReadStage) (progress : ImageReadProgress) (before : List (List ℕ)) (line : List ℕ) (y : ℕ) → IsAfter progress before → progress.stage ≡ st → StandsAt st before → is_misplaced_line st (Some (Node y)) ≡ false → IsTextOfForm line (Node y)
     → Decides (ends_inconsistent_block st progress.held (Some (Node y))) (IsInconsistentBlockEnd before line)
 node_unsteady stage.Header progress before line y after is stands placed begins_with_text = cc
 node_unsteady stage.Open progress before line y after is stands placed begins_with_text = open_steady before line stands.2

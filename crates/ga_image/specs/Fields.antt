@@ -4,7 +4,7 @@ use Rattle.std.specs.Prelude.{ℕ, ◌+◌, ◌-◌, ◌==◌, ◌||◌, nat_lt,
 use Rattle.std.specs.List.{list_any}
 use Rattle.ga_node.specs.declared.place.Place.{Place}
 use Rattle.ga_node.specs.declared.place.Place.TheVariants as place
-use Rattle.ga_node.specs.Places.{greatest_value}
+use Rattle.ga_node.specs.Places.{greatest_place_value}
 use Rattle.ga_image.specs.declared.field.Field.{Field}
 use Rattle.ga_image.specs.declared.field.Field.TheVariants.{A, B, P, I, Io, Carry, Slot, Wait, Stop, Data, Return, Ram, Rom}
 use Rattle.ga_image.specs.declared.field.Format.{Format}
@@ -12,14 +12,14 @@ use Rattle.ga_image.specs.declared.field.Format.TheVariants.{One, Two}
 use Rattle.ga_image.specs.declared.field.RunState.{RunState}
 
 -- a format has a field: format 1 has the registers A, B and P and the memories, format 2 has all
-abbrev pub has_field : Format → Field → Bool
-has_field Two field = true
-has_field One A = true
-has_field One B = true
-has_field One P = true
-has_field One (Ram cell) = true
-has_field One (Rom cell) = true
-has_field One _ = false
+abbrev pub format_has_field : Format → Field → Bool
+format_has_field Two field = true
+format_has_field One A = true
+format_has_field One B = true
+format_has_field One P = true
+format_has_field One (Ram cell) = true
+format_has_field One (Rom cell) = true
+format_has_field One _ = false
 
 -- The place of a node that a field names. A node at load has the newest of its stacks' cells at 0, and the older ones follow:
 -- the words of the data stack are in T, S and the cells from 0 on, and those of the return stack in R and the cells.
@@ -80,12 +80,12 @@ exceeds_field (Rom cell) count = nat_lt 64 (cell + count)
 exceeds_field register count = false
 
 -- the greatest word that a field holds
-abbrev pub greatest : Field → ℕ
-greatest field = greatest_value (field_place field)
+abbrev pub greatest_field_word : Field → ℕ
+greatest_field_word field = greatest_place_value (field_place field)
 
 -- one of the words is past the greatest of the field
 abbrev pub has_too_great_word : Field → List ℕ → Bool
-has_too_great_word field words = list_any (λ word. nat_lt (greatest field) word) words
+has_too_great_word field words = list_any (λ word. nat_lt (greatest_field_word field) word) words
 
 -- one of the fields was given before, or is among them twice
 abbrev pub has_repeated_field : List Bool → List (Field × ℕ) → Bool

@@ -11,9 +11,9 @@ use Rattle.ga_grid.specs.Grid.{number_of_yxx}
 use Rattle.ga_image.specs.declared.field.Field.{Field}
 use Rattle.ga_image.specs.declared.field.Format.{Format}
 use Rattle.ga_image.specs.declared.field.Format.TheVariants.{One}
-use Rattle.ga_image.specs.Fields.{field_writes, greatest, load_run_state, run_state_after, is_inconsistent_state}
-use Rattle.ga_image.specs.Spelling.{Form, Node, Words, End, IsTextOfForm, IsTextInFormat}
-use Rattle.ga_image.specs.Grammar.{header, format_of, field_line_form, field_line_writes, IsWithinField}
+use Rattle.ga_image.specs.Fields.{field_writes, greatest_field_word, load_run_state, run_state_after, is_inconsistent_state}
+use Rattle.ga_image.specs.Spelling.{LineForm, Node, Words, End, IsTextOfForm, IsTextInFormat}
+use Rattle.ga_image.specs.Grammar.{header, format_of_header, field_line_form, field_line_writes, IsWithinField}
 
 -- the number of a cause
 abbrev pub cause_number : ImageCause → ℕ
@@ -48,9 +48,9 @@ memory_fault = record { line = 0; cause = cause.Memory }
 -- ---- the first fault of a text that is no image, by its lines
 
 -- P holds of one of some values
-abbrev pub HoldsForOne : {X : Type 0} → (X → Type 0) → List X → Type 0
-HoldsForOne P [] = ⊥
-HoldsForOne P (x ∷ xs) = P x ⊎ HoldsForOne P xs
+abbrev pub HoldsForOneElement : {X : Type 0} → (X → Type 0) → List X → Type 0
+HoldsForOneElement P [] = ⊥
+HoldsForOneElement P (x ∷ xs) = P x ⊎ HoldsForOneElement P xs
 
 -- ---- what a line is
 
@@ -71,12 +71,12 @@ IsWordsLine line = (field : Field) × (words : List ℕ) × IsTextOfForm line (W
 
 -- a line gives a word for this field
 abbrev pub HasWordForField : Field → Line → Type 0
-HasWordForField field line = (first : Field) × (words : List ℕ) × IsTextOfForm line (Words first words) × HoldsForOne (λ w. w.0 ≡ field) (field_writes first words)
+HasWordForField field line = (first : Field) × (words : List ℕ) × IsTextOfForm line (Words first words) × HoldsForOneElement (λ w. w.0 ≡ field) (field_writes first words)
 
 -- Whether one of these lines gives the field, and no block begins after it.
 abbrev pub IsFieldGiven : List Line → Field → Type 0
 IsFieldGiven [] field = ⊥
-IsFieldGiven (line ∷ lines) field = IsFieldGiven lines field ⊎ (HasWordForField field line × ¬ HoldsForOne IsNodeLine lines)
+IsFieldGiven (line ∷ lines) field = IsFieldGiven lines field ⊎ (HasWordForField field line × ¬ HoldsForOneElement IsNodeLine lines)
 
 -- these lines are field lines, with these fields and words
 abbrev pub AreTextsOfFieldLines : List Line → List (Field × List ℕ) → Type 0
@@ -90,9 +90,9 @@ HasLastFieldLines [] field_lines = ⊥
 HasLastFieldLines (line ∷ lines) field_lines = HasLastFieldLines lines field_lines ⊎ (IsNodeLine line × AreTextsOfFieldLines lines field_lines)
 
 -- the format that the first of these lines names
-abbrev pub format_in : List Line → Format
-format_in [] = One
-format_in (line ∷ lines) = format_of line
+abbrev pub format_of_first_line : List Line → Format
+format_of_first_line [] = One
+format_of_first_line (line ∷ lines) = format_of_header line
 
 -- ---- the faults of a line after the lines before it
 
@@ -105,16 +105,16 @@ abbrev pub IsWrongHeader : List Line → Line → Type 0
 IsWrongHeader before line = (before ≡ []) × ((format : Format) → line ≢ header format)
 
 -- a line has none of the format's forms
-abbrev pub HasNoForm : Format → Line → Type 0
-HasNoForm format line = (form : Form) → ¬ IsTextInFormat format line form
+abbrev pub HasNoLineForm : Format → Line → Type 0
+HasNoLineForm format line = (line_form : LineForm) → ¬ IsTextInFormat format line line_form
 
 -- a line is a field line before the first block
-abbrev pub IsBeforeBlocks : List Line → Line → Type 0
-IsBeforeBlocks before line = IsWordsLine line × ¬ HoldsForOne IsNodeLine before
+abbrev pub IsFieldLineBeforeBlocks : List Line → Line → Type 0
+IsFieldLineBeforeBlocks before line = IsWordsLine line × ¬ HoldsForOneElement IsNodeLine before
 
 -- whether a line after the header has no form, or is not allowed there
 abbrev pub IsInvalidLine : List Line → Line → Type 0
-IsInvalidLine before line = (before ≢ []) × (HasNoForm (format_in before) line ⊎ IsBeforeBlocks before line ⊎ HoldsForOne IsEndLine before)
+IsInvalidLine before line = (before ≢ []) × (HasNoLineForm (format_of_first_line before) line ⊎ IsFieldLineBeforeBlocks before line ⊎ HoldsForOneElement IsEndLine before)
 
 -- whether a line ends a block whose wait, stop and slot are inconsistent
 abbrev pub IsInconsistentBlockEnd : List Line → Line → Type 0
@@ -134,11 +134,11 @@ HasCellOutOfRange line = (field : Field) × (words : List ℕ) × IsTextOfForm l
 
 -- a line gives a word past the greatest of its field
 abbrev pub HasWordOutOfRange : Line → Type 0
-HasWordOutOfRange line = (field : Field) × (words : List ℕ) × IsTextOfForm line (Words field words) × HoldsForOne (λ word. greatest field < word) words
+HasWordOutOfRange line = (field : Field) × (words : List ℕ) × IsTextOfForm line (Words field words) × HoldsForOneElement (λ word. greatest_field_word field < word) words
 
 -- a line begins a block of a node that has one
 abbrev pub IsRepeatedNode : List Line → Line → Type 0
-IsRepeatedNode before line = (yxx : ℕ) × IsNodeLineOf yxx line × HoldsForOne (IsNodeLineOf yxx) before
+IsRepeatedNode before line = (yxx : ℕ) × IsNodeLineOf yxx line × HoldsForOneElement (IsNodeLineOf yxx) before
 
 -- a line gives a field that its block gave before
 abbrev pub IsRepeatedField : List Line → Line → Type 0
@@ -147,36 +147,36 @@ IsRepeatedField before line = (field : Field) × HasWordForField field line × I
 -- ---- the first fault
 
 -- whether a line has this cause of refusal, after the lines before it
-abbrev pub HasCause : List Line → Line → ImageCause → Type 0
-HasCause before line cause.Long = IsLongLine line
-HasCause before line cause.Header = IsWrongHeader before line
-HasCause before line cause.Line = IsInvalidLine before line
-HasCause before line cause.State = IsInconsistentBlockEnd before line
-HasCause before line cause.Node = HasUnknownNode line
-HasCause before line cause.Place = HasCellOutOfRange line
-HasCause before line cause.Word = HasWordOutOfRange line
-HasCause before line cause.Repeated = IsRepeatedNode before line ⊎ IsRepeatedField before line
-HasCause before line cause.Truncated = ⊥
-HasCause before line cause.Memory = ⊥
+abbrev pub HasRefusalCause : List Line → Line → ImageCause → Type 0
+HasRefusalCause before line cause.Long = IsLongLine line
+HasRefusalCause before line cause.Header = IsWrongHeader before line
+HasRefusalCause before line cause.Line = IsInvalidLine before line
+HasRefusalCause before line cause.State = IsInconsistentBlockEnd before line
+HasRefusalCause before line cause.Node = HasUnknownNode line
+HasRefusalCause before line cause.Place = HasCellOutOfRange line
+HasRefusalCause before line cause.Word = HasWordOutOfRange line
+HasRefusalCause before line cause.Repeated = IsRepeatedNode before line ⊎ IsRepeatedField before line
+HasRefusalCause before line cause.Truncated = ⊥
+HasRefusalCause before line cause.Memory = ⊥
 
 -- the causes of one line, in the order in which they are answered
-abbrev pub causes : List ImageCause
-causes =
+abbrev pub ordered_line_causes : List ImageCause
+ordered_line_causes =
     cause.Long ∷ cause.Header ∷ cause.Line ∷ cause.State ∷ cause.Node ∷ cause.Place ∷ cause.Word ∷ cause.Repeated ∷ []
 
 -- the first of these causes that a line has
-abbrev pub IsFirstCause : List Line → Line → List ImageCause → ImageCause → Type 0
-IsFirstCause before line [] first = ⊥
-IsFirstCause before line (cause ∷ others) first = ((first ≡ cause) × HasCause before line cause) ⊎ (¬ HasCause before line cause × IsFirstCause before line others first)
+abbrev pub IsFirstRefusalCause : List Line → Line → List ImageCause → ImageCause → Type 0
+IsFirstRefusalCause before line [] first = ⊥
+IsFirstRefusalCause before line (cause ∷ others) first = ((first ≡ cause) × HasRefusalCause before line cause) ⊎ (¬ HasRefusalCause before line cause × IsFirstRefusalCause before line others first)
 
 -- a line has none of these causes
-abbrev pub HasNoneOfCauses : List Line → Line → List ImageCause → Type 0
-HasNoneOfCauses before line others = AllByRecursion (λ cause. ¬ HasCause before line cause) others
+abbrev pub HasNoneOfRefusalCauses : List Line → Line → List ImageCause → Type 0
+HasNoneOfRefusalCauses before line others = AllByRecursion (λ cause. ¬ HasRefusalCause before line cause) others
 
 -- whether none of these lines has a cause, each after those before it
-abbrev pub AreFaultless : List Line → List Line → Type 0
-AreFaultless before [] = Unit {0}
-AreFaultless before (line ∷ lines) = HasNoneOfCauses before line causes × AreFaultless (before ++ line ∷ []) lines
+abbrev pub AreLinesFaultless : List Line → List Line → Type 0
+AreLinesFaultless before [] = Unit {0}
+AreLinesFaultless before (line ∷ lines) = HasNoneOfRefusalCauses before line ordered_line_causes × AreLinesFaultless (before ++ line ∷ []) lines
 
 -- The fault is the first cause of a line before which no line has a cause.
 pub record IsLineFault (texts : List Line) (fault : ImageFault) : Type 0 where
@@ -184,14 +184,14 @@ pub record IsLineFault (texts : List Line) (fault : ImageFault) : Type 0 where
   pub line : Line
   pub after : List Line
   pub parts : texts ≡ before ++ line ∷ after
-  pub faultless : AreFaultless [] before
-  pub cause : IsFirstCause before line causes fault.cause
+  pub faultless : AreLinesFaultless [] before
+  pub cause : IsFirstRefusalCause before line ordered_line_causes fault.cause
   pub number : fault.line ≡ length before + 1
 
 -- No line has a cause, and none is `end`.
 pub record IsEndMissing (texts : List Line) (fault : ImageFault) : Type 0 where
-  pub faultless : AreFaultless [] texts
-  pub unended : ¬ HoldsForOne IsEndLine texts
+  pub faultless : AreLinesFaultless [] texts
+  pub unended : ¬ HoldsForOneElement IsEndLine texts
   pub cause : fault.cause ≡ cause.Truncated
   pub number : fault.line ≡ length texts + 1
 

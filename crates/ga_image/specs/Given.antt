@@ -12,8 +12,8 @@ use Rattle.ga_image.specs.declared.given.GivenWords.TheVariants.{All, Ranges}
 use Rattle.ga_image.specs.declared.field.Format.{Format}
 use Rattle.ga_image.specs.declared.field.Format.TheVariants.{One, Two}
 use Rattle.ga_image.specs.Fields.{field_place}
-use Rattle.ga_image.specs.Spelling.{Form, Node, Words, form}
-use Rattle.ga_image.specs.FirstFault.{format_in}
+use Rattle.ga_image.specs.Spelling.{LineForm, Node, Words, line_form}
+use Rattle.ga_image.specs.FirstFault.{format_of_first_line}
 
 -- ---- whether a word is given
 
@@ -26,68 +26,68 @@ abbrev pub rom_cell_of_place : Place → Option ℕ
 rom_cell_of_place (Rom cell) = Some cell
 rom_cell_of_place _ = None
 
-abbrev pub is_a : Place → Bool
-is_a A = true
-is_a _ = false
+abbrev pub is_register_a : Place → Bool
+is_register_a A = true
+is_register_a _ = false
 
-abbrev pub is_b : Place → Bool
-is_b B = true
-is_b _ = false
+abbrev pub is_register_b : Place → Bool
+is_register_b B = true
+is_register_b _ = false
 
-abbrev pub is_p : Place → Bool
-is_p P = true
-is_p _ = false
+abbrev pub is_register_p : Place → Bool
+is_register_p P = true
+is_register_p _ = false
 
 -- a cell is one of `count` from the first on
-abbrev pub is_in_row : ℕ → ℕ → Option ℕ → Bool
-is_in_row first count (Some cell) = nat_le first cell && nat_lt cell (first + count)
-is_in_row first count None = false
+abbrev pub is_cell_in_row : ℕ → ℕ → Option ℕ → Bool
+is_cell_in_row first count (Some cell) = nat_le first cell && nat_lt cell (first + count)
+is_cell_in_row first count None = false
 
 -- A place is the register A, B or P that is given, or one of the cells from the first on.
-abbrev pub is_within : Place → ℕ → Place → Bool
-is_within A count place = is_a place
-is_within B count place = is_b place
-is_within P count place = is_p place
-is_within (Ram first) count place = is_in_row first count (ram_cell_of_place place)
-is_within (Rom first) count place = is_in_row first count (rom_cell_of_place place)
-is_within _ count place = false
+abbrev pub is_place_in_range : Place → ℕ → Place → Bool
+is_place_in_range A count place = is_register_a place
+is_place_in_range B count place = is_register_b place
+is_place_in_range P count place = is_register_p place
+is_place_in_range (Ram first) count place = is_cell_in_row first count (ram_cell_of_place place)
+is_place_in_range (Rom first) count place = is_cell_in_row first count (rom_cell_of_place place)
+is_place_in_range _ count place = false
 
 -- one of the words of a row is that of a place of the node
-abbrev pub gives_word : NodeId → Place → GivenRange → Bool
-gives_word node place range = range.node.number == node.number && is_within range.first range.count place
+abbrev pub range_gives_word : NodeId → Place → GivenRange → Bool
+range_gives_word node place range = range.node.number == node.number && is_place_in_range range.first range.count place
 
 -- the text gives the word of a place of the node
-abbrev pub is_given : GivenWords → NodeId → Place → Bool
-is_given All node place = true
-is_given (Ranges ranges) node place = list_any (gives_word node place) ranges.items
+abbrev pub is_word_given : GivenWords → NodeId → Place → Bool
+is_word_given All node place = true
+is_word_given (Ranges ranges) node place = list_any (range_gives_word node place) ranges.items
 
 -- ---- what an image gives
 
 -- the words that a field line gives to the node of its block
-abbrev pub line_ranges : Option NodeId → Option Form → List GivenRange
+abbrev pub line_ranges : Option NodeId → Option LineForm → List GivenRange
 line_ranges (Some node) (Some (Words field words)) = record { node = node; first = field_place field; count = length words } ∷ []
 line_ranges _ _ = []
 
 -- the node whose block continues after a line
-abbrev pub block_node : Option NodeId → Option Form → Option NodeId
+abbrev pub block_node : Option NodeId → Option LineForm → Option NodeId
 block_node before (Some (Node yxx)) = option_map node_id (number_of_yxx yxx)
 block_node before _ = before
 
 -- the words that lines give, the first of which continue the block of this node
 unfoldable pub given_ranges : Option NodeId → List Line → List GivenRange
 given_ranges block [] = []
-given_ranges block (text ∷ texts) = line_ranges block (form text) ++ given_ranges (block_node block (form text)) texts
+given_ranges block (text ∷ texts) = line_ranges block (line_form text) ++ given_ranges (block_node block (line_form text)) texts
 
 -- a word that an image of format 2 doesn't give is as its dump had it
-abbrev pub gives_all : Format → Bool
-gives_all One = false
-gives_all Two = true
+abbrev pub format_gives_all_words : Format → Bool
+format_gives_all_words One = false
+format_gives_all_words Two = true
 
 -- the words that an image gives, which are all of format 2
 abbrev pub image_ranges : List Line → Option (List GivenRange)
-image_ranges texts = if gives_all (format_in texts) then None else Some (given_ranges None texts)
+image_ranges texts = if format_gives_all_words (format_of_first_line texts) then None else Some (given_ranges None texts)
 
 -- given words as their list, if they aren't all
-abbrev pub ranges_of : GivenWords → Option (List GivenRange)
-ranges_of All = None
-ranges_of (Ranges ranges) = Some ranges.items
+abbrev pub ranges_of_given_words : GivenWords → Option (List GivenRange)
+ranges_of_given_words All = None
+ranges_of_given_words (Ranges ranges) = Some ranges.items

@@ -4,7 +4,7 @@ use Rattle.std.specs.Cmp.Lexicographic.{pointwise}
 use Rattle.std.specs.List.{AllByRecursion, IsDistinct}
 use Rattle.ga_text.specs.Lines.{Line}
 use Rattle.ga_node.specs.Record.{NodeState}
-use Rattle.ga_node.specs.State.{with_value, wait_of}
+use Rattle.ga_node.specs.State.{with_value, wait_of_code}
 use Rattle.ga_grid.specs.Grid.{default_chip, yxx_of}
 use Rattle.ga_grid.specs.Chip.{node_at, with_node}
 use Rattle.ga_image.specs.declared.field.Field.{Field}
@@ -12,8 +12,8 @@ use Rattle.ga_image.specs.declared.field.Field.TheVariants.{Wait, Stop, Data, Re
 use Rattle.ga_image.specs.declared.field.Format.{Format}
 use Rattle.ga_image.specs.declared.field.Format.TheVariants.{One, Two}
 use Rattle.ga_node.specs.declared.wait.Wait.TheVariants.{Nothing}
-use Rattle.ga_image.specs.Fields.{field_place, field_writes, greatest, field_number, load_run_state, run_state_after, is_inconsistent_state}
-use Rattle.ga_image.specs.Spelling.{Form, Node, Words, End, IsTextInFormat}
+use Rattle.ga_image.specs.Fields.{field_place, field_writes, greatest_field_word, field_number, load_run_state, run_state_after, is_inconsistent_state}
+use Rattle.ga_image.specs.Spelling.{LineForm, Node, Words, End, IsTextInFormat}
 
 -- the first line, which names the format
 abbrev pub header : Format → Line
@@ -25,8 +25,8 @@ abbrev pub is_header_of : Line → Format → Bool
 is_header_of text format = pointwise nat_eq text (header format)
 
 -- the format of a header
-abbrev pub format_of : Line → Format
-format_of text = if is_header_of text One then One else Two
+abbrev pub format_of_header : Line → Format
+format_of_header text = if is_header_of text One then One else Two
 
 -- a block: its node, and its field lines, each with a field and the words for it and for those after it
 pub record Block : Type 0 where
@@ -34,11 +34,11 @@ pub record Block : Type 0 where
   pub field_lines : List (Field × List ℕ)
 
 -- the form of a field line
-abbrev pub field_line_form : Field × List ℕ → Form
+abbrev pub field_line_form : Field × List ℕ → LineForm
 field_line_form field_line = Words field_line.0 field_line.1
 
 -- a block's lines
-abbrev pub block_forms : Block → List Form
+abbrev pub block_forms : Block → List LineForm
 block_forms block = Node (yxx_of block.node) ∷ map field_line_form block.field_lines
 
 -- the fields that lines give, each with its word
@@ -55,7 +55,7 @@ IsWithinField _ count = Unit {0}
 
 -- a field line: no cell is past the last, and no word past the greatest of its field
 abbrev pub IsFieldLine : Field × List ℕ → Type 0
-IsFieldLine field_line = IsWithinField field_line.0 (length field_line.1) × AllByRecursion (λ word. word ≤ greatest field_line.0) field_line.1
+IsFieldLine field_line = IsWithinField field_line.0 (length field_line.1) × AllByRecursion (λ word. word ≤ greatest_field_word field_line.0) field_line.1
 
 -- a block of a node of the grid
 pub record IsBlock (block : Block) : Type 0 where
@@ -68,18 +68,18 @@ pub record IsBlock (block : Block) : Type 0 where
 
 -- A node with another word in a field. A node that waits isn't stopped, and one that is stopped doesn't wait.
 abbrev pub with_field_word : NodeState → Field → ℕ → NodeState
-with_field_word node Wait code = record node { wait = wait_of code; stop = 0 }
+with_field_word node Wait code = record node { wait = wait_of_code code; stop = 0 }
 with_field_word node Stop number = record node { stop = number; wait = Nothing }
 with_field_word node field word = with_value node (field_place field) word
 
 -- a chip with another word in a field of a node
-unfoldable pub with_word : List NodeState → ℕ → Field × ℕ → List NodeState
-with_word chip node w = with_node chip node (with_field_word (node_at chip node) w.0 w.1)
+unfoldable pub chip_with_word : List NodeState → ℕ → Field × ℕ → List NodeState
+chip_with_word chip node w = with_node chip node (with_field_word (node_at chip node) w.0 w.1)
 
 -- a chip with what a block gives, one word after the other
 abbrev pub chip_with_words : ℕ → List NodeState → List (Field × ℕ) → List NodeState
 chip_with_words node chip [] = chip
-chip_with_words node chip (w ∷ ws) = chip_with_words node (with_word chip node w) ws
+chip_with_words node chip (w ∷ ws) = chip_with_words node (chip_with_word chip node w) ws
 
 -- a chip with what blocks give, one block after the other
 abbrev pub chip_with_blocks : List NodeState → List Block → List NodeState
@@ -87,10 +87,10 @@ chip_with_blocks chip [] = chip
 chip_with_blocks chip (block ∷ blocks) = chip_with_blocks (chip_with_words block.node chip (field_line_writes block.field_lines)) blocks
 
 -- whether the lines are texts of these forms in the format, one each
-abbrev pub AreLinesOfForms : Format → List Line → List Form → Type 0
+abbrev pub AreLinesOfForms : Format → List Line → List LineForm → Type 0
 AreLinesOfForms format [] [] = Unit {0}
-AreLinesOfForms format (text ∷ texts) (form ∷ forms) = IsTextInFormat format text form × AreLinesOfForms format texts forms
-AreLinesOfForms format [] (form ∷ forms) = ⊥
+AreLinesOfForms format (text ∷ texts) (line_form ∷ forms) = IsTextInFormat format text line_form × AreLinesOfForms format texts forms
+AreLinesOfForms format [] (line_form ∷ forms) = ⊥
 AreLinesOfForms format (text ∷ texts) [] = ⊥
 
 -- The lines are the header, blocks and `end`; the chip has what the blocks give, and else its defaults.

@@ -11,7 +11,7 @@ use Rattle.ga_grid.specs.Grid.{load_p_of}
 use Rattle.ga_image.specs.declared.field.Field.{Field}
 use Rattle.ga_image.specs.declared.field.Field.TheVariants.{A, B, P, I, Io, Carry, Slot, Wait, Stop, Data, Return, Ram, Rom}
 use Rattle.ga_image.specs.declared.field.Format.TheVariants.{Two}
-use Rattle.ga_image.specs.Spelling.{Form, Node, Words, End, field_name, field_numbers_text, code_text}
+use Rattle.ga_image.specs.Spelling.{LineForm, Node, Words, End, field_name, field_numbers_text, field_code_text}
 use Rattle.ga_text.specs.Digits.{decimal3_of}
 use Rattle.ga_image.specs.Grammar.{header, Block, block_forms, IsImage}
 use Rattle.ga_node.specs.declared.wait.Wait.{Wait as NodeWait}
@@ -22,14 +22,14 @@ use Rattle.ga_grid.specs.Chip.{records_of}
 
 -- a field line, with its digits in lower case
 abbrev pub field_text : Field → List ℕ → Text
-field_text Carry words = field_name Carry ++ code_text Carry (slice_index words 0)
-field_text Slot words = field_name Slot ++ code_text Slot (slice_index words 0)
-field_text Wait words = field_name Wait ++ code_text Wait (slice_index words 0)
-field_text Stop words = field_name Stop ++ code_text Stop (slice_index words 0)
+field_text Carry words = field_name Carry ++ field_code_text Carry (slice_index words 0)
+field_text Slot words = field_name Slot ++ field_code_text Slot (slice_index words 0)
+field_text Wait words = field_name Wait ++ field_code_text Wait (slice_index words 0)
+field_text Stop words = field_name Stop ++ field_code_text Stop (slice_index words 0)
 field_text field words = field_name field ++ field_numbers_text field words
 
 -- the text of a line after the header
-abbrev pub line_text : Form → Line
+abbrev pub line_text : LineForm → Line
 line_text (Node yxx) = codes "node " ++ decimal3_of yxx
 line_text (Words field words) = field_text field words
 line_text End = codes "end"
@@ -39,8 +39,8 @@ abbrev pub lines_text : List Line → Text
 lines_text lines = flat_map (λ line. line ++ 10 ∷ []) lines
 
 -- words of 18 bits
-abbrev pub AreWords : List ℕ → Type 0
-AreWords words = AllByRecursion (λ word. word < 2 ^ 18) words
+abbrev pub AreEighteenBitWords : List ℕ → Type 0
+AreEighteenBitWords words = AllByRecursion (λ word. word < 2 ^ 18) words
 
 -- ---- what is written of a node
 
@@ -83,16 +83,16 @@ state_lines fresh node =
     ++ word_line_unless_default fresh.stop Stop node.stop))))
 
 -- the lines of a node, which at load would be fresh
-abbrev pub changed_lines : NodeRecord → NodeRecord → List (Field × List ℕ)
-changed_lines fresh node =
+abbrev pub changed_lines_from_fresh : NodeRecord → NodeRecord → List (Field × List ℕ)
+changed_lines_from_fresh fresh node =
     register_lines fresh node
     ++ (state_lines fresh node
     ++ (memory_lines Ram node.ram
     ++ memory_lines Rom node.rom))
 
 -- the lines of a node by its number
-unfoldable pub lines_at : ℕ → NodeRecord → List (Field × List ℕ)
-lines_at number node = changed_lines (fresh_record (load_p_of number)) node
+unfoldable pub changed_lines_of_node : ℕ → NodeRecord → List (Field × List ℕ)
+changed_lines_of_node number node = changed_lines_from_fresh (fresh_record (load_p_of number)) node
 
 -- ---- the text of a chip
 
@@ -102,17 +102,17 @@ block_unless_empty number [] = []
 block_unless_empty number (line ∷ lines) = record { node = number; field_lines = line ∷ lines } ∷ []
 
 -- the blocks of nodes from a number on
-unfoldable pub blocks_from : ℕ → List NodeRecord → List Block
-blocks_from number [] = []
-blocks_from number (node ∷ nodes) = block_unless_empty number (lines_at number node) ++ blocks_from (number + 1) nodes
+unfoldable pub blocks_from_node : ℕ → List NodeRecord → List Block
+blocks_from_node number [] = []
+blocks_from_node number (node ∷ nodes) = block_unless_empty number (changed_lines_of_node number node) ++ blocks_from_node (number + 1) nodes
 
 -- the forms of the lines after the header
-abbrev pub forms_of : List NodeRecord → List Form
-forms_of nodes = flat_map block_forms (blocks_from 0 nodes) ++ End ∷ []
+abbrev pub line_forms_after_header : List NodeRecord → List LineForm
+line_forms_after_header nodes = flat_map block_forms (blocks_from_node 0 nodes) ++ End ∷ []
 
 -- the whole text
 unfoldable pub printed_image : List NodeRecord → Text
-printed_image nodes = lines_text (header Two ∷ map line_text (forms_of nodes))
+printed_image nodes = lines_text (header Two ∷ map line_text (line_forms_after_header nodes))
 
 -- ---- a text that describes a chip, and the chips that it can describe
 
@@ -124,8 +124,8 @@ HasWaitSides (Read sides) = (0 < sides) × (sides < 16)
 HasWaitSides (Write side) = Unit {0}
 
 -- whether these are the words of a stack or a memory of this size
-abbrev pub AreBankWords : ℕ → List ℕ → Type 0
-AreBankWords size words = AreWords words × (length words ≡ size)
+abbrev pub AreStackOrMemoryWords : ℕ → List ℕ → Type 0
+AreStackOrMemoryWords size words = AreEighteenBitWords words × (length words ≡ size)
 
 -- the ranges of the registers that hold words
 pub record HasSoundRegisters (node : NodeRecord) : Type 0 where
@@ -138,8 +138,8 @@ pub record HasSoundRegisters (node : NodeRecord) : Type 0 where
 -- the sizes and ranges of the slot, of the stacks, and of the wait and the stop
 pub record HasSoundState (node : NodeRecord) : Type 0 where
   pub slot : node.slot ≤ 4
-  pub d : AreBankWords 10 node.d
-  pub r : AreBankWords 9 node.r
+  pub d : AreStackOrMemoryWords 10 node.d
+  pub r : AreStackOrMemoryWords 9 node.r
   pub wait : HasWaitSides node.wait
   pub stop : node.stop ≤ 3
 
@@ -147,8 +147,8 @@ pub record HasSoundState (node : NodeRecord) : Type 0 where
 pub record IsSoundRecord (node : NodeRecord) : Type 0 where
   pub registers : HasSoundRegisters node
   pub state : HasSoundState node
-  pub ram : AreBankWords 64 node.ram
-  pub rom : AreBankWords 64 node.rom
+  pub ram : AreStackOrMemoryWords 64 node.ram
+  pub rom : AreStackOrMemoryWords 64 node.rom
 
 -- each of 144 nodes is sound
 pub record AreSoundRecords (nodes : List NodeRecord) : Type 0 where

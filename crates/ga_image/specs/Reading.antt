@@ -9,26 +9,26 @@ use Rattle.ga_image.specs.declared.fault.ImageCause.{ImageCause}
 use Rattle.ga_image.specs.declared.fault.ImageFault.{ImageFault}
 use Rattle.ga_image.specs.declared.field.Field.{Field}
 use Rattle.ga_image.specs.declared.field.Format.TheVariants.{One, Two}
-use Rattle.ga_image.specs.Fields.{load_run_state, with_run_state_write, is_inconsistent_state, field_count, has_field, field_number, field_writes, exceeds_field, has_too_great_word, has_repeated_field}
-use Rattle.ga_image.specs.Spelling.{Form, Node, Words, End, form}
+use Rattle.ga_image.specs.Fields.{load_run_state, with_run_state_write, is_inconsistent_state, field_count, format_has_field, field_number, field_writes, exceeds_field, has_too_great_word, has_repeated_field}
+use Rattle.ga_image.specs.Spelling.{LineForm, Node, Words, End, line_form}
 use Rattle.ga_text.specs.Lines.{Line, max_input_line}
-use Rattle.ga_image.specs.Grammar.{is_header_of, format_of, with_word}
+use Rattle.ga_image.specs.Grammar.{is_header_of, format_of_header, chip_with_word}
 use Rattle.ga_image.specs.FirstFault.{memory_fault}
 
 -- ---- the state after the lines of an image, one after the other
 
 -- What may come next: the header, a block or the end, a field of this node's block as well, or nothing.
-pub data Stage : Type 0 where
-  Header : Stage
-  Open : Stage
-  Block : ℕ → Stage
-  Ended : Stage
+pub data ImageReadStage : Type 0 where
+  Header : ImageReadStage
+  Open : ImageReadStage
+  Block : ℕ → ImageReadStage
+  Ended : ImageReadStage
 
 -- the state after the lines so far
-pub record Progress : Type 0 where
+pub record ImageReadProgress : Type 0 where
   -- the format that the header names
   pub format : Format
-  pub stage : Stage
+  pub stage : ImageReadStage
   -- for each node by its number, whether it has a block
   pub blocks : List Bool
   -- for each field by its number, whether the last block gave it
@@ -42,8 +42,8 @@ abbrev pub no_fields_given : List Bool
 no_fields_given = replicate field_count false
 
 -- what is known before the first line
-unfoldable pub start : Progress
-start = record {
+unfoldable pub initial_progress : ImageReadProgress
+initial_progress = record {
   format = One;
   stage = Header;
   blocks = replicate 144 false;
@@ -57,24 +57,24 @@ abbrev pub is_header : Line → Bool
 is_header text = is_header_of text One || is_header_of text Two
 
 -- the form of a line, if the format has it
-abbrev pub allowed_form : Format → Option Form → Option Form
-allowed_form format (Some (Words field words)) = if has_field format field then Some (Words field words) else None
+abbrev pub allowed_form : Format → Option LineForm → Option LineForm
+allowed_form format (Some (Words field words)) = if format_has_field format field then Some (Words field words) else None
 allowed_form format other = other
 
-abbrev pub form_in_format : Format → Line → Option Form
-form_in_format format text = allowed_form format (form text)
+abbrev pub form_in_format : Format → Line → Option LineForm
+form_in_format format text = allowed_form format (line_form text)
 
 -- whether the line has no form, is a field line before the first block, or comes after the end
-abbrev pub is_misplaced : Stage → Option Form → Bool
-is_misplaced Open (Some (Node yxx)) = false
-is_misplaced Open (Some End) = false
-is_misplaced (Block node) (Some form) = false
-is_misplaced _ _ = true
+abbrev pub is_misplaced_line : ImageReadStage → Option LineForm → Bool
+is_misplaced_line Open (Some (Node yxx)) = false
+is_misplaced_line Open (Some End) = false
+is_misplaced_line (Block node) (Some line_form) = false
+is_misplaced_line _ _ = true
 
 -- the node has a block already
-abbrev pub has_block : Progress → Option ℕ → Bool
-has_block progress (Some node) = slice_index_or progress.blocks node false
-has_block progress None = false
+abbrev pub node_has_block : ImageReadProgress → Option ℕ → Bool
+node_has_block progress (Some node) = slice_index_or progress.blocks node false
+node_has_block progress None = false
 
 -- the first of these tests that holds
 abbrev pub first_true_cause : List (ImageCause × Bool) → Option ImageCause
@@ -82,68 +82,68 @@ first_true_cause [] = None
 first_true_cause (test ∷ tests) = if test.1 then Some test.0 else first_true_cause tests
 
 -- what may be wrong with a line that begins the block of a node, in the order in which it is answered
-unfoldable pub node_fault : Progress → ℕ → Option ImageCause
+unfoldable pub node_fault : ImageReadProgress → ℕ → Option ImageCause
 node_fault progress yxx = first_true_cause (
     (cause.Node, is_none (number_of_yxx yxx))
-    ∷ (cause.Repeated, has_block progress (number_of_yxx yxx))
+    ∷ (cause.Repeated, node_has_block progress (number_of_yxx yxx))
     ∷ [])
 
 -- what may be wrong with a field line, in the order in which it is answered
-unfoldable pub words_fault : Progress → Field → List ℕ → Option ImageCause
-words_fault progress field words = first_true_cause (
+unfoldable pub field_line_fault : ImageReadProgress → Field → List ℕ → Option ImageCause
+field_line_fault progress field words = first_true_cause (
     (cause.Place, exceeds_field field (length words))
     ∷ (cause.Word, has_too_great_word field words)
     ∷ (cause.Repeated, has_repeated_field progress.given (field_writes field words))
     ∷ [])
 
 -- Whether the line ends a block whose wait, stop and slot are inconsistent.
-abbrev pub ends_inconsistent_block : Stage → RunState → Option Form → Bool
+abbrev pub ends_inconsistent_block : ImageReadStage → RunState → Option LineForm → Bool
 ends_inconsistent_block (Block node) held (Some (Node yxx)) = is_inconsistent_state held
 ends_inconsistent_block (Block node) held (Some End) = is_inconsistent_state held
 ends_inconsistent_block _ held _ = false
 
 -- the fault of a line that is allowed there, by its form
-abbrev pub form_fault : Progress → Option Form → Option ImageCause
-form_fault progress (Some (Node yxx)) = node_fault progress yxx
-form_fault progress (Some (Words field words)) = words_fault progress field words
-form_fault progress _ = None
+abbrev pub line_form_fault : ImageReadProgress → Option LineForm → Option ImageCause
+line_form_fault progress (Some (Node yxx)) = node_fault progress yxx
+line_form_fault progress (Some (Words field words)) = field_line_fault progress field words
+line_form_fault progress _ = None
 
 -- the fault of a line after the first: the first of its faults in the order in which they are reported
-abbrev pub later_fault : Progress → Option Form → Option ImageCause
-later_fault progress form =
-    if is_misplaced progress.stage form then Some cause.Line
-    else if ends_inconsistent_block progress.stage progress.held form then Some cause.State
-    else form_fault progress form
+abbrev pub fault_after_header : ImageReadProgress → Option LineForm → Option ImageCause
+fault_after_header progress line_form =
+    if is_misplaced_line progress.stage line_form then Some cause.Line
+    else if ends_inconsistent_block progress.stage progress.held line_form then Some cause.State
+    else line_form_fault progress line_form
 
 -- what may be wrong with a line that isn't too long, by what may come next
-abbrev pub line_fault : Stage → Progress → Line → Option ImageCause
+abbrev pub line_fault : ImageReadStage → ImageReadProgress → Line → Option ImageCause
 line_fault Header progress text = if is_header text then None else Some cause.Header
-line_fault _ progress text = later_fault progress (form_in_format progress.format text)
+line_fault _ progress text = fault_after_header progress (form_in_format progress.format text)
 
 -- The first fault of a line; that it is too long comes before all others.
-unfoldable pub fault_of : Progress → Line → Option ImageCause
-fault_of progress text = if nat_lt max_input_line (length text) then Some cause.Long else line_fault progress.stage progress text
+unfoldable pub first_fault_of_line : ImageReadProgress → Line → Option ImageCause
+first_fault_of_line progress text = if nat_lt max_input_line (length text) then Some cause.Long else line_fault progress.stage progress text
 
 -- the node whose block the next line may continue, or else 0
-abbrev pub node_of_stage : Stage → ℕ
+abbrev pub node_of_stage : ImageReadStage → ℕ
 node_of_stage (Block node) = node
 node_of_stage _ = 0
 
 -- a word of the block is written
-abbrev pub with_field_write : Progress → Field × ℕ → Progress
+abbrev pub with_field_write : ImageReadProgress → Field × ℕ → ImageReadProgress
 with_field_write progress w = record progress {
   given = slice_set progress.given (field_number w.0) true;
   held = with_run_state_write progress.held w;
-  chip = with_word progress.chip (node_of_stage progress.stage) w;
+  chip = chip_with_word progress.chip (node_of_stage progress.stage) w;
 }
 
 -- words of the block are written, one after the other
-abbrev pub with_field_writes : Progress → List (Field × ℕ) → Progress
+abbrev pub with_field_writes : ImageReadProgress → List (Field × ℕ) → ImageReadProgress
 with_field_writes progress [] = progress
 with_field_writes progress (w ∷ ws) = with_field_writes (with_field_write progress w) ws
 
 -- a block of the node begins
-abbrev pub with_block : Progress → Option ℕ → Progress
+abbrev pub with_block : ImageReadProgress → Option ℕ → ImageReadProgress
 with_block progress (Some node) = record progress {
   stage = Block node;
   blocks = slice_set progress.blocks node true;
@@ -153,37 +153,37 @@ with_block progress (Some node) = record progress {
 with_block progress None = progress
 
 -- the state after a line of a form that is allowed there
-abbrev pub progress_after_form : Progress → Option Form → Progress
+abbrev pub progress_after_form : ImageReadProgress → Option LineForm → ImageReadProgress
 progress_after_form progress (Some (Node yxx)) = with_block progress (number_of_yxx yxx)
 progress_after_form progress (Some (Words field words)) = with_field_writes progress (field_writes field words)
 progress_after_form progress (Some End) = record progress { stage = Ended }
 progress_after_form progress None = progress
 
 -- what is known after a line at this stage
-abbrev pub progress_after_stage : Stage → Progress → Line → Progress
-progress_after_stage Header progress text = record progress { format = format_of text; stage = Open }
+abbrev pub progress_after_stage : ImageReadStage → ImageReadProgress → Line → ImageReadProgress
+progress_after_stage Header progress text = record progress { format = format_of_header text; stage = Open }
 progress_after_stage _ progress text = progress_after_form progress (form_in_format progress.format text)
 
 -- what is known after a line with no fault
-unfoldable pub after_line : Progress → Line → Progress
-after_line progress text = progress_after_stage progress.stage progress text
+unfoldable pub progress_after_line : ImageReadProgress → Line → ImageReadProgress
+progress_after_line progress text = progress_after_stage progress.stage progress text
 
 -- a line's fault, or what the lines after it give
-abbrev pub refused : Option ImageCause → ℕ → Result (List NodeState) ImageFault → Result (List NodeState) ImageFault
-refused (Some cause) line others = Err (record { line = line; cause = cause })
-refused None line others = others
+abbrev pub fault_or_result : Option ImageCause → ℕ → Result (List NodeState) ImageFault → Result (List NodeState) ImageFault
+fault_or_result (Some cause) line others = Err (record { line = line; cause = cause })
+fault_or_result None line others = others
 
 -- what the end of the text gives
-abbrev pub result_at_end : Stage → List NodeState → ℕ → Result (List NodeState) ImageFault
-result_at_end Ended chip line = Ok chip
-result_at_end _ chip line = Err (record { line = line; cause = cause.Truncated })
+abbrev pub result_at_image_end : ImageReadStage → List NodeState → ℕ → Result (List NodeState) ImageFault
+result_at_image_end Ended chip line = Ok chip
+result_at_image_end _ chip line = Err (record { line = line; cause = cause.Truncated })
 
 -- the chip, or the first fault with its line
-unfoldable pub reading : Progress → ℕ → List Line → Result (List NodeState) ImageFault
-reading progress line [] = result_at_end progress.stage progress.chip line
-reading progress line (text ∷ lines) = refused (fault_of progress text) line (reading (after_line progress text) (line + 1) lines)
+unfoldable pub result_of_lines : ImageReadProgress → ℕ → List Line → Result (List NodeState) ImageFault
+result_of_lines progress line [] = result_at_image_end progress.stage progress.chip line
+result_of_lines progress line (text ∷ lines) = fault_or_result (first_fault_of_line progress text) line (result_of_lines (progress_after_line progress text) (line + 1) lines)
 
 -- What a call returned is what reading gives, unless memory was refused.
-abbrev pub Gives : Result (List NodeState) ImageFault → Result (List NodeState) ImageFault → Type 0
-Gives (Ok chip) read = read ≡ Ok chip
-Gives (Err fault) read = (fault ≡ memory_fault) ⊎ (read ≡ Err fault)
+abbrev pub IsImageReadResult : Result (List NodeState) ImageFault → Result (List NodeState) ImageFault → Type 0
+IsImageReadResult (Ok chip) read = read ≡ Ok chip
+IsImageReadResult (Err fault) read = (fault ≡ memory_fault) ⊎ (read ≡ Err fault)

@@ -8,7 +8,7 @@ use Rattle.ga_word.specs.Word.{hex6_value}
 use Rattle.ga_node.specs.State.{IsWaitCode}
 use Rattle.ga_image.specs.declared.field.Field.{Field}
 use Rattle.ga_image.specs.declared.field.Format.{Format}
-use Rattle.ga_image.specs.Fields.{has_field}
+use Rattle.ga_image.specs.Fields.{format_has_field}
 use Rattle.ga_image.specs.declared.field.Field.TheVariants.{A, B, P, I, Io, Carry, Slot, Wait, Stop, Data, Return, Ram, Rom}
 use Rattle.ga_text.specs.Digits.{decimal3_of, hex2_of, words_text, hex_byte_value}
 use Rattle.std.specs.Cmp.Lexicographic.{pointwise}
@@ -18,10 +18,10 @@ use Rattle.ga_grid.specs.Grid.{parse_node_name}
 
 -- A line after the header: a block of the node with this row and column begins; words for a field and for those after it; or
 -- the end.
-pub data Form : Type 0 where
-  Node : ℕ → Form
-  Words : Field → List ℕ → Form
-  End : Form
+pub data LineForm : Type 0 where
+  Node : ℕ → LineForm
+  Words : Field → List ℕ → LineForm
+  End : LineForm
 
 -- the letter of a side in a set, or a hyphen where the set lacks it
 abbrev pub side_letter_or_hyphen : ℕ → ℕ → ℕ
@@ -86,16 +86,16 @@ IsFieldCode Stop code = (1 ≤ code) × (code ≤ 3)
 IsFieldCode _ code = ⊥
 
 -- the text of the number of a carry, a slot, a wait or a stop: one decimal digit, or what the node waits for
-abbrev pub code_text : Field → ℕ → Text
-code_text Wait code = wait_text code
-code_text _ code = (48 + code) ∷ []
+abbrev pub field_code_text : Field → ℕ → Text
+field_code_text Wait code = wait_text code
+field_code_text _ code = (48 + code) ∷ []
 
 -- a line of a carry, a slot, a wait or a stop
 pub record IsTextOfCode (text : Text) (field : Field) (words : List ℕ) : Type 0 where
   pub code : ℕ
   pub one : words ≡ code ∷ []
   pub valid : IsFieldCode field code
-  pub parts : text ≡ field_name field ++ code_text field code
+  pub parts : text ≡ field_name field ++ field_code_text field code
 
 -- any field line
 abbrev pub IsTextOfField : Text → Field → List ℕ → Type 0
@@ -106,19 +106,19 @@ IsTextOfField text Stop words = IsTextOfCode text Stop words
 IsTextOfField text field words = IsTextOfWords text field words
 
 -- whether the text is that of a line of this form after the header
-abbrev pub IsTextOfForm : Line → Form → Type 0
+abbrev pub IsTextOfForm : Line → LineForm → Type 0
 IsTextOfForm text (Node yxx) = (yxx < 1000) × (text ≡ codes "node " ++ decimal3_of yxx)
 IsTextOfForm text (Words field words) = IsTextOfField text field words
 IsTextOfForm text End = text ≡ codes "end"
 
 -- a form that lines of the format may have
-abbrev pub IsFormOf : Format → Form → Type 0
-IsFormOf format (Words field words) = has_field format field ≡ true
-IsFormOf format _ = Unit {0}
+abbrev pub IsFormOfFormat : Format → LineForm → Type 0
+IsFormOfFormat format (Words field words) = format_has_field format field ≡ true
+IsFormOfFormat format _ = Unit {0}
 
 -- the text of a line of the format
-abbrev pub IsTextInFormat : Format → Line → Form → Type 0
-IsTextInFormat format text form = IsTextOfForm text form × IsFormOf format form
+abbrev pub IsTextInFormat : Format → Line → LineForm → Type 0
+IsTextInFormat format text line_form = IsTextOfForm text line_form × IsFormOfFormat format line_form
 
 -- ---- reading a line: the form that it parses as
 
@@ -134,23 +134,23 @@ spaced_words (space ∷ a ∷ b ∷ c ∷ d ∷ e ∷ f ∷ text) =
 spaced_words _ = None
 
 -- some words, where they are 1 to 16
-abbrev pub few : List ℕ → Option (List ℕ)
-few words = if nat_le 1 (length words) && nat_le (length words) 16 then Some words else None
+abbrev pub within_row_size : List ℕ → Option (List ℕ)
+within_row_size words = if nat_le 1 (length words) && nat_le (length words) 16 then Some words else None
 
 -- a row of words
 unfoldable pub words_in_row : Text → Option (List ℕ)
 words_in_row text = do
   found ← spaced_words text
-  few found
+  within_row_size found
 
 -- a register and its word
-unfoldable pub word_form : Field → Text → Option Form
+unfoldable pub word_form : Field → Text → Option LineForm
 word_form field text = do
   word ← hex6_value text
   Some (Words field (word ∷ []))
 
 -- a cell, and the words from it on
-unfoldable pub cells_form : (ℕ → Field) → Text → Option Form
+unfoldable pub cells_form : (ℕ → Field) → Text → Option LineForm
 cells_form field (x ∷ y ∷ text) = do
   cell ← hex_byte_value (x ∷ y ∷ [])
   found ← words_in_row text
@@ -158,30 +158,30 @@ cells_form field (x ∷ y ∷ text) = do
 cells_form field _ = None
 
 -- a stack and all its words
-unfoldable pub stack_form : Field → ℕ → Text → Option Form
+unfoldable pub stack_form : Field → ℕ → Text → Option LineForm
 stack_form field count text = do
   found ← words_in_row text
   if length found == count then Some (Words field found) else None
 
 -- a field and a number from the least to the most, of one decimal digit
-unfoldable pub digit_form : Field → ℕ → ℕ → Text → Option Form
+unfoldable pub digit_form : Field → ℕ → ℕ → Text → Option LineForm
 digit_form field least most (c ∷ []) = if nat_le (48 + least) c && nat_le c (48 + most) then Some (Words field ((c - 48) ∷ [])) else None
 digit_form field least most _ = None
 
 -- a wait of this kind for a set of sides, of which it needs one
-unfoldable pub set_form : ℕ → Text → Option Form
-set_form kind text = do
+unfoldable pub side_set_wait_form : ℕ → Text → Option LineForm
+side_set_wait_form kind text = do
   sides ← parse_side_set text
   if sides == 0 then None else Some (Words Wait ((kind + sides) ∷ []))
 
 -- a wait that writes to one side
-unfoldable pub side_form : Text → Option Form
-side_form text = do
+unfoldable pub side_write_wait_form : Text → Option LineForm
+side_write_wait_form text = do
   sides ← parse_side_set text
   if is_single_side sides then Some (Words Wait ((48 + sides) ∷ [])) else None
 
 -- the row and the column of a node
-unfoldable pub node_form : Text → Option Form
+unfoldable pub node_form : Text → Option LineForm
 node_form text = do
   number ← parse_node_name text
   Some (Node number)
@@ -191,16 +191,16 @@ abbrev pub begins_with_text : Text → Text → Bool
 begins_with_text text front = pointwise nat_eq (take (length front) text) front
 
 -- what a node waits for
-unfoldable pub wait_form : Text → Option Form
+unfoldable pub wait_form : Text → Option LineForm
 wait_form text =
-    if begins_with_text text (codes "fetch ") then set_form 16 (drop 6 text)
-    else if begins_with_text text (codes "read ") then set_form 32 (drop 5 text)
-    else if begins_with_text text (codes "write ") then side_form (drop 6 text)
+    if begins_with_text text (codes "fetch ") then side_set_wait_form 16 (drop 6 text)
+    else if begins_with_text text (codes "read ") then side_set_wait_form 32 (drop 5 text)
+    else if begins_with_text text (codes "write ") then side_write_wait_form (drop 6 text)
     else None
 
 -- a line of a stack, of a memory or of a node, or the end
-unfoldable pub wide_form : Text → Option Form
-wide_form text =
+unfoldable pub stack_memory_or_node_form : Text → Option LineForm
+stack_memory_or_node_form text =
     if begins_with_text text (codes "d") then stack_form (Data 0) 10 (drop 1 text)
     else if begins_with_text text (codes "ram ") then cells_form Ram (drop 4 text)
     else if begins_with_text text (codes "rom ") then cells_form Rom (drop 4 text)
@@ -210,17 +210,17 @@ wide_form text =
     else None
 
 -- a line of a carry, a slot, a wait or a stop, of a stack, of a memory or of a node, or the end
-unfoldable pub state_form : Text → Option Form
+unfoldable pub state_form : Text → Option LineForm
 state_form text =
     if begins_with_text text (codes "carry ") then digit_form Carry 0 1 (drop 6 text)
     else if begins_with_text text (codes "slot ") then digit_form Slot 0 4 (drop 5 text)
     else if begins_with_text text (codes "wait ") then wait_form (drop 5 text)
     else if begins_with_text text (codes "stop ") then digit_form Stop 1 3 (drop 5 text)
-    else wide_form text
+    else stack_memory_or_node_form text
 
 -- the form of a line, if it has one
-unfoldable pub form : Line → Option Form
-form text =
+unfoldable pub line_form : Line → Option LineForm
+line_form text =
     if begins_with_text text (codes "a ") then word_form A (drop 2 text)
     else if begins_with_text text (codes "b ") then word_form B (drop 2 text)
     else if begins_with_text text (codes "p ") then word_form P (drop 2 text)

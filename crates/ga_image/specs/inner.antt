@@ -1,7 +1,7 @@
 -- Fields, lines, a parser and the text of blocks, as the code has them.
 use Rattle.ga_image.specs.declared.line.Line.TheVariants as line
 use Rattle.ga_image.specs.declared.field.Bank.TheVariants as bank
-use Rattle.ga_image.specs.declared.parser.Stage.TheVariants as expects
+use Rattle.ga_image.specs.declared.parser.ImageReadStage.TheVariants as expects
 use Rattle.std.specs.Prelude.{◌<◌, ℕ, List, map, flat_map}
 use Rattle.ga_image.specs.declared.field.Field.{Field}
 use Rattle.ga_image.specs.declared.field.Field.TheVariants.{Data, Return, Ram, Rom, Wait, Carry, Slot, Stop}
@@ -9,10 +9,10 @@ use Rattle.std.specs.List.{AllByRecursion}
 use Rattle.ga_node.specs.State.{IsWaitCode}
 use Rattle.ga_image.specs.declared.line.Line.{Line}
 use Rattle.ga_image.specs.declared.field.Bank.{Bank}
-use Rattle.ga_image.specs.Spelling.{Form, Node, Words, End}
+use Rattle.ga_image.specs.Spelling.{LineForm, Node, Words, End}
 use Rattle.ga_image.specs.declared.parser.Parser.{Parser}
-use Rattle.ga_image.specs.declared.parser.Stage.{Stage as Expects}
-use Rattle.ga_image.specs.Reading.{Stage, Progress, Header, Open, Ended}
+use Rattle.ga_image.specs.declared.parser.ImageReadStage.{ImageReadStage as Expects}
+use Rattle.ga_image.specs.Reading.{ImageReadStage, ImageReadProgress, Header, Open, Ended}
 use Rattle.ga_text.specs.Lines.{Text}
 use Rattle.ga_node.specs.Record.{NodeRecord}
 use Rattle.ga_image.specs.Grammar.{Block, block_forms}
@@ -40,7 +40,7 @@ abbrev pub AreCodes : Field → List ℕ → Type 0
 AreCodes field words = AllByRecursion (HoldsCode field) words
 
 -- a line, as contracts see it
-abbrev pub form_of : Line → Form
+abbrev pub form_of : Line → LineForm
 form_of (line.Node number) = Node number
 form_of (line.Words field words) = Words field words.items
 form_of line.End = End
@@ -55,14 +55,14 @@ field_in bank.Rom cell = Rom cell
 -- ---- A parser, as contracts see it
 
 -- a stage, as contracts see it
-abbrev pub stage_of : Expects → Stage
+abbrev pub stage_of : Expects → ImageReadStage
 stage_of expects.Header = Header
 stage_of expects.Open = Open
 stage_of (expects.Block node) = stage.Block node.number
 stage_of expects.Ended = Ended
 
 -- a parser, as contracts see it
-abbrev pub progress_of : Parser → Progress
+abbrev pub progress_of : Parser → ImageReadProgress
 progress_of parser = record {
   format = parser.format;
   stage = stage_of parser.stage;
@@ -73,7 +73,7 @@ progress_of parser = record {
 }
 
 -- the header was read, and no end
-abbrev pub IsAfterHeader : Stage → Type 0
+abbrev pub IsAfterHeader : ImageReadStage → Type 0
 IsAfterHeader Open = Unit {0}
 IsAfterHeader (stage.Block node) = Unit {0}
 IsAfterHeader _ = ⊥

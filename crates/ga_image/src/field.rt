@@ -3,7 +3,7 @@
 ghost use Rattle.std.specs.Prelude.{◌≡◌, ◌<◌, ◌≤◌, length};
 ghost use Rattle.ga_image.specs.Spelling.{field_name};
 ghost use Rattle.ga_image.specs.inner.{field_in, HasCell};
-ghost use Rattle.ga_image.specs.Fields.{has_field, field_place, field_number, next_field, exceeds_field, has_too_great_word, load_run_state, with_run_state_code, is_inconsistent_state};
+ghost use Rattle.ga_image.specs.Fields.{format_has_field, field_place, field_number, next_field, exceeds_field, has_too_great_word, load_run_state, with_run_state_code, is_inconsistent_state};
 
 use ga_node::Place;
 
@@ -64,7 +64,7 @@ impl Bank {
 impl Format {
     /// Whether a block of this format may give the field.
     pub(crate) fn has(self, field: Field) -> bool
-        ensures { result ≡ has_field self field }
+        ensures { result ≡ format_has_field self field }
     {
         match self {
             Format::Two => true,

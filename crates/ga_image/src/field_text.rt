@@ -6,7 +6,7 @@ ghost use Rattle.ga_grid.specs.Grid.{yxx_of};
 ghost use Rattle.ga_node.specs.State.{IsWaitCode};
 ghost use Rattle.ga_text.specs.Digits.{decimal3_of, hex2_of, words_text};
 ghost use Rattle.ga_image.specs.Spelling.{side_set_text, wait_text};
-ghost use Rattle.ga_image.specs.Printing.{field_text, line_unless_default, word_line_unless_default, AreWords};
+ghost use Rattle.ga_image.specs.Printing.{field_text, line_unless_default, word_line_unless_default, AreEighteenBitWords};
 ghost use Rattle.ga_image.specs.inner.{fields_text, HasWords, HasDigit};
 
 use super::field::Field;
@@ -16,7 +16,7 @@ use std::alloc::AllocError;
 
 /// Adds words, each as six digits after a space.
 fn push_words(text: &mut Vec<u8>, words: &[u32]) -> Result<(), AllocError>
-    requires { AreWords words.now }
+    requires { AreEighteenBitWords words.now }
     ensures { OnOk result (text.new.items ≡ text.old.items ++ words_text words.now) }
 {
     for word in words {
@@ -85,7 +85,7 @@ fn push_wait(text: &mut Vec<u8>, code: u32) -> Result<(), AllocError>
 /// Adds the line of words for a field.
 fn push_line(text: &mut Vec<u8>, field: Field, words: &[u32]) -> Result<(), AllocError>
     requires field { HasWords field }
-    requires words { AreWords words.now }
+    requires words { AreEighteenBitWords words.now }
     ensures { OnOk result (text.new.items ≡ text.old.items ++ (field_text field words.now ++ 10 ∷ [])) }
 {
     text.extend_from_slice(field.name().as_bytes())?;
@@ -112,7 +112,7 @@ pub(crate) fn push_words_unless(
     words: &[u32],
 ) -> Result<(), AllocError>
     requires field { HasWords field }
-    requires words { AreWords words.now }
+    requires words { AreEighteenBitWords words.now }
     ensures { OnOk result (text.new.items ≡ text.old.items ++ fields_text (line_unless_default at_load field words.now)) }
 {
     if are_at_load(words, at_load) {

@@ -3,9 +3,9 @@
 ghost use Rattle.std.specs.Prelude.{◌≡◌, ◌++◌, IfOk, OnOk, option_map, None};
 ghost use Rattle.std.specs.List.{list_any};
 ghost use Rattle.ga_text.specs.Lines.{lines_of};
-ghost use Rattle.ga_image.specs.FirstFault.{format_in};
+ghost use Rattle.ga_image.specs.FirstFault.{format_of_first_line};
 ghost use Rattle.ga_image.specs.inner.{form_of};
-ghost use Rattle.ga_image.specs.Given.{ram_cell_of_place, rom_cell_of_place, is_a, is_b, is_p, is_in_row, is_within, gives_word, line_ranges, block_node, given_ranges, gives_all, image_ranges, ranges_of};
+ghost use Rattle.ga_image.specs.Given.{ram_cell_of_place, rom_cell_of_place, is_register_a, is_register_b, is_register_p, is_cell_in_row, is_place_in_range, range_gives_word, line_ranges, block_node, given_ranges, format_gives_all_words, image_ranges, ranges_of_given_words};
 
 use super::line::Line;
 use ga_grid::NodeId;
@@ -35,11 +35,11 @@ pub enum GivenWords {
 
 impl GivenWords {
     ghost use Rattle.std.specs.Prelude.{◌≡◌};
-    ghost use Rattle.ga_image.specs.Given.{is_given};
+    ghost use Rattle.ga_image.specs.Given.{is_word_given};
 
     /// Whether the word of a place of a node is given. Only A, B, P and memory are given one by one.
     pub fn has(&self, node: NodeId, place: Place) -> bool
-        ensures { result ≡ is_given self.now node place }
+        ensures { result ≡ is_word_given self.now node place }
     {
         match self {
             GivenWords::All => true,
@@ -50,34 +50,36 @@ impl GivenWords {
 
 /// Whether one of these rows has the word of a place of a node.
 fn has_range(ranges: &[GivenRange], node: NodeId, place: Place) -> bool
-    ensures { result ≡ list_any (gives_word node place) ranges.now }
+    ensures { result ≡ list_any (range_gives_word node place) ranges.now }
 {
-    ranges.iter().any(|range| gives_word(*range, node, place))
+    ranges
+        .iter()
+        .any(|range| range_gives_word(*range, node, place))
 }
 
 /// Whether a row has the word of a place of a node.
-fn gives_word(range: GivenRange, node: NodeId, place: Place) -> bool
-    ensures { result ≡ gives_word node place range }
+fn range_gives_word(range: GivenRange, node: NodeId, place: Place) -> bool
+    ensures { result ≡ range_gives_word node place range }
 {
-    range.node == node && is_within(range.first, range.count, place)
+    range.node == node && is_place_in_range(range.first, range.count, place)
 }
 
 /// Whether a place is the register that is given, or one of the cells from the first on.
-fn is_within(first: Place, count: usize, place: Place) -> bool
-    ensures { result ≡ is_within first count place }
+fn is_place_in_range(first: Place, count: usize, place: Place) -> bool
+    ensures { result ≡ is_place_in_range first count place }
 {
     match first {
-        Place::A => is_a(place),
-        Place::B => is_b(place),
-        Place::P => is_p(place),
-        Place::Ram(first) => is_in_row(first, count, ram_cell_of_place(place)),
-        Place::Rom(first) => is_in_row(first, count, rom_cell_of_place(place)),
+        Place::A => is_register_a(place),
+        Place::B => is_register_b(place),
+        Place::P => is_register_p(place),
+        Place::Ram(first) => is_cell_in_row(first, count, ram_cell_of_place(place)),
+        Place::Rom(first) => is_cell_in_row(first, count, rom_cell_of_place(place)),
         _ => false,
     }
 }
 
-fn is_a(place: Place) -> bool
-    ensures { result ≡ is_a place }
+fn is_register_a(place: Place) -> bool
+    ensures { result ≡ is_register_a place }
 {
     match place {
         Place::A => true,
@@ -85,8 +87,8 @@ fn is_a(place: Place) -> bool
     }
 }
 
-fn is_b(place: Place) -> bool
-    ensures { result ≡ is_b place }
+fn is_register_b(place: Place) -> bool
+    ensures { result ≡ is_register_b place }
 {
     match place {
         Place::B => true,
@@ -94,8 +96,8 @@ fn is_b(place: Place) -> bool
     }
 }
 
-fn is_p(place: Place) -> bool
-    ensures { result ≡ is_p place }
+fn is_register_p(place: Place) -> bool
+    ensures { result ≡ is_register_p place }
 {
     match place {
         Place::P => true,
@@ -124,8 +126,8 @@ fn rom_cell_of_place(place: Place) -> Option<u8>
 }
 
 /// Whether a cell is one of `count` from the first on.
-fn is_in_row(first: u8, count: usize, cell: Option<u8>) -> bool
-    ensures { result ≡ is_in_row first count cell }
+fn is_cell_in_row(first: u8, count: usize, cell: Option<u8>) -> bool
+    ensures { result ≡ is_cell_in_row first count cell }
 {
     match cell {
         Some(cell) => first <= cell && usize::from(cell - first) < count,
@@ -138,17 +140,17 @@ fn is_in_row(first: u8, count: usize, cell: Option<u8>) -> bool
 /// # Errors
 /// Out of memory.
 pub fn given_words(alloc: Global, text: &[u8]) -> Result<GivenWords, AllocError>
-    ensures { IfOk result (λ given. ranges_of given ≡ image_ranges (lines_of text.now)) }
+    ensures { IfOk result (λ given. ranges_of_given_words given ≡ image_ranges (lines_of text.now)) }
 {
-    if gives_all(text) {
+    if format_gives_all_words(text) {
         return Ok(GivenWords::All);
     }
     Ok(GivenWords::Ranges(given_ranges(alloc, text)?))
 }
 
 /// Whether the first line of a text is not the header of format 1.
-fn gives_all(text: &[u8]) -> bool
-    ensures { result ≡ gives_all (format_in (lines_of text.now)) }
+fn format_gives_all_words(text: &[u8]) -> bool
+    ensures { result ≡ format_gives_all_words (format_of_first_line (lines_of text.now)) }
 {
     if text.is_empty() {
         return false;

@@ -6,10 +6,10 @@ ghost use Rattle.ga_grid.specs.Grid.{default_chip};
 ghost use Rattle.ga_image.specs.FirstFault.{IsFirstFault, memory_fault};
 ghost use Rattle.ga_image.specs.Grammar.{IsImage};
 ghost use Rattle.ga_text.specs.Lines.{lines_of};
-ghost use Rattle.ga_image.specs.Reading.{start, reading, Gives};
+ghost use Rattle.ga_image.specs.Reading.{initial_progress, result_of_lines, IsImageReadResult};
 
 use super::fault::{ImageCause, ImageFault};
-use super::parser::{Parser, Stage};
+use super::parser::{ImageReadStage, Parser};
 use ga_grid::Chip;
 use ga_text::first_line;
 use std::alloc::Global;
@@ -23,7 +23,7 @@ pub fn parse(alloc: Global, text: &[u8]) -> Result<Chip, ImageFault>
     ensures found { IfOk result (λ chip. IsImage (lines_of text.now) chip) }
 
     // Each image is accepted with its chip, unless an allocation fails.
-    ensures only { (chip : List NodeState) → IsImage (lines_of text.now) chip → Gives result (Ok chip) }
+    ensures only { (chip : List NodeState) → IsImage (lines_of text.now) chip → IsImageReadResult result (Ok chip) }
 
     // A text that is no image is refused with the first fault of its lines, unless an allocation fails.
     ensures refused { IfErr result (λ fault. (fault ≡ memory_fault) ⊎ IsFirstFault (lines_of text.now) fault) }
@@ -40,7 +40,7 @@ pub fn parse(alloc: Global, text: &[u8]) -> Result<Chip, ImageFault>
 /// Reads a text into a chip at load.
 fn read(chip: Chip, text: &[u8]) -> Result<Chip, ImageFault>
     requires { chip ≡ default_chip }
-    ensures { result ≡ reading start 1 (lines_of text.now) }
+    ensures { result ≡ result_of_lines initial_progress 1 (lines_of text.now) }
 {
     let mut parser = Parser::new(chip);
     let mut rest = text;
@@ -54,7 +54,7 @@ fn read(chip: Chip, text: &[u8]) -> Result<Chip, ImageFault>
         line += 1;
     }
     match parser.stage {
-        Stage::Ended => Ok(parser.chip),
+        ImageReadStage::Ended => Ok(parser.chip),
         _ => Err(ImageFault {
             line,
             cause: ImageCause::Truncated,

@@ -8,7 +8,7 @@ ghost use Rattle.ga_image.specs.FirstFault.{IsFirstFault};
 ghost use Rattle.ga_image.specs.Grammar.{IsImage};
 ghost use Rattle.ga_text.specs.Lines.{lines_of};
 ghost use Rattle.ga_image.specs.Printing.{printed_image, AreSoundRecords, IsImageOfRecords};
-ghost use Rattle.ga_image.specs.Reading.{start, reading};
+ghost use Rattle.ga_image.specs.Reading.{initial_progress, result_of_lines};
 
 /// An image is shorter than 2 ^ 24 bytes: a block has at most one line for each field, and a line at most 200 bytes.
 pub fn images_are_short()
@@ -19,9 +19,9 @@ pub fn images_are_short()
 /// text is an image of one chip or has one first fault, and never both.
 pub fn reader_agrees_with_grammar()
     ensures images { (texts : List (List ℕ)) (chip : List NodeState) →
-        IsImage texts chip ↔ (reading start 1 texts ≡ Ok chip) }
+        IsImage texts chip ↔ (result_of_lines initial_progress 1 texts ≡ Ok chip) }
     ensures faults { (texts : List (List ℕ)) (fault : ImageFault) →
-        IsFirstFault texts fault ↔ (reading start 1 texts ≡ Err fault) }
+        IsFirstFault texts fault ↔ (result_of_lines initial_progress 1 texts ≡ Err fault) }
 {}
 
 /// The printed text of a chip is an image of a chip with the same records, if in each node the wait, the slot and the stop are

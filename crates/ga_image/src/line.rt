@@ -1,7 +1,7 @@
 //! The forms of a line.
 
 ghost use Rattle.std.specs.Prelude.{◌≡◌, ◌≤◌, [], ◌∷◌};
-ghost use Rattle.ga_image.specs.Spelling.{Words, words_in_row, word_form, cells_form, stack_form, digit_form, set_form, side_form, wait_form, node_form, wide_form, state_form, form};
+ghost use Rattle.ga_image.specs.Spelling.{Words, words_in_row, word_form, cells_form, stack_form, digit_form, side_set_wait_form, side_write_wait_form, wait_form, node_form, stack_memory_or_node_form, state_form, line_form};
 ghost use Rattle.std.specs.Option.{option_map};
 ghost use Rattle.ga_image.specs.inner.{form_of, field_in};
 
@@ -100,10 +100,10 @@ fn digit_line(field: Field, least: u8, most: u8, text: &[u8]) -> Option<Line>
     }
 }
 
-#[tactic(auto, unfolding(crate::specs::Spelling::set_form))]
+#[tactic(auto, unfolding(crate::specs::Spelling::side_set_wait_form))]
 fn set_line(kind: u32, text: &[u8]) -> Option<Line>
     requires { kind ≤ 48 }
-    ensures { option_map form_of result ≡ set_form kind text.now }
+    ensures { option_map form_of result ≡ side_set_wait_form kind text.now }
 {
     let sides = parse_side_set(text)?;
     if sides == 0 {
@@ -113,9 +113,9 @@ fn set_line(kind: u32, text: &[u8]) -> Option<Line>
     }
 }
 
-#[tactic(auto, unfolding(crate::specs::Spelling::side_form))]
+#[tactic(auto, unfolding(crate::specs::Spelling::side_write_wait_form))]
 fn side_line(text: &[u8]) -> Option<Line>
-    ensures { option_map form_of result ≡ side_form text.now }
+    ensures { option_map form_of result ≡ side_write_wait_form text.now }
 {
     let sides = parse_side_set(text)?;
     if sides == 8 || sides == 4 || sides == 2 || sides == 1 {
@@ -147,9 +147,9 @@ fn node_line(text: &[u8]) -> Option<Line>
     Some(Line::Node(parse_node_name(text)?))
 }
 
-#[tactic(auto, unfolding(crate::specs::Spelling::wide_form))]
+#[tactic(auto, unfolding(crate::specs::Spelling::stack_memory_or_node_form))]
 fn wide_line(text: &[u8]) -> Option<Line>
-    ensures { option_map form_of result ≡ wide_form text.now }
+    ensures { option_map form_of result ≡ stack_memory_or_node_form text.now }
 {
     if let Some(rest) = text.strip_prefix(b"d") {
         stack_line(Field::Data(0), 10, rest)
@@ -187,9 +187,9 @@ fn state_line(text: &[u8]) -> Option<Line>
 
 impl Line {
     /// Reads a line, if it has one of the forms.
-    #[tactic(auto, unfolding(crate::specs::Spelling::form))]
+    #[tactic(auto, unfolding(crate::specs::Spelling::line_form))]
     pub(crate) fn parse(text: &[u8]) -> Option<Line>
-        ensures { option_map form_of result ≡ form text.now }
+        ensures { option_map form_of result ≡ line_form text.now }
     {
         if let Some(rest) = text.strip_prefix(b"a ") {
             word_line(Field::A, rest)

@@ -3,25 +3,25 @@
 ghost use Rattle.std.specs.Prelude.{◌≡◌, ◌≤◌, length, OnOk, Some};
 ghost use Rattle.std.specs.Result.{result_err};
 ghost use Rattle.ga_grid.specs.Grid.{default_chip, number_of_yxx};
-ghost use Rattle.ga_image.specs.Fields.{field_writes, greatest};
+ghost use Rattle.ga_image.specs.Fields.{field_writes, greatest_field_word};
 ghost use Rattle.ga_image.specs.inner.{HasCell, progress_of, stage_of, IsAfterHeader, HoldsCode, AreCodes};
 ghost use Rattle.ga_image.specs.Reading.{Header};
 ghost use Rattle.ga_image.specs.Spelling.{Node, Words, End};
-ghost use Rattle.ga_image.specs.Grammar.{with_word};
+ghost use Rattle.ga_image.specs.Grammar.{chip_with_word};
 ghost use Rattle.ga_image.specs.Reading.{
-  start,
-  words_fault,
+  initial_progress,
+  field_line_fault,
   node_fault,
   ends_inconsistent_block,
   allowed_form,
-  later_fault,
+  fault_after_header,
   line_fault,
-  fault_of,
+  first_fault_of_line,
   with_block,
   with_field_writes,
   progress_after_form,
   progress_after_stage,
-  after_line,
+  progress_after_line,
 };
 
 use super::fault::ImageCause;
@@ -35,7 +35,7 @@ pub const LINE_LIMIT: usize = 200;
 
 /// What may come next.
 #[derive(Clone, Copy)]
-pub(crate) enum Stage {
+pub(crate) enum ImageReadStage {
     /// The header.
     Header,
     /// A block or the end.
@@ -50,7 +50,7 @@ pub(crate) enum Stage {
 #[derive(Drop)]
 pub(crate) struct Parser {
     pub format: Format,
-    pub stage: Stage,
+    pub stage: ImageReadStage,
     /// For each node by its number, whether it has a block.
     pub blocks: [bool; CHIP_NODES],
     /// For each field by its number, whether the last block gave it.
@@ -62,14 +62,14 @@ pub(crate) struct Parser {
 
 impl Parser {
     /// A parser before the first line.
-    #[tactic(auto, unfolding(crate::specs::Reading::start))]
+    #[tactic(auto, unfolding(crate::specs::Reading::initial_progress))]
     pub fn new(chip: Chip) -> Parser
         requires { chip ≡ default_chip }
-        ensures { progress_of result ≡ start }
+        ensures { progress_of result ≡ initial_progress }
     {
         Parser {
             format: Format::One,
-            stage: Stage::Header,
+            stage: ImageReadStage::Header,
             blocks: [false; CHIP_NODES],
             given: [false; FIELDS],
             held: RunState::runs(),
@@ -78,22 +78,22 @@ impl Parser {
     }
 
     /// Reads the next line. After a fault the parser's state is unspecified.
-    #[tactic(auto, unfolding(crate::specs::Reading::fault_of, crate::specs::Reading::after_line, crate::specs::Reading::words_fault, crate::specs::Reading::node_fault))]
+    #[tactic(auto, unfolding(crate::specs::Reading::first_fault_of_line, crate::specs::Reading::progress_after_line, crate::specs::Reading::field_line_fault, crate::specs::Reading::node_fault))]
     pub fn read_line(&mut self, text: &[u8]) -> Result<(), ImageCause>
-        ensures fault { result_err result ≡ fault_of (progress_of self.old) text.now }
-        ensures read { OnOk result (progress_of self.new ≡ after_line (progress_of self.old) text.now) }
+        ensures fault { result_err result ≡ first_fault_of_line (progress_of self.old) text.now }
+        ensures read { OnOk result (progress_of self.new ≡ progress_after_line (progress_of self.old) text.now) }
     {
         if text.len() > LINE_LIMIT {
             return Err(ImageCause::Long);
         }
-        if let Stage::Header = self.stage {
+        if let ImageReadStage::Header = self.stage {
             return self.read_header(text);
         }
         let Some(line) = Line::parse(text) else {
             return Err(ImageCause::Line);
         };
         let stage = self.stage;
-        if let Stage::Ended = stage {
+        if let ImageReadStage::Ended = stage {
             return Err(ImageCause::Line);
         }
         match line {
@@ -104,7 +104,7 @@ impl Parser {
     }
 
     fn read_header(&mut self, text: &[u8]) -> Result<(), ImageCause>
-        requires { self.old.stage ≡ Stage.Header }
+        requires { self.old.stage ≡ ImageReadStage.Header }
         ensures fault { result_err result ≡ line_fault Header (progress_of self.old) text.now }
         ensures read { OnOk result (progress_of self.new ≡ progress_after_stage Header (progress_of self.old) text.now) }
     {
@@ -115,7 +115,7 @@ impl Parser {
         } else {
             return Err(ImageCause::Header);
         };
-        self.stage = Stage::Open;
+        self.stage = ImageReadStage::Open;
         Ok(())
     }
 
@@ -124,7 +124,7 @@ impl Parser {
         ensures { result ≡ ends_inconsistent_block (stage_of self.now.stage) self.now.held (Some End) }
     {
         match self.stage {
-            Stage::Block(_) => self.held.is_inconsistent_state(),
+            ImageReadStage::Block(_) => self.held.is_inconsistent_state(),
             _ => false,
         }
     }
@@ -133,7 +133,7 @@ impl Parser {
     #[tactic(auto, unfolding(crate::specs::Reading::node_fault))]
     fn begin_block(&mut self, yxx: u32) -> Result<(), ImageCause>
         requires { IsAfterHeader (stage_of self.old.stage) }
-        ensures fault { result_err result ≡ later_fault (progress_of self.old) (Some (Node yxx)) }
+        ensures fault { result_err result ≡ fault_after_header (progress_of self.old) (Some (Node yxx)) }
         ensures begun { OnOk result (progress_of self.new ≡ with_block (progress_of self.old) (number_of_yxx yxx)) }
     {
         if self.is_inconsistent_state() {
@@ -145,7 +145,7 @@ impl Parser {
         if self.blocks[node.index()] {
             return Err(ImageCause::Repeated);
         }
-        self.stage = Stage::Block(node);
+        self.stage = ImageReadStage::Block(node);
         self.blocks[node.index()] = true;
         self.given = [false; FIELDS];
         self.held = RunState::runs();
@@ -155,13 +155,13 @@ impl Parser {
     /// Ends the image, and the last block.
     fn end(&mut self) -> Result<(), ImageCause>
         requires { IsAfterHeader (stage_of self.old.stage) }
-        ensures fault { result_err result ≡ later_fault (progress_of self.old) (Some End) }
+        ensures fault { result_err result ≡ fault_after_header (progress_of self.old) (Some End) }
         ensures ended { OnOk result (progress_of self.new ≡ progress_after_form (progress_of self.old) (Some End)) }
     {
         if self.is_inconsistent_state() {
             return Err(ImageCause::State);
         }
-        self.stage = Stage::Ended;
+        self.stage = ImageReadStage::Ended;
         Ok(())
     }
 
@@ -170,25 +170,25 @@ impl Parser {
         requires few { length words.now ≤ 16 }
         requires codes { AreCodes field words.now }
         requires open { IsAfterHeader (stage_of self.old.stage) }
-        ensures fault { result_err result ≡ later_fault (progress_of self.old) (allowed_form self.old.format (Some (Words field words.now))) }
+        ensures fault { result_err result ≡ fault_after_header (progress_of self.old) (allowed_form self.old.format (Some (Words field words.now))) }
         ensures read { OnOk result (progress_of self.new ≡ progress_after_form (progress_of self.old) (allowed_form self.old.format (Some (Words field words.now)))) }
     {
         if !self.format.has(field) {
             return Err(ImageCause::Line);
         }
         match self.stage {
-            Stage::Block(node) => self.write_all(node, field, words),
+            ImageReadStage::Block(node) => self.write_all(node, field, words),
             _ => Err(ImageCause::Line),
         }
     }
 
     /// Writes the words of a field line.
-    #[tactic(auto, unfolding(crate::specs::Reading::words_fault))]
+    #[tactic(auto, unfolding(crate::specs::Reading::field_line_fault))]
     fn write_all(&mut self, node: NodeId, field: Field, words: &[u32]) -> Result<(), ImageCause>
         requires few { length words.now ≤ 16 }
         requires codes { AreCodes field words.now }
-        requires block { self.old.stage ≡ Stage.Block node }
-        ensures fault { result_err result ≡ words_fault (progress_of self.old) field words.now }
+        requires block { self.old.stage ≡ ImageReadStage.Block node }
+        ensures fault { result_err result ≡ field_line_fault (progress_of self.old) field words.now }
         ensures written { OnOk result (progress_of self.new ≡ with_field_writes (progress_of self.old) (field_writes field words.now)) }
     {
         if field.exceeds_field(words.len()) {
@@ -213,12 +213,12 @@ impl Parser {
 }
 
 /// Writes one word of a node. A node that waits isn't stopped, and one that is stopped doesn't wait.
-#[tactic(auto, unfolding(crate::specs::Grammar::with_word))]
+#[tactic(auto, unfolding(crate::specs::Grammar::chip_with_word))]
 fn write(chip: &mut Chip, node: NodeId, field: Field, word: u32)
     requires cell { HasCell field }
-    requires in_range { word ≤ greatest field }
+    requires in_range { word ≤ greatest_field_word field }
     requires code { HoldsCode field word }
-    ensures { chip.new ≡ with_word chip.old node.number (field, word) }
+    ensures { chip.new ≡ chip_with_word chip.old node.number (field, word) }
 {
     let held = chip.node_mut(node);
     match field {

@@ -5,7 +5,7 @@ ghost use Rattle.ga_node.specs.Record.{record_of, fresh_record};
 ghost use Rattle.ga_grid.specs.Chip.{records_of, HaveConsistentWaits};
 ghost use Rattle.ga_grid.specs.Grid.{load_p_of};
 ghost use Rattle.ga_image.specs.inner.{fields_text, blocks_text, words_in, bank_size, field_in};
-ghost use Rattle.ga_image.specs.Printing.{register_lines, state_lines, memory_lines, changed_lines, block_unless_empty, lines_at, printed_image, AreWords, HasSoundRegisters, HasSoundState, AreBankWords, IsSoundRecord, AreSoundRecords, IsImageOfRecords};
+ghost use Rattle.ga_image.specs.Printing.{register_lines, state_lines, memory_lines, changed_lines_from_fresh, block_unless_empty, changed_lines_of_node, printed_image, AreEighteenBitWords, HasSoundRegisters, HasSoundState, AreStackOrMemoryWords, IsSoundRecord, AreSoundRecords, IsImageOfRecords};
 ghost use Rattle.ga_text.specs.Lines.{lines_of};
 ghost use Rattle.ga_image.specs.FirstFault.{memory_fault};
 
@@ -88,7 +88,7 @@ fn whole_text(alloc: Global, chip: &Chip) -> Result<Vec<u8>, AllocError>
 
 /// Adds the block of a node, unless all that it holds is as at load.
 fn push_block(text: &mut Vec<u8>, node: NodeId, at: &Node) -> Result<(), AllocError>
-    ensures text { OnOk result (text.new.items ≡ text.old.items ++ blocks_text (block_unless_empty node.number (lines_at node.number (record_of at.now)))) }
+    ensures text { OnOk result (text.new.items ≡ text.old.items ++ blocks_text (block_unless_empty node.number (changed_lines_of_node node.number (record_of at.now)))) }
     ensures sound { OnOk result (IsSoundRecord (record_of at.now)) }
 {
     let before = text.as_slice().len();
@@ -106,7 +106,7 @@ fn push_block(text: &mut Vec<u8>, node: NodeId, at: &Node) -> Result<(), AllocEr
 
 /// Adds the field lines of a node.
 fn push_fields(text: &mut Vec<u8>, node: NodeId, at: &Node) -> Result<(), AllocError>
-    ensures text { OnOk result (text.new.items ≡ text.old.items ++ fields_text (lines_at node.number (record_of at.now))) }
+    ensures text { OnOk result (text.new.items ≡ text.old.items ++ fields_text (changed_lines_of_node node.number (record_of at.now))) }
     ensures sound { OnOk result (IsSoundRecord (record_of at.now)) }
 {
     push_registers(text, node, at)?;
@@ -154,7 +154,7 @@ fn push_state(text: &mut Vec<u8>, at: &Node) -> Result<(), AllocError>
 fn push_memory(text: &mut Vec<u8>, at: &Node, bank: Bank) -> Result<(), AllocError>
     requires { bank_size bank ≡ 64 }
     ensures text { OnOk result (text.new.items ≡ text.old.items ++ fields_text (memory_lines (field_in bank) (words_in bank (record_of at.now)))) }
-    ensures sound { OnOk result (AreBankWords 64 (words_in bank (record_of at.now))) }
+    ensures sound { OnOk result (AreStackOrMemoryWords 64 (words_in bank (record_of at.now))) }
 {
     'rows: for number in 0..ROWS {
         let cell = ROW_WORDS * number;
@@ -192,7 +192,7 @@ fn row(at: &Node, bank: Bank, first: u8, count: u8) -> ArrayVec<u32, 16>
     requires within { first + count ≤ bank_size bank }
     ensures items { result.items ≡ take count (drop first (words_in bank (record_of at.now))) }
     ensures size { length (words_in bank (record_of at.now)) ≡ bank_size bank }
-    ensures words { AreWords result.items }
+    ensures words { AreEighteenBitWords result.items }
 {
     let mut words = ArrayVec::new();
     'words: for place in 0..count {

@@ -11,7 +11,7 @@ use Rattle.ga_journal.specs.declared.fault.JournalFault.{JournalFault}
 use Rattle.ga_journal.specs.declared.since.EventsSince.{EventsSince}
 use Rattle.ga_journal.specs.Histories.{EntryRecord, history, JournalState}
 use Rattle.ga_journal.specs.inner.Histories.{Held, lists_of, Keeps, cut, older_causes, older_events, WalksBack, IsFirst, IsWalked, pasts_of, IsUntold, IsToldAt, AreTold}
-use Rattle.ga_event.specs.Told.{count_steps, events_of_causes, events_without_outcomes, made_event_in}
+use Rattle.ga_event.specs.Told.{count_steps, events_of_causes, events_without_outcomes, made_event_at_place}
 use Rattle.ga_journal.specs.Logs.{StampedEvent, AreHistoriesOfLog, AreEventsSince, AreConsistentHistories}
 use Rattle.ga_event.specs.declared.made.Made.{Made}
 use Rattle.ga_journal.proofs.Cutting.{history-cut}
@@ -210,11 +210,11 @@ none_told vecs lengths top kept book is kept_is k whole size all same =
 
 -- the event that is read, and the place reached then
 pub told_next : (book : JournalState) (lengths : List ℕ) (top place : ℕ) (cause : Cause) (made : Made) → 0 < place → (u : IsUntold book lengths top place)
-    → ((log : List StampedEvent) → WalksBack book.histories lengths top log → IsFirst log cause made) → made_event_in (kept_outcomes book) (place - 1) ≡ Some made
+    → ((log : List StampedEvent) → WalksBack book.histories lengths top log → IsFirst log cause made) → made_event_at_place (kept_outcomes book) (place - 1) ≡ Some made
 told_next book lengths top place cause made some u first =
     let w = u.within in
     let q : length u.log - place + (place - 1) + 1 ≡ length u.log = omega (arith, w, some) in
-    ap (λ kept. made_event_in kept (place - 1)) (kept_log u.log book u.records)
+    ap (λ kept. made_event_at_place kept (place - 1)) (kept_log u.log book u.records)
     ∙ (at_place u.log (length u.log - place) (place - 1) cause made q (first (drop (length u.log - place) u.log) u.walks)).made
 
 pub left_next : (book : JournalState) (lengths more : List ℕ) (top now place : ℕ) → 0 < place → length more ≡ 144 → (u : IsUntold book lengths top place)
@@ -280,19 +280,19 @@ told_more log places at place told items l is t rest =
 
 -- the events that a journal returns for the places
 mades_told : (log : List StampedEvent) (places : List ℕ) (mades : List Made) → All (λ (place : ℕ). place < length log) places → AreTold log places mades
-    → map Some mades ≡ map (made_event_in (tellings log)) places
+    → map Some mades ≡ map (made_event_at_place (tellings log)) places
 mades_told log [] [] a t = refl
 mades_told log [] (told ∷ more) a t = absurd t
 mades_told log (place ∷ places) [] a t = absurd t
 mades_told log (place ∷ places) (told ∷ more) a t =
     let l : place < length log = All-head (λ (z : ℕ). z < length log) place places a in
     let at = at_place log (length log - place - 1) place t.0.0 told (omega arith) t.0.1 in
-    ap (λ z. z ∷ map Some more) (sym at.made) ∙ ap (λ z. made_event_in (tellings log) place ∷ z) (mades_told log places more (All-tail (λ (z : ℕ). z < length log) place places a) t.1)
+    ap (λ z. z ∷ map Some more) (sym at.made) ∙ ap (λ z. made_event_at_place (tellings log) place ∷ z) (mades_told log places more (All-tail (λ (z : ℕ). z < length log) place places a) t.1)
 
 pub placed : (r : Result (Vec Made Global) JournalFault) (vecs : List Held) (top made kept : ℕ) (places : List ℕ) (w : WalkOf vecs top made kept) → All (λ (place : ℕ). place < kept) places
     → IfOk r (λ list. (log : List StampedEvent) → kept ≡ length log → AreHistoriesOfLog log (lists_of vecs) top → AreTold log places list.items)
-    → IfOk r (λ list. map Some list.items ≡ map (made_event_in (kept_outcomes_before (lists_of vecs) made)) places)
+    → IfOk r (λ list. map Some list.items ≡ map (made_event_at_place (kept_outcomes_before (lists_of vecs) made)) places)
 placed (Ok list) vecs top made kept places w a f =
     mades_told w.log places list.items (subst (λ (n : ℕ). All (λ (place : ℕ). place < n) places) w.long a) (f w.log w.long w.below)
-    ∙ ap (λ z. map (made_event_in z) places) (sym w.kept_is)
+    ∙ ap (λ z. map (made_event_at_place z) places) (sym w.kept_is)
 placed (Err why) vecs top made kept places w a f = tt

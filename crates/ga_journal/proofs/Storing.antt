@@ -1,5 +1,5 @@
 -- How a history is stored.
-use Rattle.ga_journal.specs.declared.entry.Act.TheVariants as act
+use Rattle.ga_journal.specs.declared.entry.EntryAct.TheVariants as act
 use Rattle.std.proofs.Common.{◌≡◌, ℕ, zero, suc, ◌+◌, ◌-◌, ◌<◌, ◌≤◌, Bool, true, false, List, [], ◌∷◌, ◌++◌, length, map, get_or, set, take, refl, sym, ◌∙◌, ap, subst, arith, length-append, add-zero, drop, length-take}
 use Rattle.std.specs.Prelude.{Some, slice_get}
 use Rattle.std.proofs.Math.ListN.{get_or-append}

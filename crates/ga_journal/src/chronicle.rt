@@ -18,10 +18,10 @@ impl OrderedJournal {
     ghost use Rattle.std.specs.Prelude.{◌≡◌, ◌<◌, ◌≤◌, ◌+◌, ◌^◌, ◌↔◌, length, map, take, drop, Some, IfOk, IfErr, IsNone};
     ghost use Rattle.std.specs.List.{slice_get, All};
     ghost use Rattle.std.specs.List.Sorted.{IsStrictlyIncreasing};
-    ghost use Rattle.ga_journal.specs.Histories.{no_work, history, backward_model_at};
+    ghost use Rattle.ga_journal.specs.Histories.{no_rollback_work, history, backward_model_at};
     ghost use Rattle.ga_journal.specs.Walked.{node_before_entries, CanRestoreEntries, overwritten_value};
     ghost use Rattle.ga_journal.specs.Events.{kept_outcomes, journal_causes, journal_events};
-    ghost use Rattle.ga_event.specs.Told.{count_steps, made_events_of, made_event_in};
+    ghost use Rattle.ga_event.specs.Told.{count_steps, made_events_of_node, made_event_at_place};
     ghost use Rattle.ga_journal.specs.Logs.{AreEventsSince, AreConsistentHistories};
 
     /// The events of the history that touch a node, in order, each with its step numbers and outcome.
@@ -30,7 +30,7 @@ impl OrderedJournal {
     /// `Memory` alone.
     pub fn history(&self, node: NodeId) -> Result<Vec<Made>, JournalFault>
         requires { AreConsistentHistories self.now.journal.histories self.now.journal.made }
-        ensures ok { IfOk result (λ list. list.items ≡ made_events_of (kept_outcomes self.now.journal) node.number) }
+        ensures ok { IfOk result (λ list. list.items ≡ made_events_of_node (kept_outcomes self.now.journal) node.number) }
         ensures err { IfErr result (λ fault. fault ≡ JournalFault.Memory) }
     {
         self.journal.history(node)
@@ -39,7 +39,7 @@ impl OrderedJournal {
     /// The event at a place of those of the history that touch a node, from 0 on; none past their end.
     pub fn made_event_of_step(&self, node: NodeId, place: u32) -> Option<Made>
         requires { AreConsistentHistories self.now.journal.histories self.now.journal.made }
-        ensures { result ≡ slice_get (made_events_of (kept_outcomes self.now.journal) node.number) place }
+        ensures { result ≡ slice_get (made_events_of_node (kept_outcomes self.now.journal) node.number) place }
     {
         self.journal.made_event_of_step(node, place)
     }
@@ -76,7 +76,7 @@ impl OrderedJournal {
     /// the newest.
     pub fn made_event_at(&self, place: u32) -> Option<Made>
         requires { AreConsistentHistories self.now.journal.histories self.now.journal.made }
-        ensures value { result ≡ made_event_in (kept_outcomes self.now.journal) place }
+        ensures value { result ≡ made_event_at_place (kept_outcomes self.now.journal) place }
         ensures past { IsNone result ↔ (length (kept_outcomes self.now.journal) ≤ place) }
     {
         self.journal.made_event_at(place)
@@ -91,7 +91,7 @@ impl OrderedJournal {
         requires whole { AreConsistentHistories self.now.journal.histories self.now.journal.made }
         requires rise { IsStrictlyIncreasing places.now }
         requires within { All (λ place. place < length (kept_outcomes self.now.journal)) places.now }
-        ensures ok { IfOk result (λ list. map Some list.items ≡ map (made_event_in (kept_outcomes self.now.journal)) places.now) }
+        ensures ok { IfOk result (λ list. map Some list.items ≡ map (made_event_at_place (kept_outcomes self.now.journal)) places.now) }
         ensures err { IfErr result (λ fault. fault ≡ JournalFault.Memory) }
     {
         self.journal.made_events_at(places)
@@ -140,7 +140,7 @@ impl OrderedJournal {
 
     /// Counts ticks from 0 on again.
     pub fn reset_ticks(&mut self)
-        ensures { self.new.journal ≡ record self.old.journal { ticks = no_work } }
+        ensures { self.new.journal ≡ record self.old.journal { ticks = no_rollback_work } }
     {
         self.journal.reset_ticks();
     }

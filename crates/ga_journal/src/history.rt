@@ -3,7 +3,7 @@
 ghost use Rattle.std.specs.Prelude.{◌≡◌, ◌+◌, ◌<◌, ◌≤◌, ◌^◌, length};
 ghost use Rattle.ga_journal.specs.inner.Stored.{own_part, act_in, looked_in, looked_after, passes_in, IsBelow, IsDropped};
 
-use crate::entry::{Act, Entry, Head, Part, Pass, Role, Taken};
+use crate::entry::{Entry, EntryAct, Head, Part, Pass, Role, Taken};
 use crate::fault::JournalFault;
 use ga_event::{OwnOutcome, apply_own, undo_node};
 use ga_grid::{Chip, NodeId};
@@ -42,13 +42,13 @@ impl Model for History {
 
 /// A node's part in an event, with the pass at a place of the list.
 #[inline(always)]
-fn act_of(passes: &Vec<Pass>, part: Part, place: u32) -> Act
+fn act_of(passes: &Vec<Pass>, part: Part, place: u32) -> EntryAct
     requires { IsBelow part place (length passes.now.items) }
     ensures { result ≡ act_in passes.now.items part place }
 {
     match part {
-        Part::Own(kind) => Act::Own(OwnOutcome { kind, look: false }),
-        Part::Look(kind) => Act::Own(OwnOutcome { kind, look: true }),
+        Part::Own(kind) => EntryAct::Own(OwnOutcome { kind, look: false }),
+        Part::Look(kind) => EntryAct::Own(OwnOutcome { kind, look: true }),
         Part::Passed(role) => {
             let Pass {
                 partner,
@@ -58,13 +58,13 @@ fn act_of(passes: &Vec<Pass>, part: Part, place: u32) -> Act
                 ..
             } = passes[place as usize];
             match role {
-                Role::Writer => Act::Sent {
+                Role::Writer => EntryAct::Sent {
                     to: partner,
                     side,
                     at,
                     word,
                 },
-                Role::Reader => Act::Took {
+                Role::Reader => EntryAct::Took {
                     from: partner,
                     side,
                     at,
@@ -285,7 +285,7 @@ impl History {
     pub fn push_own(&mut self, stamp: u64, deed: OwnOutcome, saved: Saved, before: NodeId)
         requires room { IsTrue self.old.room.entry }
         requires fits { length self.old.items + 1 < 2 ^ 32 }
-        ensures { self.new.items ≡ self.old.items ++ past stamp (Act.Own deed) saved ∷ [] }
+        ensures { self.new.items ≡ self.old.items ++ past stamp (EntryAct.Own deed) saved ∷ [] }
     {
         let place = self.looked;
         let part = part_of(deed);
@@ -322,7 +322,7 @@ impl History {
 
     /// Makes an own event of the node on the chip, whose overwritten values go straight into its entry.
     #[inline(always)]
-    pub fn make_own(
+    pub fn make_own_event(
         &mut self,
         chip: &mut Chip,
         node: NodeId,
@@ -376,7 +376,7 @@ impl History {
 
     /// Writes the values of the last entry back to its node, and takes the entry out.
     #[inline(always)]
-    pub fn undo_last_entry(&mut self, chip: &mut Chip, node: NodeId) -> Act
+    pub fn undo_last_entry(&mut self, chip: &mut Chip, node: NodeId) -> EntryAct
         requires some { 0 < bound_of self.old.items }
         requires can { CanGoBack self.old.items chip.old node.number }
         ensures { IsGoneBack self.old.items chip.old node.number self.new.items chip.new result }

@@ -11,7 +11,7 @@ use Rattle.ga_word.specs.Word.{hex_digit}
 use Rattle.ga_ports.specs.Steps.{◌>>=◌}
 use Rattle.ga_text.specs.Lines.{Text}
 use Rattle.ga_text.specs.Digits.{hex2_of}
-use Rattle.ga_json.specs.Grammar.{JsonChar, unescaped, letter, unicode_escape, char_text, char_bytes, chars_bytes, code_point_bytes, hex_escape_code, is_unescaped, is_high_surrogate, is_low_surrogate, IsJsonString}
+use Rattle.ga_json.specs.Grammar.{JsonChar, unescaped, letter, unicode_escape, char_text, char_bytes, chars_bytes, code_point_bytes, hex_escape_code, is_unescaped_byte, is_high_surrogate, is_low_surrogate, IsJsonString}
 use Rattle.ga_json.specs.Compact.{control_text, escape_text, escaped_text, quoted_text}
 
 control_char : ℕ → JsonChar
@@ -80,7 +80,7 @@ control_denotes b low =
 
 plain_denotes : (b : ℕ) → b == 34 ≡ false → b == 92 ≡ false → nat_le 32 b ≡ true → Denotes b (unescaped b)
 plain_denotes b e f g = ap (λ (t : Bool). cond t (Some (b ∷ [])) None) is where
-  is : is_unescaped b ≡ true
+  is : is_unescaped_byte b ≡ true
   is = grind (arith, nat_tests)
 
 char_denotes : (b : ℕ) → Denotes b (char_of b)

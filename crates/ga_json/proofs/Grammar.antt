@@ -13,7 +13,7 @@ use Rattle.hex.specs.Hex.{hex_digit_value}
 use Rattle.ga_ports.specs.Steps.{◌>>=◌}
 use Rattle.ga_text.specs.Lines.{Text}
 use Rattle.ga_json.specs.Values.{JsonValue, array, item, no_items, number, string, boolean}
-use Rattle.ga_json.specs.Grammar.{JsonChar, unescaped, letter, unicode_escape, surrogate_pair, char_text, char_bytes, chars_bytes, code_point_bytes, surrogate_pair_bytes, escape_letter_code, hex_escape_code, is_unescaped, IsStructural, IsJsonString, IsJsonInt, IsValue, IsMoreItems, IsJsonText}
+use Rattle.ga_json.specs.Grammar.{JsonChar, unescaped, letter, unicode_escape, surrogate_pair, char_text, char_bytes, chars_bytes, code_point_bytes, surrogate_pair_bytes, escape_letter_code, hex_escape_code, is_unescaped_byte, IsStructuralCharacter, IsJsonString, IsJsonInt, IsJsonValue, IsMoreArrayItems, IsJsonText}
 use Rattle.ga_json.proofs.Characters.{string_is}
 use Rattle.ga_json.proofs.Written.{all_append, is_plain, plain_text, mark_is}
 
@@ -40,7 +40,7 @@ first_some : {A B : Type 0} (o : Option A) (f : A → Option B) (b : B) → (o >
 first_some None f b e = absurd (cc)
 first_some (Some a) f b e = (a, refl, e)
 
-unescaped_visible : (b : ℕ) → is_unescaped b ≡ true → 32 ≤ b
+unescaped_visible : (b : ℕ) → is_unescaped_byte b ≡ true → 32 ≤ b
 unescaped_visible b is = grind (arith, nat_tests)
 
 letter_visible : (b code : ℕ) → escape_letter_code b ≡ Some code → 32 ≤ b
@@ -76,7 +76,7 @@ digits_visible (a ∷ b ∷ c ∷ []) code e = absurd (cc)
 digits_visible (a ∷ b ∷ c ∷ d ∷ more ∷ rest) code e = absurd (cc)
 
 char_visible : (char : JsonChar) (bytes : Text) → char_bytes char ≡ Some bytes → AreVisible (char_text char)
-char_visible (unescaped b) bytes e = (unescaped_visible b (test_holds (is_unescaped b) _ bytes e), tt)
+char_visible (unescaped b) bytes e = (unescaped_visible b (test_holds (is_unescaped_byte b) _ bytes e), tt)
 char_visible (letter b) bytes e = let (code, is, _) = first_some (escape_letter_code b) _ bytes e in (omega arith, (letter_visible b code is, tt))
 char_visible (unicode_escape digits) bytes e =
     let (code, is, _) = first_some (hex_escape_code digits) _ bytes e in (omega arith, (omega arith, digits_visible digits code is))
@@ -108,7 +108,7 @@ pub reverse_solidus : IsJsonString (codes "\"\\u005C\"") (92 ∷ [])
 unfolding encode
 reverse_solidus = (unicode_escape (codes "005C") ∷ [], refl, refl)
 
-text_is : (text : Text) (value : JsonValue) → is_plain text ≡ true → text ≡ text ++ [] → IsValue text value → IsJsonText text value
+text_is : (text : Text) (value : JsonValue) → is_plain text ≡ true → text ≡ text ++ [] → IsJsonValue text value → IsJsonText text value
 text_is text value plain same is = record {
   before = [];
   inner = text;
@@ -123,7 +123,7 @@ text_is text value plain same is = record {
 three : (a b c n : ℕ) → AllDigits 10 (a ∷ b ∷ c ∷ []) → digits_value 10 (a ∷ b ∷ c ∷ []) ≡ n → (a ≡ 48 → ⊥) → IsJsonInt (a ∷ b ∷ c ∷ []) n
 three a b c n digits is some = ((omega arith, digits), is, λ e. absurd (some e))
 
-comma_is : IsStructural 44 (codes ", ")
+comma_is : IsStructuralCharacter 44 (codes ", ")
 comma_is = ([], codes " ", tt, (refl, tt), refl)
 
 pub ids : IsJsonText (codes "[116, 943, 234, 38793]") (array (item (number (pos 116)) (item (number (pos 943)) (item (number (pos 234)) (item (number (pos 38793)) no_items)))))
@@ -134,10 +134,10 @@ ids =
     let third : IsJsonInt (codes "234") 234 = three 50 51 52 234 (omega arith, (omega arith, (omega arith, tt))) refl (λ e. omega (arith, e)) in
     let last : IsJsonInt (codes "38793") 38793 =
     ((omega arith, (omega arith, (omega arith, (omega arith, (omega arith, (omega arith, tt)))))), refl, λ e. absurd (omega (arith, e))) in
-    let end : IsMoreItems (codes ", 38793") (item (number (pos 38793)) no_items) = (codes ", ", codes "38793", [], comma_is, inl (38793, last, refl), refl, refl) in
-    let more : IsMoreItems (codes ", 234, 38793") (item (number (pos 234)) (item (number (pos 38793)) no_items)) =
+    let end : IsMoreArrayItems (codes ", 38793") (item (number (pos 38793)) no_items) = (codes ", ", codes "38793", [], comma_is, inl (38793, last, refl), refl, refl) in
+    let more : IsMoreArrayItems (codes ", 234, 38793") (item (number (pos 234)) (item (number (pos 38793)) no_items)) =
     (codes ", ", codes "234", codes ", 38793", comma_is, inl (234, third, refl), end, refl) in
-    let rest : IsMoreItems (codes ", 943, 234, 38793") (item (number (pos 943)) (item (number (pos 234)) (item (number (pos 38793)) no_items))) =
+    let rest : IsMoreArrayItems (codes ", 943, 234, 38793") (item (number (pos 943)) (item (number (pos 234)) (item (number (pos 38793)) no_items))) =
     (codes ", ", codes "943", codes ", 234, 38793", comma_is, inl (943, second, refl), more, refl) in
     text_is _ _ refl refl (
       codes "[",

@@ -7,8 +7,8 @@ use Rattle.std.proofs.lemmas.Bool.Decides.{nat_tests}
 use Rattle.ga_text.specs.Lines.{Text}
 use Rattle.ga_json.specs.Values.{JsonItems, no_items, item, array, JsonMembers, no_members, member}
 use Rattle.ga_json.specs.Names.{is_field_name, is_field_name_byte, are_field_name_bytes}
-use Rattle.ga_json.specs.Compact.{escape_text, escaped_text, quoted_text, optional_comma, compact, items_text, members_text, json_line}
-use Rattle.ga_json.specs.FieldValues.{value_json}
+use Rattle.ga_json.specs.Compact.{escape_text, escaped_text, quoted_text, optional_comma, compact_json_text, array_items_text, object_members_text, json_line}
+use Rattle.ga_json.specs.FieldValues.{field_value_json}
 use Rattle.ga_json.specs.Fields.{named_field_value, with_members, row_json, report_json}
 use Rattle.ga_json.specs.inner.{fields_text, rows_lead, row_lead}
 use Rattle.ga_json.specs.declared.field.Field.{Field}
@@ -51,15 +51,15 @@ ends_true [] = refl
 ends_true (field ∷ fields) = refl
 
 members_fields : (later : Bool) (fields : List Field) (more : JsonMembers)
-    → members_text later (with_members (map named_field_value fields) more) ≡ fields_text later fields ++ members_text (ends_later later fields) more
+    → object_members_text later (with_members (map named_field_value fields) more) ≡ fields_text later fields ++ object_members_text (ends_later later fields) more
 unfolding ends_later
 members_fields later [] more = refl
 members_fields later (field ∷ fields) more =
-    ap (λ (z : Text). optional_comma later ++ (quoted_text field.name.now ++ 58 ∷ (compact (value_json field.value) ++ z)))
-    (members_fields true fields more ∙ ap (λ (b : Bool). fields_text true fields ++ members_text b more) (ends_true fields))
+    ap (λ (z : Text). optional_comma later ++ (quoted_text field.name.now ++ 58 ∷ (compact_json_text (field_value_json field.value) ++ z)))
+    (members_fields true fields more ∙ ap (λ (b : Bool). fields_text true fields ++ object_members_text b more) (ends_true fields))
     ∙ simp append_assoc
 
-members_all : (fields : List Field) → members_text false (with_members (map named_field_value fields) no_members) ≡ fields_text false fields
+members_all : (fields : List Field) → object_members_text false (with_members (map named_field_value fields) no_members) ≡ fields_text false fields
 members_all fields = members_fields false fields no_members ∙ append-nil (fields_text false fields)
 
 pub object_splits : (fields : List Field) → json_line (row_json fields) ≡ codes "{" ++ (fields_text false fields ++ codes "}\n")
@@ -75,19 +75,19 @@ unfolding ends_later rows_member
 lead_is [] = refl
 lead_is (field ∷ fields) = refl
 
-rows_text : (later : Bool) (rows : JsonItems) → members_text later (member (codes "rows") (array rows) no_members) ≡ rows_member later ++ (items_text false rows ++ codes "]")
+rows_text : (later : Bool) (rows : JsonItems) → object_members_text later (member (codes "rows") (array rows) no_members) ≡ rows_member later ++ (array_items_text false rows ++ codes "]")
 unfolding rows_member
 rows_text later rows = simp (append_assoc, append-nil)
 
 pub report_splits : (head : List Field) (rows : JsonItems)
-    → json_line (report_json head rows) ≡ (codes "{" ++ (fields_text false head ++ rows_lead head)) ++ (items_text false rows ++ codes "]}\n")
+    → json_line (report_json head rows) ≡ (codes "{" ++ (fields_text false head ++ rows_lead head)) ++ (array_items_text false rows ++ codes "]}\n")
 report_splits head rows =
     ap (λ (z : Text). (123 ∷ (z ++ 125 ∷ [])) ++ 10 ∷ [])
     (members_fields false head (member (codes "rows") (array rows) no_members) ∙ ap (λ (z : Text). fields_text false head ++ z)
-    (rows_text (ends_later false head) rows ∙ ap (λ (z : Text). z ++ (items_text false rows ++ codes "]")) (lead_is head)))
+    (rows_text (ends_later false head) rows ∙ ap (λ (z : Text). z ++ (array_items_text false rows ++ codes "]")) (lead_is head)))
     ∙ simp append_assoc
 
-row_splits : (later : Bool) (fields : List Field) → optional_comma later ++ compact (row_json fields) ≡ row_lead later ++ (fields_text false fields ++ codes "}")
+row_splits : (later : Bool) (fields : List Field) → optional_comma later ++ compact_json_text (row_json fields) ≡ row_lead later ++ (fields_text false fields ++ codes "}")
 row_splits true fields = ap (λ (z : Text). 44 ∷ 123 ∷ (z ++ 125 ∷ [])) (members_all fields)
 row_splits false fields = ap (λ (z : Text). 123 ∷ (z ++ 125 ∷ [])) (members_all fields)
 
@@ -95,10 +95,10 @@ regroup : (a b c d : Text) → (a ++ (b ++ c)) ++ d ≡ (a ++ b) ++ (c ++ d)
 regroup a b c d = simp append_assoc
 
 pub next_row : (later : Bool) (fields : List Field) (rows : JsonItems) (end : Text)
-    → items_text later (item (row_json fields) rows) ++ end ≡ (row_lead later ++ (fields_text false fields ++ codes "}")) ++ (items_text true rows ++ end)
+    → array_items_text later (item (row_json fields) rows) ++ end ≡ (row_lead later ++ (fields_text false fields ++ codes "}")) ++ (array_items_text true rows ++ end)
 next_row later fields rows end =
-    regroup (optional_comma later) (compact (row_json fields)) (items_text true rows) end
-    ∙ ap (λ (z : Text). z ++ (items_text true rows ++ end)) (row_splits later fields)
+    regroup (optional_comma later) (compact_json_text (row_json fields)) (array_items_text true rows) end
+    ∙ ap (λ (z : Text). z ++ (array_items_text true rows ++ end)) (row_splits later fields)
 
 -- how many rows
 abbrev pub count_items : JsonItems → ℕ

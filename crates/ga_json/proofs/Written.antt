@@ -15,10 +15,10 @@ use Rattle.ga_word.specs.Word.{hex_digit}
 use Rattle.ga_text.specs.Lines.{Text}
 use Rattle.ga_text.specs.Digits.{hex2_of}
 use Rattle.ga_json.specs.Values.{JsonValue, null, boolean, number, string, array, object, JsonItems, no_items, item, JsonMembers, no_members, member}
-use Rattle.ga_json.specs.Grammar.{IsStructural, IsJsonInt, IsValue, IsItems, IsMoreItems, IsMembers, IsMoreMembers, IsJsonText}
-use Rattle.ga_json.specs.Compact.{control_text, escape_text, escaped_text, quoted_text, optional_comma, compact, items_text, members_text, json_line, IsWritable, AreWritableItems, AreWritableMembers}
+use Rattle.ga_json.specs.Grammar.{IsStructuralCharacter, IsJsonInt, IsJsonValue, IsArrayItems, IsMoreArrayItems, IsObjectMembers, IsMoreObjectMembers, IsJsonText}
+use Rattle.ga_json.specs.Compact.{control_text, escape_text, escaped_text, quoted_text, optional_comma, compact_json_text, array_items_text, object_members_text, json_line, IsWritableValue, AreWritableItems, AreWritableMembers}
 use Rattle.ga_json.specs.Names.{is_field_name_byte, are_field_name_bytes}
-use Rattle.ga_json.specs.FieldValues.{value_json}
+use Rattle.ga_json.specs.FieldValues.{field_value_json}
 use Rattle.ga_json.specs.Fields.{named_field_value, with_members}
 use Rattle.ga_json.specs.declared.field.Field.{Field}
 use Rattle.ga_json.proofs.Texts.{escape_plain, name_byte}
@@ -32,36 +32,36 @@ int_is n fits = ((decimal_is_IsNumeral n fits).0, (decimal_is_IsNumeral n fits).
   first zero small e = decimal_digit 0 (omega arith)
   first (suc m) small e = let above = first_decimal (suc m) (omega arith) small in absurd (omega (arith, above, e))
 
-pub mark_is : (mark : ℕ) → IsStructural mark (mark ∷ [])
+pub mark_is : (mark : ℕ) → IsStructuralCharacter mark (mark ∷ [])
 mark_is mark = ([], [], tt, tt, refl)
 
 mutual
-  value_is : (value : JsonValue) → IsWritable value → IsValue (compact value) value
+  value_is : (value : JsonValue) → IsWritableValue value → IsJsonValue (compact_json_text value) value
   value_is null h = refl
   value_is (boolean b) h = refl
   value_is (number (pos n)) h = inl (n, int_is n h, refl)
   value_is (number (negsuc n)) h = inr (decimal (suc n), suc n, refl, int_is (suc n) h, refl)
   value_is (string bytes) h = string_is bytes
-  value_is (array items) h = (91 ∷ [], items_text false items, 93 ∷ [], mark_is 91, items_are items h, mark_is 93, refl)
-  value_is (object members) h = (123 ∷ [], members_text false members, 125 ∷ [], mark_is 123, members_are members h, mark_is 125, refl)
+  value_is (array items) h = (91 ∷ [], array_items_text false items, 93 ∷ [], mark_is 91, items_are items h, mark_is 93, refl)
+  value_is (object members) h = (123 ∷ [], object_members_text false members, 125 ∷ [], mark_is 123, members_are members h, mark_is 125, refl)
 
-  items_are : (items : JsonItems) → AreWritableItems items → IsItems (items_text false items) items
+  items_are : (items : JsonItems) → AreWritableItems items → IsArrayItems (array_items_text false items) items
   items_are no_items h = refl
-  items_are (item value items) h = (compact value, items_text true items, value_is value h.0, more_items_are items h.1, refl)
+  items_are (item value items) h = (compact_json_text value, array_items_text true items, value_is value h.0, more_items_are items h.1, refl)
 
-  more_items_are : (items : JsonItems) → AreWritableItems items → IsMoreItems (items_text true items) items
+  more_items_are : (items : JsonItems) → AreWritableItems items → IsMoreArrayItems (array_items_text true items) items
   more_items_are no_items h = refl
-  more_items_are (item value items) h = (44 ∷ [], compact value, items_text true items, mark_is 44, value_is value h.0, more_items_are items h.1, refl)
+  more_items_are (item value items) h = (44 ∷ [], compact_json_text value, array_items_text true items, mark_is 44, value_is value h.0, more_items_are items h.1, refl)
 
-  members_are : (members : JsonMembers) → AreWritableMembers members → IsMembers (members_text false members) members
+  members_are : (members : JsonMembers) → AreWritableMembers members → IsObjectMembers (object_members_text false members) members
   members_are no_members h = refl
   members_are (member name value members) h =
-      (quoted_text name, 58 ∷ [], compact value, members_text true members, string_is name, mark_is 58, value_is value h.1, more_members_are members h.2, refl)
+      (quoted_text name, 58 ∷ [], compact_json_text value, object_members_text true members, string_is name, mark_is 58, value_is value h.1, more_members_are members h.2, refl)
 
-  more_members_are : (members : JsonMembers) → AreWritableMembers members → IsMoreMembers (members_text true members) members
+  more_members_are : (members : JsonMembers) → AreWritableMembers members → IsMoreObjectMembers (object_members_text true members) members
   more_members_are no_members h = refl
   more_members_are (member name value members) h =
-      (44 ∷ [], quoted_text name, 58 ∷ [], compact value, members_text true members, mark_is 44, string_is name, mark_is 58, value_is value h.1, more_members_are members h.2, refl)
+      (44 ∷ [], quoted_text name, 58 ∷ [], compact_json_text value, object_members_text true members, mark_is 44, string_is name, mark_is 58, value_is value h.1, more_members_are members h.2, refl)
 
 -- ---- UTF-8 without a control character
 
@@ -184,46 +184,46 @@ between_plain first last text e f h = plain_append (first ∷ []) (text ++ last 
 mutual
   unfolding is_plain
 
-  value_plain : (value : JsonValue) → IsWritable value → IsPlain (compact value)
+  value_plain : (value : JsonValue) → IsWritableValue value → IsPlain (compact_json_text value)
   value_plain null h = plain_text (codes "null") refl
   value_plain (boolean true) h = plain_text (codes "true") refl
   value_plain (boolean false) h = plain_text (codes "false") refl
   value_plain (number (pos n)) h = decimal_plain n h
   value_plain (number (negsuc n)) h = plain_append (45 ∷ []) (decimal (suc n)) (plain_text (45 ∷ []) refl) (decimal_plain (suc n) h)
   value_plain (string bytes) h = quoted_plain bytes h
-  value_plain (array items) h = between_plain 91 93 (items_text false items) refl refl (items_plain false items h)
-  value_plain (object members) h = between_plain 123 125 (members_text false members) refl refl (members_plain false members h)
+  value_plain (array items) h = between_plain 91 93 (array_items_text false items) refl refl (items_plain false items h)
+  value_plain (object members) h = between_plain 123 125 (object_members_text false members) refl refl (members_plain false members h)
 
-  items_plain : (later : Bool) (items : JsonItems) → AreWritableItems items → IsPlain (items_text later items)
+  items_plain : (later : Bool) (items : JsonItems) → AreWritableItems items → IsPlain (array_items_text later items)
   items_plain later no_items h = plain_nil
   items_plain later (item value items) h =
-      plain_append (optional_comma later) (compact value ++ items_text true items) (comma_plain later)
-      (plain_append (compact value) (items_text true items) (value_plain value h.0) (items_plain true items h.1))
+      plain_append (optional_comma later) (compact_json_text value ++ array_items_text true items) (comma_plain later)
+      (plain_append (compact_json_text value) (array_items_text true items) (value_plain value h.0) (items_plain true items h.1))
 
-  members_plain : (later : Bool) (members : JsonMembers) → AreWritableMembers members → IsPlain (members_text later members)
+  members_plain : (later : Bool) (members : JsonMembers) → AreWritableMembers members → IsPlain (object_members_text later members)
   members_plain later no_members h = plain_nil
   members_plain later (member name value members) h =
-      plain_append (optional_comma later) (quoted_text name ++ 58 ∷ (compact value ++ members_text true members)) (comma_plain later)
-      (plain_append (quoted_text name) (58 ∷ (compact value ++ members_text true members)) (quoted_plain name h.0)
-      (plain_append (58 ∷ []) (compact value ++ members_text true members) (plain_text (58 ∷ []) refl)
-      (plain_append (compact value) (members_text true members) (value_plain value h.1) (members_plain true members h.2))))
+      plain_append (optional_comma later) (quoted_text name ++ 58 ∷ (compact_json_text value ++ object_members_text true members)) (comma_plain later)
+      (plain_append (quoted_text name) (58 ∷ (compact_json_text value ++ object_members_text true members)) (quoted_plain name h.0)
+      (plain_append (58 ∷ []) (compact_json_text value ++ object_members_text true members) (plain_text (58 ∷ []) refl)
+      (plain_append (compact_json_text value) (object_members_text true members) (value_plain value h.1) (members_plain true members h.2))))
 
-pub no_control : (value : JsonValue) → IsWritable value → All (λ b. 32 ≤ b) (compact value)
-no_control value h = All-from_recursion (λ b. 32 ≤ b) (compact value) (value_plain value h).1
+pub no_control : (value : JsonValue) → IsWritableValue value → All (λ b. 32 ≤ b) (compact_json_text value)
+no_control value h = All-from_recursion (λ b. 32 ≤ b) (compact_json_text value) (value_plain value h).1
 
 feed_utf8 : IsUtf8 (10 ∷ [])
 feed_utf8 = (10 ∷ [], (refl, append-nil (encode 10) ∙ encode_ascii 10 (omega arith)))
 
-pub line_is_json : (value : JsonValue) → IsWritable value → IsJsonText (json_line value) value
+pub line_is_json : (value : JsonValue) → IsWritableValue value → IsJsonText (json_line value) value
 line_is_json value h = record {
   before = [];
-  inner = compact value;
+  inner = compact_json_text value;
   after = codes "\n";
   parts = refl;
   space_before = tt;
   space_after = (refl, tt);
   is_value = value_is value h;
-  is_utf8 = IsUtf8-append (compact value) (codes "\n") (value_plain value h).0 feed_utf8;
+  is_utf8 = IsUtf8-append (compact_json_text value) (codes "\n") (value_plain value h).0 feed_utf8;
 }
 
 -- ---- rows and answers
@@ -235,7 +235,7 @@ name_utf8 (b ∷ bs) h =
     let byte = name_byte b parts.0 in
     IsUtf8-append (b ∷ []) bs (plain_byte b byte.0 byte.1).0 (name_utf8 bs parts.1)
 
-pub fields_writable : (fields : List Field) (more : JsonMembers) → AllByRecursion (λ field. IsWritable (value_json field.value)) fields → AreWritableMembers more
+pub fields_writable : (fields : List Field) (more : JsonMembers) → AllByRecursion (λ field. IsWritableValue (field_value_json field.value)) fields → AreWritableMembers more
     → AreWritableMembers (with_members (map named_field_value fields) more)
 fields_writable [] more h k = k
 fields_writable (field ∷ fields) more h k =

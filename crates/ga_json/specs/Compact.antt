@@ -35,40 +35,40 @@ abbrev pub optional_comma : Bool → Text
 optional_comma later = if later then 44 ∷ [] else []
 
 abbrev mutual
-  pub compact : JsonValue → Text
-  compact null = codes "null"
-  compact (boolean b) = if b then codes "true" else codes "false"
-  compact (number z) = signed_decimal z
-  compact (string bytes) = quoted_text bytes
-  compact (array items) = 91 ∷ (items_text false items ++ 93 ∷ [])
-  compact (object members) = 123 ∷ (members_text false members ++ 125 ∷ [])
+  pub compact_json_text : JsonValue → Text
+  compact_json_text null = codes "null"
+  compact_json_text (boolean b) = if b then codes "true" else codes "false"
+  compact_json_text (number z) = signed_decimal z
+  compact_json_text (string bytes) = quoted_text bytes
+  compact_json_text (array items) = 91 ∷ (array_items_text false items ++ 93 ∷ [])
+  compact_json_text (object members) = 123 ∷ (object_members_text false members ++ 125 ∷ [])
 
-  pub items_text : Bool → JsonItems → Text
-  items_text later no_items = []
-  items_text later (item value items) = optional_comma later ++ (compact value ++ items_text true items)
+  pub array_items_text : Bool → JsonItems → Text
+  array_items_text later no_items = []
+  array_items_text later (item value items) = optional_comma later ++ (compact_json_text value ++ array_items_text true items)
 
-  pub members_text : Bool → JsonMembers → Text
-  members_text later no_members = []
-  members_text later (member name value members) = optional_comma later ++ (quoted_text name ++ 58 ∷ (compact value ++ members_text true members))
+  pub object_members_text : Bool → JsonMembers → Text
+  object_members_text later no_members = []
+  object_members_text later (member name value members) = optional_comma later ++ (quoted_text name ++ 58 ∷ (compact_json_text value ++ object_members_text true members))
 
 -- a line of JSON Lines: a value and a line feed
 abbrev pub json_line : JsonValue → Text
-json_line value = compact value ++ codes "\n"
+json_line value = compact_json_text value ++ codes "\n"
 
 -- the integers have 64 bits, and the texts are UTF-8
 abbrev mutual
-  pub IsWritable : JsonValue → Type 0
-  IsWritable null = Unit {0}
-  IsWritable (boolean b) = Unit {0}
-  IsWritable (number z) = nat_abs z < 2 ^ 64
-  IsWritable (string bytes) = IsUtf8 bytes
-  IsWritable (array items) = AreWritableItems items
-  IsWritable (object members) = AreWritableMembers members
+  pub IsWritableValue : JsonValue → Type 0
+  IsWritableValue null = Unit {0}
+  IsWritableValue (boolean b) = Unit {0}
+  IsWritableValue (number z) = nat_abs z < 2 ^ 64
+  IsWritableValue (string bytes) = IsUtf8 bytes
+  IsWritableValue (array items) = AreWritableItems items
+  IsWritableValue (object members) = AreWritableMembers members
 
   pub AreWritableItems : JsonItems → Type 0
   AreWritableItems no_items = Unit {0}
-  AreWritableItems (item value items) = IsWritable value × AreWritableItems items
+  AreWritableItems (item value items) = IsWritableValue value × AreWritableItems items
 
   pub AreWritableMembers : JsonMembers → Type 0
   AreWritableMembers no_members = Unit {0}
-  AreWritableMembers (member name value members) = IsUtf8 name × IsWritable value × AreWritableMembers members
+  AreWritableMembers (member name value members) = IsUtf8 name × IsWritableValue value × AreWritableMembers members

@@ -7,12 +7,12 @@ use Rattle.ga_json.specs.Values.{JsonValue, null, boolean, number, string}
 use Rattle.ga_json.specs.declared.field.FieldValue.{FieldValue}
 use Rattle.ga_json.specs.declared.field.FieldValue.TheVariants.{Number, Node, Text, Flag, Absent}
 
-abbrev pub value_json : FieldValue → JsonValue
-value_json (Number n) = number (pos n)
-value_json (Node node) = string (name_of_node node)
-value_json (Text text) = string text.now
-value_json (Flag b) = boolean b
-value_json Absent = null
+abbrev pub field_value_json : FieldValue → JsonValue
+field_value_json (Number n) = number (pos n)
+field_value_json (Node node) = string (name_of_node node)
+field_value_json (Text text) = string text.now
+field_value_json (Flag b) = boolean b
+field_value_json Absent = null
 
 -- a text; null if it isn't UTF-8
 abbrev pub text_json : Bytes → JsonValue

@@ -2,7 +2,7 @@
 use Rattle.std.specs.Prelude.{List, [], ◌∷◌, map, codes}
 use Rattle.ga_text.specs.Lines.{Text}
 use Rattle.ga_json.specs.Values.{JsonValue, array, object, JsonItems, JsonMembers, no_members, member}
-use Rattle.ga_json.specs.FieldValues.{value_json}
+use Rattle.ga_json.specs.FieldValues.{field_value_json}
 use Rattle.ga_json.specs.declared.field.Field.{Field}
 
 -- a name with its value
@@ -10,7 +10,7 @@ abbrev pub NamedValue : Type 0
 NamedValue = Text × JsonValue
 
 abbrev pub named_field_value : Field → NamedValue
-named_field_value field = (field.name.now, value_json field.value)
+named_field_value field = (field.name.now, field_value_json field.value)
 
 -- these as members, and more after them
 abbrev pub with_members : List NamedValue → JsonMembers → JsonMembers

@@ -17,8 +17,8 @@ is_json_space b = b == 32 || (b == 9 || (b == 10 || b == 13))
 abbrev pub IsJsonSpace : Text → Type 0
 IsJsonSpace text = AllByRecursion (λ b. IsTrue (is_json_space b)) text
 
-abbrev pub IsStructural : ℕ → Text → Type 0
-IsStructural mark text = (before after : Text) × IsJsonSpace before × IsJsonSpace after × (text ≡ before ++ mark ∷ after)
+abbrev pub IsStructuralCharacter : ℕ → Text → Type 0
+IsStructuralCharacter mark text = (before after : Text) × IsJsonSpace before × IsJsonSpace after × (text ≡ before ++ mark ∷ after)
 
 -- ---- section 6: numbers
 
@@ -39,8 +39,8 @@ IsJsonNumber text z =
 -- ---- section 7: strings
 
 -- a byte of a character that is not escaped: neither a control character nor a quotation mark nor a reverse solidus
-abbrev pub is_unescaped : ℕ → Bool
-is_unescaped b = (nat_le 32 b && nat_le b 33) || ((nat_le 35 b && nat_le b 91) || nat_le 93 b)
+abbrev pub is_unescaped_byte : ℕ → Bool
+is_unescaped_byte b = (nat_le 32 b && nat_le b 33) || ((nat_le 35 b && nat_le b 91) || nat_le 93 b)
 
 -- the character that a letter denotes after a reverse solidus: `"` `\` `/` `b` `f` `n` `r` `t`
 abbrev pub escape_letter_code : ℕ → Option ℕ
@@ -96,7 +96,7 @@ abbrev pub surrogate_pair_bytes : ℕ → ℕ → Option Text
 surrogate_pair_bytes high low = if is_high_surrogate high && is_low_surrogate low then Some (encode_utf8 (surrogate_pair_code high low)) else None
 
 abbrev pub char_bytes : JsonChar → Option Text
-char_bytes (unescaped b) = if is_unescaped b then Some (b ∷ []) else None
+char_bytes (unescaped b) = if is_unescaped_byte b then Some (b ∷ []) else None
 char_bytes (letter b) = do
   code ← escape_letter_code b
   Some (code ∷ [])
@@ -122,38 +122,38 @@ IsJsonString text bytes = (chars : List JsonChar) × (text ≡ 34 ∷ (flat_map 
 -- ---- sections 3 to 5: values, objects, arrays
 
 abbrev mutual
-  pub IsValue : Text → JsonValue → Type 0
-  IsValue text null = text ≡ codes "null"
-  IsValue text (boolean b) = text ≡ (if b then codes "true" else codes "false")
-  IsValue text (number z) = IsJsonNumber text z
-  IsValue text (string bytes) = IsJsonString text bytes
-  IsValue text (array items) =
-      (begin values end : Text) × IsStructural 91 begin × IsItems values items × IsStructural 93 end × (text ≡ begin ++ (values ++ end))
-  IsValue text (object members) =
-      (begin values end : Text) × IsStructural 123 begin × IsMembers values members × IsStructural 125 end × (text ≡ begin ++ (values ++ end))
+  pub IsJsonValue : Text → JsonValue → Type 0
+  IsJsonValue text null = text ≡ codes "null"
+  IsJsonValue text (boolean b) = text ≡ (if b then codes "true" else codes "false")
+  IsJsonValue text (number z) = IsJsonNumber text z
+  IsJsonValue text (string bytes) = IsJsonString text bytes
+  IsJsonValue text (array items) =
+      (begin values end : Text) × IsStructuralCharacter 91 begin × IsArrayItems values items × IsStructuralCharacter 93 end × (text ≡ begin ++ (values ++ end))
+  IsJsonValue text (object members) =
+      (begin values end : Text) × IsStructuralCharacter 123 begin × IsObjectMembers values members × IsStructuralCharacter 125 end × (text ≡ begin ++ (values ++ end))
 
   -- nothing, or values with a comma between two
-  pub IsItems : Text → JsonItems → Type 0
-  IsItems text no_items = text ≡ []
-  IsItems text (item value items) = (first more : Text) × IsValue first value × IsMoreItems more items × (text ≡ first ++ more)
+  pub IsArrayItems : Text → JsonItems → Type 0
+  IsArrayItems text no_items = text ≡ []
+  IsArrayItems text (item value items) = (first more : Text) × IsJsonValue first value × IsMoreArrayItems more items × (text ≡ first ++ more)
 
-  pub IsMoreItems : Text → JsonItems → Type 0
-  IsMoreItems text no_items = text ≡ []
-  IsMoreItems text (item value items) =
-      (comma first more : Text) × IsStructural 44 comma × IsValue first value × IsMoreItems more items × (text ≡ comma ++ (first ++ more))
+  pub IsMoreArrayItems : Text → JsonItems → Type 0
+  IsMoreArrayItems text no_items = text ≡ []
+  IsMoreArrayItems text (item value items) =
+      (comma first more : Text) × IsStructuralCharacter 44 comma × IsJsonValue first value × IsMoreArrayItems more items × (text ≡ comma ++ (first ++ more))
 
   -- a name, a colon and a value
-  pub IsMembers : Text → JsonMembers → Type 0
-  IsMembers text no_members = text ≡ []
-  IsMembers text (member name value members) =
-      (quoted_text colon first more : Text) × IsJsonString quoted_text name × IsStructural 58 colon × IsValue first value × IsMoreMembers more members
+  pub IsObjectMembers : Text → JsonMembers → Type 0
+  IsObjectMembers text no_members = text ≡ []
+  IsObjectMembers text (member name value members) =
+      (quoted_text colon first more : Text) × IsJsonString quoted_text name × IsStructuralCharacter 58 colon × IsJsonValue first value × IsMoreObjectMembers more members
       × (text ≡ quoted_text ++ (colon ++ (first ++ more)))
 
-  pub IsMoreMembers : Text → JsonMembers → Type 0
-  IsMoreMembers text no_members = text ≡ []
-  IsMoreMembers text (member name value members) =
-      (comma quoted_text colon first more : Text) × IsStructural 44 comma × IsJsonString quoted_text name × IsStructural 58 colon × IsValue first value
-      × IsMoreMembers more members × (text ≡ comma ++ (quoted_text ++ (colon ++ (first ++ more))))
+  pub IsMoreObjectMembers : Text → JsonMembers → Type 0
+  IsMoreObjectMembers text no_members = text ≡ []
+  IsMoreObjectMembers text (member name value members) =
+      (comma quoted_text colon first more : Text) × IsStructuralCharacter 44 comma × IsJsonString quoted_text name × IsStructuralCharacter 58 colon × IsJsonValue first value
+      × IsMoreObjectMembers more members × (text ≡ comma ++ (quoted_text ++ (colon ++ (first ++ more))))
 
 -- ---- sections 2 and 8.1: a value between white space, in UTF-8
 
@@ -164,5 +164,5 @@ pub record IsJsonText (text : Text) (value : JsonValue) : Type 0 where
   pub parts : text ≡ before ++ (inner ++ after)
   pub space_before : IsJsonSpace before
   pub space_after : IsJsonSpace after
-  pub is_value : IsValue inner value
+  pub is_value : IsJsonValue inner value
   pub is_utf8 : IsUtf8 text

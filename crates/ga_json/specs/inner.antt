@@ -3,13 +3,13 @@ use Rattle.std.specs.Prelude.{Bool, true, if◌then◌else◌, List, [], ◌∷�
 use Rattle.ga_text.specs.Lines.{Text}
 use Rattle.ga_json.specs.Values.{JsonItems, no_items, item}
 use Rattle.ga_json.specs.Fields.{row_json}
-use Rattle.ga_json.specs.Compact.{compact, optional_comma, quoted_text}
-use Rattle.ga_json.specs.FieldValues.{value_json}
+use Rattle.ga_json.specs.Compact.{compact_json_text, optional_comma, quoted_text}
+use Rattle.ga_json.specs.FieldValues.{field_value_json}
 use Rattle.ga_json.specs.declared.field.Field.{Field}
 
 -- a field, after a comma if another is before it
 abbrev pub field_text : Bool → Field → Text
-field_text later field = optional_comma later ++ (quoted_text field.name.now ++ 58 ∷ compact (value_json field.value))
+field_text later field = optional_comma later ++ (quoted_text field.name.now ++ 58 ∷ compact_json_text (field_value_json field.value))
 
 abbrev pub fields_text : Bool → List Field → Text
 fields_text later [] = []

@@ -3,7 +3,7 @@
 ghost use Rattle.std.specs.Prelude.{◌≡◌, option_map};
 ghost use Rattle.ga_text.specs.Output.{WritesExactly};
 ghost use Rattle.ga_json.specs.Compact.{json_line};
-ghost use Rattle.ga_json.specs.Diagnostics.{text_after, without_word, is_colon, without_last_colon, numbered_parts, diagnostic_parts, diagnostic_word, diagnostic_object, diagnostics_json};
+ghost use Rattle.ga_json.specs.Diagnostics.{text_after_word, without_leading_word, is_colon, without_last_colon, line_number_and_text, diagnostic_parts, diagnostic_word, diagnostic_object, diagnostics_json};
 
 use crate::field::Field;
 use crate::optional_fields::{optional_number_field, text_field};
@@ -44,7 +44,7 @@ fn write_diagnostic<W: Write>(file: &[u8], line: &[u8], writer: &mut Writer<'_, 
             Field::text(b"answer", diagnostic_word(reason)),
             text_field(b"file", file),
             optional_number_field(b"line", number),
-            text_field(b"text", without_word(b"warning:", reason)),
+            text_field(b"text", without_leading_word(b"warning:", reason)),
         ],
         writer,
     )
@@ -54,7 +54,7 @@ fn write_diagnostic<W: Write>(file: &[u8], line: &[u8], writer: &mut Writer<'_, 
 fn diagnostic_word(reason: &[u8]) -> &'static [u8]
     ensures { result.now ≡ diagnostic_word reason.now }
 {
-    match text_after(b"warning:", reason) {
+    match text_after_word(b"warning:", reason) {
         Some(_) => b"warning",
         None => b"refused",
     }
@@ -65,35 +65,35 @@ fn diagnostic_parts(line: &[u8]) -> (Option<u64>, &[u8])
     ensures number { result.0 ≡ (diagnostic_parts line.now).0 }
     ensures reason { result.1.now ≡ (diagnostic_parts line.now).1 }
 {
-    let text = without_word(b"ga144:", line);
-    match numbered_parts(text) {
+    let text = without_leading_word(b"ga144:", line);
+    match line_number_and_text(text) {
         Some((number, reason)) => (Some(u64::from(number)), reason),
         None => (None, text),
     }
 }
 
 /// A text without this word, if it begins with it.
-fn without_word<'a>(word: &[u8], text: &'a [u8]) -> &'a [u8]
-    ensures { result.now ≡ without_word word.now text.now }
+fn without_leading_word<'a>(word: &[u8], text: &'a [u8]) -> &'a [u8]
+    ensures { result.now ≡ without_leading_word word.now text.now }
 {
-    match text_after(word, text) {
+    match text_after_word(word, text) {
         Some(rest) => rest,
         None => text,
     }
 }
 
 /// The number of a line of the source, and the text after it.
-fn numbered_parts(text: &[u8]) -> Option<(u32, &[u8])>
-    ensures { option_map (λ parts. (parts.0, parts.1.now)) result ≡ numbered_parts text.now }
+fn line_number_and_text(text: &[u8]) -> Option<(u32, &[u8])>
+    ensures { option_map (λ parts. (parts.0, parts.1.now)) result ≡ line_number_and_text text.now }
 {
-    let (numeral, reason) = split_at_space(text_after(b"line", text)?)?;
+    let (numeral, reason) = split_at_space(text_after_word(b"line", text)?)?;
     let number = parse_number(without_last_colon(numeral))?;
     Some((number, reason))
 }
 
 /// The text after the first word, if that is this one.
-fn text_after<'a>(word: &[u8], text: &'a [u8]) -> Option<&'a [u8]>
-    ensures { option_map (λ rest. rest.now) result ≡ text_after word.now text.now }
+fn text_after_word<'a>(word: &[u8], text: &'a [u8]) -> Option<&'a [u8]>
+    ensures { option_map (λ rest. rest.now) result ≡ text_after_word word.now text.now }
 {
     let (first, rest) = split_at_space(text)?;
     if first == word { Some(rest) } else { None }

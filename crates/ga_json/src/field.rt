@@ -42,7 +42,7 @@ impl<'a> Field<'a> {
     ghost use Rattle.std.specs.Prelude.{◌≡◌, pos, IsTrue};
     ghost use Rattle.ga_text.specs.Digits.{name_of_node};
     ghost use Rattle.ga_json.specs.Values.{null, boolean, number, string};
-    ghost use Rattle.ga_json.specs.FieldValues.{value_json};
+    ghost use Rattle.ga_json.specs.FieldValues.{field_value_json};
     ghost use Rattle.ga_json.specs.Names.{is_field_name};
 
     /// A number with its name.
@@ -50,7 +50,7 @@ impl<'a> Field<'a> {
     pub fn number(name: &'a [u8], value: u64) -> Self
         requires { IsTrue (is_field_name name.now) }
         ensures name { result.name.now ≡ name.now }
-        ensures value { value_json result.value ≡ number (pos value) }
+        ensures value { field_value_json result.value ≡ number (pos value) }
     {
         Field {
             name,
@@ -63,7 +63,7 @@ impl<'a> Field<'a> {
     pub fn word(name: &'a [u8], word: Word18) -> Self
         requires { IsTrue (is_field_name name.now) }
         ensures name { result.name.now ≡ name.now }
-        ensures value { value_json result.value ≡ number (pos word) }
+        ensures value { field_value_json result.value ≡ number (pos word) }
     {
         Field {
             name,
@@ -76,7 +76,7 @@ impl<'a> Field<'a> {
     pub fn node(name: &'a [u8], node: NodeId) -> Self
         requires { IsTrue (is_field_name name.now) }
         ensures name { result.name.now ≡ name.now }
-        ensures value { value_json result.value ≡ string (name_of_node node) }
+        ensures value { field_value_json result.value ≡ string (name_of_node node) }
     {
         Field {
             name,
@@ -89,7 +89,7 @@ impl<'a> Field<'a> {
     pub fn text(name: &'a [u8], text: &'a [u8]) -> Self
         requires { IsTrue (is_field_name name.now) }
         ensures name { result.name.now ≡ name.now }
-        ensures value { value_json result.value ≡ string text.now }
+        ensures value { field_value_json result.value ≡ string text.now }
     {
         Field {
             name,
@@ -102,7 +102,7 @@ impl<'a> Field<'a> {
     pub fn flag(name: &'a [u8], flag: bool) -> Self
         requires { IsTrue (is_field_name name.now) }
         ensures name { result.name.now ≡ name.now }
-        ensures value { value_json result.value ≡ boolean flag }
+        ensures value { field_value_json result.value ≡ boolean flag }
     {
         Field {
             name,
@@ -115,7 +115,7 @@ impl<'a> Field<'a> {
     pub fn absent(name: &'a [u8]) -> Self
         requires { IsTrue (is_field_name name.now) }
         ensures name { result.name.now ≡ name.now }
-        ensures value { value_json result.value ≡ null }
+        ensures value { field_value_json result.value ≡ null }
     {
         Field {
             name,

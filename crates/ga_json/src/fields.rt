@@ -4,8 +4,8 @@ ghost use Rattle.std.specs.Prelude.{◌≡◌, ◌≤◌, ◌+◌, ◌++◌, ◌
 ghost use Rattle.arrayvec.specs.ArrayVec.{array_vec_len};
 ghost use Rattle.ga_text.specs.Output.{WritesExactly};
 ghost use Rattle.ga_text.specs.Digits.{name_of_node};
-ghost use Rattle.ga_json.specs.Compact.{compact, optional_comma};
-ghost use Rattle.ga_json.specs.FieldValues.{value_json};
+ghost use Rattle.ga_json.specs.Compact.{compact_json_text, optional_comma};
+ghost use Rattle.ga_json.specs.FieldValues.{field_value_json};
 ghost use Rattle.ga_json.specs.inner.{field_text, fields_text};
 
 use crate::field::{Field, FieldValue};
@@ -72,7 +72,7 @@ fn push_name(out: &mut ArrayVec<u8, OUTPUT_CAPACITY>, node: NodeId)
 /// Writes a value, for which there is room unless it is a text.
 fn write_value<W: Write>(value: FieldValue<'_>, writer: &mut Writer<'_, W>) -> WriteResult
     requires { array_vec_len writer.old.pending + MAX_NUMBER_DIGITS ≤ OUTPUT_CAPACITY }
-    ensures { WritesExactly result (compact (value_json value.entry)) W.contents writer.old writer.new }
+    ensures { WritesExactly result (compact_json_text (field_value_json value.entry)) W.contents writer.old writer.new }
 {
     match value {
         FieldValue::Number(number) => push_number(&mut writer.pending, number),

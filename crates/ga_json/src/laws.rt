@@ -4,28 +4,28 @@ ghost use Rattle.std.specs.Prelude.{◌≡◌, ◌≤◌, ◌<◌, ◌^◌, ℕ,
 ghost use Rattle.ga_text.specs.Lines.{Text};
 ghost use Rattle.ga_json.specs.Values.{JsonValue, JsonItems, array, item, no_items, number, string, boolean};
 ghost use Rattle.ga_json.specs.Grammar.{IsJsonText, IsJsonString, IsJsonInt};
-ghost use Rattle.ga_json.specs.Compact.{IsWritable, AreWritableItems, compact, json_line};
-ghost use Rattle.ga_json.specs.FieldValues.{value_json};
+ghost use Rattle.ga_json.specs.Compact.{IsWritableValue, AreWritableItems, compact_json_text, json_line};
+ghost use Rattle.ga_json.specs.FieldValues.{field_value_json};
 ghost use Rattle.ga_json.specs.Fields.{row_json, report_json};
 ghost use Rattle.ga_json.specs.declared.field.Field.{Field};
 
 /// The line that is written of a value is a JSON text that denotes this value, if its integers have 64 bits and its texts are UTF-8.
 #[tactic(auto, using(crate::proofs::Written::line_is_json))]
 pub fn lines_are_json()
-    ensures { (value : JsonValue) → IsWritable value → IsJsonText (json_line value) value }
+    ensures { (value : JsonValue) → IsWritableValue value → IsJsonText (json_line value) value }
 {}
 
 /// The text of a value has no control character, so the line ends at its only line feed.
 #[tactic(auto, using(crate::proofs::Written::no_control))]
 pub fn json_text_is_one_line()
-    ensures { (value : JsonValue) → IsWritable value → All (λ b. 32 ≤ b) (compact value) }
+    ensures { (value : JsonValue) → IsWritableValue value → All (λ b. 32 ≤ b) (compact_json_text value) }
 {}
 
 /// Rows and answers can be written if the values of their fields can.
 pub fn reports_are_writable()
-    ensures rows { (fields : List Field) → All (λ field. IsWritable (value_json field.value)) fields → IsWritable (row_json fields) }
-    ensures reports { (head : List Field) (rows : JsonItems) → All (λ field. IsWritable (value_json field.value)) head →
-        AreWritableItems rows → IsWritable (report_json head rows) }
+    ensures rows { (fields : List Field) → All (λ field. IsWritableValue (field_value_json field.value)) fields → IsWritableValue (row_json fields) }
+    ensures reports { (head : List Field) (rows : JsonItems) → All (λ field. IsWritableValue (field_value_json field.value)) head →
+        AreWritableItems rows → IsWritableValue (report_json head rows) }
 {}
 
 /// The text of a string has no bare control character.

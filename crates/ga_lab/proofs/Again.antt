@@ -1,14 +1,14 @@
 -- What a rollback took is made again by steps, where no look is among it.
 use Rattle.std.proofs.Common.{◌≡◌, ℕ, ◌+◌, ◌-◌, ◌^◌, ◌<◌, ◌≤◌, Bool, true, false, cond, List, [], ◌∷◌, length, Ok, Err, refl, subst, arith, ◌++◌, map, Option, Some, None, sym, ◌∙◌, ap, append_assoc, append-nil, length-append}
 use Rattle.std.specs.Prelude.{Result, IsSome, nat_le, not}
-use Rattle.ga_node.specs.declared.kind.NotReady.{NotReady}
+use Rattle.ga_node.specs.declared.kind.EventRefusal.{EventRefusal}
 use Rattle.ga_node.specs.Record.{NodeRecord}
 use Rattle.ga_event.specs.declared.event.Event.{Event}
 use Rattle.ga_event.specs.Apply.{replay, EventOutcome, apply, after, some_if_allowed, run}
 use Rattle.ga_event.specs.Next.{next}
 use Rattle.ga_lab.specs.declared.fault.LabFault.TheVariants.{Full, Spent}
-use Rattle.ga_lab.specs.Machine.{State, initial_state, chip_of, made_next_event, answer_to_event, with_event, unless_refused, causes_of, state_after_rewind, acting_node, state_after_steps}
-use Rattle.ga_lab.specs.Calls.{MachineCall, step, undo, rewind, after_call, after_calls, IsReachableState}
+use Rattle.ga_lab.specs.Machine.{State, initial_state, chip_of, made_next_event, answer_to_event, with_event, state_unless_refused, causes_of, state_after_rewind, acting_node, state_after_steps}
+use Rattle.ga_lab.specs.Calls.{MachineCall, step, undo, rewind, state_after_machine_call, state_after_machine_calls, IsReachableState}
 use Rattle.ga_lab.proofs.Called.{Runs, runs_some, first_runs, call_runs}
 use Rattle.ga_lab.proofs.Causal.{less_of, limit_is_respected, events_length as events_size}
 use Rattle.std.proofs.lemmas.List.{length_push}
@@ -39,37 +39,37 @@ pub kept_reached : (s : State) → IsReachableState s → length s.kept ≤ s.li
 kept_reached s h = subst (λ z. length z.kept ≤ z.limit) h.is ((limit_is_respected s.load s.limit h.calls).0)
 
 -- the count of made events stays below 2^64
-step_counts : (s : State) (o : Result Event NotReady) → s.made < 2 ^ 64 → (unless_refused s (answer_to_event s o) (with_event s o)).made < 2 ^ 64
+step_counts : (s : State) (o : Result Event EventRefusal) → s.made < 2 ^ 64 → (state_unless_refused s (answer_to_event s o) (with_event s o)).made < 2 ^ 64
 step_counts s (Err why) l = l
 step_counts s (Ok e) l = two (nat_le s.limit (length s.kept)) (nat_le (2 ^ 64 - 1) s.made) (λ f. less_of (2 ^ 64 - 1) s.made f)
   where
-    two : (full spent : Bool) → (spent ≡ false → s.made < 2 ^ 64 - 1) → (unless_refused s (cond full (Err Full) (cond spent (Err Spent) (Ok (made_next_event s e)))) (with_event s (Ok e))).made < 2 ^ 64
+    two : (full spent : Bool) → (spent ≡ false → s.made < 2 ^ 64 - 1) → (state_unless_refused s (cond full (Err Full) (cond spent (Err Spent) (Ok (made_next_event s e)))) (with_event s (Ok e))).made < 2 ^ 64
     two true spent h = l
     two false true h = l
     two false false h = let m : s.made < 2 ^ 64 - 1 = h refl in let g : s.made + 1 < 2 ^ 64 = omega (arith, m) in g
 
-call_counts : (s : State) (call : MachineCall) → s.made < 2 ^ 64 → (after_call s call).made < 2 ^ 64
+call_counts : (s : State) (call : MachineCall) → s.made < 2 ^ 64 → (state_after_machine_call s call).made < 2 ^ 64
 call_counts s (step n) l = step_counts s (next (chip_of s) n) l
 call_counts s undo l = l
 call_counts s (rewind n k) l = l
 
-calls_count : (s : State) (calls : List MachineCall) → s.made < 2 ^ 64 → (after_calls s calls).made < 2 ^ 64
+calls_count : (s : State) (calls : List MachineCall) → s.made < 2 ^ 64 → (state_after_machine_calls s calls).made < 2 ^ 64
 calls_count s [] l = l
-calls_count s (call ∷ calls) l = calls_count (after_call s call) calls (call_counts s call l)
+calls_count s (call ∷ calls) l = calls_count (state_after_machine_call s call) calls (call_counts s call l)
 
-pub made_below : (load : List NodeRecord) (limit : ℕ) (calls : List MachineCall) → (after_calls (initial_state load limit) calls).made < 2 ^ 64
+pub made_below : (load : List NodeRecord) (limit : ℕ) (calls : List MachineCall) → (state_after_machine_calls (initial_state load limit) calls).made < 2 ^ 64
 made_below load limit calls = calls_count (initial_state load limit) calls (omega arith)
 
 pub count_reached : (s : State) → IsReachableState s → length s.kept < 2 ^ 64
 count_reached s h = subst (λ z. length z.kept < 2 ^ 64) h.is (
-    let k : length (after_calls (initial_state s.load s.limit) h.calls).kept ≤ (after_calls (initial_state s.load s.limit) h.calls).made = (limit_is_respected s.load s.limit h.calls).1 in
-    let l : (after_calls (initial_state s.load s.limit) h.calls).made < 2 ^ 64 = made_below s.load s.limit h.calls in
+    let k : length (state_after_machine_calls (initial_state s.load s.limit) h.calls).kept ≤ (state_after_machine_calls (initial_state s.load s.limit) h.calls).made = (limit_is_respected s.load s.limit h.calls).1 in
+    let l : (state_after_machine_calls (initial_state s.load s.limit) h.calls).made < 2 ^ 64 = made_below s.load s.limit h.calls in
     omega (arith, k, l)
     )
 
 -- the history fits the limit and the count
-pub fits : (load : List NodeRecord) (limit : ℕ) (calls : List MachineCall) → (length (after_calls (initial_state load limit) calls).kept ≤ (after_calls (initial_state load limit) calls).limit)
-    × (length (after_calls (initial_state load limit) calls).kept ≤ (after_calls (initial_state load limit) calls).made) × ((after_calls (initial_state load limit) calls).made < 2 ^ 64)
+pub fits : (load : List NodeRecord) (limit : ℕ) (calls : List MachineCall) → (length (state_after_machine_calls (initial_state load limit) calls).kept ≤ (state_after_machine_calls (initial_state load limit) calls).limit)
+    × (length (state_after_machine_calls (initial_state load limit) calls).kept ≤ (state_after_machine_calls (initial_state load limit) calls).made) × ((state_after_machine_calls (initial_state load limit) calls).made < 2 ^ 64)
 fits load limit calls = let k = limit_is_respected load limit calls in (k.0, k.1, made_below load limit calls)
 
 -- what can follow the first part of a list

@@ -3,7 +3,7 @@ use Rattle.std.proofs.Common.{◌≡◌, ℕ, suc, ◌+◌, ◌-◌, ◌^◌, co
 use Rattle.std.specs.Prelude.{Option, Result, unwrap_or, is_some, IsSome, nat_le}
 use Rattle.std.specs.List.{flat_map}
 use Rattle.std.proofs.lemmas.List.Sums.{sum_by-cons}
-use Rattle.ga_node.specs.declared.kind.NotReady.{NotReady}
+use Rattle.ga_node.specs.declared.kind.EventRefusal.{EventRefusal}
 use Rattle.ga_node.specs.Record.{NodeRecord}
 use Rattle.ga_node.specs.Table.{t, own}
 use Rattle.ga_grid.specs.Chip.{record_at}
@@ -23,11 +23,11 @@ use Rattle.ga_causal.proofs.Consistent.{kept_alike, same_accounts, shuffled_by, 
 use Rattle.ga_causal.proofs.Moved.{rolled_back, rewound_shuffled, length_shuffled, place_shuffled}
 use Rattle.ga_event.specs.declared.made.Made.{Made}
 use Rattle.ga_event.specs.declared.made.Made.TheVariants as made
-use Rattle.ga_event.specs.Told.{count_steps, made_events_of}
+use Rattle.ga_event.specs.Told.{count_steps, made_events_of_node}
 use Rattle.ga_lab.specs.declared.fault.LabFault.{LabFault}
 use Rattle.ga_lab.specs.declared.fault.LabFault.TheVariants.{Full, Spent}
-use Rattle.ga_lab.specs.Machine.{State, initial_state, chip_of, outcomes_of_run, causes_of, made_next_event, answer_to_event, with_event, step_answer, unless_refused, state_after_step, removed_count, rewind_answer, state_after_rewind, history_of}
-use Rattle.ga_lab.specs.Calls.{MachineCall, after_calls, AreEquivalentStates}
+use Rattle.ga_lab.specs.Machine.{State, initial_state, chip_of, outcomes_of_run, causes_of, made_next_event, answer_to_event, with_event, step_answer, state_unless_refused, state_after_step, removed_count, rewind_answer, state_after_rewind, history_of}
+use Rattle.ga_lab.specs.Calls.{MachineCall, state_after_machine_calls, AreEquivalentStates}
 use Rattle.ga_lab.proofs.Stepping.{same_state}
 use Rattle.ga_lab.proofs.Told.{made_of, history_accounted}
 use Rattle.ga_lab.proofs.Called.{Runs, runs_of, with_kept, told_is, causes_is, first_runs, calls_load}
@@ -61,7 +61,7 @@ alike_history : (s : State) (ys : List Event) → IsSome (replay s.load s.kept) 
 alike_history s ys some h n =
     let r = runs_of s some in
     let k = kept_alike s.load r.last s.kept ys r.told r.run_is h in
-    ap (λ z. made_events_of z n) (told_is s r) ∙ history_accounted r.told n ∙ ap (flat_map made_of) (k.3 n) ∙ sym (history_accounted k.0 n) ∙ sym (ap (λ o. made_events_of (outcomes_of_run o) n) k.1)
+    ap (λ z. made_events_of_node z n) (told_is s r) ∙ history_accounted r.told n ∙ ap (flat_map made_of) (k.3 n) ∙ sym (history_accounted k.0 n) ∙ sym (ap (λ o. made_events_of_node (outcomes_of_run o) n) k.1)
 
 -- what a step answers
 told_alike : (s : State) (ys : List Event) → AreEquivalent s.load s.kept ys → (e : Event) → made_next_event s e ≡ made_next_event (with_kept s ys) e
@@ -73,7 +73,7 @@ told_alike s ys h (event.Pass w r side) =
     ∙ ap (λ (z : ℕ). made.Pass w (count_steps w.number ys + 1) r (z + 1) (t (record_at (chip_of s) w.number))) (equivalent_steps r.number s.load s.kept ys h)
     ∙ ap (λ z. made.Pass w (count_steps w.number ys + 1) r (count_steps r.number ys + 1) (t (record_at z w.number))) (alike_chip s ys h)
 
-answer_alike : (s : State) (ys : List Event) → AreEquivalent s.load s.kept ys → (o : Result Event NotReady) → answer_to_event s o ≡ answer_to_event (with_kept s ys) o
+answer_alike : (s : State) (ys : List Event) → AreEquivalent s.load s.kept ys → (o : Result Event EventRefusal) → answer_to_event s o ≡ answer_to_event (with_kept s ys) o
 answer_alike s ys h (Err why) = refl
 answer_alike s ys h (Ok e) =
     ap (λ (z : ℕ). cond (nat_le s.limit z) (Err Full) (cond (nat_le (2 ^ 64 - 1) s.made) (Err Spent) (Ok (made_next_event s e)))) (equivalent_length s.load s.kept ys h)
@@ -83,7 +83,7 @@ step_alike : (s : State) (ys : List Event) (n : NodeId) → AreEquivalent s.load
 step_alike s ys n h = ap (λ c. answer_to_event s (next c n)) (alike_chip s ys h) ∙ answer_alike s ys h (next (chip_of (with_kept s ys)) n)
 
 -- and leaves
-left_alike : (s : State) (ys : List Event) → AreEquivalent s.load s.kept ys → (o : Result Event NotReady) (a : Result Made LabFault) → AreEquivalentStates (unless_refused s a (with_event s o)) (unless_refused (with_kept s ys) a (with_event (with_kept s ys) o))
+left_alike : (s : State) (ys : List Event) → AreEquivalent s.load s.kept ys → (o : Result Event EventRefusal) (a : Result Made LabFault) → AreEquivalentStates (state_unless_refused s a (with_event s o)) (state_unless_refused (with_kept s ys) a (with_event (with_kept s ys) o))
 left_alike s ys h (Err why) (Ok told) = record { load = refl; limit = refl; made = refl; kept = h }
 left_alike s ys h (Err why) (Err fault) = record { load = refl; limit = refl; made = refl; kept = h }
 left_alike s ys h (Ok e) (Err fault) = record { load = refl; limit = refl; made = refl; kept = h }
@@ -92,8 +92,8 @@ left_alike s ys h (Ok e) (Ok told) = record { load = refl; limit = refl; made = 
 stepped_alike : (s : State) (ys : List Event) (n : NodeId) → AreEquivalent s.load s.kept ys → AreEquivalentStates (state_after_step s n) (state_after_step (with_kept s ys) n)
 stepped_alike s ys n h =
     let z = with_kept s ys in
-    subst (λ a. AreEquivalentStates (state_after_step s n) (unless_refused z a (with_event z (next (chip_of z) n)))) (step_alike s ys n h)
-    (subst (λ c. AreEquivalentStates (state_after_step s n) (unless_refused z (step_answer s n) (with_event z (next c n)))) (alike_chip s ys h)
+    subst (λ a. AreEquivalentStates (state_after_step s n) (state_unless_refused z a (with_event z (next (chip_of z) n)))) (step_alike s ys n h)
+    (subst (λ c. AreEquivalentStates (state_after_step s n) (state_unless_refused z (step_answer s n) (with_event z (next c n)))) (alike_chip s ys h)
     (left_alike s ys h (next (chip_of s) n) (step_answer s n)))
 
 -- what a rollback answers, and leaves
@@ -177,15 +177,15 @@ kept_same s z load r q h =
     let k = kept_alike s.load r.last s.kept z.kept r.told r.run_is e in (
       e,
       alike_chip s z.kept e ∙ ap (λ c. unwrap_or (replay c z.kept) []) load,
-      λ n. ap (λ x. made_events_of x n) (told_is s r) ∙ history_accounted r.told n ∙ ap (flat_map made_of) (k.3 n) ∙ sym (history_accounted k.0 n)
-          ∙ sym (ap (λ o. made_events_of (outcomes_of_run o) n) k.1) ∙ ap (λ c. made_events_of (outcomes_of_run (run c z.kept)) n) load,
+      λ n. ap (λ x. made_events_of_node x n) (told_is s r) ∙ history_accounted r.told n ∙ ap (flat_map made_of) (k.3 n) ∙ sym (history_accounted k.0 n)
+          ∙ sym (ap (λ o. made_events_of_node (outcomes_of_run o) n) k.1) ∙ ap (λ c. made_events_of_node (outcomes_of_run (run c z.kept)) n) load,
     )
 
 pub consistent : (load : List NodeRecord) (limit bound : ℕ) (calls others : List MachineCall)
-    → ((n : ℕ) → local_history n (causes_of (after_calls (initial_state load limit) calls)) ≡ local_history n (causes_of (after_calls (initial_state load bound) others)))
-    → KeepTheSame load (after_calls (initial_state load limit) calls) (after_calls (initial_state load bound) others)
+    → ((n : ℕ) → local_history n (causes_of (state_after_machine_calls (initial_state load limit) calls)) ≡ local_history n (causes_of (state_after_machine_calls (initial_state load bound) others)))
+    → KeepTheSame load (state_after_machine_calls (initial_state load limit) calls) (state_after_machine_calls (initial_state load bound) others)
 consistent load limit bound calls others h =
-    let s = after_calls (initial_state load limit) calls in
-    let z = after_calls (initial_state load bound) others in
+    let s = state_after_machine_calls (initial_state load limit) calls in
+    let z = state_after_machine_calls (initial_state load bound) others in
     let at : s.load ≡ load = calls_load (initial_state load limit) calls in
     subst (λ c. KeepTheSame c s z) at (kept_same s z (at ∙ sym (calls_load (initial_state load bound) others)) (first_runs load limit calls) (first_runs load bound others) h)

@@ -3,7 +3,7 @@ use Rattle.std.proofs.Common.{◌≡◌, ℕ, suc, ◌+◌, ◌-◌, Bool, true,
 use Rattle.std.specs.Prelude.{Option, Result, option_map, unwrap_or, is_some, IsSome}
 use Rattle.std.proofs.lemmas.List.{length_push, take-append-le}
 use Rattle.std.proofs.lemmas.List.Sums.{sum_by-append}
-use Rattle.ga_node.specs.declared.kind.NotReady.{NotReady}
+use Rattle.ga_node.specs.declared.kind.EventRefusal.{EventRefusal}
 use Rattle.ga_node.specs.Record.{NodeRecord}
 use Rattle.ga_node.specs.Table.{t}
 use Rattle.ga_grid.specs.declared.node_id.NodeId.{NodeId}
@@ -14,7 +14,7 @@ use Rattle.ga_event.specs.Apply.{EventOutcome, apply, after, some_if_allowed, ca
 use Rattle.ga_event.specs.Next.{next}
 use Rattle.ga_event.proofs.Nexts.{next_can}
 use Rattle.ga_causal.specs.Dependence.{cause_touches, rest, rest_or_all, events_after_rewind}
-use Rattle.ga_event.specs.Told.{events_of_causes, count_steps, made_events_of}
+use Rattle.ga_event.specs.Told.{events_of_causes, count_steps, made_events_of_node}
 use Rattle.ga_causal.specs.Steps.{count_touching_events}
 use Rattle.ga_causal.proofs.Runs.{causes, run_more, first_of_run}
 use Rattle.ga_causal.proofs.Consistent.{made_of}
@@ -24,8 +24,8 @@ use Rattle.ga_lab.proofs.Told.{history_begins}
 use Rattle.ga_event.specs.declared.made.Made.{Made}
 use Rattle.ga_rollback.proofs.Rewinding.{run_snoc}
 use Rattle.ga_lab.specs.declared.fault.LabFault.{LabFault}
-use Rattle.ga_lab.specs.Machine.{State, initial_state, chip_of, outcomes_of_run, outcomes_of_kept, causes_of, answer_to_event, with_event, unless_refused, state_after_step, state_after_undo, state_after_rewind, history_of}
-use Rattle.ga_lab.specs.Calls.{MachineCall, step, undo, rewind, after_call, after_calls}
+use Rattle.ga_lab.specs.Machine.{State, initial_state, chip_of, outcomes_of_run, outcomes_of_kept, causes_of, answer_to_event, with_event, state_unless_refused, state_after_step, state_after_undo, state_after_rewind, history_of}
+use Rattle.ga_lab.specs.Calls.{MachineCall, step, undo, rewind, state_after_machine_call, state_after_machine_calls}
 
 -- a machine whose list runs
 pub record Runs (s : State) : Type 0 where
@@ -61,7 +61,7 @@ chip_is s r = ap (λ (o : Option (List NodeRecord × List (Cause × EventOutcome
 step_runs : (s : State) (n : NodeId) → Runs s → Runs (state_after_step s n)
 step_runs s n r = go (next (chip_of s) n) refl (answer_to_event s (next (chip_of s) n))
   where
-    go : (o : Result Event NotReady) → next (chip_of s) n ≡ o → (a : Result Made LabFault) → Runs (unless_refused s a (with_event s o))
+    go : (o : Result Event EventRefusal) → next (chip_of s) n ≡ o → (a : Result Made LabFault) → Runs (state_unless_refused s a (with_event s o))
     go (Err why) is (Ok told) = r
     go (Err why) is (Err fault) = r
     go (Ok e) is (Err fault) = r
@@ -88,34 +88,34 @@ rewind_runs s n k r =
     let f = first_part_told s.load r.last s.kept r.told n k r.run_is in
     record { last = f.0; told = f.1; run_is = ap (λ z. run s.load (events_of_causes (events_after_rewind z n k))) (causes_is s r) ∙ f.2 }
 
-pub call_runs : (s : State) (call : MachineCall) → Runs s → Runs (after_call s call)
+pub call_runs : (s : State) (call : MachineCall) → Runs s → Runs (state_after_machine_call s call)
 call_runs s (step n) r = step_runs s n r
 call_runs s undo r = undo_runs s r
 call_runs s (rewind n k) r = rewind_runs s n k r
 
-step_load : (s : State) (o : Result Event NotReady) (a : Result Made LabFault) → (unless_refused s a (with_event s o)).load ≡ s.load
+step_load : (s : State) (o : Result Event EventRefusal) (a : Result Made LabFault) → (state_unless_refused s a (with_event s o)).load ≡ s.load
 step_load s (Err why) (Ok told) = refl
 step_load s (Err why) (Err fault) = refl
 step_load s (Ok e) (Ok told) = refl
 step_load s (Ok e) (Err fault) = refl
 
-pub call_load : (s : State) (call : MachineCall) → (after_call s call).load ≡ s.load
+pub call_load : (s : State) (call : MachineCall) → (state_after_machine_call s call).load ≡ s.load
 call_load s (step n) = step_load s (next (chip_of s) n) (answer_to_event s (next (chip_of s) n))
 call_load s undo = refl
 call_load s (rewind n k) = refl
 
-pub calls_run : (s : State) (calls : List MachineCall) → Runs s → Runs (after_calls s calls)
+pub calls_run : (s : State) (calls : List MachineCall) → Runs s → Runs (state_after_machine_calls s calls)
 calls_run s [] r = r
-calls_run s (call ∷ calls) r = calls_run (after_call s call) calls (call_runs s call r)
+calls_run s (call ∷ calls) r = calls_run (state_after_machine_call s call) calls (call_runs s call r)
 
-pub calls_load : (s : State) (calls : List MachineCall) → (after_calls s calls).load ≡ s.load
+pub calls_load : (s : State) (calls : List MachineCall) → (state_after_machine_calls s calls).load ≡ s.load
 calls_load s [] = refl
-calls_load s (call ∷ calls) = calls_load (after_call s call) calls ∙ call_load s call
+calls_load s (call ∷ calls) = calls_load (state_after_machine_call s call) calls ∙ call_load s call
 
-pub first_runs : (load : List NodeRecord) (limit : ℕ) (calls : List MachineCall) → Runs (after_calls (initial_state load limit) calls)
+pub first_runs : (load : List NodeRecord) (limit : ℕ) (calls : List MachineCall) → Runs (state_after_machine_calls (initial_state load limit) calls)
 first_runs load limit calls = calls_run (initial_state load limit) calls (record { last = load; told = []; run_is = refl })
 
-pub history_is_replayable : (load : List NodeRecord) (limit : ℕ) (calls : List MachineCall) → ((after_calls (initial_state load limit) calls).load ≡ load) × IsSome (replay (after_calls (initial_state load limit) calls).load (after_calls (initial_state load limit) calls).kept)
+pub history_is_replayable : (load : List NodeRecord) (limit : ℕ) (calls : List MachineCall) → ((state_after_machine_calls (initial_state load limit) calls).load ≡ load) × IsSome (replay (state_after_machine_calls (initial_state load limit) calls).load (state_after_machine_calls (initial_state load limit) calls).kept)
 history_is_replayable load limit calls = (calls_load (initial_state load limit) calls, runs_some _ (first_runs load limit calls))
 
 -- After a rollback the history of each node is a prefix of the one before.
@@ -125,7 +125,7 @@ rollback_keeps_prefix s n k m some =
     let f = first_part_told s.load r.last s.kept r.told n k r.run_is in
     let left : outcomes_of_kept (state_after_rewind s n k) ≡ f.1 = ap (λ z. outcomes_of_run (run s.load (events_of_causes (events_after_rewind z n k)))) (causes_is s r) ∙ ap outcomes_of_run f.2 in
     let b = history_begins r.told f.1 m (f.3 m) in
-    (b.0, ap (λ z. made_events_of z m) (told_is s r) ∙ b.1 ∙ ap (λ z. made_events_of z m ++ b.0) (sym left))
+    (b.0, ap (λ z. made_events_of_node z m) (told_is s r) ∙ b.1 ∙ ap (λ z. made_events_of_node z m ++ b.0) (sym left))
 
 -- The newest event is a step of each of its nodes on which nothing depends: to undo it is to roll it back.
 pub events_run : (c last : List NodeRecord) (es : List Event) (ts : List (Cause × EventOutcome)) → run c es ≡ Some (last, ts) → events_of_causes (causes ts) ≡ es

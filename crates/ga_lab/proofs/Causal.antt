@@ -3,7 +3,7 @@ use Rattle.std.proofs.Common.{◌≡◌, ℕ, suc, ◌+◌, ◌-◌, ◌^◌, �
 use Rattle.std.specs.Prelude.{Option, Result, IsSome, nat_le}
 use Rattle.std.proofs.lemmas.Bool.{cases_Bool, cases_lt, both_ways, cond-true, cond-false, le-leb}
 use Rattle.std.proofs.lemmas.List.{length_push}
-use Rattle.ga_node.specs.declared.kind.NotReady.{NotReady}
+use Rattle.ga_node.specs.declared.kind.EventRefusal.{EventRefusal}
 use Rattle.ga_node.specs.Record.{NodeRecord}
 use Rattle.ga_grid.specs.declared.node_id.NodeId.{NodeId}
 use Rattle.ga_event.specs.declared.event.Event.{Event}
@@ -17,8 +17,8 @@ use Rattle.ga_causal.specs.Equivalence.{AreEquivalent}
 use Rattle.ga_event.specs.declared.made.Made.{Made}
 use Rattle.ga_lab.specs.declared.fault.LabFault.{LabFault}
 use Rattle.ga_lab.specs.declared.fault.LabFault.TheVariants.{Full, Spent}
-use Rattle.ga_lab.specs.Machine.{State, initial_state, chip_of, causes_of, made_next_event, answer_to_event, with_event, unless_refused, state_after_step, state_after_undo, state_after_rewind, acting_node}
-use Rattle.ga_lab.specs.Calls.{MachineCall, step, undo, rewind, after_call, after_calls}
+use Rattle.ga_lab.specs.Machine.{State, initial_state, chip_of, causes_of, made_next_event, answer_to_event, with_event, state_unless_refused, state_after_step, state_after_undo, state_after_rewind, acting_node}
+use Rattle.ga_lab.specs.Calls.{MachineCall, step, undo, rewind, state_after_machine_call, state_after_machine_calls}
 use Rattle.ga_lab.specs.Sequences.{AreCausallyEquivalent, back, chained, onward, either, RemovesNoLook}
 use Rattle.ga_lab.proofs.Called.{Runs, runs_of, with_kept, call_runs, runs_some, call_load, first_runs}
 use Rattle.ga_lab.proofs.Forward.{made_is_next}
@@ -34,32 +34,32 @@ less_of x y f = ⊎_elim (λ l. l) (λ l. absurd (both_ways (nat_le x y) f (le-l
 one_step : (s : State) (n : NodeId) → Fits s → s.made < 2 ^ 64 - 1 → AreCausallyEquivalent (load_of s) (steps_for s.kept ++ step n ∷ []) (steps_for (state_after_step s n).kept)
 one_step s n f count = go (next (chip_of s) n) refl
   where
-    stays : (o : Result Event NotReady) → next (chip_of s) n ≡ o → (unless_refused s (answer_to_event s o) (with_event s o)).kept ≡ s.kept → unless_refused (at s s.kept) (answer_to_event (at s s.kept) o) (with_event (at s s.kept) o) ≡ at s s.kept
+    stays : (o : Result Event EventRefusal) → next (chip_of s) n ≡ o → (state_unless_refused s (answer_to_event s o) (with_event s o)).kept ≡ s.kept → state_unless_refused (at s s.kept) (answer_to_event (at s s.kept) o) (with_event (at s s.kept) o) ≡ at s s.kept
         → AreCausallyEquivalent (load_of s) (steps_for s.kept ++ step n ∷ []) (steps_for (state_after_step s n).kept)
     stays o is h k =
-        subst (λ z. AreCausallyEquivalent (load_of s) (steps_for s.kept ++ step n ∷ []) (steps_for z)) (sym (ap (λ o. (unless_refused s (answer_to_event s o) (with_event s o)).kept) is ∙ h))
-        (one_refused s (step n) f (ap (λ o. unless_refused (at s s.kept) (answer_to_event (at s s.kept) o) (with_event (at s s.kept) o)) is ∙ k))
+        subst (λ z. AreCausallyEquivalent (load_of s) (steps_for s.kept ++ step n ∷ []) (steps_for z)) (sym (ap (λ o. (state_unless_refused s (answer_to_event s o) (with_event s o)).kept) is ∙ h))
+        (one_refused s (step n) f (ap (λ o. state_unless_refused (at s s.kept) (answer_to_event (at s s.kept) o) (with_event (at s s.kept) o)) is ∙ k))
 
-    makes : (e : Event) → next (chip_of s) n ≡ Ok e → (unless_refused s (answer_to_event s (Ok e)) (with_event s (Ok e))).kept ≡ s.kept ++ e ∷ [] → AreCausallyEquivalent (load_of s) (steps_for s.kept ++ step n ∷ []) (steps_for (state_after_step s n).kept)
+    makes : (e : Event) → next (chip_of s) n ≡ Ok e → (state_unless_refused s (answer_to_event s (Ok e)) (with_event s (Ok e))).kept ≡ s.kept ++ e ∷ [] → AreCausallyEquivalent (load_of s) (steps_for s.kept ++ step n ∷ []) (steps_for (state_after_step s n).kept)
     makes e is h =
         let other : next (chip_of s) (acting_node e) ≡ Ok e = made_is_next (chip_of s) e (next_can (chip_of s) n e is) in
-        let q : state_after_step (at s s.kept) n ≡ state_after_step (at s s.kept) (acting_node e) = ap (λ o. unless_refused (at s s.kept) (answer_to_event (at s s.kept) o) (with_event (at s s.kept) o)) (is ∙ sym other) in
-        subst (λ z. AreCausallyEquivalent (load_of s) (steps_for s.kept ++ step n ∷ []) (steps_for z)) (sym (ap (λ o. (unless_refused s (answer_to_event s o) (with_event s o)).kept) is ∙ h))
+        let q : state_after_step (at s s.kept) n ≡ state_after_step (at s s.kept) (acting_node e) = ap (λ o. state_unless_refused (at s s.kept) (answer_to_event (at s s.kept) o) (with_event (at s s.kept) o)) (is ∙ sym other) in
+        subst (λ z. AreCausallyEquivalent (load_of s) (steps_for s.kept ++ step n ∷ []) (steps_for z)) (sym (ap (λ o. (state_unless_refused s (answer_to_event s o) (with_event s o)).kept) is ∙ h))
         (subst (λ z. AreCausallyEquivalent (load_of s) (steps_for s.kept ++ step n ∷ []) z) (sym (steps_join s.kept (e ∷ [])))
         (behind s (step n ∷ []) (step (acting_node e) ∷ []) f (either q)))
 
-    go : (o : Result Event NotReady) → next (chip_of s) n ≡ o → AreCausallyEquivalent (load_of s) (steps_for s.kept ++ step n ∷ []) (steps_for (state_after_step s n).kept)
+    go : (o : Result Event EventRefusal) → next (chip_of s) n ≡ o → AreCausallyEquivalent (load_of s) (steps_for s.kept ++ step n ∷ []) (steps_for (state_after_step s n).kept)
     go (Err why) is = stays (Err why) is refl refl
     go (Ok e) is = ⊎_elim
         (λ full. stays (Ok e) is
-        (ap (λ (z : Result Made LabFault). (unless_refused s z (with_event s (Ok e))).kept) (cond-true (nat_le s.limit (length s.kept)) (Err Full) _ full))
-        (ap (λ (z : Result Made LabFault). unless_refused (at s s.kept) z (with_event (at s s.kept) (Ok e))) (cond-true (nat_le s.limit (length s.kept)) (Err Full) _ full)))
+        (ap (λ (z : Result Made LabFault). (state_unless_refused s z (with_event s (Ok e))).kept) (cond-true (nat_le s.limit (length s.kept)) (Err Full) _ full))
+        (ap (λ (z : Result Made LabFault). state_unless_refused (at s s.kept) z (with_event (at s s.kept) (Ok e))) (cond-true (nat_le s.limit (length s.kept)) (Err Full) _ full)))
         (λ room. makes e is
-        (ap (λ (z : Result Made LabFault). (unless_refused s z (with_event s (Ok e))).kept)
+        (ap (λ (z : Result Made LabFault). (state_unless_refused s z (with_event s (Ok e))).kept)
         (Rattle.ga_lab.proofs.Sequences.counted_answer s e count ∙ cond-false (nat_le s.limit (length s.kept)) (Err Full) (Ok (made_next_event s e)) room)))
         (cases_Bool (nat_le s.limit (length s.kept)))
 
-one_call : (s : State) (call : MachineCall) (calls : List MachineCall) → Fits s → s.made < 2 ^ 64 - 1 → length s.kept + length s.kept < 2 ^ 64 → RemovesNoLook s (call ∷ calls) → AreCausallyEquivalent (load_of s) (steps_for s.kept ++ call ∷ []) (steps_for (after_call s call).kept)
+one_call : (s : State) (call : MachineCall) (calls : List MachineCall) → Fits s → s.made < 2 ^ 64 - 1 → length s.kept + length s.kept < 2 ^ 64 → RemovesNoLook s (call ∷ calls) → AreCausallyEquivalent (load_of s) (steps_for s.kept ++ call ∷ []) (steps_for (state_after_machine_call s call).kept)
 one_call s (step n) calls f count l none = one_step s n f count
 one_call s (rewind n k) calls f count l none = one_rewind s n k f l none.0
 one_call s undo calls f count l none = go s.kept refl
@@ -72,7 +72,7 @@ one_call s undo calls f count l none = go s.kept refl
         let l = Rattle.ga_lab.proofs.Normal.last_of x xs in
         subst (λ z. AreCausallyEquivalent (load_of s) (steps_for s.kept ++ undo ∷ []) (steps_for z)) (ap (λ (z : State). z.kept) (sym (undone_last s l.front l.event (is ∙ l.is)))) (one_undo s l.front l.event (is ∙ l.is) f)
 
-none_later : (s : State) (call : MachineCall) (calls : List MachineCall) → RemovesNoLook s (call ∷ calls) → RemovesNoLook (after_call s call) calls
+none_later : (s : State) (call : MachineCall) (calls : List MachineCall) → RemovesNoLook s (call ∷ calls) → RemovesNoLook (state_after_machine_call s call) calls
 none_later s (step n) calls h = h
 none_later s undo calls h = h
 none_later s (rewind n k) calls h = h.1
@@ -98,11 +98,11 @@ pub events_length : (cs : List Cause) → length (events_of_causes cs) ≡ lengt
 events_length [] = refl
 events_length (c ∷ cs) = ap suc (events_length cs)
 
-step_within : (s : State) (o : Result Event NotReady) → Within s → Within (unless_refused s (answer_to_event s o) (with_event s o))
+step_within : (s : State) (o : Result Event EventRefusal) → Within s → Within (state_unless_refused s (answer_to_event s o) (with_event s o))
 step_within s (Err why) w = w
 step_within s (Ok e) w = two (nat_le s.limit (length s.kept)) (nat_le (2 ^ 64 - 1) s.made) (λ f. less_of s.limit (length s.kept) f)
   where
-    two : (full spent : Bool) → (full ≡ false → length s.kept < s.limit) → Within (unless_refused s (cond full (Err Full) (cond spent (Err Spent) (Ok (made_next_event s e)))) (with_event s (Ok e)))
+    two : (full spent : Bool) → (full ≡ false → length s.kept < s.limit) → Within (state_unless_refused s (cond full (Err Full) (cond spent (Err Spent) (Ok (made_next_event s e)))) (with_event s (Ok e)))
     two true spent h = w
     two false true h = w
     two false false h =
@@ -125,7 +125,7 @@ rewound_within s n k some = go (position_of_step (causes_of s) n k)
         let c : length (rest (causes_of s) i) ≤ length (causes_of s) = shorter (dependent_flags (causes_of s) i) (causes_of s) in
         omega (arith, a, b, c)
 
-call_within : (s : State) (call : MachineCall) → IsSome (replay s.load s.kept) → Within s → Within (after_call s call)
+call_within : (s : State) (call : MachineCall) → IsSome (replay s.load s.kept) → Within s → Within (state_after_machine_call s call)
 call_within s (step n) some w = step_within s (next (chip_of s) n) w
 call_within s undo some w =
     let a : length (take (length s.kept - 1) s.kept) ≤ length s.kept = take_less (length s.kept - 1) s.kept in
@@ -141,14 +141,14 @@ call_within s (rewind n k) some w =
     let c : length s.kept ≤ s.made = w.1 in
     (omega (arith, a, b), omega (arith, a, c))
 
-call_held : (s : State) (call : MachineCall) → Held s → Held (after_call s call)
+call_held : (s : State) (call : MachineCall) → Held s → Held (state_after_machine_call s call)
 call_held s call h =
     let w = call_within s call h.some (h.room, h.made) in
-    record { some = runs_some (after_call s call) (call_runs s call (runs_of s h.some)); room = w.0; made = w.1 }
+    record { some = runs_some (state_after_machine_call s call) (call_runs s call (runs_of s h.some)); room = w.0; made = w.1 }
 
-calls_held : (s : State) (calls : List MachineCall) → Held s → Held (after_calls s calls)
+calls_held : (s : State) (calls : List MachineCall) → Held s → Held (state_after_machine_calls s calls)
 calls_held s [] h = h
-calls_held s (call ∷ calls) h = calls_held (after_call s call) calls (call_held s call h)
+calls_held s (call ∷ calls) h = calls_held (state_after_machine_call s call) calls (call_held s call h)
 
 fits_of : (s : State) → Held s → s.made < 2 ^ 64 → Fits s
 fits_of s h l = let a : length s.kept ≤ s.made = h.made in record { some = h.some; room = h.room; count = omega (arith, a, l) }
@@ -160,7 +160,7 @@ normal s (call ∷ calls) h l none =
     let l2 : (s.made + suc (length calls)) + (s.made + suc (length calls)) < 2 ^ 64 = l in
     let kept : length s.kept ≤ s.made = h.made in
     let f : Fits s = fits_of s h (omega (arith, l2)) in
-    let t : State = after_call s call in
+    let t : State = state_after_machine_call s call in
     let ht : Held t = call_held s call h in
     let kept2 : length t.kept ≤ t.made = ht.made in
     let made : t.made ≤ s.made + 1 = call_made s call in
@@ -188,20 +188,20 @@ first_held : (load : List NodeRecord) (limit : ℕ) → Held (initial_state load
 first_held load limit = record { some = refl; room = omega arith; made = omega arith }
 
 -- what calls leave fits
-pub limit_is_respected : (load : List NodeRecord) (limit : ℕ) (calls : List MachineCall) → (length (after_calls (initial_state load limit) calls).kept ≤ (after_calls (initial_state load limit) calls).limit) × (length (after_calls (initial_state load limit) calls).kept ≤ (after_calls (initial_state load limit) calls).made)
+pub limit_is_respected : (load : List NodeRecord) (limit : ℕ) (calls : List MachineCall) → (length (state_after_machine_calls (initial_state load limit) calls).kept ≤ (state_after_machine_calls (initial_state load limit) calls).limit) × (length (state_after_machine_calls (initial_state load limit) calls).kept ≤ (state_after_machine_calls (initial_state load limit) calls).made)
 limit_is_respected load limit calls =
-    let h : Held (after_calls (initial_state load limit) calls) = calls_held (initial_state load limit) calls (first_held load limit) in
+    let h : Held (state_after_machine_calls (initial_state load limit) calls) = calls_held (initial_state load limit) calls (first_held load limit) in
     (h.room, h.made)
 
 pub related : (load : List NodeRecord) (limit : ℕ) (calls others : List MachineCall) → length calls + length calls < 2 ^ 64 → length others + length others < 2 ^ 64
     → RemovesNoLook (initial_state load limit) calls → RemovesNoLook (initial_state load limit) others
-    → AreEquivalent load (after_calls (initial_state load limit) calls).kept (after_calls (initial_state load limit) others).kept → AreCausallyEquivalent (initial_state load limit) calls others
+    → AreEquivalent load (state_after_machine_calls (initial_state load limit) calls).kept (state_after_machine_calls (initial_state load limit) others).kept → AreCausallyEquivalent (initial_state load limit) calls others
 related load limit calls others l k none blind e =
     let s : State = initial_state load limit in
-    let h : Held (after_calls s calls) = calls_held s calls (first_held load limit) in
-    let many : length (ended s calls) ≤ (after_calls s calls).made = h.made in
-    let made : (after_calls s calls).made ≤ 0 + length calls = Rattle.ga_lab.proofs.Sequences.calls_made s calls in
-    let at_load : (after_calls s calls).load ≡ load = Rattle.ga_lab.proofs.Called.calls_load s calls in
+    let h : Held (state_after_machine_calls s calls) = calls_held s calls (first_held load limit) in
+    let many : length (ended s calls) ≤ (state_after_machine_calls s calls).made = h.made in
+    let made : (state_after_machine_calls s calls).made ≤ 0 + length calls = Rattle.ga_lab.proofs.Sequences.calls_made s calls in
+    let at_load : (state_after_machine_calls s calls).load ≡ load = Rattle.ga_lab.proofs.Called.calls_load s calls in
     let room : length (ended s calls) ≤ limit = subst (λ z. length (ended s calls) ≤ z) (Rattle.ga_lab.proofs.Sequences.calls_limit s calls) h.room in
     chained (normal s calls (first_held load limit) (omega (arith, l)) none)
     (chained (swaps_all s (ended s calls) (ended s others) e (subst (λ c. IsSome (replay c (ended s calls))) at_load h.some) room (omega (arith, many, made, l)))

@@ -7,7 +7,7 @@ use Rattle.std.proofs.lemmas.List.Elements.{All-nil, All-cons}
 use Rattle.ga_event.specs.declared.event.Cause.{Cause}
 use Rattle.ga_node.specs.Record.{NodeState}
 use Rattle.ga_event.specs.Apply.{EventOutcome}
-use Rattle.ga_event.specs.Told.{made_event_in, count_steps}
+use Rattle.ga_event.specs.Told.{made_event_at_place, count_steps}
 use Rattle.ga_causal.specs.declared.chain.Link.{Link}
 use Rattle.ga_causal.specs.Dependence.{position_of_step}
 use Rattle.ga_causal.specs.Chains.{IsChainAnswer, AreConsecutiveLinks, IsChain, chain_of}
@@ -51,9 +51,9 @@ chain_within es [] h = absurd h
 chain_within es (first ∷ links) h = All-cons (λ (place : ℕ). place < length es) first.place (places links) h.0 (linked_within es first.place links h.2)
 
 -- the events at its places
-told_places : (told : List (Cause × EventOutcome)) (links : List Link) → map (made_event_in told) (places links) ≡ map (λ (link : Link). made_event_in told link.place) links
+told_places : (told : List (Cause × EventOutcome)) (links : List Link) → map (made_event_at_place told) (places links) ≡ map (λ (link : Link). made_event_at_place told link.place) links
 told_places told [] = refl
-told_places told (x ∷ xs) = ap (λ z. made_event_in told x.place ∷ z) (told_places told xs)
+told_places told (x ∷ xs) = ap (λ z. made_event_at_place told x.place ∷ z) (told_places told xs)
 
 -- a chain that is answered is one
 found_links : (es : List Cause) (i q : ℕ) (links : List Link) → i < length es → chain_of es i q ≡ Some links → IsChain es links
@@ -82,9 +82,9 @@ kept_long chip book s tied is =
     ap (λ (z : State). length (causes_of z)) (sym is) ∙ ap length (causes_tied chip book tied) ∙ length-map (kept_outcomes book) (λ (x : Cause × EventOutcome). x.0)
 
 pub told_links : (chip : List NodeState) (book : JournalState) (s : State) (links : List Link) → MatchesLog chip book → state_of chip book ≡ s
-    → map (made_event_in (kept_outcomes book)) (places links) ≡ map (λ (link : Link). made_event_in (outcomes_of_kept s) link.place) links
+    → map (made_event_at_place (kept_outcomes book)) (places links) ≡ map (λ (link : Link). made_event_at_place (outcomes_of_kept s) link.place) links
 told_links chip book s links tied is =
-    ap (λ t. map (made_event_in t) (places links)) (sym (told_tied chip book tied)) ∙ ap (λ (z : State). map (made_event_in (outcomes_of_kept z)) (places links)) is
+    ap (λ t. map (made_event_at_place t) (places links)) (sym (told_tied chip book tied)) ∙ ap (λ (z : State). map (made_event_at_place (outcomes_of_kept z)) (places links)) is
     ∙ told_places (outcomes_of_kept s) links
 
 -- ---- why a step came about

@@ -6,8 +6,8 @@ use Rattle.std.proofs.lemmas.List.{length_push, take_all, take-append-le}
 use Rattle.ga_ports.specs.declared.side.Side.{Side}
 use Rattle.ga_ports.specs.declared.side.Side.TheVariants.{Right, Down, Left, Up}
 use Rattle.ga_ports.specs.Address.{are_same_side}
-use Rattle.ga_node.specs.declared.kind.NotReady.{NotReady}
-use Rattle.ga_node.specs.declared.kind.NotReady.TheVariants.{Stopped}
+use Rattle.ga_node.specs.declared.kind.EventRefusal.{EventRefusal}
+use Rattle.ga_node.specs.declared.kind.EventRefusal.TheVariants.{Stopped}
 use Rattle.ga_node.specs.declared.wait.Wait.{Wait}
 use Rattle.ga_node.specs.declared.wait.Wait.TheVariants.{Nothing, Fetch, Read, Write}
 use Rattle.ga_node.specs.Record.{NodeRecord}
@@ -19,12 +19,12 @@ use Rattle.ga_grid.proofs.NodeIds.{node_id-number}
 use Rattle.ga_event.specs.declared.event.Event.{Event}
 use Rattle.ga_event.specs.declared.event.Event.TheVariants as event
 use Rattle.ga_event.specs.declared.event.Cause.{Cause}
-use Rattle.ga_event.specs.Apply.{EventOutcome, waits_to_write_side, waits_to_read_side, equals_some, is_transfer_ready, unmatched_unless, refusal_of, apply, after, some_if_allowed, run, replay, cause_of}
+use Rattle.ga_event.specs.Apply.{EventOutcome, waits_to_write_side, waits_to_read_side, equals_some, is_transfer_ready, refusal_unless_matched, refusal_of, apply, after, some_if_allowed, run, replay, cause_of}
 use Rattle.ga_event.specs.Next.{next, next_event_by_wait, writer_pass, ok_or_waiting}
 use Rattle.ga_event.specs.declared.made.Made.{Made}
 use Rattle.ga_rollback.proofs.Rewinding.{run_snoc}
 use Rattle.ga_lab.specs.declared.fault.LabFault.TheVariants.{Full, Spent}
-use Rattle.ga_lab.specs.Machine.{State, initial_state, chip_of, made_next_event, answer_to_event, with_event, unless_refused, state_after_step, state_after_undo, acting_node, state_after_steps}
+use Rattle.ga_lab.specs.Machine.{State, initial_state, chip_of, made_next_event, answer_to_event, with_event, state_unless_refused, state_after_step, state_after_undo, acting_node, state_after_steps}
 use Rattle.ga_causal.proofs.Runs.{run_more}
 
 -- An enabled event is the next of its node, a pass that of its writer.
@@ -51,7 +51,7 @@ both : (x y : Bool) → (x && y) ≡ true → (x ≡ true) × (y ≡ true)
 both true y h = (refl, h)
 both false y h = absurd (cc)
 
-matched_is : (b : Bool) → unmatched_unless b ≡ None → b ≡ true
+matched_is : (b : Bool) → refusal_unless_matched b ≡ None → b ≡ true
 matched_is true h = refl
 matched_is false h = absurd (cc)
 
@@ -111,7 +111,7 @@ applied chip e es h = go (refusal_of chip e) refl h
     go2 None c t g = g
     go2 (Some r) c t g = refl
 
-    go : (o : Option NotReady) → refusal_of chip e ≡ o
+    go : (o : Option EventRefusal) → refusal_of chip e ≡ o
         → IsSome (option_map {U = List NodeRecord} (λ done. done.0) (option_and_then {U = List NodeRecord × List (Cause × EventOutcome)} (λ first. option_map {U = List NodeRecord × List (Cause × EventOutcome)} (λ rest. (rest.0, (Rattle.ga_event.specs.Apply.cause_of chip e, first.1) ∷ rest.1)) (run first.0 es)) (some_if_allowed o (after chip e))))
         → Applied chip e es
     go None is g = record { can = is; others = go2 (run (after chip e).0 es) (Rattle.ga_event.specs.Apply.cause_of chip e) (after chip e).1 g }
@@ -126,8 +126,8 @@ steps_on load c limit xs ts e ran can room count =
     let answer : answer_to_event s (Ok e) ≡ Ok (made_next_event s e) =
     cond-false (nat_le limit (length xs)) (Err Full) _ (lt-leb limit (length xs) room)
     ∙ cond-false (nat_le (2 ^ 64 - 1) (length xs)) (Err Spent) _ (lt-leb (2 ^ 64 - 1) (length xs) count) in
-    ap (λ z. unless_refused s (answer_to_event s z) (with_event s z)) is
-    ∙ ap (λ (z : Result Made Rattle.ga_lab.specs.declared.fault.LabFault.LabFault). unless_refused s z (with_event s (Ok e))) answer
+    ap (λ z. state_unless_refused s (answer_to_event s z) (with_event s z)) is
+    ∙ ap (λ (z : Result Made Rattle.ga_lab.specs.declared.fault.LabFault.LabFault). state_unless_refused s z (with_event s (Ok e))) answer
     ∙ ap (λ z. let a : State = record { load = load; limit = limit; kept = xs ++ e ∷ []; made = z } in a) (sym (length_push xs e))
 
 reach : (load c : List NodeRecord) (limit : ℕ) (xs : List Event) (ts : List (Cause × EventOutcome)) (ys : List Event) → run load xs ≡ Some (c, ts) → IsSome (replay c ys)
@@ -178,8 +178,8 @@ steps_at s c xs ts e ran can room count =
     let answer : answer_to_event t (Ok e) ≡ Ok (made_next_event t e) =
     cond-false (nat_le s.limit (length xs)) (Err Full) _ (lt-leb s.limit (length xs) room)
     ∙ cond-false (nat_le (2 ^ 64 - 1) s.made) (Err Spent) _ (lt-leb (2 ^ 64 - 1) s.made count) in
-    ap (λ z. unless_refused t (answer_to_event t z) (with_event t z)) is
-    ∙ ap (λ (z : Result Made Rattle.ga_lab.specs.declared.fault.LabFault.LabFault). unless_refused t z (with_event t (Ok e))) answer
+    ap (λ z. state_unless_refused t (answer_to_event t z) (with_event t z)) is
+    ∙ ap (λ (z : Result Made Rattle.ga_lab.specs.declared.fault.LabFault.LabFault). state_unless_refused t z (with_event t (Ok e))) answer
 
 pub undo_is_redone_by_step : (s : State) (xs : List Event) (e : Event) → IsSome (replay s.load s.kept) → s.kept ≡ xs ++ e ∷ [] → length s.kept ≤ s.limit → s.made < 2 ^ 64 - 1
     → state_after_step (state_after_undo s) (acting_node e) ≡ record s { made = s.made + 1 }

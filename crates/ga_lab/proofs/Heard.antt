@@ -9,7 +9,7 @@ use Rattle.ga_ports.specs.declared.side.Side.TheVariants.{Right}
 use Rattle.ga_node.specs.Io.{io_word}
 use Rattle.ga_node.specs.Record.{NodeRecord, record_of, fresh_node}
 use Rattle.ga_node.specs.Table.{looks}
-use Rattle.ga_grid.specs.Chip.{nowhere, record_at}
+use Rattle.ga_grid.specs.Chip.{default_node, record_at}
 use Rattle.ga_event.specs.declared.event.Event.{Event}
 use Rattle.ga_event.specs.declared.event.Cause.{Cause}
 use Rattle.ga_event.specs.Touches.{touches}
@@ -18,9 +18,9 @@ use Rattle.ga_causal.specs.Words.{received_word, local_history_with_reads, look_
 use Rattle.ga_causal.proofs.Runs.{first_of_run, keeps_of, causes}
 use Rattle.ga_causal.proofs.Words.{Becomes, becomes_one, becomes_of, after_is, same_size}
 use Rattle.ga_event.specs.declared.made.Made.{Made}
-use Rattle.ga_event.specs.Told.{made_event_after, made_events_after, made_events_of}
+use Rattle.ga_event.specs.Told.{made_event_after, made_events_after, made_events_of_node}
 use Rattle.ga_lab.specs.Machine.{State, initial_state, chip_of, history_of, causes_of}
-use Rattle.ga_lab.specs.Calls.{MachineCall, after_calls}
+use Rattle.ga_lab.specs.Calls.{MachineCall, state_after_machine_calls}
 use Rattle.ga_lab.proofs.Called.{Runs, told_is, chip_is, first_runs, calls_load, causes_is}
 use Rattle.ga_causal.specs.Dependence.{HasNoLooks}
 use Rattle.ga_causal.proofs.Equivalences.{touched_of}
@@ -107,42 +107,42 @@ node_alike s z n r q load told words =
     let here : length s.load ≡ length r.last = same_size s.load r.last s.kept r.told r.run_is in
     let there : length z.load ≡ length q.last = same_size z.load q.last z.kept q.told q.run_is in
     let size : length s.load ≡ length z.load = ap length load in
-    let same : made_events_of r.told n ≡ made_events_of q.told n = ap (λ x. made_events_of x n) (sym (told_is s r)) ∙ told ∙ ap (λ x. made_events_of x n) (told_is z q) in
+    let same : made_events_of_node r.told n ≡ made_events_of_node q.told n = ap (λ x. made_events_of_node x n) (sym (told_is s r)) ∙ told ∙ ap (λ x. made_events_of_node x n) (told_is z q) in
     let last : record_at r.last n ≡ record_at q.last n = elim (cases_lt n (length s.load)) [
-      | inl l ↦ traced_one n (record_at s.load n) (made_events_of r.told n) (io_words_read n s.load s.kept) (record_at r.last n) (record_at q.last n)
+      | inl l ↦ traced_one n (record_at s.load n) (made_events_of_node r.told n) (io_words_read n s.load s.kept) (record_at r.last n) (record_at q.last n)
           (traced n s.load r.last s.kept r.told [] l r.run_is)
-          (subst (λ x. Traced n (record_at s.load n) (made_events_of r.told n) x (record_at q.last n)) (sym words)
+          (subst (λ x. Traced n (record_at s.load n) (made_events_of_node r.told n) x (record_at q.last n)) (sym words)
           (subst (λ x. Traced n (record_at s.load n) x (io_words_read n z.load z.kept) (record_at q.last n)) (sym same)
-          (subst (λ c. Traced n (record_at c n) (made_events_of q.told n) (io_words_read n z.load z.kept) (record_at q.last n)) (sym load)
+          (subst (λ c. Traced n (record_at c n) (made_events_of_node q.told n) (io_words_read n z.load z.kept) (record_at q.last n)) (sym load)
           (traced n z.load q.last z.kept q.told [] (omega (arith, l, size)) q.run_is))))
-      | inr l ↦ get_or_past r.last n (record_of nowhere) (omega (arith, l, here)) ∙ sym (get_or_past q.last n (record_of nowhere) (omega (arith, l, size, there)))
+      | inr l ↦ get_or_past r.last n (record_of default_node) (omega (arith, l, here)) ∙ sym (get_or_past q.last n (record_of default_node) (omega (arith, l, size, there)))
     ] in
     ap (λ c. record_at c n) (chip_is s r) ∙ last ∙ sym (ap (λ c. record_at c n) (chip_is z q))
 
 pub same_node : (load : List NodeRecord) (limit bound : ℕ) (calls others : List MachineCall) (n : ℕ)
-    → history_of (after_calls (initial_state load limit) calls) n ≡ history_of (after_calls (initial_state load bound) others) n
-    → io_words_read n load (after_calls (initial_state load limit) calls).kept ≡ io_words_read n load (after_calls (initial_state load bound) others).kept
-    → record_at (chip_of (after_calls (initial_state load limit) calls)) n ≡ record_at (chip_of (after_calls (initial_state load bound) others)) n
+    → history_of (state_after_machine_calls (initial_state load limit) calls) n ≡ history_of (state_after_machine_calls (initial_state load bound) others) n
+    → io_words_read n load (state_after_machine_calls (initial_state load limit) calls).kept ≡ io_words_read n load (state_after_machine_calls (initial_state load bound) others).kept
+    → record_at (chip_of (state_after_machine_calls (initial_state load limit) calls)) n ≡ record_at (chip_of (state_after_machine_calls (initial_state load bound) others)) n
 same_node load limit bound calls others n told words =
-    let s = after_calls (initial_state load limit) calls in
-    let z = after_calls (initial_state load bound) others in
+    let s = state_after_machine_calls (initial_state load limit) calls in
+    let z = state_after_machine_calls (initial_state load bound) others in
     let at : s.load ≡ load = calls_load (initial_state load limit) calls in
     let to : z.load ≡ load = calls_load (initial_state load bound) others in
     node_alike s z n (first_runs load limit calls) (first_runs load bound others) (at ∙ sym to) told
     (ap (λ c. io_words_read n c s.kept) at ∙ words ∙ sym (ap (λ c. io_words_read n c z.kept) to))
 
 pub same_chip : (load : List NodeRecord) (limit bound : ℕ) (calls others : List MachineCall)
-    → ((n : ℕ) → history_of (after_calls (initial_state load limit) calls) n ≡ history_of (after_calls (initial_state load bound) others) n)
-    → ((n : ℕ) → io_words_read n load (after_calls (initial_state load limit) calls).kept ≡ io_words_read n load (after_calls (initial_state load bound) others).kept)
-    → chip_of (after_calls (initial_state load limit) calls) ≡ chip_of (after_calls (initial_state load bound) others)
+    → ((n : ℕ) → history_of (state_after_machine_calls (initial_state load limit) calls) n ≡ history_of (state_after_machine_calls (initial_state load bound) others) n)
+    → ((n : ℕ) → io_words_read n load (state_after_machine_calls (initial_state load limit) calls).kept ≡ io_words_read n load (state_after_machine_calls (initial_state load bound) others).kept)
+    → chip_of (state_after_machine_calls (initial_state load limit) calls) ≡ chip_of (state_after_machine_calls (initial_state load bound) others)
 same_chip load limit bound calls others told words =
-    let s = after_calls (initial_state load limit) calls in
-    let z = after_calls (initial_state load bound) others in
+    let s = state_after_machine_calls (initial_state load limit) calls in
+    let z = state_after_machine_calls (initial_state load bound) others in
     let r : Runs s = first_runs load limit calls in
     let q : Runs z = first_runs load bound others in
     let here : length load ≡ length (chip_of s) = ap length (sym (calls_load (initial_state load limit) calls)) ∙ same_size s.load r.last s.kept r.told r.run_is ∙ ap length (sym (chip_is s r)) in
     let there : length load ≡ length (chip_of z) = ap length (sym (calls_load (initial_state load bound) others)) ∙ same_size z.load q.last z.kept q.told q.run_is ∙ ap length (sym (chip_is z q)) in
-    ext_get_or (record_of nowhere) (chip_of s) (chip_of z) (sym here ∙ there) (λ n l. same_node load limit bound calls others n (told n) (words n))
+    ext_get_or (record_of default_node) (chip_of s) (chip_of z) (sym here ∙ there) (λ n l. same_node load limit bound calls others n (told n) (words n))
 
 -- ---- if no event of a machine looks, none does in another with the same histories
 
@@ -174,12 +174,12 @@ traced_silent n x (m ∷ ms) ws y z (u, word, vs, b, t, l) (v, other, us, c, w, 
     same.2 ∙ traced_silent n v ms us y z (subst (λ o. Traced n v ms o y) same.1 (subst (λ o. Traced n o ms vs y) at l)) k
 
 -- past the end of a chip nobody looks
-blind_nowhere : looks (record_of nowhere) ≡ false
+blind_nowhere : looks (record_of default_node) ≡ false
 unfolding looks record_of fresh_node
 blind_nowhere = refl
 
 blind_past : (c : List NodeRecord) (n : ℕ) → length c ≤ n → looks (record_at c n) ≡ false
-blind_past c n l = ap (λ z. looks z) (get_or_past c n (record_of nowhere) l) ∙ blind_nowhere
+blind_past c n l = ap (λ z. looks z) (get_or_past c n (record_of default_node) l) ∙ blind_nowhere
 
 no_word : (c : List NodeRecord) (e : Event) → is_look c e ≡ false → look_word e (received_word c e) ≡ []
 no_word c (event.Own node) h = ap option_to_list (cond-false (looks (record_at c node.number)) (Some (io_word (neighbour_states c node.number))) None h)
@@ -256,11 +256,11 @@ none_looks s z r q load none told = subst HasNoLooks (sym (causes_is z q)) (blin
     each : (n : ℕ) → io_words_read n z.load z.kept ≡ []
     each n = elim (cases_lt n (length z.load)) [
       | inl l ↦ (let size : length s.load ≡ length z.load = ap length load in
-          let same : made_events_of r.told n ≡ made_events_of q.told n = ap (λ x. made_events_of x n) (sym (told_is s r)) ∙ told n ∙ ap (λ x. made_events_of x n) (told_is z q) in
-          traced_silent n (record_at z.load n) (made_events_of q.told n) (io_words_read n z.load z.kept) (record_at r.last n) (record_at q.last n)
-          (subst (λ c. Traced n (record_at c n) (made_events_of q.told n) [] (record_at r.last n)) load
+          let same : made_events_of_node r.told n ≡ made_events_of_node q.told n = ap (λ x. made_events_of_node x n) (sym (told_is s r)) ∙ told n ∙ ap (λ x. made_events_of_node x n) (told_is z q) in
+          traced_silent n (record_at z.load n) (made_events_of_node q.told n) (io_words_read n z.load z.kept) (record_at r.last n) (record_at q.last n)
+          (subst (λ c. Traced n (record_at c n) (made_events_of_node q.told n) [] (record_at r.last n)) load
           (subst (λ x. Traced n (record_at s.load n) x [] (record_at r.last n)) same
-          (subst (λ x. Traced n (record_at s.load n) (made_events_of r.told n) x (record_at r.last n)) (words_blind n s.load r.last s.kept r.told r.run_is (subst HasNoLooks (causes_is s r) none))
+          (subst (λ x. Traced n (record_at s.load n) (made_events_of_node r.told n) x (record_at r.last n)) (words_blind n s.load r.last s.kept r.told r.run_is (subst HasNoLooks (causes_is s r) none))
           (traced n s.load r.last s.kept r.told [] (omega (arith, l, size)) r.run_is))))
           (traced n z.load q.last z.kept q.told [] l q.run_is))
       | inr l ↦ words_past n z.load q.last z.kept q.told l q.run_is

@@ -12,8 +12,8 @@ use Rattle.ga_causal.specs.Equivalence.{AreIndependent, AreEquivalent, same, swa
 use Rattle.ga_causal.proofs.Runs.{replay_equivalent}
 use Rattle.ga_causal.proofs.Taken.{removed_events_swap_to_end}
 use Rattle.ga_lab.specs.Machine.{State, initial_state, chip_of, causes_of, with_event, step_answer, state_after_step, state_after_rewind, acting_node, state_after_steps}
-use Rattle.ga_lab.specs.Calls.{MachineCall, step, undo, rewind, after_call, after_calls, AreEquivalentStates}
-use Rattle.ga_lab.specs.Sequences.{HasNoUndo, undos, AreCausallyEquivalent, itself, chained, before, more, onward, refused, cancelled, turned, rolled, removed_events}
+use Rattle.ga_lab.specs.Calls.{MachineCall, step, undo, rewind, state_after_machine_call, state_after_machine_calls, AreEquivalentStates}
+use Rattle.ga_lab.specs.Sequences.{HasNoUndo, undo_calls, AreCausallyEquivalent, itself, chained, before, more, onward, refused, cancelled, turned, rolled, removed_events}
 use Rattle.ga_lab.proofs.Alike.{equivalent_length, same_rewind}
 use Rattle.ga_lab.proofs.Called.{Runs, runs_of, with_kept, causes_is, chip_is}
 use Rattle.ga_lab.proofs.Forward.{made_is_next, Applied, applied, reachable_by_steps}
@@ -31,11 +31,11 @@ at s xs = record { load = s.load; limit = s.limit; kept = xs; made = length xs }
 abbrev pub load_of : State → State
 load_of s = initial_state s.load s.limit
 
-called_steps : (s : State) (xs : List Event) → after_calls s (steps_for xs) ≡ state_after_steps s (map acting_node xs)
+called_steps : (s : State) (xs : List Event) → state_after_machine_calls s (steps_for xs) ≡ state_after_steps s (map acting_node xs)
 called_steps s [] = refl
 called_steps s (e ∷ xs) = called_steps (state_after_step s (acting_node e)) xs
 
-steps_reach : (s : State) (xs : List Event) → IsSome (replay s.load xs) → length xs ≤ s.limit → length xs < 2 ^ 64 → after_calls (load_of s) (steps_for xs) ≡ at s xs
+steps_reach : (s : State) (xs : List Event) → IsSome (replay s.load xs) → length xs ≤ s.limit → length xs < 2 ^ 64 → state_after_machine_calls (load_of s) (steps_for xs) ≡ at s xs
 steps_reach s xs some room count = called_steps (load_of s) xs ∙ reachable_by_steps (at s xs) some room count
 
 steps_named : (xs : List Event) → HasNoUndo (steps_for xs)
@@ -47,9 +47,9 @@ steps_length [] = refl
 steps_length (e ∷ xs) = ap suc (steps_length xs)
 
 -- the same calls before both
-prefixed : (s : State) (ws xs ys : List MachineCall) → AreCausallyEquivalent (after_calls s ws) xs ys → AreCausallyEquivalent s (ws ++ xs) (ws ++ ys)
+prefixed : (s : State) (ws xs ys : List MachineCall) → AreCausallyEquivalent (state_after_machine_calls s ws) xs ys → AreCausallyEquivalent s (ws ++ xs) (ws ++ ys)
 prefixed s [] xs ys h = h
-prefixed s (call ∷ ws) xs ys h = before (prefixed (after_call s call) ws xs ys h)
+prefixed s (call ∷ ws) xs ys h = before (prefixed (state_after_machine_call s call) ws xs ys h)
 
 -- Steps for equivalent lists are causally equivalent.
 swaps : (s : State) (r : Runs s) (c : List NodeRecord) (xs ys : List Event) → r.last ≡ c → AreEquivalent c xs ys → IsSome (replay c xs) → length s.kept + length xs ≤ s.limit → s.made + length xs < 2 ^ 64 → AreCausallyEquivalent s (steps_for xs) (steps_for ys)
@@ -124,7 +124,7 @@ Fits-front s xs e is f =
     let n : length s.kept ≡ length xs + 1 = ap length is ∙ length_push xs e in
     record { some = front_some s.load xs (e ∷ []) (subst (λ z. IsSome (replay s.load z)) is f.some); room = omega (arith, a, n); count = omega (arith, b, n) }
 
-pub reach : (s : State) → Fits s → after_calls (load_of s) (steps_for s.kept) ≡ at s s.kept
+pub reach : (s : State) → Fits s → state_after_machine_calls (load_of s) (steps_for s.kept) ≡ at s s.kept
 reach s f = steps_reach s s.kept f.some f.room f.count
 
 -- from the machine with the list on, a call is these
@@ -132,7 +132,7 @@ pub behind : (s : State) (xs ys : List MachineCall) → Fits s → AreCausallyEq
 behind s xs ys f h = prefixed (load_of s) (steps_for s.kept) xs ys (subst (λ z. AreCausallyEquivalent z xs ys) (sym (reach s f)) h)
 
 -- a call that is refused
-pub one_refused : (s : State) (call : MachineCall) → Fits s → after_call (at s s.kept) call ≡ at s s.kept → AreCausallyEquivalent (load_of s) (steps_for s.kept ++ call ∷ []) (steps_for s.kept)
+pub one_refused : (s : State) (call : MachineCall) → Fits s → state_after_machine_call (at s s.kept) call ≡ at s s.kept → AreCausallyEquivalent (load_of s) (steps_for s.kept ++ call ∷ []) (steps_for s.kept)
 one_refused s call f q = subst (λ z. AreCausallyEquivalent (load_of s) (steps_for s.kept ++ call ∷ []) z) (append-nil (steps_for s.kept)) (behind s (call ∷ []) [] f (refused q))
 
 pub one_undo : (s : State) (xs : List Event) (e : Event) → s.kept ≡ xs ++ e ∷ [] → Fits s → AreCausallyEquivalent (load_of s) (steps_for s.kept ++ undo ∷ []) (steps_for xs)
@@ -152,7 +152,7 @@ one_undo s xs e is f =
 pub ends_at : (s : State) (ws : List MachineCall) → Fits s → ended (load_of s) (steps_for s.kept ++ ws) ≡ ended (at s s.kept) ws
 ends_at s ws f = ap (λ (z : State). z.kept) (called_append (load_of s) (steps_for s.kept) ws) ∙ ap (λ (z : State). ended z ws) (reach s f)
 
-undo_all : (s : State) (xs ys : List Event) (m : ℕ) → length ys ≡ m → s.kept ≡ xs ++ ys → after_calls s (undos m) ≡ with_kept s xs
+undo_all : (s : State) (xs ys : List Event) (m : ℕ) → length ys ≡ m → s.kept ≡ xs ++ ys → state_after_machine_calls s (undo_calls m) ≡ with_kept s xs
 undo_all s xs [] zero n is = ap (with_kept s) (is ∙ append-nil xs)
 undo_all s xs [] (suc m) n is = absurd (omega (arith, n))
 undo_all s xs (y ∷ ys) zero n is = absurd (omega (arith, n))
@@ -161,14 +161,14 @@ undo_all s xs (y ∷ ys) (suc m) n is =
     let q : s.kept ≡ (xs ++ l.front) ++ l.event ∷ [] = is ∙ ap (λ z. xs ++ z) l.is ∙ sym (append_assoc xs l.front (l.event ∷ [])) in
     let k : suc (length ys) ≡ length l.front + 1 = ap length l.is ∙ length_push l.front l.event in
     let n2 : suc (length ys) ≡ suc m = n in
-    ap (λ z. after_calls z (undos m)) (undone_last s (xs ++ l.front) l.event q)
+    ap (λ z. state_after_machine_calls z (undo_calls m)) (undone_last s (xs ++ l.front) l.event q)
     ∙ undo_all (with_kept s (xs ++ l.front)) xs l.front m (omega (arith, k, n2)) refl
 
-undos_length : (m : ℕ) → length (undos m) ≡ m
+undos_length : (m : ℕ) → length (undo_calls m) ≡ m
 undos_length zero = refl
 undos_length (suc m) = ap suc (undos_length m)
 
-one_undos : (s : State) (xs ys : List Event) (m : ℕ) → length ys ≡ m → s.kept ≡ xs ++ ys → Fits s → length s.kept + m < 2 ^ 64 → AreCausallyEquivalent (load_of s) (steps_for s.kept ++ undos m) (steps_for xs)
+one_undos : (s : State) (xs ys : List Event) (m : ℕ) → length ys ≡ m → s.kept ≡ xs ++ ys → Fits s → length s.kept + m < 2 ^ 64 → AreCausallyEquivalent (load_of s) (steps_for s.kept ++ undo_calls m) (steps_for xs)
 one_undos s xs [] zero n is f l = subst (λ z. AreCausallyEquivalent (load_of s) z (steps_for xs)) (sym (append-nil (steps_for s.kept) ∙ ap steps_for (is ∙ append-nil xs))) itself
 one_undos s xs [] (suc m) n is f l = absurd (omega (arith, n))
 one_undos s xs (y ∷ ys) zero n is f l = absurd (omega (arith, n))
@@ -183,12 +183,12 @@ one_undos s xs (y ∷ ys) (suc m) n is f l =
     let one : AreCausallyEquivalent (load_of s) (steps_for s.kept ++ undo ∷ []) (steps_for (xs ++ w.front)) = one_undo s (xs ++ w.front) w.event q f in
     let alike : ended (load_of s) (steps_for s.kept ++ undo ∷ []) ≡ ended (load_of s) (steps_for (xs ++ w.front)) =
     ends_at s (undo ∷ []) f ∙ ap (λ (z : State). z.kept) (undone_last (at s s.kept) (xs ++ w.front) w.event q) ∙ ap (λ (z : State). z.kept) (sym (reach (with_kept s (xs ++ w.front)) g)) in
-    let a : length ((steps_for s.kept ++ undo ∷ []) ++ undos m) ≡ length s.kept + 1 + m =
-    length-append (steps_for s.kept ++ undo ∷ []) (undos m) ∙ ap₂ (λ (u v : ℕ). u + v) (length_push (steps_for s.kept) undo ∙ ap (λ (z : ℕ). z + 1) (steps_length s.kept)) (undos_length m) in
-    let b : length (steps_for (xs ++ w.front) ++ undos m) ≡ length (xs ++ w.front) + m =
-    length-append (steps_for (xs ++ w.front)) (undos m) ∙ ap₂ (λ (u v : ℕ). u + v) (steps_length (xs ++ w.front)) (undos_length m) in
-    subst (λ z. AreCausallyEquivalent (load_of s) z (steps_for xs)) (append_assoc (steps_for s.kept) (undo ∷ []) (undos m))
-    (chained (onward (steps_for s.kept ++ undo ∷ []) (steps_for (xs ++ w.front)) (undos m) alike (omega (arith, l, a)) (omega (arith, l, b, long)) one)
+    let a : length ((steps_for s.kept ++ undo ∷ []) ++ undo_calls m) ≡ length s.kept + 1 + m =
+    length-append (steps_for s.kept ++ undo ∷ []) (undo_calls m) ∙ ap₂ (λ (u v : ℕ). u + v) (length_push (steps_for s.kept) undo ∙ ap (λ (z : ℕ). z + 1) (steps_length s.kept)) (undos_length m) in
+    let b : length (steps_for (xs ++ w.front) ++ undo_calls m) ≡ length (xs ++ w.front) + m =
+    length-append (steps_for (xs ++ w.front)) (undo_calls m) ∙ ap₂ (λ (u v : ℕ). u + v) (steps_length (xs ++ w.front)) (undos_length m) in
+    subst (λ z. AreCausallyEquivalent (load_of s) z (steps_for xs)) (append_assoc (steps_for s.kept) (undo ∷ []) (undo_calls m))
+    (chained (onward (steps_for s.kept ++ undo ∷ []) (steps_for (xs ++ w.front)) (undo_calls m) alike (omega (arith, l, a)) (omega (arith, l, b, long)) one)
     (one_undos (with_kept s (xs ++ w.front)) xs w.front m (omega (arith, k, n2)) refl g (omega (arith, l, long))))
 
 -- A rollback that takes no look.
@@ -207,7 +207,7 @@ events_join [] ys = refl
 events_join (x ∷ xs) ys = ap (λ z. x.event ∷ z) (events_join xs ys)
 
 -- from the list with what is taken at its end, the rollback is undos
-parted_undos : (s z : State) (n k : ℕ) (left gone : List Event) → IsSome (replay s.load s.kept) → AreEquivalentStates s z → z.kept ≡ left ++ gone → (state_after_rewind s n k).kept ≡ left → AreEquivalentStates (state_after_rewind z n k) (after_calls z (undos (length gone)))
+parted_undos : (s z : State) (n k : ℕ) (left gone : List Event) → IsSome (replay s.load s.kept) → AreEquivalentStates s z → z.kept ≡ left ++ gone → (state_after_rewind s n k).kept ≡ left → AreEquivalentStates (state_after_rewind z n k) (state_after_machine_calls z (undo_calls (length gone)))
 parted_undos s z n k left gone some a is q =
     let b : AreEquivalentStates (state_after_rewind s n k) (state_after_rewind z n k) = (same_rewind s z n k some a).1 in
     subst (λ x. AreEquivalentStates (state_after_rewind z n k) x) (sym (undo_all z left gone (length gone) refl is))
@@ -228,12 +228,12 @@ one_parted s n k left gone f l e q =
     let count : length s.kept < 2 ^ 64 = f.count in
     let g : Fits (with_kept s ys) = record { some = subst IsSome (replay_equivalent s.load s.kept ys e) f.some; room = omega (arith, room, same_length); count = omega (arith, count, same_length) } in
     let here : AreEquivalentStates (counting s (length ys)) (at s ys) = record { load = refl; limit = refl; made = refl; kept = e } in
-    let undone_to : AreCausallyEquivalent (at s ys) (rewind n k ∷ []) (undos (length gone)) =
+    let undone_to : AreCausallyEquivalent (at s ys) (rewind n k ∷ []) (undo_calls (length gone)) =
     rolled (length gone) (parted_undos (counting s (length ys)) (at s ys) n k left gone f.some here refl q) in
     let a : length (steps_for s.kept ++ rewind n k ∷ []) ≡ length s.kept + 1 = length_push (steps_for s.kept) (rewind n k) ∙ ap (λ (z : ℕ). z + 1) (steps_length s.kept) in
     let b : length (steps_for ys ++ rewind n k ∷ []) ≡ length ys + 1 = length_push (steps_for ys) (rewind n k) ∙ ap (λ (z : ℕ). z + 1) (steps_length ys) in
     chained (more (steps_for s.kept) (steps_for ys) (rewind n k ∷ []) tt (big a) (big2 b same_length) (swaps_all s s.kept ys e f.some f.room f.count))
-    (chained (behind (with_kept s ys) (rewind n k ∷ []) (undos (length gone)) g undone_to)
+    (chained (behind (with_kept s ys) (rewind n k ∷ []) (undo_calls (length gone)) g undone_to)
     (one_undos (with_kept s ys) left gone (length gone) refl refl g (omega (arith, l, same_length, parts))))
   where
     big : length (steps_for s.kept ++ rewind n k ∷ []) ≡ length s.kept + 1 → 0 + length (steps_for s.kept ++ rewind n k ∷ []) < 2 ^ 64

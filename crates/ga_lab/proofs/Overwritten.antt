@@ -1,11 +1,11 @@
 -- The value of a place right before a step, by the step's entry.
 use Rattle.std.proofs.Common.{◌≡◌, ℕ, zero, suc, ◌≤◌, List, [], ◌∷◌, ◌++◌, length, take, drop, refl, sym, ◌∙◌, ap, subst, arith, ◌+◌, ◌<◌, ◌==◌, Bool, true, false, cond, Option, Some, None, ⊎_elim}
 use Rattle.std.proofs.lemmas.List.{take-append-drop, length-set, get_or-set_same, get_or-set_other}
-use Rattle.ga_node.specs.Record.{NodeState, NodeRecord, HasSizes, record_of}
-use Rattle.ga_event.specs.Undo.{CanRestore}
+use Rattle.ga_node.specs.Record.{NodeState, NodeRecord, HasListSizes, record_of}
+use Rattle.ga_event.specs.Undo.{CanRestoreNode}
 use Rattle.ga_event.specs.Told.{count_steps}
 use Rattle.ga_journal.specs.Histories.{EntryRecord, JournalState, history}
-use Rattle.ga_journal.specs.Walked.{node_before_entries, CanRestoreEntries, old_value_or, among, value_before_entry, overwritten_value}
+use Rattle.ga_journal.specs.Walked.{node_before_entries, CanRestoreEntries, old_value_of_place_or, old_value_among, value_before_entry, overwritten_value}
 use Rattle.ga_journal.proofs.Logs.{steps_log}
 use Rattle.ga_lab.specs.inner.LabInvariant.{MatchesLog, state_of}
 use Rattle.ga_lab.proofs.Stepping.{whole_of}
@@ -16,17 +16,17 @@ use Rattle.std.proofs.lemmas.Bool.{eqb-true, eqb-false}
 use Rattle.std.proofs.lemmas.Option.{none-some, slice_get_cases}
 use Rattle.ga_node.specs.declared.place.Place.{Place}
 use Rattle.ga_node.specs.declared.place.Place.TheVariants.{P, A, B, Ram, Wait}
-use Rattle.ga_node.specs.State.{wait_of, with_restored_values, with_value, IsInRange, AreValuesInRange}
+use Rattle.ga_node.specs.State.{wait_of_code, with_restored_values, with_value, IsPlaceValueInRange, AreValuesInRange}
 use Rattle.ga_grid.specs.Chip.{node_at, record_at}
 use Rattle.ga_journal.proofs.Walks.{overwritten_within, walked_one, can_one}
-use Rattle.ga_lab.specs.Machine.{chip_of, earlier}
+use Rattle.ga_lab.specs.Machine.{chip_of, earlier_state}
 use Rattle.ga_lab.specs.Holding.{HoldsValue}
 
 -- ---- A node walked back in parts
 
 can-append : (now : NodeState) (older newer : List EntryRecord) → CanRestoreEntries now (older ++ newer) → CanRestoreEntries (node_before_entries now newer) older
 can-append now [] newer can = tt
-can-append now (x ∷ xs) newer can = (subst (λ (z : NodeState). CanRestore z x.saved) (walked-append now xs newer) can.0, can-append now xs newer can.1)
+can-append now (x ∷ xs) newer can = (subst (λ (z : NodeState). CanRestoreNode z x.saved) (walked-append now xs newer) can.0, can-append now xs newer can.1)
 
 between : (to from : ℕ) (h : List EntryRecord) → to ≤ from → drop to h ≡ drop to (take from h) ++ drop from h
 between zero from h l = sym (take-append-drop from h)
@@ -71,8 +71,8 @@ left_ram : (ram : List ℕ) (cell other old value : ℕ) (later : Option ℕ) (s
 left_ram ram cell other old value later true is rest h = absurd (none-some old (sym h))
 left_ram ram cell other old value later false is rest h = get_or-set_other ram other cell old _ (eqb-false cell other is) ∙ rest h
 
-holds_old : (what place : Place) (old value : ℕ) (node : NodeState) (later : Option ℕ) → IsInRange place old → length node.ram ≡ 64
-    → (later ≡ Some value → HoldsValue (record_of node) what value) → old_value_or what place old later ≡ Some value → HoldsValue (record_of (with_value node place old)) what value
+holds_old : (what place : Place) (old value : ℕ) (node : NodeState) (later : Option ℕ) → IsPlaceValueInRange place old → length node.ram ≡ 64
+    → (later ≡ Some value → HoldsValue (record_of node) what value) → old_value_of_place_or what place old later ≡ Some value → HoldsValue (record_of (with_value node place old)) what value
 unfolding record_of
 holds_old P P old value node later fit size rest h = same_some h
 holds_old P place old value node later fit size rest h = rest h
@@ -80,7 +80,7 @@ holds_old A A old value node later fit size rest h = same_some h
 holds_old A place old value node later fit size rest h = rest h
 holds_old B B old value node later fit size rest h = same_some h
 holds_old B place old value node later fit size rest h = rest h
-holds_old Wait Wait old value node later fit size rest h = ap wait_of (same_some h)
+holds_old Wait Wait old value node later fit size rest h = ap wait_of_code (same_some h)
 holds_old Wait place old value node later fit size rest h = rest h
 holds_old (Ram cell) (Ram other) old value node later fit size rest h =
     written_ram node.ram cell other old value later (cell == other) refl (omega (arith, fit.0, size)) rest h
@@ -88,7 +88,7 @@ holds_old (Ram cell) place old value node later fit size rest h = rest h
 holds_old what place old value node later fit size rest h = tt
 
 holds_left : (what place : Place) (old value : ℕ) (node : NodeState) (later : Option ℕ)
-    → (later ≡ None → HoldsValue (record_of node) what value) → old_value_or what place old later ≡ None → HoldsValue (record_of (with_value node place old)) what value
+    → (later ≡ None → HoldsValue (record_of node) what value) → old_value_of_place_or what place old later ≡ None → HoldsValue (record_of (with_value node place old)) what value
 unfolding record_of
 holds_left P P old value node later rest h = absurd (none-some old (sym h))
 holds_left P place old value node later rest h = rest h
@@ -102,24 +102,24 @@ holds_left (Ram cell) (Ram other) old value node later rest h = left_ram node.ra
 holds_left (Ram cell) place old value node later rest h = rest h
 holds_left what place old value node later rest h = tt
 
-fits_old : (what place : Place) (old value : ℕ) (later : Option ℕ) → IsInRange place old → (later ≡ Some value → IsInRange what value) → old_value_or what place old later ≡ Some value → IsInRange what value
-fits_old P P old value later fit rest h = subst (IsInRange P) (same_some h) fit
-fits_old A A old value later fit rest h = subst (IsInRange A) (same_some h) fit
-fits_old B B old value later fit rest h = subst (IsInRange B) (same_some h) fit
-fits_old Wait Wait old value later fit rest h = subst (IsInRange Wait) (same_some h) fit
+fits_old : (what place : Place) (old value : ℕ) (later : Option ℕ) → IsPlaceValueInRange place old → (later ≡ Some value → IsPlaceValueInRange what value) → old_value_of_place_or what place old later ≡ Some value → IsPlaceValueInRange what value
+fits_old P P old value later fit rest h = subst (IsPlaceValueInRange P) (same_some h) fit
+fits_old A A old value later fit rest h = subst (IsPlaceValueInRange A) (same_some h) fit
+fits_old B B old value later fit rest h = subst (IsPlaceValueInRange B) (same_some h) fit
+fits_old Wait Wait old value later fit rest h = subst (IsPlaceValueInRange Wait) (same_some h) fit
 fits_old (Ram cell) (Ram other) old value later fit rest h = by_cell (cell == other) refl h
   where
-    by_cell : (same : Bool) → (cell == other) ≡ same → cond same (Some old) later ≡ Some value → IsInRange (Ram cell) value
-    by_cell true is g = subst (IsInRange (Ram cell)) (same_some g) (subst (λ (k : ℕ). IsInRange (Ram k) old) (sym (eqb-true cell other is)) fit)
+    by_cell : (same : Bool) → (cell == other) ≡ same → cond same (Some old) later ≡ Some value → IsPlaceValueInRange (Ram cell) value
+    by_cell true is g = subst (IsPlaceValueInRange (Ram cell)) (same_some g) (subst (λ (k : ℕ). IsPlaceValueInRange (Ram k) old) (sym (eqb-true cell other is)) fit)
     by_cell false is g = rest g
 fits_old what place old value later fit rest h = rest h
 
 -- ---- all of an event, and of many
 
-fit_among : (what : Place) (saved : List (Place × ℕ)) (value : ℕ) → AreValuesInRange saved → among what saved ≡ Some value → IsInRange what value
+fit_among : (what : Place) (saved : List (Place × ℕ)) (value : ℕ) → AreValuesInRange saved → old_value_among what saved ≡ Some value → IsPlaceValueInRange what value
 unfolding AreValuesInRange
 fit_among what [] value fit h = absurd (none-some value h)
-fit_among what (x ∷ rest) value fit h = fits_old what x.0 x.1 value (among what rest) fit.0 (fit_among what rest value fit.1) h
+fit_among what (x ∷ rest) value fit h = fits_old what x.0 x.1 value (old_value_among what rest) fit.0 (fit_among what rest value fit.1) h
 
 size_with : (place : Place) (old : ℕ) (node : NodeState) → length (with_value node place old).ram ≡ length node.ram
 size_with (Ram cell) old node = length-set node.ram cell old
@@ -134,34 +134,34 @@ size_walked : (node : NodeState) (es : List EntryRecord) → length (node_before
 size_walked node [] = refl
 size_walked node (e ∷ es) = size_restored (node_before_entries node es) e.saved ∙ size_walked node es
 
-restored_old : (what : Place) (node : NodeState) (saved : List (Place × ℕ)) (value : ℕ) → AreValuesInRange saved → length node.ram ≡ 64 → among what saved ≡ Some value
+restored_old : (what : Place) (node : NodeState) (saved : List (Place × ℕ)) (value : ℕ) → AreValuesInRange saved → length node.ram ≡ 64 → old_value_among what saved ≡ Some value
     → HoldsValue (record_of (with_restored_values node saved)) what value
 unfolding with_restored_values AreValuesInRange
 restored_old what node [] value fit size h = absurd (none-some value h)
 restored_old what node (x ∷ rest) value fit size h =
-    holds_old what x.0 x.1 value (with_restored_values node rest) (among what rest) fit.0 (size_restored node rest ∙ size) (restored_old what node rest value fit.1 size) h
+    holds_old what x.0 x.1 value (with_restored_values node rest) (old_value_among what rest) fit.0 (size_restored node rest ∙ size) (restored_old what node rest value fit.1 size) h
 
-restored_left : (what : Place) (node : NodeState) (saved : List (Place × ℕ)) (value : ℕ) → HoldsValue (record_of node) what value → among what saved ≡ None
+restored_left : (what : Place) (node : NodeState) (saved : List (Place × ℕ)) (value : ℕ) → HoldsValue (record_of node) what value → old_value_among what saved ≡ None
     → HoldsValue (record_of (with_restored_values node saved)) what value
 unfolding with_restored_values
 restored_left what node [] value held h = held
 restored_left what node (x ∷ rest) value held h =
-    holds_left what x.0 x.1 value (with_restored_values node rest) (among what rest) (restored_left what node rest value held) h
+    holds_left what x.0 x.1 value (with_restored_values node rest) (old_value_among what rest) (restored_left what node rest value held) h
 
 walked_old : (now : NodeState) (h : List EntryRecord) (k value : ℕ) (what : Place) → length now.ram ≡ 64 → CanRestoreEntries now (drop k h) → overwritten_value h k what ≡ Some value
     → HoldsValue (record_of (node_before_entries now (drop k h))) what value
 walked_old now h k value what size can is = ⊎_elim
     (λ found.
-    let fit : CanRestore (node_before_entries now (drop (k + 1) h)) found.0.saved = can_one now h k found.0 found.2 can in
+    let fit : CanRestoreNode (node_before_entries now (drop (k + 1) h)) found.0.saved = can_one now h k found.0 found.2 can in
     subst (λ (z : NodeState). HoldsValue (record_of z) what value) (sym (walked_one now h k found.0 found.2))
     (restored_old what (node_before_entries now (drop (k + 1) h)) found.0.saved value fit.fit (size_walked now (drop (k + 1) h) ∙ size) (sym (ap (value_before_entry what) found.2) ∙ is)))
     (λ past. absurd (none-some value (sym (ap (value_before_entry what) past.1) ∙ is)))
     (slice_get_cases h k).1
 
-walked_fits : (now : NodeState) (h : List EntryRecord) (k value : ℕ) (what : Place) → CanRestoreEntries now (drop k h) → overwritten_value h k what ≡ Some value → IsInRange what value
+walked_fits : (now : NodeState) (h : List EntryRecord) (k value : ℕ) (what : Place) → CanRestoreEntries now (drop k h) → overwritten_value h k what ≡ Some value → IsPlaceValueInRange what value
 walked_fits now h k value what can is = ⊎_elim
     (λ found.
-    let fit : CanRestore (node_before_entries now (drop (k + 1) h)) found.0.saved = can_one now h k found.0 found.2 can in
+    let fit : CanRestoreNode (node_before_entries now (drop (k + 1) h)) found.0.saved = can_one now h k found.0 found.2 can in
     fit_among what found.0.saved value fit.fit (sym (ap (value_before_entry what) found.2) ∙ is))
     (λ past. absurd (none-some value (sym (ap (value_before_entry what) past.1) ∙ is)))
     (slice_get_cases h k).1
@@ -179,21 +179,21 @@ walked_left now h k value what l is held = ⊎_elim
 
 -- the record of a node after `at` of its steps
 there : (chip : List NodeState) (book : JournalState) (n at place : ℕ) → MatchesLog chip book → count_steps n (take place (state_of chip book).kept) ≡ at
-    → record_of (node_before_entries (node_at chip n) (drop at (history book.histories n))) ≡ record_at (chip_of (earlier (state_of chip book) place)) n
+    → record_of (node_before_entries (node_at chip n) (drop at (history book.histories n))) ≡ record_at (chip_of (earlier_state (state_of chip book) place)) n
 there chip book n at place tied so_many = peeked chip book n place at (node_before_entries (node_at chip n) (drop at (history book.histories n))) tied so_many refl
 
-ram_size : (node : NodeState) → HasSizes (record_of node) → length node.ram ≡ 64
+ram_size : (node : NodeState) → HasListSizes (record_of node) → length node.ram ≡ 64
 unfolding record_of
 ram_size node sizes = sizes.ram
 
-pub old_is : (chip : List NodeState) (book : JournalState) (n at value place : ℕ) (what : Place) → MatchesLog chip book → HasSizes (record_of (node_at chip n))
+pub old_is : (chip : List NodeState) (book : JournalState) (n at value place : ℕ) (what : Place) → MatchesLog chip book → HasListSizes (record_of (node_at chip n))
     → overwritten_value (history book.histories n) at what ≡ Some value → count_steps n (take place (state_of chip book).kept) ≡ at
-    → HoldsValue (record_at (chip_of (earlier (state_of chip book) place)) n) what value
+    → HoldsValue (record_at (chip_of (earlier_state (state_of chip book) place)) n) what value
 old_is chip book n at value place what tied sizes is so_many =
     subst (λ (z : NodeRecord). HoldsValue z what value) (there chip book n at place tied so_many)
     (walked_old (node_at chip n) (history book.histories n) at value what (ram_size (node_at chip n) sizes) (can_peek chip book n at tied) is)
 
-pub old_in_range : (chip : List NodeState) (book : JournalState) (n at value : ℕ) (what : Place) → MatchesLog chip book → overwritten_value (history book.histories n) at what ≡ Some value → IsInRange what value
+pub old_in_range : (chip : List NodeState) (book : JournalState) (n at value : ℕ) (what : Place) → MatchesLog chip book → overwritten_value (history book.histories n) at what ≡ Some value → IsPlaceValueInRange what value
 old_in_range chip book n at value what tied is = walked_fits (node_at chip n) (history book.histories n) at value what (can_peek chip book n at tied) is
 
 pub old_within : (chip : List NodeState) (book : JournalState) (n at value : ℕ) (what : Place) → MatchesLog chip book → overwritten_value (history book.histories n) at what ≡ Some value
@@ -205,7 +205,7 @@ old_within chip book n at value what tied is =
 pub stays_there : (chip : List NodeState) (book : JournalState) (n at before behind value : ℕ) (what : Place) → MatchesLog chip book
     → overwritten_value (history book.histories n) at what ≡ None
     → count_steps n (take before (state_of chip book).kept) ≡ at → count_steps n (take behind (state_of chip book).kept) ≡ at + 1
-    → HoldsValue (record_at (chip_of (earlier (state_of chip book) behind)) n) what value → HoldsValue (record_at (chip_of (earlier (state_of chip book) before)) n) what value
+    → HoldsValue (record_at (chip_of (earlier_state (state_of chip book) behind)) n) what value → HoldsValue (record_at (chip_of (earlier_state (state_of chip book) before)) n) what value
 stays_there chip book n at before behind value what tied is first second held =
     let within : at < length (history book.histories n) =
     (let front = steps_front n behind (state_of chip book).kept in let long = kept_long chip book n tied in omega (arith, front, long, second)) in

@@ -7,7 +7,7 @@ use Rattle.ga_event.specs.Apply.{EventOutcome, run, replay}
 use Rattle.ga_causal.specs.declared.chain.Link.{Link}
 use Rattle.ga_causal.specs.Dependence.{DependsOn, dependent_flags, without_flagged, rest, position_of_step, rest_or_all, events_after_rewind}
 use Rattle.ga_event.specs.Told.{events_of_causes}
-use Rattle.ga_causal.specs.Chains.{chain_of, links_to}
+use Rattle.ga_causal.specs.Chains.{chain_of, chain_links_to}
 use Rattle.ga_causal.proofs.Rollbacks.{rewound_twice}
 use Rattle.ga_event.specs.declared.event.Event.{Event}
 use Rattle.ga_causal.proofs.Runs.{run_rest}
@@ -69,14 +69,14 @@ of_none (Some i) h = absurd (cc)
 
 chain_none : (es : List Cause) (i q : ℕ) → slice_index_or (dependent_flags es i) q false ≡ false → chain_of es i q ≡ None
 unfolding chain_of
-chain_none es i q h = cond-false (slice_index_or (dependent_flags es i) q false) (Some (links_to (suc q) es i q)) None h
+chain_none es i q h = cond-false (slice_index_or (dependent_flags es i) q false) (Some (chain_links_to (suc q) es i q)) None h
 
-chain_some : (es : List Cause) (i q : ℕ) → slice_index_or (dependent_flags es i) q false ≡ true → chain_of es i q ≡ Some (links_to (suc q) es i q)
+chain_some : (es : List Cause) (i q : ℕ) → slice_index_or (dependent_flags es i) q false ≡ true → chain_of es i q ≡ Some (chain_links_to (suc q) es i q)
 unfolding chain_of
-chain_some es i q h = cond-true (slice_index_or (dependent_flags es i) q false) (Some (links_to (suc q) es i q)) None h
+chain_some es i q h = cond-true (slice_index_or (dependent_flags es i) q false) (Some (chain_links_to (suc q) es i q)) None h
 
 apart : (es : List Cause) (i q : ℕ) (w : Result (Option (List Link)) LabFault) → w ≡ Ok (chain_of es i q) → slice_index_or (dependent_flags es i) q false ≡ true → w ≡ Ok None → ⊥
-apart es i q w is t h = let p : Ok (Some (links_to (suc q) es i q)) ≡ Ok None = ap Ok (sym (chain_some es i q t)) ∙ sym is ∙ h in absurd (cc)
+apart es i q w is t h = let p : Ok (Some (chain_links_to (suc q) es i q)) ≡ Ok None = ap Ok (sym (chain_some es i q t)) ∙ sym is ∙ h in absurd (cc)
 
 explained : (es : List Cause) (n k m j i q : ℕ) (w : Result (Option (List Link)) LabFault) (b : Bool) → position_of_step es n k ≡ Some i → position_of_step es m j ≡ Some q
     → w ≡ Ok (chain_of es i q) → b ≡ is_some (position_of_step (rest es i) m j) → (w ≡ Ok None) ↔ (b ≡ true)

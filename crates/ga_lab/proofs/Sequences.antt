@@ -3,7 +3,7 @@ use Rattle.std.proofs.Common.{◌≡◌, ℕ, suc, ◌+◌, ◌-◌, ◌^◌, �
 use Rattle.std.specs.Prelude.{Option, Result, IsOk, nat_le, option_map, unwrap_or}
 use Rattle.std.proofs.lemmas.Bool.{cond-false, lt-leb}
 use Rattle.std.proofs.lemmas.List.{length_push, take-append-le}
-use Rattle.ga_node.specs.declared.kind.NotReady.{NotReady}
+use Rattle.ga_node.specs.declared.kind.EventRefusal.{EventRefusal}
 use Rattle.ga_node.specs.Record.{NodeRecord}
 use Rattle.ga_grid.specs.declared.node_id.NodeId.{NodeId}
 use Rattle.ga_event.specs.declared.event.Event.{Event}
@@ -18,9 +18,9 @@ use Rattle.ga_event.specs.declared.made.Made.{Made}
 use Rattle.ga_rollback.proofs.Rewinding.{run_snoc}
 use Rattle.ga_lab.specs.declared.fault.LabFault.{LabFault}
 use Rattle.ga_lab.specs.declared.fault.LabFault.TheVariants.{Full, Spent}
-use Rattle.ga_lab.specs.Machine.{State, chip_of, made_next_event, answer_to_event, with_event, step_answer, unless_refused, state_after_step, state_after_undo, acting_node}
-use Rattle.ga_lab.specs.Calls.{MachineCall, step, undo, rewind, after_call, after_calls, AreEquivalentStates}
-use Rattle.ga_lab.specs.Sequences.{HasNoUndo, CanCountAll, AreCausallyEquivalent, itself, back, chained, before, more, onward, refused, either, cancelled, turned, rolled}
+use Rattle.ga_lab.specs.Machine.{State, chip_of, made_next_event, answer_to_event, with_event, step_answer, state_unless_refused, state_after_step, state_after_undo, acting_node}
+use Rattle.ga_lab.specs.Calls.{MachineCall, step, undo, rewind, state_after_machine_call, state_after_machine_calls, AreEquivalentStates}
+use Rattle.ga_lab.specs.Sequences.{HasNoUndo, CanCountAllCalls, AreCausallyEquivalent, itself, back, chained, before, more, onward, refused, either, cancelled, turned, rolled}
 use Rattle.ga_lab.proofs.Alike.{same_step, same_rewind}
 use Rattle.ga_lab.proofs.Called.{Runs, with_kept, chip_is, call_runs, calls_run, runs_some, call_load, calls_load}
 use Rattle.ga_lab.proofs.Forward.{made_is_next}
@@ -57,90 +57,90 @@ counted_answer s e l = ap (λ (z : Result Made LabFault). cond (nat_le s.limit (
 step_counted : (s : State) (m : ℕ) (n : NodeId) → s.made < 2 ^ 64 - 1 → m < 2 ^ 64 - 1 → Counted (state_after_step s n) (state_after_step (counting s m) n) (m + 1)
 step_counted s m n l k = go (next (chip_of s) n)
   where
-    two : (e : Event) (full : Bool) (a b : Made) → Counted (unless_refused s (cond full (Err Full) (Ok a)) (with_event s (Ok e))) (unless_refused (counting s m) (cond full (Err Full) (Ok b)) (with_event (counting s m) (Ok e))) (m + 1)
+    two : (e : Event) (full : Bool) (a b : Made) → Counted (state_unless_refused s (cond full (Err Full) (Ok a)) (with_event s (Ok e))) (state_unless_refused (counting s m) (cond full (Err Full) (Ok b)) (with_event (counting s m) (Ok e))) (m + 1)
     two e true a b = record { made = m; least = omega arith; is = refl }
     two e false a b = record { made = m + 1; least = omega arith; is = refl }
 
-    go : (o : Result Event NotReady) → Counted (unless_refused s (answer_to_event s o) (with_event s o)) (unless_refused (counting s m) (answer_to_event (counting s m) o) (with_event (counting s m) o)) (m + 1)
+    go : (o : Result Event EventRefusal) → Counted (state_unless_refused s (answer_to_event s o) (with_event s o)) (state_unless_refused (counting s m) (answer_to_event (counting s m) o) (with_event (counting s m) o)) (m + 1)
     go (Err why) = record { made = m; least = omega arith; is = refl }
     go (Ok e) =
-        subst (λ (z : Result Made LabFault). Counted (unless_refused s z (with_event s (Ok e))) (unless_refused (counting s m) (answer_to_event (counting s m) (Ok e)) (with_event (counting s m) (Ok e))) (m + 1)) (sym (counted_answer s e l))
-        (subst (λ (z : Result Made LabFault). Counted (unless_refused s (cond (nat_le s.limit (length s.kept)) (Err Full) (Ok (made_next_event s e))) (with_event s (Ok e))) (unless_refused (counting s m) z (with_event (counting s m) (Ok e))) (m + 1)) (sym (counted_answer (counting s m) e k))
+        subst (λ (z : Result Made LabFault). Counted (state_unless_refused s z (with_event s (Ok e))) (state_unless_refused (counting s m) (answer_to_event (counting s m) (Ok e)) (with_event (counting s m) (Ok e))) (m + 1)) (sym (counted_answer s e l))
+        (subst (λ (z : Result Made LabFault). Counted (state_unless_refused s (cond (nat_le s.limit (length s.kept)) (Err Full) (Ok (made_next_event s e))) (with_event s (Ok e))) (state_unless_refused (counting s m) z (with_event (counting s m) (Ok e))) (m + 1)) (sym (counted_answer (counting s m) e k))
         (two e (nat_le s.limit (length s.kept)) (made_next_event s e) (made_next_event (counting s m) e)))
 
-call_counted : (s : State) (m : ℕ) (call : MachineCall) → s.made < 2 ^ 64 - 1 → m < 2 ^ 64 - 1 → Counted (after_call s call) (after_call (counting s m) call) (m + 1)
+call_counted : (s : State) (m : ℕ) (call : MachineCall) → s.made < 2 ^ 64 - 1 → m < 2 ^ 64 - 1 → Counted (state_after_machine_call s call) (state_after_machine_call (counting s m) call) (m + 1)
 call_counted s m (step n) l k = step_counted s m n l k
 call_counted s m undo l k = record { made = m; least = omega arith; is = refl }
 call_counted s m (rewind n j) l k = record { made = m; least = omega arith; is = refl }
 
-step_made : (s : State) (o : Result Event NotReady) (a : Result Made LabFault) → (unless_refused s a (with_event s o)).made ≤ s.made + 1
+step_made : (s : State) (o : Result Event EventRefusal) (a : Result Made LabFault) → (state_unless_refused s a (with_event s o)).made ≤ s.made + 1
 step_made s (Err why) (Ok told) = omega arith
 step_made s (Err why) (Err fault) = omega arith
 step_made s (Ok e) (Ok told) = omega arith
 step_made s (Ok e) (Err fault) = omega arith
 
-pub call_made : (s : State) (call : MachineCall) → (after_call s call).made ≤ s.made + 1
+pub call_made : (s : State) (call : MachineCall) → (state_after_machine_call s call).made ≤ s.made + 1
 call_made s (step n) = step_made s (next (chip_of s) n) (answer_to_event s (next (chip_of s) n))
 call_made s undo = omega arith
 call_made s (rewind n k) = omega arith
 
-pub calls_made : (s : State) (calls : List MachineCall) → (after_calls s calls).made ≤ s.made + length calls
+pub calls_made : (s : State) (calls : List MachineCall) → (state_after_machine_calls s calls).made ≤ s.made + length calls
 calls_made s [] = omega arith
 calls_made s (call ∷ calls) =
-    let a : (after_calls (after_call s call) calls).made ≤ (after_call s call).made + length calls = calls_made (after_call s call) calls in
-    let b : (after_call s call).made ≤ s.made + 1 = call_made s call in
-    let g : (after_calls (after_call s call) calls).made ≤ s.made + suc (length calls) = omega (arith, a, b) in g
+    let a : (state_after_machine_calls (state_after_machine_call s call) calls).made ≤ (state_after_machine_call s call).made + length calls = calls_made (state_after_machine_call s call) calls in
+    let b : (state_after_machine_call s call).made ≤ s.made + 1 = call_made s call in
+    let g : (state_after_machine_calls (state_after_machine_call s call) calls).made ≤ s.made + suc (length calls) = omega (arith, a, b) in g
 
-pub calls_counted : (s : State) (m : ℕ) (calls : List MachineCall) → s.made + length calls < 2 ^ 64 → m + length calls < 2 ^ 64 → (after_calls (counting s m) calls).kept ≡ (after_calls s calls).kept
+pub calls_counted : (s : State) (m : ℕ) (calls : List MachineCall) → s.made + length calls < 2 ^ 64 → m + length calls < 2 ^ 64 → (state_after_machine_calls (counting s m) calls).kept ≡ (state_after_machine_calls s calls).kept
 calls_counted s m [] l k = refl
 calls_counted s m (call ∷ calls) l k =
     let l2 : s.made + suc (length calls) < 2 ^ 64 = l in
     let k2 : m + suc (length calls) < 2 ^ 64 = k in
     let r = call_counted s m call (omega (arith, l2)) (omega (arith, k2)) in
     let least : r.made ≤ m + 1 = r.least in
-    let more : (after_call s call).made ≤ s.made + 1 = call_made s call in
-    ap (λ (z : State). (after_calls z calls).kept) r.is ∙ calls_counted (after_call s call) r.made calls (omega (arith, l2, more)) (omega (arith, k2, least))
+    let more : (state_after_machine_call s call).made ≤ s.made + 1 = call_made s call in
+    ap (λ (z : State). (state_after_machine_calls z calls).kept) r.is ∙ calls_counted (state_after_machine_call s call) r.made calls (omega (arith, l2, more)) (omega (arith, k2, least))
 
-step_limit : (s : State) (o : Result Event NotReady) (a : Result Made LabFault) → (unless_refused s a (with_event s o)).limit ≡ s.limit
+step_limit : (s : State) (o : Result Event EventRefusal) (a : Result Made LabFault) → (state_unless_refused s a (with_event s o)).limit ≡ s.limit
 step_limit s (Err why) (Ok told) = refl
 step_limit s (Err why) (Err fault) = refl
 step_limit s (Ok e) (Ok told) = refl
 step_limit s (Ok e) (Err fault) = refl
 
-pub call_limit : (s : State) (call : MachineCall) → (after_call s call).limit ≡ s.limit
+pub call_limit : (s : State) (call : MachineCall) → (state_after_machine_call s call).limit ≡ s.limit
 call_limit s (step n) = step_limit s (next (chip_of s) n) (answer_to_event s (next (chip_of s) n))
 call_limit s undo = refl
 call_limit s (rewind n k) = refl
 
-pub calls_limit : (s : State) (calls : List MachineCall) → (after_calls s calls).limit ≡ s.limit
+pub calls_limit : (s : State) (calls : List MachineCall) → (state_after_machine_calls s calls).limit ≡ s.limit
 calls_limit s [] = refl
-calls_limit s (call ∷ calls) = calls_limit (after_call s call) calls ∙ call_limit s call
+calls_limit s (call ∷ calls) = calls_limit (state_after_machine_call s call) calls ∙ call_limit s call
 
-pub called_append : (s : State) (xs ys : List MachineCall) → after_calls s (xs ++ ys) ≡ after_calls (after_calls s xs) ys
+pub called_append : (s : State) (xs ys : List MachineCall) → state_after_machine_calls s (xs ++ ys) ≡ state_after_machine_calls (state_after_machine_calls s xs) ys
 called_append s [] ys = refl
-called_append s (call ∷ xs) ys = called_append (after_call s call) xs ys
+called_append s (call ∷ xs) ys = called_append (state_after_machine_call s call) xs ys
 
 -- calls none of which is an undo, after two machines that are alike
-alike_calls : (s z : State) (calls : List MachineCall) → HasNoUndo calls → Runs s → AreEquivalentStates s z → AreEquivalentStates (after_calls s calls) (after_calls z calls)
+alike_calls : (s z : State) (calls : List MachineCall) → HasNoUndo calls → Runs s → AreEquivalentStates s z → AreEquivalentStates (state_after_machine_calls s calls) (state_after_machine_calls z calls)
 alike_calls s z [] named r a = a
 alike_calls s z (step n ∷ calls) named r a = alike_calls (state_after_step s n) (state_after_step z n) calls named (call_runs s (step n) r) ((same_step s z n a).1)
 alike_calls s z (undo ∷ calls) named r a = absurd named
-alike_calls s z (rewind n k ∷ calls) named r a = alike_calls (after_call s (rewind n k)) (after_call z (rewind n k)) calls named (call_runs s (rewind n k) r) ((same_rewind s z n k (runs_some s r) a).1)
+alike_calls s z (rewind n k ∷ calls) named r a = alike_calls (state_after_machine_call s (rewind n k)) (state_after_machine_call z (rewind n k)) calls named (call_runs s (rewind n k) r) ((same_rewind s z n k (runs_some s r) a).1)
 
 abbrev pub ended : State → List MachineCall → List Event
-ended s calls = (after_calls s calls).kept
+ended s calls = (state_after_machine_calls s calls).kept
 
-length_joined : (s : State) (xs zs : List MachineCall) → CanCountAll s (xs ++ zs) → (after_calls s xs).made + length zs < 2 ^ 64
+length_joined : (s : State) (xs zs : List MachineCall) → CanCountAllCalls s (xs ++ zs) → (state_after_machine_calls s xs).made + length zs < 2 ^ 64
 length_joined s xs zs l =
-    let a : (after_calls s xs).made ≤ s.made + length xs = calls_made s xs in
+    let a : (state_after_machine_calls s xs).made ≤ s.made + length xs = calls_made s xs in
     let b : length (xs ++ zs) ≡ length xs + length zs = Rattle.std.proofs.Common.length-append xs zs in
     omega (arith, l, a, b)
 
 -- two ends with as much made, and then the same calls
-ends_more : (s : State) (xs ys zs : List MachineCall) → HasNoUndo zs → CanCountAll s (xs ++ zs) → CanCountAll s (ys ++ zs) → Runs s → AreEquivalent s.load (ended s xs) (ended s ys) → AreEquivalent s.load (ended s (xs ++ zs)) (ended s (ys ++ zs))
+ends_more : (s : State) (xs ys zs : List MachineCall) → HasNoUndo zs → CanCountAllCalls s (xs ++ zs) → CanCountAllCalls s (ys ++ zs) → Runs s → AreEquivalent s.load (ended s xs) (ended s ys) → AreEquivalent s.load (ended s (xs ++ zs)) (ended s (ys ++ zs))
 ends_more s xs ys zs named l k r h =
-    let a : State = after_calls s xs in
-    let b : State = after_calls s ys in
+    let a : State = state_after_machine_calls s xs in
+    let b : State = state_after_machine_calls s ys in
     let la : a.load ≡ s.load = calls_load s xs in
     let alike : AreEquivalentStates a (counting b a.made) = record {
       load = la ∙ sym (calls_load s ys);
@@ -148,20 +148,20 @@ ends_more s xs ys zs named l k r h =
       made = refl;
       kept = subst (λ c. AreEquivalent c a.kept b.kept) (sym la) h;
     } in
-    let e : AreEquivalent (after_calls a zs).load (after_calls a zs).kept (after_calls (counting b a.made) zs).kept = (alike_calls a (counting b a.made) zs named (calls_run s xs r) alike).kept in
+    let e : AreEquivalent (state_after_machine_calls a zs).load (state_after_machine_calls a zs).kept (state_after_machine_calls (counting b a.made) zs).kept = (alike_calls a (counting b a.made) zs named (calls_run s xs r) alike).kept in
     subst (λ z. AreEquivalent s.load (ended s (xs ++ zs)) z) (calls_counted b a.made zs (length_joined s ys zs k) (length_joined s xs zs l) ∙ ap (λ (z : State). z.kept) (sym (called_append s ys zs)))
-    (subst (λ z. AreEquivalent s.load z (after_calls (counting b a.made) zs).kept) (ap (λ (z : State). z.kept) (sym (called_append s xs zs)))
-    (subst (λ c. AreEquivalent c (after_calls a zs).kept (after_calls (counting b a.made) zs).kept) (calls_load a zs ∙ la) e))
+    (subst (λ z. AreEquivalent s.load z (state_after_machine_calls (counting b a.made) zs).kept) (ap (λ (z : State). z.kept) (sym (called_append s xs zs)))
+    (subst (λ c. AreEquivalent c (state_after_machine_calls a zs).kept (state_after_machine_calls (counting b a.made) zs).kept) (calls_load a zs ∙ la) e))
 
 -- two ends with the same list, and then any calls
-ends_onward : (s : State) (xs ys zs : List MachineCall) → ended s xs ≡ ended s ys → CanCountAll s (xs ++ zs) → CanCountAll s (ys ++ zs) → ended s (xs ++ zs) ≡ ended s (ys ++ zs)
+ends_onward : (s : State) (xs ys zs : List MachineCall) → ended s xs ≡ ended s ys → CanCountAllCalls s (xs ++ zs) → CanCountAllCalls s (ys ++ zs) → ended s (xs ++ zs) ≡ ended s (ys ++ zs)
 ends_onward s xs ys zs h l k =
-    let a : State = after_calls s xs in
-    let b : State = after_calls s ys in
+    let a : State = state_after_machine_calls s xs in
+    let b : State = state_after_machine_calls s ys in
     let same_machine : counting a b.made ≡ b = Rattle.ga_lab.proofs.Stepping.same_state a.load b.load a.limit b.limit a.kept b.kept b.made b.made (calls_load s xs ∙ sym (calls_load s ys)) (calls_limit s xs ∙ sym (calls_limit s ys)) h refl in
     ap (λ (z : State). z.kept) (called_append s xs zs)
     ∙ sym (calls_counted a b.made zs (length_joined s xs zs l) (length_joined s ys zs k))
-    ∙ ap (λ (z : State). (after_calls z zs).kept) same_machine
+    ∙ ap (λ (z : State). (state_after_machine_calls z zs).kept) same_machine
     ∙ ap (λ (z : State). z.kept) (sym (called_append s ys zs))
 
 -- A step that makes an event.
@@ -174,7 +174,7 @@ answered s c e chip can room count =
 
 pub step_made_is : (s : State) (c : List NodeRecord) (e : Event) → chip_of s ≡ c → refusal_of c e ≡ None → length s.kept < s.limit → s.made < 2 ^ 64 - 1 → state_after_step s (acting_node e) ≡ with_event s (Ok e)
 step_made_is s c e chip can room count =
-    ap (λ (z : Result Made LabFault). unless_refused s z (with_event s (next (chip_of s) (acting_node e)))) (answered s c e chip can room count)
+    ap (λ (z : Result Made LabFault). state_unless_refused s z (with_event s (next (chip_of s) (acting_node e)))) (answered s c e chip can room count)
     ∙ ap (with_event s) (ap (λ z. next z (acting_node e)) chip ∙ made_is_next c e can)
 
 unfoldable pub runs_more : (s : State) (r : Runs s) (e : Event) → refusal_of r.last e ≡ None → Runs (with_event s (Ok e))
@@ -187,7 +187,7 @@ runs_more s r e can = record {
 can_of : (c : List NodeRecord) (e : Event) (d : List NodeRecord) (t : EventOutcome) → apply c e ≡ Some (d, t) → refusal_of c e ≡ None
 can_of c e d t h = go (refusal_of c e) h
   where
-    go : (o : Option NotReady) → some_if_allowed o (after c e) ≡ Some (d, t) → o ≡ None
+    go : (o : Option EventRefusal) → some_if_allowed o (after c e) ≡ Some (d, t) → o ≡ None
     go None k = refl
     go (Some why) k = absurd (cc)
 
@@ -227,11 +227,11 @@ undone_last s xs e is =
 ends_cancelled : (s : State) (n : NodeId) → IsOk (step_answer s n) → ended s (step n ∷ undo ∷ []) ≡ s.kept
 ends_cancelled s n ok = go (next (chip_of s) n) ok
   where
-    two : (e : Event) (a : Result Made LabFault) → IsOk a → (state_after_undo (unless_refused s a (with_event s (Ok e)))).kept ≡ s.kept
+    two : (e : Event) (a : Result Made LabFault) → IsOk a → (state_after_undo (state_unless_refused s a (with_event s (Ok e)))).kept ≡ s.kept
     two e (Ok told) k = ap (λ (z : State). z.kept) (undone_last (with_event s (Ok e)) s.kept e refl)
     two e (Err why) k = absurd (cc)
 
-    go : (o : Result Event NotReady) → IsOk (answer_to_event s o) → (state_after_undo (unless_refused s (answer_to_event s o) (with_event s o))).kept ≡ s.kept
+    go : (o : Result Event EventRefusal) → IsOk (answer_to_event s o) → (state_after_undo (state_unless_refused s (answer_to_event s o) (with_event s o))).kept ≡ s.kept
     go (Err why) k = absurd (cc)
     go (Ok e) k = two e (answer_to_event s (Ok e)) k
 
@@ -240,7 +240,7 @@ sound s xs ys itself r = same
 sound s xs ys (back h) r = equivalent-sym s.load (ended s ys) (ended s xs) (sound s ys xs h r)
 sound s xs ys (chained {ys = zs} h k) r = joined (sound s xs zs h r) (sound s zs ys k r)
 sound s xs ys (before {call} {xs = us} {ys = vs} h) r =
-    subst (λ c. AreEquivalent c (ended (after_call s call) us) (ended (after_call s call) vs)) (call_load s call) (sound (after_call s call) us vs h (call_runs s call r))
+    subst (λ c. AreEquivalent c (ended (state_after_machine_call s call) us) (ended (state_after_machine_call s call) vs)) (call_load s call) (sound (state_after_machine_call s call) us vs h (call_runs s call r))
 sound s xs ys (more us vs zs named l k h) r = ends_more s us vs zs named l k r (sound s us vs h r)
 sound s xs ys (onward us vs zs q l k h) r = subst (λ z. AreEquivalent s.load (ended s (us ++ zs)) z) (ends_onward s us vs zs q l k) same
 sound s xs ys (refused {call} q) r = subst (λ (z : State). AreEquivalent s.load z.kept s.kept) (sym q) same

@@ -16,7 +16,7 @@ use Rattle.ga_causal.proofs.Equivalences.{numbers}
 use Rattle.ga_causal.proofs.Consistent.{told_after}
 use Rattle.ga_event.specs.declared.made.Made.{Made}
 use Rattle.ga_event.specs.declared.made.Made.TheVariants as made
-use Rattle.ga_event.specs.Told.{count_steps, made_event_after, made_events_after, made_events_of}
+use Rattle.ga_event.specs.Told.{count_steps, made_event_after, made_events_after, made_events_of_node}
 
 -- an event as made, by its step numbers and its outcome
 abbrev made_by : Event → List ℕ → EventOutcome → Option Made
@@ -59,10 +59,10 @@ mades_accounted n before s (x ∷ xs) h =
     (mades_accounted n (before ++ x.0.event ∷ []) (counted s x.0) xs (one_more before s h x.0))
 
 -- a node's history is made of its local history with outcomes
-pub history_accounted : (told : List (Cause × EventOutcome)) (n : ℕ) → made_events_of told n ≡ flat_map made_of (local_history_outcomes n told)
+pub history_accounted : (told : List (Cause × EventOutcome)) (n : ℕ) → made_events_of_node told n ≡ flat_map made_of (local_history_outcomes n told)
 history_accounted told n = mades_accounted n [] (λ m. 0) told (λ m. refl)
 
-pub history_begins : (told left : List (Cause × EventOutcome)) (n : ℕ) → (later : List ((Cause × List ℕ) × EventOutcome)) × (local_history_outcomes n told ≡ local_history_outcomes n left ++ later) → (later : List Made) × (made_events_of told n ≡ made_events_of left n ++ later)
+pub history_begins : (told left : List (Cause × EventOutcome)) (n : ℕ) → (later : List ((Cause × List ℕ) × EventOutcome)) × (local_history_outcomes n told ≡ local_history_outcomes n left ++ later) → (later : List Made) × (made_events_of_node told n ≡ made_events_of_node left n ++ later)
 history_begins told left n (later, q) = (
   flat_map made_of later,
   history_accounted told n ∙ ap (flat_map made_of) q ∙ flat_map-append made_of (local_history_outcomes n left) later ∙ ap (λ z. z ++ flat_map made_of later) (sym (history_accounted left n)),

@@ -6,7 +6,7 @@ use Rattle.std.proofs.lemmas.Bool.{cond-true, cond-false, and_parts, false_from_
 use Rattle.std.proofs.lemmas.Option.{same_Some}
 use Rattle.ga_ports.specs.declared.side.Side.{Side}
 use Rattle.ga_ports.specs.declared.side.Side.TheVariants.{Right, Down, Left, Up}
-use Rattle.ga_node.specs.declared.kind.NotReady.{NotReady}
+use Rattle.ga_node.specs.declared.kind.EventRefusal.{EventRefusal}
 use Rattle.ga_node.specs.Record.{NodeRecord}
 use Rattle.ga_node.specs.declared.wait.Wait.{Wait}
 use Rattle.ga_node.specs.Table.{t, own}
@@ -17,7 +17,7 @@ use Rattle.ga_event.specs.declared.event.Event.{Event}
 use Rattle.ga_event.specs.declared.event.Event.TheVariants as event
 use Rattle.ga_event.specs.declared.event.Cause.{Cause}
 use Rattle.ga_event.specs.Touches.{looked_at_nodes, observed_by, event_nodes as nodes_of_event}
-use Rattle.ga_event.specs.Apply.{EventOutcome, ExecutedOwn, PassedWord, neighbour_states, equals_some, is_transfer_ready, waits_to_read_side, unmatched_unless, refusal_of, apply, after, some_if_allowed, cause_of, run}
+use Rattle.ga_event.specs.Apply.{EventOutcome, ExecutedOwn, PassedWord, neighbour_states, equals_some, is_transfer_ready, waits_to_read_side, refusal_unless_matched, refusal_of, apply, after, some_if_allowed, cause_of, run}
 use Rattle.ga_causal.specs.Dependence.{cause_touches, HasNoLooks}
 use Rattle.ga_causal.specs.Equivalence.{AreEquivalent, local_history, local_history_outcomes}
 use Rattle.ga_causal.specs.Steps.{counted}
@@ -26,9 +26,9 @@ use Rattle.ga_causal.proofs.Equivalences.{numbers, entries}
 use Rattle.ga_causal.proofs.Consistent.{told_after}
 use Rattle.ga_event.specs.declared.made.Made.{Made}
 use Rattle.ga_event.specs.declared.made.Made.TheVariants as made
-use Rattle.ga_event.specs.Told.{made_events_of}
+use Rattle.ga_event.specs.Told.{made_events_of_node}
 use Rattle.ga_lab.specs.Machine.{State, initial_state, chip_of, causes_of, history_of}
-use Rattle.ga_lab.specs.Calls.{MachineCall, after_calls}
+use Rattle.ga_lab.specs.Calls.{MachineCall, state_after_machine_calls}
 use Rattle.ga_lab.proofs.Told.{made_of, history_accounted}
 use Rattle.ga_lab.proofs.Called.{Runs, told_is, causes_is, first_runs, calls_load}
 use Rattle.ga_lab.proofs.Alike.{consistent}
@@ -120,14 +120,14 @@ record CanBe (c : List NodeRecord) (e : Event) (told : EventOutcome) : Type 0 wh
 can_be : (c d : List NodeRecord) (e : Event) (told : EventOutcome) → apply c e ≡ Some (d, told) → CanBe c e told
 can_be c d e told h = go (refusal_of c e) refl h
   where
-    go : (o : Option NotReady) → refusal_of c e ≡ o → some_if_allowed o (after c e) ≡ Some (d, told) → CanBe c e told
+    go : (o : Option EventRefusal) → refusal_of c e ≡ o → some_if_allowed o (after c e) ≡ Some (d, told) → CanBe c e told
     go None q k = record { free = q; is = ap (λ (z : List NodeRecord × EventOutcome). z.1) (same_Some (after c e) (d, told) k) }
     go (Some why) q k = absurd (cc)
 
 number_open : (w r : ℕ) (side : Side) (posted awaited : Wait) → is_transfer_ready w r side posted awaited ≡ true → equals_some (neighbour_of w side) r ≡ true
 number_open w r side posted awaited h = (and_parts (equals_some (neighbour_of w side) r) _ ((and_parts _ (waits_to_read_side awaited side) h).0)).0
 
-open_from : (b : Bool) → unmatched_unless b ≡ None → b ≡ true
+open_from : (b : Bool) → refusal_unless_matched b ≡ None → b ≡ true
 open_from true h = refl
 open_from false h = absurd (cc)
 
@@ -192,15 +192,15 @@ account_told_back s n r none =
     let all : AreTellable (told_after (λ i. 0) r.told) = all_tellable s.load r.last s.kept r.told (λ i. 0) r.run_is (subst HasNoLooks (causes_is s r) none) in
     ap (local_history n) (causes_is s r) ∙ untold n (λ i. 0) r.told
     ∙ ap (map (λ x. x.0)) (sym (told_back (local_history_outcomes n r.told) (some_tellable (λ x. cause_touches x.0.0 n) (told_after (λ i. 0) r.told) all)))
-    ∙ ap (λ z. map (λ x. x.0) (map decoded z)) (sym (ap (λ z. made_events_of z n) (told_is s r) ∙ history_accounted r.told n))
+    ∙ ap (λ z. map (λ x. x.0) (map decoded z)) (sym (ap (λ z. made_events_of_node z n) (told_is s r) ∙ history_accounted r.told n))
 
 pub traces_determine_chip : (load : List NodeRecord) (limit bound : ℕ) (calls others : List MachineCall)
-    → HasNoLooks (causes_of (after_calls (initial_state load limit) calls))
-    → ((n : ℕ) → history_of (after_calls (initial_state load limit) calls) n ≡ history_of (after_calls (initial_state load bound) others) n)
-    → AreEquivalent load (after_calls (initial_state load limit) calls).kept (after_calls (initial_state load bound) others).kept × (chip_of (after_calls (initial_state load limit) calls) ≡ chip_of (after_calls (initial_state load bound) others))
+    → HasNoLooks (causes_of (state_after_machine_calls (initial_state load limit) calls))
+    → ((n : ℕ) → history_of (state_after_machine_calls (initial_state load limit) calls) n ≡ history_of (state_after_machine_calls (initial_state load bound) others) n)
+    → AreEquivalent load (state_after_machine_calls (initial_state load limit) calls).kept (state_after_machine_calls (initial_state load bound) others).kept × (chip_of (state_after_machine_calls (initial_state load limit) calls) ≡ chip_of (state_after_machine_calls (initial_state load bound) others))
 traces_determine_chip load limit bound calls others none h =
-    let s = after_calls (initial_state load limit) calls in
-    let z = after_calls (initial_state load bound) others in
+    let s = state_after_machine_calls (initial_state load limit) calls in
+    let z = state_after_machine_calls (initial_state load bound) others in
     let r = first_runs load limit calls in
     let q = first_runs load bound others in
     let nor : HasNoLooks (causes_of z) = none_looks s z r q (calls_load (initial_state load limit) calls ∙ sym (calls_load (initial_state load bound) others)) none h in

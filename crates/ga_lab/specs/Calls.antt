@@ -10,20 +10,20 @@ pub data MachineCall : Type 0 where
   rewind : ℕ → ℕ → MachineCall
 
 -- the machine after a call
-abbrev pub after_call : State → MachineCall → State
-after_call s (step n) = state_after_step s n
-after_call s undo = state_after_undo s
-after_call s (rewind n k) = state_after_rewind s n k
+abbrev pub state_after_machine_call : State → MachineCall → State
+state_after_machine_call s (step n) = state_after_step s n
+state_after_machine_call s undo = state_after_undo s
+state_after_machine_call s (rewind n k) = state_after_rewind s n k
 
 -- the machine after these calls, one after another
-abbrev pub after_calls : State → List MachineCall → State
-after_calls s [] = s
-after_calls s (call ∷ calls) = after_calls (after_call s call) calls
+abbrev pub state_after_machine_calls : State → List MachineCall → State
+state_after_machine_calls s [] = s
+state_after_machine_calls s (call ∷ calls) = state_after_machine_calls (state_after_machine_call s call) calls
 
 -- calls lead to the machine from its load
 pub record IsReachableState (s : State) : Type 0 where
   pub calls : List MachineCall
-  pub is : after_calls (initial_state s.load s.limit) calls ≡ s
+  pub is : state_after_machine_calls (initial_state s.load s.limit) calls ≡ s
 
 -- one machine keeps what the other keeps, but for the order of independent events
 pub record AreEquivalentStates (s z : State) : Type 0 where

@@ -2,7 +2,7 @@
 -- registers and memory).
 use Rattle.std.specs.Prelude.{ℕ, ◌≡◌, slice_index}
 use Rattle.ga_node.specs.Record.{NodeRecord}
-use Rattle.ga_node.specs.State.{wait_of}
+use Rattle.ga_node.specs.State.{wait_of_code}
 use Rattle.ga_node.specs.declared.place.Place.{Place}
 use Rattle.ga_node.specs.declared.place.Place.TheVariants.{P, A, B, Ram, Wait}
 
@@ -13,5 +13,5 @@ HoldsValue node P value = node.p ≡ value
 HoldsValue node A value = node.a ≡ value
 HoldsValue node B value = node.b ≡ value
 HoldsValue node (Ram cell) value = slice_index node.ram cell ≡ value
-HoldsValue node Wait value = node.wait ≡ wait_of value
+HoldsValue node Wait value = node.wait ≡ wait_of_code value
 HoldsValue node _ value = Unit {0}

@@ -10,7 +10,7 @@ use Rattle.ga_event.specs.declared.event.Cause.{Cause}
 use Rattle.ga_event.specs.Apply.{refusal_of, cause_of}
 use Rattle.ga_causal.specs.Dependence.{dependent_flags, without_flagged, HasNoLooks, position_of_step}
 use Rattle.ga_causal.specs.Equivalence.{AreIndependent}
-use Rattle.ga_lab.specs.Calls.{MachineCall, step, undo, rewind, after_call, after_calls, AreEquivalentStates}
+use Rattle.ga_lab.specs.Calls.{MachineCall, step, undo, rewind, state_after_machine_call, state_after_machine_calls, AreEquivalentStates}
 use Rattle.ga_lab.specs.Machine.{acting_node, State, chip_of, causes_of, step_answer}
 
 -- no call is an undo
@@ -21,13 +21,13 @@ HasNoUndo (undo ∷ calls) = ⊥
 HasNoUndo (rewind n k ∷ calls) = HasNoUndo calls
 
 -- a number of undos
-abbrev pub undos : ℕ → List MachineCall
-undos zero = []
-undos (suc most) = undo ∷ undos most
+abbrev pub undo_calls : ℕ → List MachineCall
+undo_calls zero = []
+undo_calls (suc most) = undo ∷ undo_calls most
 
 -- more events can be counted than there are calls
-abbrev pub CanCountAll : State → List MachineCall → Type 0
-CanCountAll s calls = s.made + length calls < 2 ^ 64
+abbrev pub CanCountAllCalls : State → List MachineCall → Type 0
+CanCountAllCalls s calls = s.made + length calls < 2 ^ 64
 
 -- whether the event is enabled
 abbrev pub IsEventEnabled : State → Event → Type 0
@@ -39,16 +39,16 @@ pub data AreCausallyEquivalent : State → List MachineCall → List MachineCall
   back : {s : State} {xs ys : List MachineCall} → AreCausallyEquivalent s xs ys → AreCausallyEquivalent s ys xs
   chained : {s : State} {xs ys zs : List MachineCall} → AreCausallyEquivalent s xs ys → AreCausallyEquivalent s ys zs → AreCausallyEquivalent s xs zs
   -- one call more at the beginning of both sequences
-  before : {s : State} {call : MachineCall} {xs ys : List MachineCall} → AreCausallyEquivalent (after_call s call) xs ys → AreCausallyEquivalent s (call ∷ xs) (call ∷ ys)
+  before : {s : State} {call : MachineCall} {xs ys : List MachineCall} → AreCausallyEquivalent (state_after_machine_call s call) xs ys → AreCausallyEquivalent s (call ∷ xs) (call ∷ ys)
   -- the same calls more at the end of both sequences: none is an undo, or (in `onward`) both sequences lead to the same history
-  more : {s : State} (xs ys zs : List MachineCall) → HasNoUndo zs → CanCountAll s (xs ++ zs) → CanCountAll s (ys ++ zs)
+  more : {s : State} (xs ys zs : List MachineCall) → HasNoUndo zs → CanCountAllCalls s (xs ++ zs) → CanCountAllCalls s (ys ++ zs)
       → AreCausallyEquivalent s xs ys → AreCausallyEquivalent s (xs ++ zs) (ys ++ zs)
-  onward : {s : State} (xs ys zs : List MachineCall) → (after_calls s xs).kept ≡ (after_calls s ys).kept
-      → CanCountAll s (xs ++ zs) → CanCountAll s (ys ++ zs) → AreCausallyEquivalent s xs ys → AreCausallyEquivalent s (xs ++ zs) (ys ++ zs)
+  onward : {s : State} (xs ys zs : List MachineCall) → (state_after_machine_calls s xs).kept ≡ (state_after_machine_calls s ys).kept
+      → CanCountAllCalls s (xs ++ zs) → CanCountAllCalls s (ys ++ zs) → AreCausallyEquivalent s xs ys → AreCausallyEquivalent s (xs ++ zs) (ys ++ zs)
   -- a refused call is nothing
-  refused : {s : State} {call : MachineCall} → after_call s call ≡ s → AreCausallyEquivalent s (call ∷ []) []
+  refused : {s : State} {call : MachineCall} → state_after_machine_call s call ≡ s → AreCausallyEquivalent s (call ∷ []) []
   -- a pass is made by a step of either of its nodes
-  either : {s : State} {n m : NodeId} → after_call s (step n) ≡ after_call s (step m) → AreCausallyEquivalent s (step n ∷ []) (step m ∷ [])
+  either : {s : State} {n m : NodeId} → state_after_machine_call s (step n) ≡ state_after_machine_call s (step m) → AreCausallyEquivalent s (step n ∷ []) (step m ∷ [])
   -- a step and its undo are nothing
   cancelled : {s : State} {n : NodeId} → IsOk (step_answer s n) → AreCausallyEquivalent s (step n ∷ undo ∷ []) []
   -- two independent steps swap
@@ -56,8 +56,8 @@ pub data AreCausallyEquivalent : State → List MachineCall → List MachineCall
       → AreIndependent (cause_of (chip_of s) e) (cause_of (chip_of s) f)
       → AreCausallyEquivalent s (step (acting_node e) ∷ step (acting_node f) ∷ []) (step (acting_node f) ∷ step (acting_node e) ∷ [])
   -- a rollback is undos, where these lead to the same but for the order of independent events
-  rolled : {s : State} {n k : ℕ} (most : ℕ) → AreEquivalentStates (after_call s (rewind n k)) (after_calls s (undos most))
-      → AreCausallyEquivalent s (rewind n k ∷ []) (undos most)
+  rolled : {s : State} {n k : ℕ} (most : ℕ) → AreEquivalentStates (state_after_machine_call s (rewind n k)) (state_after_machine_calls s (undo_calls most))
+      → AreCausallyEquivalent s (rewind n k ∷ []) (undo_calls most)
 
 -- the events that a rollback to the step at this place takes
 abbrev pub removed_events : List Cause → Option ℕ → List Cause
@@ -67,7 +67,7 @@ removed_events events (Some place) = without_flagged (map not (dependent_flags e
 -- no rollback among the calls takes a look
 abbrev pub RemovesNoLook : State → List MachineCall → Type 0
 RemovesNoLook s [] = Unit {0}
-RemovesNoLook s (step n ∷ calls) = RemovesNoLook (after_call s (step n)) calls
-RemovesNoLook s (undo ∷ calls) = RemovesNoLook (after_call s undo) calls
+RemovesNoLook s (step n ∷ calls) = RemovesNoLook (state_after_machine_call s (step n)) calls
+RemovesNoLook s (undo ∷ calls) = RemovesNoLook (state_after_machine_call s undo) calls
 RemovesNoLook s (rewind n k ∷ calls) =
-    HasNoLooks (removed_events (causes_of s) (position_of_step (causes_of s) n k)) × RemovesNoLook (after_call s (rewind n k)) calls
+    HasNoLooks (removed_events (causes_of s) (position_of_step (causes_of s) n k)) × RemovesNoLook (state_after_machine_call s (rewind n k)) calls

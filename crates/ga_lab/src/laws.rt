@@ -6,13 +6,13 @@ ghost use Rattle.std.specs.Prelude.{◌≡◌, ◌<◌, ◌≤◌, ◌^◌, ◌�
 ghost use Rattle.ga_event.specs.declared.event.Event.{Event};
 ghost use Rattle.ga_event.specs.Touches.{touches};
 ghost use Rattle.ga_event.specs.Apply.{replay};
-ghost use Rattle.ga_event.specs.Told.{count_steps, made_event_in, events_of_causes};
+ghost use Rattle.ga_event.specs.Told.{count_steps, made_event_at_place, events_of_causes};
 ghost use Rattle.ga_grid.specs.declared.node_id.NodeId.{NodeId};
 ghost use Rattle.ga_grid.specs.Chip.{HaveConsistentWaits, record_at};
 ghost use Rattle.ga_event.specs.declared.made.Made.{Made};
 ghost use Rattle.ga_lab.specs.Machine.{State, initial_state, chip_of, outcomes_of_kept, causes_of, step_answer, state_after_step, has_step, state_after_undo, rewind_answer, state_after_rewind, why_answer, history_of, acting_node, state_after_steps};
 ghost use Rattle.ga_node.specs.Record.{NodeRecord};
-ghost use Rattle.ga_lab.specs.Calls.{MachineCall, after_calls, IsReachableState, AreEquivalentStates};
+ghost use Rattle.ga_lab.specs.Calls.{MachineCall, state_after_machine_calls, IsReachableState, AreEquivalentStates};
 ghost use Rattle.ga_lab.specs.Sequences.{AreCausallyEquivalent, RemovesNoLook, removed_events};
 ghost use Rattle.ga_causal.specs.Equivalence.{AreEquivalent, local_history};
 ghost use Rattle.ga_causal.specs.Words.{io_words_read};
@@ -36,21 +36,21 @@ pub fn machine_keeps_waits_consistent()
 #[tactic(auto, using(crate::proofs::Stepping::answers_are_stable))]
 pub fn answers_are_stable()
     ensures { (s : State) (n : NodeId) (told : Made) → IsSome (replay s.load s.kept) →
-        step_answer s n ≡ Ok told → made_event_in (outcomes_of_kept (state_after_step s n)) (length s.kept) ≡ Some told }
+        step_answer s n ≡ Ok told → made_event_at_place (outcomes_of_kept (state_after_step s n)) (length s.kept) ≡ Some told }
 {}
 
 /// After any calls, the history can be replayed from the load.
 #[tactic(auto, using(crate::proofs::Called::history_is_replayable))]
 pub fn history_is_replayable()
     ensures { (load : List NodeRecord) (limit : ℕ) (calls : List MachineCall) →
-        let s = after_calls (initial_state load limit) calls in
+        let s = state_after_machine_calls (initial_state load limit) calls in
         (s.load ≡ load) × IsSome (replay s.load s.kept) }
 {}
 
 /// After any calls, the history has no more events than the limit, nor than were made, and fewer than 2^64 were made.
 pub fn limit_is_respected()
     ensures { (load : List NodeRecord) (limit : ℕ) (calls : List MachineCall) →
-        let s = after_calls (initial_state load limit) calls in
+        let s = state_after_machine_calls (initial_state load limit) calls in
         (length s.kept ≤ s.limit) × (length s.kept ≤ s.made) × (s.made < 2 ^ 64) }
 {}
 
@@ -74,8 +74,8 @@ pub fn undo_is_rewind_of_last()
 /// ones, their chips are the same, and so is each node's `trace`. `order_unobservable` is the other direction.
 pub fn local_histories_determine_machine()
     ensures { (load : List NodeRecord) (limit bound : ℕ) (calls others : List MachineCall) →
-        let s = after_calls (initial_state load limit) calls in
-        let z = after_calls (initial_state load bound) others in
+        let s = state_after_machine_calls (initial_state load limit) calls in
+        let z = state_after_machine_calls (initial_state load bound) others in
         ((n : ℕ) → local_history n (causes_of s) ≡ local_history n (causes_of z)) →
         AreEquivalent load s.kept z.kept × (chip_of s ≡ chip_of z) × ((n : ℕ) → history_of s n ≡ history_of z n) }
 {}
@@ -89,11 +89,11 @@ pub fn local_histories_determine_machine()
 #[tactic(auto, using(crate::proofs::Sequences::sound, crate::proofs::Again::runs_reached, crate::proofs::Causal::related))]
 pub fn calls_causally_consistent()
     ensures ends { (s : State) (calls others : List MachineCall) → IsReachableState s → AreCausallyEquivalent s calls others →
-        AreEquivalent s.load (after_calls s calls).kept (after_calls s others).kept }
+        AreEquivalent s.load (state_after_machine_calls s calls).kept (state_after_machine_calls s others).kept }
     ensures related { (load : List NodeRecord) (limit : ℕ) (calls others : List MachineCall) →
         length calls + length calls < 2 ^ 64 → length others + length others < 2 ^ 64 →
         RemovesNoLook (initial_state load limit) calls → RemovesNoLook (initial_state load limit) others →
-        AreEquivalent load (after_calls (initial_state load limit) calls).kept (after_calls (initial_state load limit) others).kept →
+        AreEquivalent load (state_after_machine_calls (initial_state load limit) calls).kept (state_after_machine_calls (initial_state load limit) others).kept →
         AreCausallyEquivalent (initial_state load limit) calls others }
 {}
 
@@ -128,8 +128,8 @@ pub fn why_ignores_order()
 /// either. (If one looks they don't: it reads another word if a neighbour made a step before it, and prints alike.)
 pub fn traces_determine_chip()
     ensures { (load : List NodeRecord) (limit bound : ℕ) (calls others : List MachineCall) →
-        let s = after_calls (initial_state load limit) calls in
-        let z = after_calls (initial_state load bound) others in
+        let s = state_after_machine_calls (initial_state load limit) calls in
+        let z = state_after_machine_calls (initial_state load bound) others in
         HasNoLooks (causes_of s) → ((n : ℕ) → history_of s n ≡ history_of z n) →
         AreEquivalent load s.kept z.kept × (chip_of s ≡ chip_of z) }
 {}
@@ -143,13 +143,13 @@ pub fn traces_determine_chip()
 #[tactic(auto, using(crate::proofs::Heard::same_node, crate::proofs::Heard::same_chip))]
 pub fn io_words_determine_chip()
     ensures node { (load : List NodeRecord) (limit bound : ℕ) (calls others : List MachineCall) (n : ℕ) →
-        let s = after_calls (initial_state load limit) calls in
-        let z = after_calls (initial_state load bound) others in
+        let s = state_after_machine_calls (initial_state load limit) calls in
+        let z = state_after_machine_calls (initial_state load bound) others in
         history_of s n ≡ history_of z n → io_words_read n load s.kept ≡ io_words_read n load z.kept →
         record_at (chip_of s) n ≡ record_at (chip_of z) n }
     ensures chip { (load : List NodeRecord) (limit bound : ℕ) (calls others : List MachineCall) →
-        let s = after_calls (initial_state load limit) calls in
-        let z = after_calls (initial_state load bound) others in
+        let s = state_after_machine_calls (initial_state load limit) calls in
+        let z = state_after_machine_calls (initial_state load bound) others in
         ((n : ℕ) → history_of s n ≡ history_of z n) → ((n : ℕ) → io_words_read n load s.kept ≡ io_words_read n load z.kept) →
         chip_of s ≡ chip_of z }
 {}

@@ -6,44 +6,44 @@ use Rattle.ga_slots.specs.declared.op.Op.{Op}
 use Rattle.ga_slots.specs.declared.op.Op.TheVariants as op
 use Rattle.ga_stacks.specs.Ring.{words_after_push}
 use Rattle.ga_ports.specs.Address.{address_target}
-use Rattle.ga_ports.specs.declared.address.Target.{Target}
-use Rattle.ga_ports.specs.declared.address.Target.TheVariants.{Ram, Rom, Io, Ports, Bad}
+use Rattle.ga_ports.specs.declared.address.AddressTarget.{AddressTarget}
+use Rattle.ga_ports.specs.declared.address.AddressTarget.TheVariants.{Ram, Rom, Io, Ports, Bad}
 use Rattle.ga_node.specs.declared.wait.ReadKind.{ReadKind}
 use Rattle.ga_node.specs.declared.wait.ReadKind.TheVariants.{Instruction, Stack}
-use Rattle.ga_node.specs.declared.seen.Seen.{Seen}
+use Rattle.ga_node.specs.declared.seen.SeenNeighbours.{SeenNeighbours}
 use Rattle.ga_node.specs.declared.due.NextAction.{NextAction}
 use Rattle.ga_node.specs.declared.due.NextAction.TheVariants as due
 use Rattle.ga_node.specs.declared.kind.OwnEventKind.{OwnEventKind}
 use Rattle.ga_node.specs.declared.kind.OwnEventKind.TheVariants as kind
 use Rattle.ga_node.specs.Io.{io_word}
-use Rattle.ga_node.specs.Record.{NodeRecord, HasSizes}
-use Rattle.ga_node.specs.Changes.{Change, after_changes}
-use Rattle.ga_node.specs.Table.{Access, Plain, Reads, Writes, with_kind, found, followed, access_result, opcode_effect, fetch_access, access_reads_io, opcode_reads_io, next_action_of, action_result, own_event, own, is_io_target, is_look_action, looks}
+use Rattle.ga_node.specs.Record.{NodeRecord, HasListSizes}
+use Rattle.ga_node.specs.Changes.{Change, node_after_changes}
+use Rattle.ga_node.specs.Table.{AddressAccess, Plain, Reads, Writes, event_with_kind, target_read_result, with_following_changes, access_result, opcode_effect, fetch_access, access_reads_io, opcode_reads_io, next_action_of, action_result, own_event, own, is_io_target, is_look_action, looks}
 
-found_blind : (target : Target) (reader : ReadKind) (seen other : Seen) (n : NodeRecord) → is_io_target target ≡ false → found target reader seen n ≡ found target reader other n
-unfolding found
+found_blind : (target : AddressTarget) (reader : ReadKind) (seen other : SeenNeighbours) (n : NodeRecord) → is_io_target target ≡ false → target_read_result target reader seen n ≡ target_read_result target reader other n
+unfolding target_read_result
 found_blind (Ram k) reader seen other n blind = refl
 found_blind (Rom k) reader seen other n blind = refl
 found_blind Io reader seen other n blind = absurd (both_ways true blind refl)
 found_blind (Ports sides) reader seen other n blind = refl
 found_blind Bad reader seen other n blind = refl
 
-access_blind : (reader : ReadKind) (access : Access) (seen other : Seen) (n : NodeRecord) → access_reads_io access ≡ false → access_result reader access seen n ≡ access_result reader access other n
+access_blind : (reader : ReadKind) (access : AddressAccess) (seen other : SeenNeighbours) (n : NodeRecord) → access_reads_io access ≡ false → access_result reader access seen n ≡ access_result reader access other n
 access_blind reader (Plain changes) seen other n blind = refl
-access_blind reader (Reads address more) seen other n blind = ap (λ found. followed found more) (found_blind (address_target address) reader seen other n blind)
+access_blind reader (Reads address more) seen other n blind = ap (λ target_read_result. with_following_changes target_read_result more) (found_blind (address_target address) reader seen other n blind)
 access_blind reader (Writes address more) seen other n blind = refl
 
-done_blind : (due : NextAction) (seen other : Seen) (n : NodeRecord) → is_look_action due n ≡ false → action_result due seen n ≡ action_result due other n
-done_blind due.Fetch seen other n blind = ap (with_kind kind.Fetch) (access_blind Instruction (fetch_access n) seen other n blind)
-done_blind (due.Run op) seen other n blind = ap (with_kind (kind.Run (code_of op))) (access_blind Stack (opcode_effect op n) seen other n blind)
+done_blind : (due : NextAction) (seen other : SeenNeighbours) (n : NodeRecord) → is_look_action due n ≡ false → action_result due seen n ≡ action_result due other n
+done_blind due.Fetch seen other n blind = ap (event_with_kind kind.Fetch) (access_blind Instruction (fetch_access n) seen other n blind)
+done_blind (due.Run op) seen other n blind = ap (event_with_kind (kind.Run (code_of op))) (access_blind Stack (opcode_effect op n) seen other n blind)
 
-pub event_blind : (seen other : Seen) (n : NodeRecord) → looks n ≡ false → own_event seen n ≡ own_event other n
+pub event_blind : (seen other : SeenNeighbours) (n : NodeRecord) → looks n ≡ false → own_event seen n ≡ own_event other n
 unfolding own_event looks
 event_blind seen other n = done_blind (next_action_of n) seen other n
 
-pub own_blind : (seen other : Seen) (n : NodeRecord) → looks n ≡ false → own seen n ≡ own other n
+pub own_blind : (seen other : SeenNeighbours) (n : NodeRecord) → looks n ≡ false → own seen n ≡ own other n
 unfolding own
-own_blind seen other n blind = ap (λ event. (event.0, after_changes event.1 n)) (event_blind seen other n blind)
+own_blind seen other n blind = ap (λ event. (event.0, node_after_changes event.1 n)) (event_blind seen other n blind)
 
 -- whether it looks, by what it carries out
 pub looks_due : (due : NextAction) (n : NodeRecord) (look : Bool) → due ≡ next_action_of n → is_look_action due n ≡ look → looks n ≡ look
@@ -53,9 +53,9 @@ looks_due due n look is by = rw (← is) by
 -- ---- a look sees
 
 -- the node after the access determines the word that was read
-abbrev IsTelling : Access → NodeRecord → Type 0
+abbrev IsTelling : AddressAccess → NodeRecord → Type 0
 IsTelling (Plain changes) n = Unit {0}
-IsTelling (Reads address more) n = (word other : ℕ) → after_changes (more word) n ≡ after_changes (more other) n → word ≡ other
+IsTelling (Reads address more) n = (word other : ℕ) → node_after_changes (more word) n ≡ node_after_changes (more other) n → word ≡ other
 IsTelling (Writes address more) n = Unit {0}
 
 -- a word that was pushed is the top
@@ -65,7 +65,7 @@ top_tells word other xs size same = sym (top word) ∙ ap (λ ys. slice_index ys
     top : (w : ℕ) → slice_index (words_after_push w xs) 0 ≡ w
     top w = get_or-take (length xs) (w ∷ xs) 0 0 (omega (arith, size))
 
-op_tells : (op : Op) (n : NodeRecord) → HasSizes n → IsTelling (opcode_effect op n) n
+op_tells : (op : Op) (n : NodeRecord) → HasListSizes n → IsTelling (opcode_effect op n) n
 op_tells op.Return n sizes = tt
 op_tells op.Execute n sizes = tt
 op_tells op.Jump n sizes = tt
@@ -99,27 +99,27 @@ op_tells op.Push n sizes = tt
 op_tells op.BStore n sizes = tt
 op_tells op.AStore n sizes = tt
 
-read_tells : (target : Target) (reader : ReadKind) (more : ℕ → List Change) (k : OwnEventKind) (seen other : Seen) (n : NodeRecord) → is_io_target target ≡ true
-    → ((word else_word : ℕ) → after_changes (more word) n ≡ after_changes (more else_word) n → word ≡ else_word)
-    → after_changes (with_kind k (followed (found target reader seen n) more)).1 n ≡ after_changes (with_kind k (followed (found target reader other n) more)).1 n → io_word seen ≡ io_word other
-unfolding found followed
+read_tells : (target : AddressTarget) (reader : ReadKind) (more : ℕ → List Change) (k : OwnEventKind) (seen other : SeenNeighbours) (n : NodeRecord) → is_io_target target ≡ true
+    → ((word else_word : ℕ) → node_after_changes (more word) n ≡ node_after_changes (more else_word) n → word ≡ else_word)
+    → node_after_changes (event_with_kind k (with_following_changes (target_read_result target reader seen n) more)).1 n ≡ node_after_changes (event_with_kind k (with_following_changes (target_read_result target reader other n) more)).1 n → io_word seen ≡ io_word other
+unfolding target_read_result with_following_changes
 read_tells (Ram k) reader more kind seen other n look tells same = cc
 read_tells (Rom k) reader more kind seen other n look tells same = cc
 read_tells Io reader more kind seen other n look tells same = tells (io_word seen) (io_word other) same
 read_tells (Ports sides) reader more kind seen other n look tells same = cc
 read_tells Bad reader more kind seen other n look tells same = cc
 
-access_tells : (reader : ReadKind) (access : Access) (k : OwnEventKind) (seen other : Seen) (n : NodeRecord) → access_reads_io access ≡ true → IsTelling access n
-    → after_changes (with_kind k (access_result reader access seen n)).1 n ≡ after_changes (with_kind k (access_result reader access other n)).1 n → io_word seen ≡ io_word other
+access_tells : (reader : ReadKind) (access : AddressAccess) (k : OwnEventKind) (seen other : SeenNeighbours) (n : NodeRecord) → access_reads_io access ≡ true → IsTelling access n
+    → node_after_changes (event_with_kind k (access_result reader access seen n)).1 n ≡ node_after_changes (event_with_kind k (access_result reader access other n)).1 n → io_word seen ≡ io_word other
 access_tells reader (Plain changes) kind seen other n look tells same = cc
 access_tells reader (Reads address more) kind seen other n look tells same = read_tells (address_target address) reader more kind seen other n look tells same
 access_tells reader (Writes address more) kind seen other n look tells same = cc
 
-done_tells : (due : NextAction) (seen other : Seen) (n : NodeRecord) → HasSizes n → is_look_action due n ≡ true → after_changes (action_result due seen n).1 n ≡ after_changes (action_result due other n).1 n → io_word seen ≡ io_word other
+done_tells : (due : NextAction) (seen other : SeenNeighbours) (n : NodeRecord) → HasListSizes n → is_look_action due n ≡ true → node_after_changes (action_result due seen n).1 n ≡ node_after_changes (action_result due other n).1 n → io_word seen ≡ io_word other
 done_tells due.Fetch seen other n sizes look same = access_tells Instruction (fetch_access n) kind.Fetch seen other n look (λ word else_word e. ap (λ (m : NodeRecord). m.i) e) same
 done_tells (due.Run op) seen other n sizes look same = access_tells Stack (opcode_effect op n) (kind.Run (code_of op)) seen other n look (op_tells op n sizes) same
 
-pub look_sees : (seen other : Seen) (n : NodeRecord) → HasSizes n → looks n ≡ true → own seen n ≡ own other n → io_word seen ≡ io_word other
+pub look_sees : (seen other : SeenNeighbours) (n : NodeRecord) → HasListSizes n → looks n ≡ true → own seen n ≡ own other n → io_word seen ≡ io_word other
 unfolding own own_event looks
 look_sees seen other n sizes look same = done_tells (next_action_of n) seen other n sizes look (ap (λ (z : OwnEventKind × NodeRecord). z.1) same)
 

@@ -8,7 +8,7 @@ use Rattle.std.proofs.lemmas.Bool.{lt-ltb, le-ltb, ltb-true, ltb-false, ne_eqb}
 use Rattle.std.proofs.Math.Seq.{get_or-append_seam}
 use Rattle.std.proofs.Math.ListN.{get_or-append}
 use Rattle.std.proofs.lemmas.List.{length-map, length-append, map-append, take-append-le, take_all}
-use Rattle.ga_node.specs.State.{IsPlace}
+use Rattle.ga_node.specs.State.{IsNodePlace}
 use Rattle.ga_node.specs.inner.Packed.{code_of, place_by, packed, unpacked, free_bits, spare, with_spare, whole, IsWord, AreWords, AreKept}
 
 -- the place of a code in RAM, in ROM
@@ -29,7 +29,7 @@ rom_back cell kind code l is at =
 kind_back : (kind code n : ℕ) (place : Place) → kind ≡ n → place_by n code ≡ place → place_by kind code ≡ place
 kind_back kind code n place is same = ap (λ z. place_by z code) is ∙ same
 
-place_back : (place : Place) (kind code : ℕ) → IsPlace place → code ≡ code_of place → kind ≡ code / 8 → place_by kind code ≡ place
+place_back : (place : Place) (kind code : ℕ) → IsNodePlace place → code ≡ code_of place → kind ≡ code / 8 → place_by kind code ≡ place
 place_back T kind code l is at = kind_back kind code 0 T (omega (arith, is, at)) refl
 place_back S kind code l is at = kind_back kind code 1 S (omega (arith, is, at)) refl
 place_back DataPointer kind code l is at = kind_back kind code 2 DataPointer (omega (arith, is, at)) refl
@@ -62,7 +62,7 @@ value_in code value word is l = omega (arith, is, l)
 free_in : (code value word : ℕ) → word ≡ code * 16777216 + value → value < 262144 → word / 262144 % 64 ≡ 0
 free_in code value word is l = omega (arith, is, l)
 
-unpacked-packed : (place : Place) (value : ℕ) → IsPlace place → value < 2 ^ 18 → unpacked (packed place value) ≡ (place, value)
+unpacked-packed : (place : Place) (value : ℕ) → IsNodePlace place → value < 2 ^ 18 → unpacked (packed place value) ≡ (place, value)
 unpacked-packed place value p l =
     let word : ℕ = packed place value in
     ap (λ z. (z, word % 262144)) (place_back place (word / 134217728) (word / 16777216) p (code_in (code_of place) value word refl l) (kind_in word))
@@ -72,7 +72,7 @@ free_packed : (place : Place) (value : ℕ) → value < 2 ^ 18 → free_bits (pa
 free_packed place value l = free_in (code_of place) value (packed place value) refl l
 
 -- it is a word of a pair
-pub packed_word : (place : Place) (value : ℕ) → IsPlace place → value < 2 ^ 18 → packed place value < 249 * 2 ^ 24 → IsWord (packed place value)
+pub packed_word : (place : Place) (value : ℕ) → IsNodePlace place → value < 2 ^ 18 → packed place value < 249 * 2 ^ 24 → IsWord (packed place value)
 packed_word place value p l small =
     (small, ap (λ z. code_of z.0) (unpacked-packed place value p l) ∙ sym (code_in (code_of place) value (packed place value) refl l))
 
@@ -267,7 +267,7 @@ kept_few ws are free = record {
 pub kept_push : (ws : List ℕ) (place : Place) (value : ℕ) → AreKept ws → length ws < 6 → IsWord (packed place value) → value < 2 ^ 18 → AreKept (ws ++ packed place value ∷ [])
 kept_push ws place value kept l word m = kept_few (ws ++ packed place value ∷ []) (words_push ws (packed place value) kept.words word) (spare_push ws (packed place value) (kept.few l) (free_packed place value m))
 
-pub pairs_push : (ws : List ℕ) (place : Place) (value : ℕ) → AreKept ws → length ws < 6 → IsPlace place → value < 2 ^ 18
+pub pairs_push : (ws : List ℕ) (place : Place) (value : ℕ) → AreKept ws → length ws < 6 → IsNodePlace place → value < 2 ^ 18
     → map unpacked (whole (ws ++ packed place value ∷ [])) ≡ map unpacked (whole ws) ++ (place, value) ∷ []
 pairs_push ws place value kept l p m =
     ap (map unpacked) (none_whole (ws ++ packed place value ∷ []) (spare_push ws (packed place value) (kept.few l) (free_packed place value m)))
@@ -294,7 +294,7 @@ kept_spread ws n kept six free word =
       few = λ l. absurd (let same = length_back ws (2 ^ 32 + n) in omega (arith, l, same, six));
     }
 
-pub pairs_spread : (ws : List ℕ) (place : Place) (value : ℕ) → length ws ≡ 6 → spare ws ≡ 0 → IsWord (packed place value) → IsPlace place → value < 2 ^ 18
+pub pairs_spread : (ws : List ℕ) (place : Place) (value : ℕ) → length ws ≡ 6 → spare ws ≡ 0 → IsWord (packed place value) → IsNodePlace place → value < 2 ^ 18
     → map unpacked (whole (with_spare ws (2 ^ 32 + packed place value))) ≡ map unpacked (whole ws) ++ (place, value) ∷ []
 pairs_spread ws place value six free word p m =
     let n : ℕ = packed place value in

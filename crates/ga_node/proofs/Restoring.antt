@@ -4,7 +4,7 @@ use Rattle.std.specs.List.{slice_get}
 use Rattle.std.proofs.lemmas.Option.{get_or_from_slice_get, slice_get_within}
 use Rattle.std.proofs.lemmas.List.{set-get_or, set-set, set_comm}
 use Rattle.ga_node.specs.Record.{NodeState, record_of}
-use Rattle.ga_node.specs.State.{with_value, with_restored_values, IsInRange, HasAtMostOneStatus, KeepsAtMostOneStatus, AreValuesInRange, wait_code}
+use Rattle.ga_node.specs.State.{with_value, with_restored_values, IsPlaceValueInRange, HasAtMostOneStatus, KeepsAtMostOneStatus, AreValuesInRange, wait_code}
 use Rattle.std.specs.Int.{from_bool}
 use Rattle.ga_node.specs.declared.wait.Wait.{Wait}
 use Rattle.ga_node.specs.declared.wait.Wait.TheVariants.{Nothing, Fetch as FetchWait, Read as ReadWait, Write as WriteWait}
@@ -94,15 +94,15 @@ restored_one n saved i value is =
     ∙ ap (λ v. with_value (with_restored_values n (drop (i + 1) saved)) v.0 v.1) (get_or_from_slice_get saved i value value is)
 
 -- the value at a place of the list
-fit_within : (saved : List (Place × ℕ)) (i : ℕ) (d : Place × ℕ) → AreValuesInRange saved → i < length saved → IsInRange (get_or saved i d).0 (get_or saved i d).1
+fit_within : (saved : List (Place × ℕ)) (i : ℕ) (d : Place × ℕ) → AreValuesInRange saved → i < length saved → IsPlaceValueInRange (get_or saved i d).0 (get_or saved i d).1
 unfolding AreValuesInRange
 fit_within [] i d fit below = absurd (omega arith)
 fit_within (first ∷ rest) zero d fit below = fit.0
 fit_within (first ∷ rest) (suc i) d fit below = fit_within rest i d fit.1 (omega arith)
 
-pub fit_at : (saved : List (Place × ℕ)) (i : ℕ) (value : Place × ℕ) → AreValuesInRange saved → slice_get saved i ≡ Some value → IsInRange value.0 value.1
+pub fit_at : (saved : List (Place × ℕ)) (i : ℕ) (value : Place × ℕ) → AreValuesInRange saved → slice_get saved i ≡ Some value → IsPlaceValueInRange value.0 value.1
 fit_at saved i value fit is =
-    subst (λ v. IsInRange v.0 v.1) (get_or_from_slice_get saved i value value is) (fit_within saved i value fit (slice_get_within saved i value is))
+    subst (λ v. IsPlaceValueInRange v.0 v.1) (get_or_from_slice_get saved i value value is) (fit_within saved i value fit (slice_get_within saved i value is))
 
 -- nothing written back yet
 pub restored_past : (n : NodeState) (saved : List (Place × ℕ)) (i : ℕ) → length saved ≤ i → with_restored_values n (drop i saved) ≡ n
@@ -209,7 +209,7 @@ at_put code zero w (suc u ∷ ws) are is at = (is, at ∙ omega arith, are.2)
 at_put code (suc k) w (zero ∷ ws) are is at = at_put (code + 1) k w ws are is (at ∙ omega arith)
 at_put code (suc k) w (suc u ∷ ws) are is at = (are.0, are.1, at_put (code + 1) k w ws are.2 is (at ∙ omega arith))
 
-pub fit_put : (k w : ℕ) (ws : List ℕ) → AreValuesInRange (pairs_of ws) → IsInRange (unpacked w).0 (unpacked w).1 → AreValuesInRange (pairs_of (slice_set ws k (suc w)))
+pub fit_put : (k w : ℕ) (ws : List ℕ) → AreValuesInRange (pairs_of ws) → IsPlaceValueInRange (unpacked w).0 (unpacked w).1 → AreValuesInRange (pairs_of (slice_set ws k (suc w)))
 unfolding AreValuesInRange
 fit_put k w [] fit here = fit
 fit_put zero w (zero ∷ ws) fit here = (here, fit)
@@ -237,7 +237,7 @@ fit_past (zero ∷ ws) (suc i) fit = fit_past ws i fit
 fit_past (suc w ∷ ws) (suc i) fit = fit_past ws i fit.1
 
 -- the value of a gathered word is in range
-pub fit_of : (ws : List ℕ) (i w : ℕ) → AreValuesInRange (pairs_of ws) → i < length ws → get_or ws i 0 ≡ suc w → IsInRange (unpacked w).0 (unpacked w).1
+pub fit_of : (ws : List ℕ) (i w : ℕ) → AreValuesInRange (pairs_of ws) → i < length ws → get_or ws i 0 ≡ suc w → IsPlaceValueInRange (unpacked w).0 (unpacked w).1
 unfolding AreValuesInRange
 fit_of ws i w fit l is = (subst AreValuesInRange (pairs_past_one ws i w l is) (fit_past ws i fit)).0
 

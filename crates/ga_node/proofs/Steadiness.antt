@@ -5,21 +5,21 @@ use Rattle.ga_slots.specs.Slots.{opcode}
 use Rattle.ga_slots.specs.Codes.{code_of}
 use Rattle.ga_slots.specs.declared.op.Op.{Op}
 use Rattle.ga_slots.specs.declared.op.Op.TheVariants as op
-use Rattle.ga_ports.specs.Address.{address_target, is_single_side, side_of}
+use Rattle.ga_ports.specs.Address.{address_target, is_single_side, side_of_single_set}
 use Rattle.ga_ports.specs.declared.side.Side.{Side}
-use Rattle.ga_ports.specs.declared.address.Target.{Target}
-use Rattle.ga_ports.specs.declared.address.Target.TheVariants.{Ram, Rom, Io, Ports, Bad}
+use Rattle.ga_ports.specs.declared.address.AddressTarget.{AddressTarget}
+use Rattle.ga_ports.specs.declared.address.AddressTarget.TheVariants.{Ram, Rom, Io, Ports, Bad}
 use Rattle.ga_node.specs.Record.{NodeRecord, IsConsistentWait, HasConsistentWait}
-use Rattle.ga_node.specs.Changes.{Change, PushData, PopData, SetTop, PopTo, PushReturn, PopReturn, SetTopReturn, SetP, SetA, SetB, SetI, SetIo, SetCarry, SetRam, GoOn, Skip, StartAgain, SetWait, SetStop, node_after_change, after_changes}
-use Rattle.ga_node.specs.Table.{t, r, found, stored, followed, effect, fetch_result, with_kind, wait_effect, stop_effect, is_extended, own_event, own, wait_refusal, refusal, sent, taken, take_changes}
-use Rattle.ga_node.specs.declared.seen.Seen.{Seen}
+use Rattle.ga_node.specs.Changes.{Change, PushData, PopData, SetTop, PopTo, PushReturn, PopReturn, SetTopReturn, SetP, SetA, SetB, SetI, SetIo, SetCarry, SetRam, GoOn, Skip, StartAgain, SetWait, SetStop, node_after_change, node_after_changes}
+use Rattle.ga_node.specs.Table.{t, r, target_read_result, target_write_result, with_following_changes, effect, fetch_result, event_with_kind, wait_effect, stop_effect, is_extended, own_event, own, wait_refusal, refusal, sent, taken, take_changes}
+use Rattle.ga_node.specs.declared.seen.SeenNeighbours.{SeenNeighbours}
 use Rattle.ga_node.specs.declared.wait.Wait.{Wait}
 use Rattle.ga_node.specs.declared.wait.Wait.TheVariants as wait
 use Rattle.ga_node.specs.declared.wait.ReadKind.{ReadKind}
 use Rattle.ga_node.specs.declared.wait.ReadKind.TheVariants.{Instruction, Stack}
 use Rattle.ga_node.specs.declared.kind.OwnEventKind.{OwnEventKind}
 use Rattle.ga_node.specs.declared.kind.OwnEventKind.TheVariants as kind
-use Rattle.ga_node.specs.declared.kind.NotReady.TheVariants.{Stopped}
+use Rattle.ga_node.specs.declared.kind.EventRefusal.TheVariants.{Stopped}
 use Rattle.ga_node.proofs.Saving.{own_fetched, own_ran}
 
 -- a node that doesn't wait
@@ -57,7 +57,7 @@ plain_change StartAgain n plain = refl
 plain_change (SetWait wait) n plain = absurd plain
 plain_change (SetStop code) n plain = absurd plain
 
-after_plain : (changes : List Change) (n : NodeRecord) → ArePlain changes → (after_changes changes n).wait ≡ n.wait
+after_plain : (changes : List Change) (n : NodeRecord) → ArePlain changes → (node_after_changes changes n).wait ≡ n.wait
 after_plain [] n plain = refl
 after_plain (change ∷ rest) n plain = after_plain rest (node_after_change change n) plain.1 ∙ plain_change change n plain.0
 
@@ -75,9 +75,9 @@ abbrev Reads : ReadKind → ℕ → Type 0
 Reads Instruction slot = slot ≡ 4
 Reads Stack slot = slot ≢ 4
 
-read_lands : (target : Target) (reader : ReadKind) (seen : Seen) (n : NodeRecord) (more : ℕ → List Change) → Reads reader n.slot
-    → ((word : ℕ) → ArePlain (more word)) → Lands n.slot (followed (found target reader seen n) more)
-unfolding found followed
+read_lands : (target : AddressTarget) (reader : ReadKind) (seen : SeenNeighbours) (n : NodeRecord) (more : ℕ → List Change) → Reads reader n.slot
+    → ((word : ℕ) → ArePlain (more word)) → Lands n.slot (with_following_changes (target_read_result target reader seen n) more)
+unfolding target_read_result with_following_changes
 read_lands (Ram k) reader seen n more reads plain = plain _
 read_lands (Rom k) reader seen n more reads plain = plain _
 read_lands Io reader seen n more reads plain = plain _
@@ -89,20 +89,20 @@ post_lands : (single : Bool) (side : Side) (slot : ℕ) → slot ≢ 4 → Ends 
 post_lands true side slot other = inl (wait.Write side, refl, (other, refl))
 post_lands false side slot other = inr (1, refl)
 
-write_lands : (target : Target) (n : NodeRecord) (more : List Change) → n.slot ≢ 4 → ArePlain more
-    → Lands n.slot (followed (stored target n) (λ changes. changes ++ more))
-unfolding stored followed
+write_lands : (target : AddressTarget) (n : NodeRecord) (more : List Change) → n.slot ≢ 4 → ArePlain more
+    → Lands n.slot (with_following_changes (target_write_result target n) (λ changes. changes ++ more))
+unfolding target_write_result with_following_changes
 write_lands (Ram k) n more other plain = (tt, plain)
 write_lands (Rom k) n more other plain = plain
 write_lands Io n more other plain = (tt, plain)
-write_lands (Ports sides) n more other plain = post_lands (is_single_side sides) (side_of sides) n.slot other
+write_lands (Ports sides) n more other plain = post_lands (is_single_side sides) (side_of_single_set sides) n.slot other
 write_lands Bad n more other plain = inr (2, refl)
 
 plain_either : (b : Bool) (x y : List Change) → ArePlain x → ArePlain y → ArePlain (cond b x y)
 plain_either true x y p q = p
 plain_either false x y p q = q
 
-effect_lands : (op : Op) (seen : Seen) (n : NodeRecord) → n.slot ≢ 4 → Lands n.slot (effect op seen n)
+effect_lands : (op : Op) (seen : SeenNeighbours) (n : NodeRecord) → n.slot ≢ 4 → Lands n.slot (effect op seen n)
 effect_lands op.Return seen n other = (tt, (tt, (tt, tt)))
 effect_lands op.Execute seen n other = (tt, (tt, (tt, tt)))
 effect_lands op.Jump seen n other = (tt, (tt, tt))
@@ -137,26 +137,26 @@ effect_lands op.BStore seen n other = (tt, (tt, (tt, tt)))
 effect_lands op.AStore seen n other = (tt, (tt, (tt, tt)))
 
 named_steady : (n : NodeRecord) (kind : OwnEventKind) (outcome : Result (List Change) (OwnEventKind × List Change)) → n.wait ≡ wait.Nothing → n.stop ≡ 0 → Lands n.slot outcome
-    → HasConsistentWait (after_changes (with_kind kind outcome).1 n)
-named_steady n kind (Ok changes) idle going plain = steady_without (after_changes changes n) (after_plain changes n plain ∙ idle)
-named_steady n kind (Err event) idle going (inl (w, is, fits)) = subst (λ changes. HasConsistentWait (after_changes changes n)) (sym is) (subst (λ stop. IsConsistentWait w n.slot stop) (sym going) fits)
+    → HasConsistentWait (node_after_changes (event_with_kind kind outcome).1 n)
+named_steady n kind (Ok changes) idle going plain = steady_without (node_after_changes changes n) (after_plain changes n plain ∙ idle)
+named_steady n kind (Err event) idle going (inl (w, is, fits)) = subst (λ changes. HasConsistentWait (node_after_changes changes n)) (sym is) (subst (λ stop. IsConsistentWait w n.slot stop) (sym going) fits)
 named_steady n kind (Err event) idle going (inr (code, is)) =
-    subst (λ changes. HasConsistentWait (after_changes changes n)) (sym is) (steady_without (node_after_change (SetStop code) n) idle)
+    subst (λ changes. HasConsistentWait (node_after_changes changes n)) (sym is) (steady_without (node_after_change (SetStop code) n) idle)
 
 -- an event of a node that runs
-run_steady : (seen : Seen) (n : NodeRecord) → n.wait ≡ wait.Nothing → n.stop ≡ 0 → HasConsistentWait (own seen n).1
+run_steady : (seen : SeenNeighbours) (n : NodeRecord) → n.wait ≡ wait.Nothing → n.stop ≡ 0 → HasConsistentWait (own seen n).1
 unfolding own
 run_steady seen n idle going = elim (cases_eq n.slot 4) [ inl due ↦ fetch_access due | inr other ↦ runs other ]
   where
-    fetch_access : n.slot ≡ 4 → HasConsistentWait (after_changes (own_event seen n).1 n)
+    fetch_access : n.slot ≡ 4 → HasConsistentWait (node_after_changes (own_event seen n).1 n)
     fetch_access due =
-        subst (λ event. HasConsistentWait (after_changes event.1 n)) (sym (own_fetched seen n due))
+        subst (λ event. HasConsistentWait (node_after_changes event.1 n)) (sym (own_fetched seen n due))
         (named_steady n kind.Fetch (fetch_result seen n) idle going (read_lands (address_target n.p) Instruction seen n _ due (λ word. (tt, (tt, (tt, tt))))))
 
-    runs : n.slot ≢ 4 → HasConsistentWait (after_changes (own_event seen n).1 n)
+    runs : n.slot ≢ 4 → HasConsistentWait (node_after_changes (own_event seen n).1 n)
     runs other =
         let op = opcode n.i n.slot in
-        subst (λ event. HasConsistentWait (after_changes event.1 n)) (sym (own_ran seen n other))
+        subst (λ event. HasConsistentWait (node_after_changes event.1 n)) (sym (own_ran seen n other))
         (named_steady n (kind.Run (code_of op)) (effect op seen n) idle going (effect_lands op seen n other))
 
 pub idle_when : (w : Wait) (stop : ℕ) → wait_refusal w stop ≡ None → (w ≡ wait.Nothing) × (stop ≡ 0)
@@ -169,7 +169,7 @@ idle_when (wait.Fetch sides) stop e = cc
 idle_when (wait.Read sides) stop e = cc
 idle_when (wait.Write side) stop e = cc
 
-pub own_steady : (seen : Seen) (n : NodeRecord) → refusal n ≡ None → HasConsistentWait (own seen n).1
+pub own_steady : (seen : SeenNeighbours) (n : NodeRecord) → refusal n ≡ None → HasConsistentWait (own seen n).1
 own_steady seen n ready = let runs = idle_when n.wait n.stop ready in run_steady seen n runs.0 runs.1
 
 -- the two sides of a transfer
@@ -177,7 +177,7 @@ pub sent_steady : (n : NodeRecord) → HasConsistentWait (sent n)
 unfolding sent
 sent_steady n = tt
 
-taken_by : (w : Wait) (word : ℕ) (n : NodeRecord) → n.wait ≡ w → HasConsistentWait n → HasConsistentWait (after_changes (take_changes w word) n)
+taken_by : (w : Wait) (word : ℕ) (n : NodeRecord) → n.wait ≡ w → HasConsistentWait n → HasConsistentWait (node_after_changes (take_changes w word) n)
 taken_by wait.Nothing word n e steady = steady
 taken_by (wait.Fetch sides) word n e steady = tt
 taken_by (wait.Read sides) word n e steady = tt

@@ -56,6 +56,6 @@ node_after_change (SetWait wait) n = record n { wait = wait }
 node_after_change (SetStop code) n = record n { stop = code }
 
 -- the node after some changes, the first of them first
-abbrev pub after_changes : List Change → NodeRecord → NodeRecord
-after_changes [] n = n
-after_changes (change ∷ rest) n = after_changes rest (node_after_change change n)
+abbrev pub node_after_changes : List Change → NodeRecord → NodeRecord
+node_after_changes [] n = n
+node_after_changes (change ∷ rest) n = node_after_changes rest (node_after_change change n)

@@ -33,7 +33,7 @@ impl Model for OverwrittenValues {
 impl OverwrittenValues {
     ghost use Rattle.std.specs.Prelude.{◌≡◌, ◌≤◌, []};
     ghost use Rattle.ga_node.specs.Record.{NodeState};
-    ghost use Rattle.ga_node.specs.State.{with_value, with_suspended_status, with_restored_values, IsInRange, AreValuesInRange, HasClearedStatus};
+    ghost use Rattle.ga_node.specs.State.{with_value, with_suspended_status, with_restored_values, IsPlaceValueInRange, AreValuesInRange, HasClearedStatus};
 
     /// No old values: none is gathered yet.
     pub fn new() -> Self
@@ -47,7 +47,7 @@ impl OverwrittenValues {
     fn put(&mut self, word: u32)
         requires { IsWord word }
         ensures back { (node : NodeState) → with_restored_values node self.new ≡ with_value (with_restored_values node self.old) (unpacked word).0 (unpacked word).1 }
-        ensures fit { AreValuesInRange self.old → IsInRange (unpacked word).0 (unpacked word).1 → AreValuesInRange self.new }
+        ensures fit { AreValuesInRange self.old → IsPlaceValueInRange (unpacked word).0 (unpacked word).1 → AreValuesInRange self.new }
     {
         self.words[(word / 0x1000000) as usize] = word + 1;
     }

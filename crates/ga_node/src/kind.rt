@@ -31,7 +31,7 @@ impl fmt::Display for OwnEventKind {
 
 /// Why an event can't be made.
 #[derive(Clone, Copy, PartialEq, Eq, Debug, Error)]
-pub enum NotReady {
+pub enum EventRefusal {
     /// The node waits (1).
     #[error("the node waits")]
     Waiting,

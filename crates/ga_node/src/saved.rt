@@ -2,7 +2,7 @@
 
 ghost use Rattle.std.specs.Prelude.{◌≡◌, ◌+◌, ◌-◌, ◌<◌, ◌≤◌, ◌^◌, ◌*◌, ◌/◌, ◌%◌, length};
 ghost use Rattle.std.specs.Bool.{OnTrue, OnFalse};
-ghost use Rattle.ga_node.specs.State.{IsPlace};
+ghost use Rattle.ga_node.specs.State.{IsNodePlace};
 ghost use Rattle.ga_node.specs.inner.Packed.{code_of, place_by, packed, unpacked, free_bits as free_bits_of, spare, with_spare, AreWords, AreKept};
 
 use crate::place::Place;
@@ -33,7 +33,7 @@ impl Saved {
     ghost use Rattle.std.specs.Prelude.{◌≡◌, ◌<◌, ◌≤◌, ◌^◌, ◌++◌, ◌∷◌, [], length, take, Some};
     ghost use Rattle.std.specs.Bool.{OnTrue, OnFalse};
     ghost use Rattle.std.specs.List.{slice_get};
-    ghost use Rattle.ga_node.specs.State.{IsPlace};
+    ghost use Rattle.ga_node.specs.State.{IsNodePlace};
     ghost use Rattle.ga_node.specs.inner.Packed.{unpacked, IsWord};
 
     /// A list with no pair.
@@ -87,7 +87,7 @@ impl Saved {
     #[tactic(auto, using(crate::proofs::Packing::packed_word, crate::proofs::Packing::few_words, crate::proofs::Packing::kept_push, crate::proofs::Packing::pairs_push))]
     #[inline(always)]
     pub(crate) fn add(&mut self, place: Place, value: u32)
-        requires place { IsPlace place }
+        requires place { IsNodePlace place }
         requires in_range { value < 2 ^ 18 }
         requires room { length self.old < 6 }
         ensures { self.new ≡ self.old ++ (place, value) ∷ [] }
@@ -99,7 +99,7 @@ impl Saved {
     #[tactic(auto, using(crate::proofs::Packing::packed_word, crate::proofs::Packing::count_none, crate::proofs::Packing::full_free, crate::proofs::Packing::kept_spread, crate::proofs::Packing::pairs_spread))]
     #[inline(always)]
     pub fn push(&mut self, place: Place, value: u32)
-        requires place { IsPlace place }
+        requires place { IsNodePlace place }
         requires in_range { value < 2 ^ 18 }
         requires room { length self.old < 7 }
         ensures { self.new ≡ self.old ++ (place, value) ∷ [] }
@@ -151,7 +151,7 @@ impl fmt::Debug for Saved {
 /// The word of a place and a value: a number for each place, six free bits, and the value.
 #[inline(always)]
 fn pack(at: Place, value: u32) -> u32
-    requires place { IsPlace at }
+    requires place { IsNodePlace at }
     requires in_range { value < 2 ^ 18 }
     ensures value { result ≡ packed at value }
     ensures within { result < 249 * 2 ^ 24 }

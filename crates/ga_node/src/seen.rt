@@ -20,7 +20,7 @@ pub enum NeighbourState {
 
 /// The neighbours on the four sides of a node, as a read of `io` shows them.
 #[derive(Clone, Copy, PartialEq, Eq, Debug)]
-pub struct Seen {
+pub struct SeenNeighbours {
     /// The neighbour on side right.
     pub right: NeighbourState,
     /// The neighbour on side down.
@@ -51,13 +51,13 @@ impl NeighbourState {
     }
 }
 
-impl Seen {
+impl SeenNeighbours {
     /// Nobody on any side.
     #[inline(always)]
     pub fn no_neighbours() -> Self
         ensures { result ≡ no_neighbours }
     {
-        Seen {
+        SeenNeighbours {
             right: NeighbourState::Nobody,
             down: NeighbourState::Nobody,
             left: NeighbourState::Nobody,

@@ -1,7 +1,7 @@
 //! What a node waits for.
 
 ghost use Rattle.std.specs.Prelude.{◌≡◌};
-ghost use Rattle.ga_node.specs.State.{wait_code, wait_of, IsWaitCode};
+ghost use Rattle.ga_node.specs.State.{wait_code, wait_of_code, IsWaitCode};
 
 use ga_ports::{PortSet, Side};
 
@@ -31,7 +31,7 @@ impl Wait {
     /// The wait of a number.
     pub(crate) fn from_code(code: u32) -> Wait
         requires { IsWaitCode code }
-        ensures { result ≡ wait_of code }
+        ensures { result ≡ wait_of_code code }
     {
         if code == 0 {
             return Wait::Nothing;
@@ -53,7 +53,7 @@ impl Wait {
     /// The wait as a number.
     pub fn code(&self) -> u32
         ensures value { result ≡ wait_code self.now }
-        ensures back { wait_of result ≡ self.now }
+        ensures back { wait_of_code result ≡ self.now }
         ensures valid { IsWaitCode result }
     {
         match self {

@@ -5,7 +5,7 @@ use Rattle.std.proofs.lemmas.List.{reverse-append, map-set, map-append, length-m
 use Rattle.std.proofs.lemmas.Bool.{cond-false, cond-true, cases_Bool}
 use Rattle.ga_parser.specs.declared.controls.Open.{Open}
 use Rattle.ga_parser.specs.declared.scan.Token.{Token}
-use Rattle.ga_parser.specs.Asking.{ParseState, Refusal, refusal_at_line, open_word_line, refuse_unclosed, parse_one_word, next_text, parse_words_from, finished_parse, expects_operand, refuse_unplaced, ◌▷◌, LabelContent, label_content, known_label_number, label_number, label_at, with_marked_label}
+use Rattle.ga_parser.specs.Asking.{ParseState, Refusal, refusal_at_line, open_control_word_line, refuse_unclosed, parse_one_word, next_word_text, parse_words_from, finished_parse, expects_operand, refuse_unplaced, ◌▷◌, LabelContent, label_content, known_label_number, label_number, label_at, with_marked_label}
 use Rattle.ga_parser.specs.Asking.RefusalCause.{Unclosed, Unknown}
 use Rattle.ga_parser.specs.Saying.{token_content, token_contents, has_bytes}
 use Rattle.ga_parser.specs.inner.Drafting.{texts_of}
@@ -20,25 +20,25 @@ use Rattle.ga_parser.proofs.Hearing.{same_text as same_bytes}
 
 -- ---- what is still open
 
-outermost : (now : ParseState) (inner : List Open) (one : Open) → refuse_unclosed now (inner ++ one ∷ []) ≡ refusal_at_line (open_word_line one) Unclosed
+outermost : (now : ParseState) (inner : List Open) (one : Open) → refuse_unclosed now (inner ++ one ∷ []) ≡ refusal_at_line (open_control_word_line one) Unclosed
 unfolding refuse_unclosed
 outermost now [] one = refl
 outermost now (a ∷ []) one = refl
 outermost now (a ∷ b ∷ inner) one = outermost now (b ∷ inner) one
 
-pub first_open : (now : ParseState) (opened : List Open) (d : Open) → 0 < length opened → refuse_unclosed now (reverse opened) ≡ refusal_at_line (open_word_line (get_or opened 0 d)) Unclosed
+pub first_open : (now : ParseState) (opened : List Open) (d : Open) → 0 < length opened → refuse_unclosed now (reverse opened) ≡ refusal_at_line (open_control_word_line (get_or opened 0 d)) Unclosed
 first_open now [] d some = absurd (omega arith)
 first_open now (one ∷ inner) d some = ap (refuse_unclosed now) (reverse-append (one ∷ []) inner) ∙ outermost now (reverse inner) one
 
-pub open_refused : (now : ParseState) (last : ℕ) (items : List Open) (open_one : Open) → now.opened ≡ reverse items → expects_operand now.expect ≡ false → 0 < length items → open_one ≡ get_or items 0 open_one → finished_parse now last ≡ refusal_at_line (open_word_line open_one) Unclosed
+pub open_refused : (now : ParseState) (last : ℕ) (items : List Open) (open_one : Open) → now.opened ≡ reverse items → expects_operand now.expect ≡ false → 0 < length items → open_one ≡ get_or items 0 open_one → finished_parse now last ≡ refusal_at_line (open_control_word_line open_one) Unclosed
 open_refused now last items open_one is ready some first =
     cond-false (expects_operand now.expect) _ _ ready
     ∙ ap (λ (r : Result ParseState Refusal). r ▷ (λ closed. refuse_unplaced closed closed.labels))
-    (ap (refuse_unclosed now) is ∙ (first_open now items open_one some ∙ ap (λ (o : Open). refusal_at_line {X = ParseState} (open_word_line o) Unclosed) (sym first)))
+    (ap (refuse_unclosed now) is ∙ (first_open now items open_one some ∙ ap (λ (o : Open). refusal_at_line {X = ParseState} (open_control_word_line o) Unclosed) (sym first)))
 
 -- ---- one word more
 
-pub next_is : (tokens : List Token) (k : ℕ) → next_text (token_contents (drop k tokens)) ≡ slice_index_or (texts_of tokens) k []
+pub next_is : (tokens : List Token) (k : ℕ) → next_word_text (token_contents (drop k tokens)) ≡ slice_index_or (texts_of tokens) k []
 next_is [] zero = refl
 next_is [] (suc k) = refl
 next_is (token ∷ tokens) zero = refl

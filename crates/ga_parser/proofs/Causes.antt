@@ -11,12 +11,12 @@ use Rattle.ga_parser.specs.declared.fault.SourceCause.{SourceCause}
 use Rattle.ga_parser.specs.declared.fault.SourceCause.TheVariants.{LabelTwice as StandsTwice, Taken as IsTaken}
 use Rattle.ga_parser.specs.declared.vocabulary.Control.{Control}
 use Rattle.ga_parser.specs.declared.vocabulary.Control.TheVariants.{Begin, For, Again, Until, Next, NextAround, Unext, While, Repeat, If, Else, Then}
-use Rattle.ga_parser.specs.Asking.{ParseState, LabelContent, Refusal, refusal_at_line, ◌▷◌, is_marked_label, with_added_label, control, mark, jump, ahead, with_added_request, with_open_words, innermost_loop_label, innermost_ahead_label, end_jump_ahead, outer_loop_label, label_name_requests, known_label_number, set_register_once, register_value_in, word_requests, value_of_word, value_or_call}
+use Rattle.ga_parser.specs.Asking.{ParseState, LabelContent, Refusal, refusal_at_line, ◌▷◌, is_marked_label, with_added_label, control_word, mark_label, jump_to_label, begin_jump_ahead, with_added_request, with_open_control_words, innermost_loop_label, innermost_ahead_label, end_jump_ahead, outer_loop_label, label_name_requests, known_label_number, set_register_once, register_value_in, word_requests, value_of_word, value_or_call}
 use Rattle.ga_parser.specs.Asking.RefusalCause.{LabelTwice, Taken, RegisterTwice}
 use Rattle.ga_parser.specs.declared.item.RegisterValue.{RegisterValue}
 use Rattle.ga_parser.specs.declared.item.Operand.{Operand}
 use Rattle.ga_parser.specs.declared.vocabulary.Register.{Register as RegisterName}
-use Rattle.ga_parser.specs.Vocabulary.{is_reserved, directive_in, opcode_in, control_in}
+use Rattle.ga_parser.specs.Vocabulary.{is_reserved, directive_of_word, opcode_of_word, control_of_word}
 use Rattle.ga_parser.specs.inner.Refusing.{RefusesBy, first_open, around_first, loop_cause_of, ahead_cause_of, cause_or, control_cause_of, name_cause_of, twice_cause_of, given_cause_of}
 
 -- ---- what is open
@@ -80,48 +80,48 @@ loop_refused now [] line asks = refl
 loop_refused now (Loop l k ∷ around) line asks = refl
 loop_refused now (JumpAhead l k ∷ around) line asks = refl
 
-around_refused : (now : ParseState) (opened : List Open) (line : ℕ) → RefusesBy (loop_cause_of (first_open (around_first opened))) line (outer_loop_label now opened line ▷ (λ end. Ok (jump end.1 line NextOp end.0)))
+around_refused : (now : ParseState) (opened : List Open) (line : ℕ) → RefusesBy (loop_cause_of (first_open (around_first opened))) line (outer_loop_label now opened line ▷ (λ end. Ok (jump_to_label end.1 line NextOp end.0)))
 around_refused now [] line = refl
 around_refused now (one ∷ []) line = refl
 around_refused now (one ∷ Loop l k ∷ around) line = refl
 around_refused now (one ∷ JumpAhead l k ∷ around) line = refl
 
-else_refused : (now : ParseState) (opened : List Open) (line : ℕ) → RefusesBy (ahead_cause_of now.labels (first_open opened)) line (innermost_ahead_label now opened line ▷ (λ end. mark (ahead end.1 line JumpOp) line end.0))
+else_refused : (now : ParseState) (opened : List Open) (line : ℕ) → RefusesBy (ahead_cause_of now.labels (first_open opened)) line (innermost_ahead_label now opened line ▷ (λ end. mark_label (begin_jump_ahead end.1 line JumpOp) line end.0))
 else_refused now [] line = refl
 else_refused now (Loop l k ∷ around) line = refl
 else_refused now (JumpAhead l k ∷ around) line = by_mark (is_marked_label now.labels k) (is_marked_label (with_added_label now.labels line [] false) k) (behind_more now.labels line [] k) _ line
 
-then_refused : (now : ParseState) (opened : List Open) (line : ℕ) → RefusesBy (ahead_cause_of now.labels (first_open opened)) line (innermost_ahead_label now opened line ▷ (λ end. mark end.1 line end.0))
+then_refused : (now : ParseState) (opened : List Open) (line : ℕ) → RefusesBy (ahead_cause_of now.labels (first_open opened)) line (innermost_ahead_label now opened line ▷ (λ end. mark_label end.1 line end.0))
 then_refused now [] line = refl
 then_refused now (Loop l k ∷ around) line = refl
 then_refused now (JumpAhead l k ∷ around) line = by_mark (is_marked_label now.labels k) (is_marked_label now.labels k) refl _ line
 
 repeat_refused : (now : ParseState) (opened : List Open) (line : ℕ) → RefusesBy (cause_or (loop_cause_of (first_open opened)) (ahead_cause_of now.labels (first_open (around_first opened)))) line
-    (innermost_loop_label now opened line ▷ (λ end. end_jump_ahead (jump end.1 line JumpOp end.0) line ▷ (λ out. mark out.1 line out.0)))
+    (innermost_loop_label now opened line ▷ (λ end. end_jump_ahead (jump_to_label end.1 line JumpOp end.0) line ▷ (λ out. mark_label out.1 line out.0)))
 repeat_refused now [] line = refl
 repeat_refused now (JumpAhead l k ∷ around) line = refl
 repeat_refused now (Loop l k ∷ []) line = refl
 repeat_refused now (Loop l k ∷ Loop m j ∷ around) line = refl
 repeat_refused now (Loop l k ∷ JumpAhead m j ∷ around) line = by_mark (is_marked_label now.labels j) (is_marked_label now.labels j) refl _ line
 
-pub control_refused : (now : ParseState) (line : ℕ) (word : Control) → RefusesBy (control_cause_of now.labels now.opened word) line (control now line word)
+pub control_refused : (now : ParseState) (line : ℕ) (word : Control) → RefusesBy (control_cause_of now.labels now.opened word) line (control_word now line word)
 control_refused now line Begin = refl
 control_refused now line For = refl
 control_refused now line (If op) = refl
 control_refused now line Else = else_refused now now.opened line
 control_refused now line Then = then_refused now now.opened line
-control_refused now line Again = loop_refused now now.opened line (λ end. jump end.1 line JumpOp end.0)
-control_refused now line (Until op) = loop_refused now now.opened line (λ end. jump end.1 line op end.0)
-control_refused now line Next = loop_refused now now.opened line (λ end. jump end.1 line NextOp end.0)
+control_refused now line Again = loop_refused now now.opened line (λ end. jump_to_label end.1 line JumpOp end.0)
+control_refused now line (Until op) = loop_refused now now.opened line (λ end. jump_to_label end.1 line op end.0)
+control_refused now line Next = loop_refused now now.opened line (λ end. jump_to_label end.1 line NextOp end.0)
 control_refused now line NextAround = around_refused now now.opened line
 control_refused now line Unext = loop_refused now now.opened line (λ end. with_added_request end.1 line (UnextAsked end.0))
-control_refused now line (While op) = loop_refused now now.opened line (λ end. with_open_words (ahead end.1 line op) (Loop line end.0 ∷ (ahead end.1 line op).opened))
+control_refused now line (While op) = loop_refused now now.opened line (λ end. with_open_control_words (begin_jump_ahead end.1 line op) (Loop line end.0 ∷ (begin_jump_ahead end.1 line op).opened))
 control_refused now line Repeat = repeat_refused now now.opened line
 
 -- ---- names
 
 name_by : (now : ParseState) (line : ℕ) (name : List ℕ) (is_taken_name : Bool) (before : Option ℕ) → RefusesBy (cond is_taken_name (Some IsTaken) (twice_cause_of now.labels before)) line
-    (cond is_taken_name (refusal_at_line line Taken) (mark (record now { labels = option_map_or (λ _. now.labels) before (with_added_label now.labels line name false) }) line (option_map_or (λ k. k) before (length now.labels))))
+    (cond is_taken_name (refusal_at_line line Taken) (mark_label (record now { labels = option_map_or (λ _. now.labels) before (with_added_label now.labels line name false) }) line (option_map_or (λ k. k) before (length now.labels))))
 name_by now line name true before = refl
 name_by now line name false (Some k) = by_mark (is_marked_label now.labels k) (is_marked_label now.labels k) refl _ line
 name_by now line name false None =
@@ -142,13 +142,13 @@ give_refused now line register value = give_by _ line (register_value_in now.reg
 
 -- ---- a word without arguments
 
-pub control_word_refused : (now : ParseState) (line : ℕ) (word next : List ℕ) (one : Control) (cause : Option SourceCause) → bytes_eq next (codes ",") ≡ false → directive_in word ≡ None → opcode_in word ≡ None → control_in word ≡ Some one
+pub control_word_refused : (now : ParseState) (line : ℕ) (word next : List ℕ) (one : Control) (cause : Option SourceCause) → bytes_eq next (codes ",") ≡ false → directive_of_word word ≡ None → opcode_of_word word ≡ None → control_of_word word ≡ Some one
     → cause ≡ control_cause_of now.labels now.opened one → RefusesBy cause line (word_requests now line word next)
 unfolding word_requests
 control_word_refused now line word next one cause comma none other is e =
     rw (e, comma, none, other, is) (control_refused now line one)
 
-pub other_word_refused : (now : ParseState) (line : ℕ) (word next : List ℕ) (cause : Option SourceCause) → bytes_eq next (codes ",") ≡ false → directive_in word ≡ None → opcode_in word ≡ None → control_in word ≡ None
+pub other_word_refused : (now : ParseState) (line : ℕ) (word next : List ℕ) (cause : Option SourceCause) → bytes_eq next (codes ",") ≡ false → directive_of_word word ≡ None → opcode_of_word word ≡ None → control_of_word word ≡ None
     → RefusesBy cause line (value_of_word now line word ▷ (λ said. value_or_call said.1 line word next said.0)) → RefusesBy cause line (word_requests now line word next)
 unfolding word_requests
 other_word_refused now line word next cause comma none other is refused = rw (comma, none, other, is) refused

@@ -5,7 +5,7 @@ use Rattle.std.proofs.lemmas.List.{drop_all, take_all}
 use Rattle.ga_parser.specs.declared.scan.Token.{Token}
 use Rattle.ga_parser.specs.Saying.{TokenContent, PlacedToken, token_content, token_contents, is_word, tokens_until_fault}
 use Rattle.ga_parser.specs.inner.Placing.{placed, placed_all}
-use Rattle.ga_parser.specs.Groups.{NodeNaming, begins_node, is_further_node_name, naming_after_word, words_after_names, body, words_before_name, expand_node_groups}
+use Rattle.ga_parser.specs.Groups.{NodeNaming, begins_node, is_further_node_name, naming_after_word, words_after_names, words_before_next_node, words_before_name, expand_node_groups}
 use Rattle.ga_parser.proofs.Placing.{first_placed, front_placed}
 use Rattle.ga_parser.proofs.Asking.{first_left}
 
@@ -26,21 +26,21 @@ names_end node tokens none = ap (λ (t : List Token). words_after_names node (pl
 
 -- ---- programs
 
-pub one_inside : (tokens : List Token) (k : ℕ) (d : Token) (all : List PlacedToken) → k < length tokens → begins_node (placed (get_or tokens k d)) ≡ false → placed_all (take k tokens) ++ body (placed_all (drop k tokens)) ≡ all
-    → placed_all (take (k + 1) tokens) ++ body (placed_all (drop (k + 1) tokens)) ≡ all
-unfolding body
+pub one_inside : (tokens : List Token) (k : ℕ) (d : Token) (all : List PlacedToken) → k < length tokens → begins_node (placed (get_or tokens k d)) ≡ false → placed_all (take k tokens) ++ words_before_next_node (placed_all (drop k tokens)) ≡ all
+    → placed_all (take (k + 1) tokens) ++ words_before_next_node (placed_all (drop (k + 1) tokens)) ≡ all
+unfolding words_before_next_node
 one_inside tokens k d all within is so_far =
-    ap (λ (l : List PlacedToken). l ++ body (placed_all (drop (k + 1) tokens))) (front_placed tokens k d within)
-    ∙ (append_assoc (placed_all (take k tokens)) (placed (get_or tokens k d) ∷ []) (body (placed_all (drop (k + 1) tokens)))
+    ap (λ (l : List PlacedToken). l ++ words_before_next_node (placed_all (drop (k + 1) tokens))) (front_placed tokens k d within)
+    ∙ (append_assoc (placed_all (take k tokens)) (placed (get_or tokens k d) ∷ []) (words_before_next_node (placed_all (drop (k + 1) tokens)))
     ∙ (ap (λ (l : List PlacedToken). placed_all (take k tokens) ++ l)
-    (sym (ap body (first_placed tokens k d within) ∙ cond-false (begins_node (placed (get_or tokens k d))) _ _ is)) ∙ so_far))
+    (sym (ap words_before_next_node (first_placed tokens k d within) ∙ cond-false (begins_node (placed (get_or tokens k d))) _ _ is)) ∙ so_far))
 
-pub body_ends : (tokens : List Token) (k : ℕ) (d : Token) (all : List PlacedToken) → k < length tokens → begins_node (placed (get_or tokens k d)) ≡ true → placed_all (take k tokens) ++ body (placed_all (drop k tokens)) ≡ all
+pub body_ends : (tokens : List Token) (k : ℕ) (d : Token) (all : List PlacedToken) → k < length tokens → begins_node (placed (get_or tokens k d)) ≡ true → placed_all (take k tokens) ++ words_before_next_node (placed_all (drop k tokens)) ≡ all
     → placed_all (take k tokens) ≡ all
-unfolding body
+unfolding words_before_next_node
 body_ends tokens k d all within is so_far =
     sym (append-nil (placed_all (take k tokens)))
-    ∙ (ap (λ (l : List PlacedToken). placed_all (take k tokens) ++ l) (sym (ap body (first_placed tokens k d within) ∙ cond-true (begins_node (placed (get_or tokens k d))) _ _ is)) ∙ so_far)
+    ∙ (ap (λ (l : List PlacedToken). placed_all (take k tokens) ++ l) (sym (ap words_before_next_node (first_placed tokens k d within) ∙ cond-true (begins_node (placed (get_or tokens k d))) _ _ is)) ∙ so_far)
 
 -- ---- all words
 
@@ -103,9 +103,9 @@ whole_end tokens k all past so_far =
     ∙ (sym (append-nil (token_contents (take k tokens)))
     ∙ (ap (λ (t : List Token). token_contents (take k tokens) ++ tokens_until_fault (token_contents t)) (sym (drop_all k tokens past)) ∙ so_far))
 
-pub inside_end : (tokens : List Token) (k : ℕ) (all : List PlacedToken) → length tokens ≤ k → placed_all (take k tokens) ++ body (placed_all (drop k tokens)) ≡ all → placed_all tokens ≡ all
-unfolding body
+pub inside_end : (tokens : List Token) (k : ℕ) (all : List PlacedToken) → length tokens ≤ k → placed_all (take k tokens) ++ words_before_next_node (placed_all (drop k tokens)) ≡ all → placed_all tokens ≡ all
+unfolding words_before_next_node
 inside_end tokens k all past so_far =
     sym (ap placed_all (take_all k tokens past))
     ∙ (sym (append-nil (placed_all (take k tokens)))
-    ∙ (ap (λ (t : List Token). placed_all (take k tokens) ++ body (placed_all t)) (sym (drop_all k tokens past)) ∙ so_far))
+    ∙ (ap (λ (t : List Token). placed_all (take k tokens) ++ words_before_next_node (placed_all t)) (sym (drop_all k tokens past)) ∙ so_far))

@@ -6,7 +6,7 @@ use Rattle.std.proofs.lemmas.Slice.Eq.{bytes_eq-Decides}
 use Rattle.ga_parser.specs.declared.number.Number.{Number as NumberIn, Number as WordNumber}
 use Rattle.ga_parser.specs.declared.number.Number.TheVariants.{Of, OutOfRange, Nothing as NoNumber}
 use Rattle.ga_parser.specs.declared.item.Operand.TheVariants.{Number}
-use Rattle.ga_parser.specs.declared.item.Item.TheVariants.{Cell}
+use Rattle.ga_parser.specs.declared.item.AssemblyItem.TheVariants.{Cell}
 use Rattle.ga_parser.specs.declared.vocabulary.Directive.{Directive}
 use Rattle.ga_parser.specs.declared.vocabulary.Directive.TheVariants.{Address as GoesOn, Register as Gives}
 use Rattle.ga_parser.specs.declared.vocabulary.Register.TheVariants.{P, A, B}
@@ -16,8 +16,8 @@ use Rattle.ga_parser.specs.declared.draft.Expect.TheVariants.{Word, Address, Nam
 use Rattle.ga_parser.specs.Asking.{with_carry_bit}
 use Rattle.ga_ports.specs.Steps.{◌>>=◌}
 use Rattle.ga_ports.specs.Address.{parse_side_set, side_value}
-use Rattle.ga_parser.specs.Vocabulary.{find_in_table, number_of_word, directive_words, has_prefix, unsigned_number, checked_word, checked_negative_word, signed_number, port_set_address, named_port_set, named_ports, named_port_address}
-use Rattle.ga_parser.specs.Plain.{Plain, with_two_words, with_request, if_number, value_if, is_cell_address, plain_requests_from}
+use Rattle.ga_parser.specs.Vocabulary.{find_in_table, number_spelled_by_word, directive_words, has_prefix, unsigned_number, checked_word, checked_negative_word, signed_number, port_set_address, named_port_set, named_ports, named_port_address}
+use Rattle.ga_parser.specs.Plain.{Plain, with_plain_word_pair, with_plain_request, and_then_number, some_value_if, is_cell_address, plain_requests_from}
 use Rattle.ga_parser.specs.inner.Drafting.{Heard, end_of, may_give, next_of, parse_one_word, hear_all}
 use Rattle.std.specs.Option.{option_map_or, option_or}
 use Rattle.std.proofs.Math.Nat.{mod-lt}
@@ -64,7 +64,7 @@ no_number : {n : ℕ} → NoNumber ≡ Of n → ⊥
 no_number e = subst is_of e tt
 
 -- a word with an apostrophe in front says no number
-label_no_number : (name : List ℕ) → number_of_word (39 ∷ name) ≡ NoNumber
+label_no_number : (name : List ℕ) → number_spelled_by_word (39 ∷ name) ≡ NoNumber
 unfolding parse_side_set
 label_no_number [] = refl
 label_no_number (a ∷ []) = refl
@@ -72,9 +72,9 @@ label_no_number (a ∷ b ∷ []) = refl
 label_no_number (a ∷ b ∷ c ∷ []) = refl
 label_no_number (a ∷ b ∷ c ∷ d ∷ name) = refl
 
-pub no_label : (text : List ℕ) (n : ℕ) → get_or text 0 0 ≡ 39 → number_of_word text ≡ Of n → ⊥
+pub no_label : (text : List ℕ) (n : ℕ) → get_or text 0 0 ≡ 39 → number_spelled_by_word text ≡ Of n → ⊥
 no_label [] n first is = absurd (omega arith)
-no_label (b ∷ name) n first is = no_number (sym (label_no_number name) ∙ (ap (λ (c : ℕ). number_of_word (c ∷ name)) (sym first) ∙ is))
+no_label (b ∷ name) n first is = no_number (sym (label_no_number name) ∙ (ap (λ (c : ℕ). number_spelled_by_word (c ∷ name)) (sym first) ∙ is))
 
 -- what is done on `Ok`, of one number
 pub same_number : (n m : ℕ) (number : NumberIn) → Of n ≡ number → number ≡ Of m → n ≡ m
@@ -93,39 +93,39 @@ pub record IsNumbered {X : Type 0} (number : NumberIn) (asks : ℕ → Option X)
 pub some_same : {X : Type 0} (x y : X) → Some x ≡ Some y → x ≡ y
 some_same x y e = ap (λ o. option_or_default x o) e
 
-pub numbered : {X : Type 0} (number : NumberIn) (asks : ℕ → Option X) (x : X) → if_number number asks ≡ Some x → IsNumbered number asks x
+pub numbered : {X : Type 0} (number : NumberIn) (asks : ℕ → Option X) (x : X) → and_then_number number asks ≡ Some x → IsNumbered number asks x
 numbered (Of n) asks x e = record { n = n; is = refl; gives = e }
 numbered OutOfRange asks x e = absurd (no_some e)
 numbered NoNumber asks x e = absurd (no_some e)
 
 -- what a test allows
-pub allowed : {X : Type 0} (b : Bool) (x y : X) → value_if b x ≡ Some y → (b ≡ true) × (x ≡ y)
+pub allowed : {X : Type 0} (b : Bool) (x y : X) → some_value_if b x ≡ Some y → (b ≡ true) × (x ≡ y)
 allowed true x y e = (refl, some_same x y e)
 allowed false x y e = absurd (no_some e)
 
 -- ---- plain words are heard as they are read in pairs
 
 -- a number, where the rest is heard as it is read
-number_pair : (number : NumberIn) (f : ℕ → Option Plain) (g : ℕ → Option Heard) (read : Plain → Option Plain) (k : Heard → Option Plain) (all : Plain) → ((n : ℕ) → (f n >>= read) ≡ Some all → (g n >>= k) ≡ Some all) → (if_number number f >>= read) ≡ Some all → (if_number number g >>= k) ≡ Some all
+number_pair : (number : NumberIn) (f : ℕ → Option Plain) (g : ℕ → Option Heard) (read : Plain → Option Plain) (k : Heard → Option Plain) (all : Plain) → ((n : ℕ) → (f n >>= read) ≡ Some all → (g n >>= k) ≡ Some all) → (and_then_number number f >>= read) ≡ Some all → (and_then_number number g >>= k) ≡ Some all
 number_pair (Of n) f g read k all goes is = goes n is
 number_pair OutOfRange f g read k all goes is = absurd (no_some is)
 number_pair NoNumber f g read k all goes is = absurd (no_some is)
 
 -- the same where a test allows it
-allowed_pair : (b : Bool) (plain : Plain) (heard : Heard) (read : Plain → Option Plain) (k : Heard → Option Plain) (all : Plain) → (read plain ≡ Some all → k heard ≡ Some all) → (value_if b plain >>= read) ≡ Some all → (value_if b heard >>= k) ≡ Some all
+allowed_pair : (b : Bool) (plain : Plain) (heard : Heard) (read : Plain → Option Plain) (k : Heard → Option Plain) (all : Plain) → (read plain ≡ Some all → k heard ≡ Some all) → (some_value_if b plain >>= read) ≡ Some all → (some_value_if b heard >>= k) ≡ Some all
 allowed_pair true plain heard read k all goes is = goes is
 allowed_pair false plain heard read k all goes is = absurd (no_some is)
 
 module _ (plain all : Plain) (first second : List ℕ) (words : List (List ℕ)) (again : (more : Plain) → plain_requests_from more words ≡ Some all → hear_all (record { expect = Word; plain = more }) words ≡ Some all) where
-  comma_pair : bytes_eq second (codes ",") ≡ true → (with_two_words plain first second >>= (λ more. plain_requests_from more words)) ≡ Some all → hear_all (record { expect = Word; plain = plain }) (first ∷ second ∷ words) ≡ Some all
+  comma_pair : bytes_eq second (codes ",") ≡ true → (with_plain_word_pair plain first second >>= (λ more. plain_requests_from more words)) ≡ Some all → hear_all (record { expect = Word; plain = plain }) (first ∷ second ∷ words) ≡ Some all
   unfolding hear_all
   comma_pair comma is =
       ap (λ (o : Option Heard). o >>= (λ now. hear_all now (second ∷ words))) (cond-true (bytes_eq second (codes ",")) _ _ comma)
-      ∙ number_pair (number_of_word first) (λ n. Some (with_request plain (Put (Cell (Number n))))) (λ n. Some (record { expect = Nothing; plain = with_request plain (Put (Cell (Number n))) }))
-      (λ more. plain_requests_from more words) (λ now. hear_all now (second ∷ words)) all (λ n. again (with_request plain (Put (Cell (Number n)))))
+      ∙ number_pair (number_spelled_by_word first) (λ n. Some (with_plain_request plain (Put (Cell (Number n))))) (λ n. Some (record { expect = Nothing; plain = with_plain_request plain (Put (Cell (Number n))) }))
+      (λ more. plain_requests_from more words) (λ now. hear_all now (second ∷ words)) all (λ n. again (with_plain_request plain (Put (Cell (Number n)))))
       (ap (λ (o : Option Plain). o >>= (λ more. plain_requests_from more words)) (sym (cond-true (bytes_eq second (codes ",")) _ _ comma)) ∙ is)
 
-  directive_pair : (d : Directive) (e : Expect) (may : ℕ → Bool) (f : ℕ → Plain) → bytes_eq second (codes ",") ≡ false → find_in_table directive_words first ≡ Some d → next_of d ≡ Some e → ((n : ℕ) → parse_one_word (record { expect = e; plain = plain }) second (slice_index_or words 0 []) ≡ if_number (number_of_word second) (λ n. value_if (may n) (record { expect = Word; plain = f n }))) → (if_number (number_of_word second) (λ n. value_if (may n) (f n)) >>= (λ more. plain_requests_from more words)) ≡ Some all → hear_all (record { expect = Word; plain = plain }) (first ∷ second ∷ words) ≡ Some all
+  directive_pair : (d : Directive) (e : Expect) (may : ℕ → Bool) (f : ℕ → Plain) → bytes_eq second (codes ",") ≡ false → find_in_table directive_words first ≡ Some d → next_of d ≡ Some e → ((n : ℕ) → parse_one_word (record { expect = e; plain = plain }) second (slice_index_or words 0 []) ≡ and_then_number (number_spelled_by_word second) (λ n. some_value_if (may n) (record { expect = Word; plain = f n }))) → (and_then_number (number_spelled_by_word second) (λ n. some_value_if (may n) (f n)) >>= (λ more. plain_requests_from more words)) ≡ Some all → hear_all (record { expect = Word; plain = plain }) (first ∷ second ∷ words) ≡ Some all
   unfolding hear_all
   directive_pair d e may f no_comma named next hears is =
       ap (λ (o : Option Heard). o >>= (λ now. hear_all now (second ∷ words)))
@@ -133,14 +133,14 @@ module _ (plain all : Plain) (first second : List ℕ) (words : List (List ℕ))
       ∙ (ap (λ (o : Option Directive). (o >>= next_of) >>= (λ x. Some (record { expect = x; plain = plain }))) named
       ∙ ap (λ (o : Option Expect). o >>= (λ x. Some (record { expect = x; plain = plain }))) next))
       ∙ (ap (λ (o : Option Heard). o >>= (λ now. hear_all now words)) (hears 0)
-      ∙ number_pair (number_of_word second) (λ n. value_if (may n) (f n)) (λ n. value_if (may n) (record { expect = Word; plain = f n })) (λ more. plain_requests_from more words) (λ now. hear_all now words) all
+      ∙ number_pair (number_spelled_by_word second) (λ n. some_value_if (may n) (f n)) (λ n. some_value_if (may n) (record { expect = Word; plain = f n })) (λ more. plain_requests_from more words) (λ now. hear_all now words) all
       (λ n. allowed_pair (may n) (f n) (record { expect = Word; plain = f n }) (λ more. plain_requests_from more words) (λ now. hear_all now words) all (again (f n))) is)
 
-  pub pair : (with_two_words plain first second >>= (λ more. plain_requests_from more words)) ≡ Some all → hear_all (record { expect = Word; plain = plain }) (first ∷ second ∷ words) ≡ Some all
+  pub pair : (with_plain_word_pair plain first second >>= (λ more. plain_requests_from more words)) ≡ Some all → hear_all (record { expect = Word; plain = plain }) (first ∷ second ∷ words) ≡ Some all
   pair is = elim (cases_Bool (bytes_eq second (codes ","))) [
     | inl comma ↦ comma_pair comma is
     | inr other ↦ elim (cases_Bool (bytes_eq first (codes "org"))) [
-      | inl org ↦ directive_pair GoesOn Address (λ n. is_cell_address n) (λ n. with_request plain (Go n)) other (named first (codes "org") GoesOn refl org) refl (λ n. refl) (rw (other, org) at is)
+      | inl org ↦ directive_pair GoesOn Address (λ n. is_cell_address n) (λ n. with_plain_request plain (Go n)) other (named first (codes "org") GoesOn refl org) refl (λ n. refl) (rw (other, org) at is)
       | inr no_org ↦ elim (cases_Bool (bytes_eq first (codes "/p"))) [
         | inl p ↦ directive_pair (Gives P) (Register P) (λ n. may_give plain P n) (λ n. record plain { p = Some (Number n) }) other (named first (codes "/p") (Gives P) refl p) refl (λ n. refl) (rw (other, no_org, p) at is)
         | inr no_p ↦ elim (cases_Bool (bytes_eq first (codes "/a"))) [
@@ -258,14 +258,14 @@ word_small : (port : Option ℕ) (number : WordNumber) → IsSmallAddress port �
 word_small (Some n) number port other = omega arith
 word_small None number port other = other
 
-number_small : (text : List ℕ) (n : ℕ) → number_of_word text ≡ Of n → n < 262144
+number_small : (text : List ℕ) (n : ℕ) → number_spelled_by_word text ≡ Of n → n < 262144
 number_small text n is = subst IsSmall is (word_small (named_port_address text) (signed_number text) (port_small text) (numeral_small text))
 
-asked_so : {X : Type 0} (number : WordNumber) (asks : ℕ → Option X) (more : X) (Holds : Type 0) → ((n : ℕ) → number ≡ Of n → asks n ≡ Some more → Holds) → if_number number asks ≡ Some more → Holds
+asked_so : {X : Type 0} (number : WordNumber) (asks : ℕ → Option X) (more : X) (Holds : Type 0) → ((n : ℕ) → number ≡ Of n → asks n ≡ Some more → Holds) → and_then_number number asks ≡ Some more → Holds
 asked_so (Of n) asks more Holds each is = each n refl is
 asked_so OutOfRange asks more Holds each is = absurd (no_some is)
 asked_so NoNumber asks more Holds each is = absurd (no_some is)
 
 -- what a number asks for holds where it does for each number that a word can say
-pub number_asks : {X : Type 0} (word : List ℕ) (asks : ℕ → Option X) (more : X) (Holds : Type 0) → ((n : ℕ) → n < 262144 → asks n ≡ Some more → Holds) → if_number (number_of_word word) asks ≡ Some more → Holds
-number_asks word asks more Holds each is = asked_so (number_of_word word) asks more Holds (λ n number. each n (number_small word n number)) is
+pub number_asks : {X : Type 0} (word : List ℕ) (asks : ℕ → Option X) (more : X) (Holds : Type 0) → ((n : ℕ) → n < 262144 → asks n ≡ Some more → Holds) → and_then_number (number_spelled_by_word word) asks ≡ Some more → Holds
+number_asks word asks more Holds each is = asked_so (number_spelled_by_word word) asks more Holds (λ n number. each n (number_small word n number)) is

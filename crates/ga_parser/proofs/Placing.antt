@@ -4,7 +4,7 @@ use Rattle.std.specs.Prelude.{map, true, false, Bool}
 use Rattle.ga_parser.specs.declared.scan.Token.{Token}
 use Rattle.ga_parser.specs.Saying.{TokenContent, PlacedToken, token_content, token_contents, token_columns, with_columns, tokens_of_lines, columns_of_lines, source_lines, scanned_tokens}
 use Rattle.ga_parser.specs.inner.Placing.{placed, placed_all}
-use Rattle.ga_parser.specs.Constants.{first_text, without_definitions}
+use Rattle.ga_parser.specs.Constants.{first_token_text, without_definitions}
 use Rattle.ga_parser.specs.Groups.{expand_node_groups}
 use Rattle.ga_parser.specs.Groups.NodeNaming.{Nothing}
 use Rattle.ga_parser.specs.Words.{placed_source_tokens, source_tokens, source_columns, source_tokens_without_copies}
@@ -33,7 +33,7 @@ first_placed (token ∷ tokens) (suc k) d within =
     let one : suc k + 1 ≡ suc (k + 1) = omega arith in
     first_placed tokens k d (omega arith) ∙ ap (λ (j : ℕ). placed (get_or tokens k d) ∷ placed_all (drop j (token ∷ tokens))) (sym one)
 
-pub next_placed : (tokens : List Token) (k : ℕ) → first_text (placed_all (drop k tokens)) ≡ slice_index_or (texts_of tokens) k []
+pub next_placed : (tokens : List Token) (k : ℕ) → first_token_text (placed_all (drop k tokens)) ≡ slice_index_or (texts_of tokens) k []
 next_placed [] zero = refl
 next_placed [] (suc k) = refl
 next_placed (token ∷ tokens) zero = refl

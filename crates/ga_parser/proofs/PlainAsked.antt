@@ -11,7 +11,7 @@ use Rattle.ga_parser.specs.declared.number.Number.{Number as NumberIn}
 use Rattle.ga_parser.specs.declared.number.Number.TheVariants.{Of}
 use Rattle.ga_parser.specs.declared.item.Operand.{Operand}
 use Rattle.ga_parser.specs.declared.item.Operand.TheVariants.{Number}
-use Rattle.ga_parser.specs.declared.item.Item.TheVariants.{Cell}
+use Rattle.ga_parser.specs.declared.item.AssemblyItem.TheVariants.{Cell}
 use Rattle.ga_parser.specs.declared.item.AssemblyRequest.{AssemblyRequest}
 use Rattle.ga_parser.specs.declared.item.AssemblyRequest.TheVariants.{Put, Go}
 use Rattle.ga_parser.specs.declared.item.RegisterValue.{RegisterValue}
@@ -26,12 +26,12 @@ use Rattle.ga_parser.specs.declared.draft.Expect.TheVariants.{Word, Address, Nam
 use Rattle.ga_parser.specs.declared.scan.TokenKind.{TokenKind}
 use Rattle.ga_parser.specs.declared.scan.TokenKind.TheVariants.{Word as WordKind, LongLine as LongLineKind, OpenComment as OpenCommentKind, NoNumber as NoNumberKind, Missing as MissingKind, Taken as TakenKind}
 use Rattle.ga_parser.specs.declared.controls.Open.{Open}
-use Rattle.ga_parser.specs.Asking.{LabelContent, expects_operand, with_carry_bit, ParseState, Refusal, with_added_request as asks, initial_parse_state, if_number_in_range, value_of_word, cell, directive, word_requests, directive_or_word, org_requests, register_requests, register_value_in, with_register_value, parse_one_word as hear_asking, expected_word_requests, requests_if_word, parse_words_from, requests_of_words, finished_parse, refuse_unclosed, refuse_unplaced, next_text, ◌▷◌, label_content}
+use Rattle.ga_parser.specs.Asking.{LabelContent, expects_operand, with_carry_bit, ParseState, Refusal, with_added_request as asks, initial_parse_state, if_number_in_range, value_of_word, cell, directive, word_requests, directive_or_word, org_requests, register_requests, register_value_in, with_register_value, parse_one_word as hear_asking, expected_word_requests, requests_if_word, parse_words_from, requests_of_words, finished_parse, refuse_unclosed, refuse_unplaced, next_word_text, ◌▷◌, label_content}
 use Rattle.ga_parser.specs.Asking.RefusalCause.{LongLine, OpenComment, NoNumber, Missing, Taken}
 use Rattle.ga_parser.specs.Saying.{TokenContent, token_content, token_contents}
 use Rattle.ga_ports.specs.Steps.{◌>>=◌}
-use Rattle.ga_parser.specs.Vocabulary.{find_in_table, has_prefix, number_of_word, directive_words, directive_in, register_bound, register_range}
-use Rattle.ga_parser.specs.Plain.{Plain, with_request, if_number, value_if, is_cell_address, as_plain_requests, value_in, plain_requests_of, no_request}
+use Rattle.ga_parser.specs.Vocabulary.{find_in_table, has_prefix, number_spelled_by_word, directive_words, directive_of_word, register_bound, register_range}
+use Rattle.ga_parser.specs.Plain.{Plain, with_plain_request, and_then_number, some_value_if, is_cell_address, as_plain_requests, optional_register_operand, plain_requests_of, no_plain_requests}
 use Rattle.ga_parser.specs.inner.Drafting.{Heard, HasHeard, nothing_heard, end_of, with_register, may_give, next_of, hear_word, parse_one_word, hear_all, texts_of}
 use Rattle.ga_parser.specs.declared.labels.Label.{Label}
 use Rattle.ga_parser.specs.declared.scan.Token.{Token}
@@ -50,14 +50,14 @@ heard_as outcome later expected_word_requests after is has e = record { later = 
 
 -- ---- numbers
 
-in_range : {X : Type 0} (word : List ℕ) (line n : ℕ) (range : NumberRange) (asks : ℕ → Result X Refusal) (other : Result X Refusal) → number_of_word word ≡ Of n → if_number_in_range (number_of_word word) line word range asks other ≡ asks n
+in_range : {X : Type 0} (word : List ℕ) (line n : ℕ) (range : NumberRange) (asks : ℕ → Result X Refusal) (other : Result X Refusal) → number_spelled_by_word word ≡ Of n → if_number_in_range (number_spelled_by_word word) line word range asks other ≡ asks n
 in_range word line n range asks other is = ap (λ (found : NumberIn). if_number_in_range found line word range asks other) is
 
 quoted_first : (word : List ℕ) → has_prefix word (codes "'") ≡ true → slice_index_or word 0 0 ≡ 39
 quoted_first [] e = absurd (true≢false (sym e))
 quoted_first (b ∷ word) e = ap (λ (t : List ℕ). slice_index_or t 0 0) (same_text (take 1 (b ∷ word)) (codes "'") e)
 
-number_said : (now : ParseState) (line n : ℕ) (word : List ℕ) → number_of_word word ≡ Of n → value_of_word now line word ≡ Ok (Some (Number n), now)
+number_said : (now : ParseState) (line n : ℕ) (word : List ℕ) → number_spelled_by_word word ≡ Of n → value_of_word now line word ≡ Ok (Some (Number n), now)
 unfolding value_of_word
 number_said now line n word is = elim (cases_Bool (has_prefix word (codes "'"))) [
   | inl quoted ↦ absurd (no_label word n (quoted_first word quoted) is)
@@ -84,7 +84,7 @@ directive_next now line (Gives register) e is = ap (λ (x : Expect). record now 
 directive_next now line Fill e is = absurd (no_some is)
 directive_next now line (Carry b) e is = absurd (no_some is)
 
-none_given : (o : Option RegisterValue) (given : Option Operand) → value_in o ≡ given → is_none given ≡ true → is_none o ≡ true
+none_given : (o : Option RegisterValue) (given : Option Operand) → optional_register_operand o ≡ given → is_none given ≡ true → is_none o ≡ true
 none_given None given e none = refl
 none_given (Some one) given e none = absurd (true≢false (sym (ap is_none e ∙ none)))
 
@@ -95,17 +95,17 @@ module _ (now : ParseState) (heard : Heard) (has : HasHeard now heard) where
   next_has : (e : Expect) → HasHeard (record now { expect = e }) (record { expect = e; plain = heard.plain })
   next_has e = record { expect = refl; plain = has.plain; names = has.names; opened = has.opened; carries = has.carries }
 
-  asks_has : (e : Expect) (line : ℕ) (request : AssemblyRequest) → HasHeard (asks (record now { expect = e }) line request) (record { expect = e; plain = with_request heard.plain request })
+  asks_has : (e : Expect) (line : ℕ) (request : AssemblyRequest) → HasHeard (asks (record now { expect = e }) line request) (record { expect = e; plain = with_plain_request heard.plain request })
   asks_has e line request = record {
     expect = refl;
     plain = ap (λ (list : List AssemblyRequest). record (as_plain_requests now.asked now.registers) { requests = list }) (map-append (λ one. one.request) now.asked (record { line = line; request = request } ∷ []))
-        ∙ ap (λ (p : Plain). with_request p request) has.plain;
+        ∙ ap (λ (p : Plain). with_plain_request p request) has.plain;
     names = has.names;
     opened = has.opened;
     carries = has.carries;
   }
 
-  directive_heard : (line : ℕ) (word next : List ℕ) (after : Heard) (o : Option Directive) → directive_in word ≡ o → bytes_eq next (codes ",") ≡ false → ((o >>= next_of) >>= (λ e. Some (record { expect = e; plain = heard.plain }))) ≡ Some after → IsHeard (word_requests now line word next) after
+  directive_heard : (line : ℕ) (word next : List ℕ) (after : Heard) (o : Option Directive) → directive_of_word word ≡ o → bytes_eq next (codes ",") ≡ false → ((o >>= next_of) >>= (λ e. Some (record { expect = e; plain = heard.plain }))) ≡ Some after → IsHeard (word_requests now line word next) after
   unfolding word_requests
   directive_heard line word next after None named other is = absurd (no_some is)
   directive_heard line word next after (Some d) named other is =
@@ -115,10 +115,10 @@ module _ (now : ParseState) (heard : Heard) (has : HasHeard now heard) where
       (next_has e.0) e.2
 
   word_heard : (line : ℕ) (word next : List ℕ) (after : Heard) → hear_word heard.plain word next ≡ Some after → IsHeard (word_requests now line word next) after
-  unfolding word_requests directive_in
+  unfolding word_requests directive_of_word
   word_heard line word next after is = elim (cases_Bool (bytes_eq next (codes ","))) [
     | inl comma ↦
-        let number = numbered (number_of_word word) (λ n. Some (record { expect = Nothing; plain = with_request heard.plain (Put (Cell (Number n))) })) after
+        let number = numbered (number_spelled_by_word word) (λ n. Some (record { expect = Nothing; plain = with_plain_request heard.plain (Put (Cell (Number n))) })) after
         (sym (cond-true (bytes_eq next (codes ",")) _ _ comma) ∙ is) in
         heard_as _ (asks (record now { expect = Nothing }) line (Put (Cell (Number number.n)))) _ after
         (cond-true (bytes_eq next (codes ",")) _ _ comma ∙ ap (λ (r : Result (Option Operand × ParseState) Refusal). r ▷ (λ said. cell said.1 line said.0)) (number_said now line number.n word number.is))
@@ -127,10 +127,10 @@ module _ (now : ParseState) (heard : Heard) (has : HasHeard now heard) where
         directive_heard line word next after (find_in_table directive_words word) refl other (sym (cond-false (bytes_eq next (codes ",")) _ _ other) ∙ is)
   ]
 
-  address_heard : (line : ℕ) (word : List ℕ) (after : Heard) → if_number (number_of_word word) (λ n. value_if (is_cell_address n) (record { expect = Word; plain = with_request heard.plain (Go n) })) ≡ Some after → IsHeard (org_requests (record now { expect = Word }) line word) after
+  address_heard : (line : ℕ) (word : List ℕ) (after : Heard) → and_then_number (number_spelled_by_word word) (λ n. some_value_if (is_cell_address n) (record { expect = Word; plain = with_plain_request heard.plain (Go n) })) ≡ Some after → IsHeard (org_requests (record now { expect = Word }) line word) after
   unfolding org_requests
   address_heard line word after is =
-      let number = numbered (number_of_word word) (λ n. value_if (is_cell_address n) (record { expect = Word; plain = with_request heard.plain (Go n) })) after is in
+      let number = numbered (number_spelled_by_word word) (λ n. some_value_if (is_cell_address n) (record { expect = Word; plain = with_plain_request heard.plain (Go n) })) after is in
       let may = allowed (is_cell_address number.n) _ after number.gives in
       let small : with_carry_bit now.carries number.n ≡ number.n = not_carried number.n now.carries has.carries (cell_small number.n may.0) in
       heard_as _ (asks (record now { expect = Word }) line (Go number.n)) _ after
@@ -154,10 +154,10 @@ module _ (now : ParseState) (heard : Heard) (has : HasHeard now heard) where
     record { expect = refl; plain = ap (λ (p : Plain). record p { b = Some (Number n) }) has.plain; names = has.names; opened = has.opened; carries = has.carries },
   )
 
-  register_heard : (line : ℕ) (register : RegisterName) (word : List ℕ) (after : Heard) → if_number (number_of_word word) (λ n. value_if (may_give heard.plain register n) (record { expect = Word; plain = with_register heard.plain register n })) ≡ Some after → IsHeard (register_requests (record now { expect = Word }) line register word) after
+  register_heard : (line : ℕ) (register : RegisterName) (word : List ℕ) (after : Heard) → and_then_number (number_spelled_by_word word) (λ n. some_value_if (may_give heard.plain register n) (record { expect = Word; plain = with_register heard.plain register n })) ≡ Some after → IsHeard (register_requests (record now { expect = Word }) line register word) after
   unfolding register_requests
   register_heard line register word after is =
-      let number = numbered (number_of_word word) (λ n. value_if (may_give heard.plain register n) (record { expect = Word; plain = with_register heard.plain register n })) after is in
+      let number = numbered (number_spelled_by_word word) (λ n. some_value_if (may_give heard.plain register n) (record { expect = Word; plain = with_register heard.plain register n })) after is in
       let may = allowed (may_give heard.plain register number.n) _ after number.gives in
       let given = given_heard line number.n register may.0 in
       heard_as _ (record now { expect = Word; registers = with_register_value now.registers register (record { line = line; value = Number number.n }) }) _ after
@@ -210,7 +210,7 @@ end_asked now heard last all has is =
     ∙ (ap (λ (r : Result ParseState Refusal). r ▷ (λ closed. refuse_unplaced closed closed.labels)) (none_open now now.opened has.opened)
     ∙ none_named now now.labels has.names)
 
-next_same : (words : List TokenContent) → slice_index_or (texts words) 0 [] ≡ next_text words
+next_same : (words : List TokenContent) → slice_index_or (texts words) 0 [] ≡ next_word_text words
 next_same [] = refl
 next_same (said ∷ words) = refl
 
@@ -242,9 +242,9 @@ first_word : (now : ParseState) (heard : Heard) (last : ℕ) (said : TokenConten
 unfolding parse_words_from
 first_word now heard last said words all again None is more has = absurd (no_some more)
 first_word now heard last said words all again (Some after) is more has =
-    elim (kind_cases said.kind said.line (expected_word_requests (record now { expect = Word }) now.expect said.line said.text (next_text words))) [
+    elim (kind_cases said.kind said.line (expected_word_requests (record now { expect = Word }) now.expect said.line said.text (next_word_text words))) [
       | inl word ↦
-          let one = one_word now heard after said (next_text words) word has (ap (parse_one_word heard said.text) (sym (next_same words)) ∙ is) in
+          let one = one_word now heard after said (next_word_text words) word has (ap (parse_one_word heard said.text) (sym (next_same words)) ∙ is) in
           let rest = again one.later after one.has more in
           subst (λ (r : Result ParseState Refusal). AsksPlain r all (said ∷ words)) (sym (ap (λ (r : Result ParseState Refusal). r ▷ (λ after. parse_words_from after said.line words)) one.is))
           (more_words (parse_words_from one.later said.line words) all said words rest)
@@ -264,7 +264,7 @@ nothing_heard_yet : HasHeard initial_parse_state nothing_heard
 nothing_heard_yet = record { expect = refl; plain = refl; names = refl; opened = refl; carries = refl }
 
 pub plain_asks : (line : ℕ) (words : List TokenContent) (all : Plain) → plain_requests_of (texts words) ≡ Some all → AsksPlain (requests_of_words line words) all words
-plain_asks line words all is = plain_from_here words initial_parse_state nothing_heard line all nothing_heard_yet (hear_plain (texts words) no_request all is)
+plain_asks line words all is = plain_from_here words initial_parse_state nothing_heard line all nothing_heard_yet (hear_plain (texts words) no_plain_requests all is)
 
 -- ---- the same of requests
 

@@ -8,21 +8,21 @@ use Rattle.ga_parser.specs.Asking.{ParseState, Refusal, parse_one_word}
 use Rattle.ga_parser.specs.Requests.{word_refusal}
 use Rattle.ga_parser.specs.declared.scan.Token.{Token}
 use Rattle.ga_parser.specs.Saying.{TokenContent, token_content, token_contents}
-use Rattle.ga_parser.specs.Recovery.{Recovery, recovery_after_result, is_comma, recover_next_word, recover_from}
+use Rattle.ga_parser.specs.Recovery.{Recovery, recovery_after_result, is_comma, recover_next_word, recover_words_from}
 use Rattle.ga_parser.specs.inner.Drafting.{texts_of}
 use Rattle.ga_parser.proofs.Asking.{first_left, next_is}
 
 pub one_taken : (so_far after : Recovery) (tokens : List Token) (k : ℕ) (d : Token) (next : List ℕ) → k < length tokens → next ≡ slice_index_or (texts_of tokens) (k + 1) []
-    → after ≡ recover_next_word so_far (token_content (get_or tokens k d)) next → recover_from so_far (token_contents (drop k tokens)) ≡ recover_from after (token_contents (drop (k + 1) tokens))
-unfolding recover_from
+    → after ≡ recover_next_word so_far (token_content (get_or tokens k d)) next → recover_words_from so_far (token_contents (drop k tokens)) ≡ recover_words_from after (token_contents (drop (k + 1) tokens))
+unfolding recover_words_from
 one_taken so_far after tokens k d next within is_next taken =
-    ap (recover_from so_far) (first_left tokens k d within)
-    ∙ (ap (λ (text : List ℕ). recover_from (recover_next_word so_far (token_content (get_or tokens k d)) text) (token_contents (drop (k + 1) tokens))) (next_is tokens (k + 1) ∙ sym is_next)
-    ∙ ap (λ (r : Recovery). recover_from r (token_contents (drop (k + 1) tokens))) (sym taken))
+    ap (recover_words_from so_far) (first_left tokens k d within)
+    ∙ (ap (λ (text : List ℕ). recover_words_from (recover_next_word so_far (token_content (get_or tokens k d)) text) (token_contents (drop (k + 1) tokens))) (next_is tokens (k + 1) ∙ sym is_next)
+    ∙ ap (λ (r : Recovery). recover_words_from r (token_contents (drop (k + 1) tokens))) (sym taken))
 
-pub none_taken : (so_far : Recovery) (tokens : List Token) → tokens ≡ [] → recover_from so_far (token_contents tokens) ≡ so_far
-unfolding recover_from
-none_taken so_far tokens none = ap (λ (t : List Token). recover_from so_far (token_contents t)) none
+pub none_taken : (so_far : Recovery) (tokens : List Token) → tokens ≡ [] → recover_words_from so_far (token_contents tokens) ≡ so_far
+unfolding recover_words_from
+none_taken so_far tokens none = ap (λ (t : List Token). recover_words_from so_far (token_contents t)) none
 
 -- what isn't refused is taken, unless memory was refused
 pub only_memory : (asks : Result ParseState Refusal) (fault : SourceFault) → IsOk asks → (fault.cause ≡ Memory) ⊎ (asks ≡ Err (word_refusal fault)) → fault.cause ≡ Memory

@@ -3,7 +3,7 @@ use Rattle.std.proofs.Common.{◌≡◌, ◌∙◌, ℕ, zero, suc, ◌+◌, ◌
 use Rattle.std.specs.Prelude.{◌==◌, if◌then◌else◌, codes, bytes_eq, filter}
 use Rattle.std.specs.List.{list_all}
 use Rattle.std.proofs.lemmas.Bool.{cond-true, cond-false, both_ways, le-ltb, lt-ltb}
-use Rattle.ga_text.specs.Lines.{with_byte, lines_of}
+use Rattle.ga_text.specs.Lines.{lines_with_first_byte, lines_of}
 use Rattle.ga_parser.specs.declared.scan.Token.{Token}
 use Rattle.ga_parser.specs.declared.scan.TokenKind.TheVariants.{LongLine, OpenComment}
 use Rattle.ga_parser.specs.Saying.{parts_ended_by, is_blank, source_lines, has_bytes, source_words, max_source_line_bytes, stripped_source_line, TokenContent, word_token, line_fault_token, is_word, is_comment_end, tokens_of_words, all_tokens_of_line, begins_expectation, expectation_tokens, tokens_of_line, token_content, token_contents, token_columns, next_line_number, tokens_of_lines, part_column, columns_of_parts, all_columns_of_line, expectation_columns, columns_of_line, columns_of_lines}
@@ -28,7 +28,7 @@ added_front f (x ∷ old) (y ∷ new) more e =
 -- ---- parts
 
 -- a byte that doesn't end it belongs to the part
-pub past_byte : (ends : ℕ → Bool) (b : ℕ) (text : List ℕ) → ends b ≡ false → parts_ended_by ends (b ∷ text) ≡ with_byte b (parts_ended_by ends text)
+pub past_byte : (ends : ℕ → Bool) (b : ℕ) (text : List ℕ) → ends b ≡ false → parts_ended_by ends (b ∷ text) ≡ lines_with_first_byte b (parts_ended_by ends text)
 unfolding parts_ended_by
 past_byte ends b text other = rw other refl
 
@@ -39,7 +39,7 @@ at_end ends [] i within none here = absurd (omega arith)
 at_end ends (b ∷ text) zero within none here = rw here refl
 at_end ends (b ∷ text) (suc i) within none here =
     let again : parts_ended_by ends text ≡ take i text ∷ parts_ended_by ends (drop (i + 1) text) = at_end ends text i (omega arith) (λ k below. none (suc k) (omega arith)) here in
-    past_byte ends b text (none 0 (omega arith)) ∙ ap (with_byte b) again ∙ rw (add-one, add-one) refl
+    past_byte ends b text (none 0 (omega arith)) ∙ ap (lines_with_first_byte b) again ∙ rw (add-one, add-one) refl
 
 -- without one the text is a part
 pub no_end : (ends : ℕ → Bool) (text : List ℕ) → 0 < length text → ((k : ℕ) → k < length text → ends (get_or text k 0) ≡ false) → parts_ended_by ends text ≡ text ∷ parts_ended_by ends []
@@ -47,7 +47,7 @@ unfolding parts_ended_by
 no_end ends [] some none = absurd (omega arith)
 no_end ends (b ∷ []) some none = past_byte ends b [] (none 0 (omega arith))
 no_end ends (b ∷ c ∷ text) some none =
-    past_byte ends b (c ∷ text) (none 0 (omega arith)) ∙ ap (with_byte b) (no_end ends (c ∷ text) (omega arith) (λ k below. none (suc k) (omega arith)))
+    past_byte ends b (c ∷ text) (none 0 (omega arith)) ∙ ap (lines_with_first_byte b) (no_end ends (c ∷ text) (omega arith) (λ k below. none (suc k) (omega arith)))
 
 -- ---- lines
 
@@ -55,7 +55,7 @@ no_end ends (b ∷ c ∷ text) some none =
 pub same_lines : (text : List ℕ) → lines_of text ≡ source_lines text
 unfolding parts_ended_by
 same_lines [] = refl
-same_lines (byte ∷ text) = ap (λ (lines : List (List ℕ)). if byte == 10 then [] ∷ lines else with_byte byte lines) (same_lines text)
+same_lines (byte ∷ text) = ap (λ (lines : List (List ℕ)). if byte == 10 then [] ∷ lines else lines_with_first_byte byte lines) (same_lines text)
 
 -- so the first line is that of a source
 pub first_split : (text first rest : List ℕ) → lines_of text ≡ first ∷ lines_of rest → source_lines text ≡ first ∷ source_lines rest

@@ -9,7 +9,7 @@ use Rattle.ga_parser.specs.declared.number.Number.{Number as NumberIn}
 use Rattle.ga_parser.specs.declared.number.Number.TheVariants.{Of, OutOfRange, Nothing as NotANumber}
 use Rattle.ga_parser.specs.declared.item.Operand.{Operand}
 use Rattle.ga_parser.specs.declared.item.Operand.TheVariants.{Number, Label}
-use Rattle.ga_parser.specs.declared.item.Item.TheVariants.{Opcode, Literal, Back, Ahead, Cell}
+use Rattle.ga_parser.specs.declared.item.AssemblyItem.TheVariants.{Opcode, Literal, Back, Ahead, Cell}
 use Rattle.ga_parser.specs.declared.item.AssemblyRequest.{AssemblyRequest}
 use Rattle.ga_parser.specs.declared.item.AssemblyRequest.TheVariants.{Put, Unext, Mark, Fill, Go, Carry}
 use Rattle.ga_parser.specs.declared.item.LocatedRequest.{LocatedRequest}
@@ -29,7 +29,7 @@ use Rattle.ga_parser.specs.declared.labels.Label.{Label as LabelRecord}
 use Rattle.ga_parser.specs.declared.controls.Open.{Open}
 use Rattle.ga_parser.specs.declared.controls.Open.TheVariants.{Loop, Ahead as JumpAhead}
 use Rattle.ga_parser.specs.Saying.{TokenContent, has_bytes}
-use Rattle.ga_parser.specs.Vocabulary.{has_prefix, number_of_word, opcode_in, control_in, directive_in, register_bound, register_range, is_reserved}
+use Rattle.ga_parser.specs.Vocabulary.{has_prefix, number_spelled_by_word, opcode_of_word, control_of_word, directive_of_word, register_bound, register_range, is_reserved}
 use Rattle.ga_parser.specs.Plain.{is_cell_address}
 
 -- ---- what the words so far ask for
@@ -122,8 +122,8 @@ abbrev pub with_label_name : List LabelContent → ℕ → List ℕ → List Lab
 with_label_name labels line name = option_map_or (λ _. labels) (known_label_number labels name) (with_added_label labels line name false)
 
 -- the words name a label
-abbrev pub with_named_label : ParseState → ℕ → List ℕ → ParseState
-with_named_label now line name = record now { labels = with_label_name now.labels line name }
+abbrev pub state_with_mentioned_label : ParseState → ℕ → List ℕ → ParseState
+state_with_mentioned_label now line name = record now { labels = with_label_name now.labels line name }
 
 abbrev pub label_at : List LabelContent → ℕ → LabelContent
 label_at labels label = slice_index_or labels label (record { name = []; line = 0; is_marked = false })
@@ -136,14 +136,14 @@ abbrev pub with_marked_label : List LabelContent → ℕ → List LabelContent
 with_marked_label labels label = slice_set labels label (record (label_at labels label) { is_marked = true })
 
 -- the label has its place here, and nowhere before
-abbrev pub mark : ParseState → ℕ → ℕ → Result ParseState Refusal
-mark now line label =
+abbrev pub mark_label : ParseState → ℕ → ℕ → Result ParseState Refusal
+mark_label now line label =
     if is_marked_label now.labels label then refusal_at_line line LabelTwice
     else Ok (with_added_request (record now { labels = with_marked_label now.labels label }) line (Mark label))
 
 -- an opcode with the address of a label: back to an earlier one, or ahead
-abbrev pub jump : ParseState → ℕ → Op → ℕ → ParseState
-jump now line op label = with_added_request now line (Put (if is_marked_label now.labels label then Back op label else Ahead op label))
+abbrev pub jump_to_label : ParseState → ℕ → Op → ℕ → ParseState
+jump_to_label now line op label = with_added_request now line (Put (if is_marked_label now.labels label then Back op label else Ahead op label))
 
 -- ---- control words
 
@@ -153,17 +153,17 @@ begin_loop now line =
     record (with_added_request (record now { labels = with_added_label now.labels line [] true }) line (Mark (length now.labels))) { opened = Loop line (length now.labels) ∷ now.opened }
 
 -- a jump ahead, open until its label has a place
-abbrev pub ahead : ParseState → ℕ → Op → ParseState
-ahead now line op =
-    record (jump (record now { labels = with_added_label now.labels line [] false }) line op (length now.labels)) { opened = JumpAhead line (length now.labels) ∷ now.opened }
+abbrev pub begin_jump_ahead : ParseState → ℕ → Op → ParseState
+begin_jump_ahead now line op =
+    record (jump_to_label (record now { labels = with_added_label now.labels line [] false }) line op (length now.labels)) { opened = JumpAhead line (length now.labels) ∷ now.opened }
 
 -- the requests, with these control words open
-abbrev pub with_open_words : ParseState → List Open → ParseState
-with_open_words now opened = record now { opened = opened }
+abbrev pub with_open_control_words : ParseState → List Open → ParseState
+with_open_control_words now opened = record now { opened = opened }
 
 -- the innermost open word is a loop, which ends: its label
 abbrev pub innermost_loop_label : ParseState → List Open → ℕ → Result (ℕ × ParseState) Refusal
-innermost_loop_label now (Loop _ label ∷ around) line = Ok (label, with_open_words now around)
+innermost_loop_label now (Loop _ label ∷ around) line = Ok (label, with_open_control_words now around)
 innermost_loop_label now (JumpAhead _ _ ∷ around) line = refusal_at_line line Unmatched
 innermost_loop_label now [] line = refusal_at_line line Unmatched
 
@@ -172,7 +172,7 @@ end_loop now line = innermost_loop_label now now.opened line
 
 -- the innermost open word is a jump ahead, which ends: its label
 abbrev pub innermost_ahead_label : ParseState → List Open → ℕ → Result (ℕ × ParseState) Refusal
-innermost_ahead_label now (JumpAhead _ label ∷ around) line = Ok (label, with_open_words now around)
+innermost_ahead_label now (JumpAhead _ label ∷ around) line = Ok (label, with_open_control_words now around)
 innermost_ahead_label now (Loop _ _ ∷ around) line = refusal_at_line line Unmatched
 innermost_ahead_label now [] line = refusal_at_line line Unmatched
 
@@ -181,26 +181,26 @@ end_jump_ahead now line = innermost_ahead_label now now.opened line
 
 -- a loop is around the innermost open word, which stays open; the loop ends: its label
 abbrev pub outer_loop_label : ParseState → List Open → ℕ → Result (ℕ × ParseState) Refusal
-outer_loop_label now (innermost ∷ opened) line = end_loop (with_open_words now opened) line ▷ (λ end. Ok (end.0, with_open_words end.1 (innermost ∷ end.1.opened)))
+outer_loop_label now (innermost ∷ opened) line = end_loop (with_open_control_words now opened) line ▷ (λ end. Ok (end.0, with_open_control_words end.1 (innermost ∷ end.1.opened)))
 outer_loop_label now [] line = refusal_at_line line Unmatched
 
 abbrev pub end_outer_loop : ParseState → ℕ → Result (ℕ × ParseState) Refusal
 end_outer_loop now line = outer_loop_label now now.opened line
 
 -- what a control word asks for
-abbrev pub control : ParseState → ℕ → Control → Result ParseState Refusal
-control now line Begin = Ok (begin_loop now line)
-control now line For = Ok (begin_loop (with_added_request now line (Put (Opcode Push))) line)
-control now line (If op) = Ok (ahead now line op)
-control now line Else = end_jump_ahead now line ▷ (λ end. mark (ahead end.1 line Jump) line end.0)
-control now line Then = end_jump_ahead now line ▷ (λ end. mark end.1 line end.0)
-control now line Again = end_loop now line ▷ (λ end. Ok (jump end.1 line Jump end.0))
-control now line (Until op) = end_loop now line ▷ (λ end. Ok (jump end.1 line op end.0))
-control now line Next = end_loop now line ▷ (λ end. Ok (jump end.1 line NextOp end.0))
-control now line NextAround = end_outer_loop now line ▷ (λ end. Ok (jump end.1 line NextOp end.0))
-control now line UnextWord = end_loop now line ▷ (λ end. Ok (with_added_request end.1 line (Unext end.0)))
-control now line (While op) = end_loop now line ▷ (λ end. Ok (with_open_words (ahead end.1 line op) (Loop line end.0 ∷ (ahead end.1 line op).opened)))
-control now line Repeat = end_loop now line ▷ (λ end. end_jump_ahead (jump end.1 line Jump end.0) line ▷ (λ out. mark out.1 line out.0))
+abbrev pub control_word : ParseState → ℕ → Control → Result ParseState Refusal
+control_word now line Begin = Ok (begin_loop now line)
+control_word now line For = Ok (begin_loop (with_added_request now line (Put (Opcode Push))) line)
+control_word now line (If op) = Ok (begin_jump_ahead now line op)
+control_word now line Else = end_jump_ahead now line ▷ (λ end. mark_label (begin_jump_ahead end.1 line Jump) line end.0)
+control_word now line Then = end_jump_ahead now line ▷ (λ end. mark_label end.1 line end.0)
+control_word now line Again = end_loop now line ▷ (λ end. Ok (jump_to_label end.1 line Jump end.0))
+control_word now line (Until op) = end_loop now line ▷ (λ end. Ok (jump_to_label end.1 line op end.0))
+control_word now line Next = end_loop now line ▷ (λ end. Ok (jump_to_label end.1 line NextOp end.0))
+control_word now line NextAround = end_outer_loop now line ▷ (λ end. Ok (jump_to_label end.1 line NextOp end.0))
+control_word now line UnextWord = end_loop now line ▷ (λ end. Ok (with_added_request end.1 line (Unext end.0)))
+control_word now line (While op) = end_loop now line ▷ (λ end. Ok (with_open_control_words (begin_jump_ahead end.1 line op) (Loop line end.0 ∷ (begin_jump_ahead end.1 line op).opened)))
+control_word now line Repeat = end_loop now line ▷ (λ end. end_jump_ahead (jump_to_label end.1 line Jump end.0) line ▷ (λ out. mark_label out.1 line out.0))
 
 -- ---- numbers and values
 
@@ -214,8 +214,8 @@ if_number_in_range NotANumber line word range asks other = other
 unfoldable pub value_of_word : ParseState → ℕ → List ℕ → Result (Option Operand × ParseState) Refusal
 value_of_word now line word =
     if has_prefix word (codes "'") then
-    (if has_bytes (drop 1 word) then Ok (Some (Label (label_number now.labels (drop 1 word))), with_named_label now line (drop 1 word)) else refusal_at_line line Missing)
-    else if_number_in_range (number_of_word word) line word ToWord (λ n. Ok (Some (Number n), now)) (Ok (None, now))
+    (if has_bytes (drop 1 word) then Ok (Some (Label (label_number now.labels (drop 1 word))), state_with_mentioned_label now line (drop 1 word)) else refusal_at_line line Missing)
+    else if_number_in_range (number_spelled_by_word word) line word ToWord (λ n. Ok (Some (Number n), now)) (Ok (None, now))
 
 -- ---- words
 
@@ -232,37 +232,37 @@ directive now line Fills = with_added_request now line Fill
 directive now line (Carries is_set) = with_added_request (record now { carries = is_set }) line (Carry is_set)
 
 -- `NAME`, or `NAME ;`
-unfoldable pub call : ParseState → ℕ → List ℕ → List ℕ → Result ParseState Refusal
-call now line name next =
+unfoldable pub call_label : ParseState → ℕ → List ℕ → List ℕ → Result ParseState Refusal
+call_label now line name next =
     if is_reserved name then refusal_at_line line (Unknown name)
-    else if bytes_eq next (codes ";") then Ok (jump (record (with_named_label now line name) { expect = Nothing }) line Jump (label_number now.labels name))
-    else Ok (jump (with_named_label now line name) line Call (label_number now.labels name))
+    else if bytes_eq next (codes ";") then Ok (jump_to_label (record (state_with_mentioned_label now line name) { expect = Nothing }) line Jump (label_number now.labels name))
+    else Ok (jump_to_label (state_with_mentioned_label now line name) line Call (label_number now.labels name))
 
 -- a literal, or else a label's name
 abbrev pub value_or_call : ParseState → ℕ → List ℕ → List ℕ → Option Operand → Result ParseState Refusal
 value_or_call now line word next (Some value) = Ok (with_added_request now line (Put (Literal value)))
-value_or_call now line word next None = call now line word next
+value_or_call now line word next None = call_label now line word next
 
 -- a word that neither `,` nor a directive decides
 abbrev pub opcode_control_or_value : ParseState → ℕ → List ℕ → List ℕ → Option Op → Option Control → Result ParseState Refusal
 opcode_control_or_value now line word next (Some op) _ = Ok (with_added_request now line (Put (Opcode op)))
-opcode_control_or_value now line word next None (Some one) = control now line one
+opcode_control_or_value now line word next None (Some one) = control_word now line one
 opcode_control_or_value now line word next None None = value_of_word now line word ▷ (λ said. value_or_call said.1 line word next said.0)
 
 -- a word without arguments, or one of a table
 abbrev pub directive_or_word : ParseState → ℕ → List ℕ → List ℕ → Option Directive → Result ParseState Refusal
 directive_or_word now line word next (Some one) = Ok (directive now line one)
-directive_or_word now line word next None = opcode_control_or_value now line word next (opcode_in word) (control_in word)
+directive_or_word now line word next None = opcode_control_or_value now line word next (opcode_of_word word) (control_of_word word)
 
 -- a word where any is allowed, and the word after it
 unfoldable pub word_requests : ParseState → ℕ → List ℕ → List ℕ → Result ParseState Refusal
 word_requests now line word next =
     if bytes_eq next (codes ",") then value_of_word now line word ▷ (λ said. cell said.1 line said.0)
-    else directive_or_word now line word next (directive_in word)
+    else directive_or_word now line word next (directive_of_word word)
 
 -- `: NAME`
 unfoldable pub label_name_requests : ParseState → ℕ → List ℕ → Result ParseState Refusal
-label_name_requests now line name = if is_reserved name then refusal_at_line line Taken else mark (with_named_label now line name) line (label_number now.labels name)
+label_name_requests now line name = if is_reserved name then refusal_at_line line Taken else mark_label (state_with_mentioned_label now line name) line (label_number now.labels name)
 
 -- an address with this bit 9
 abbrev pub with_carry_bit : Bool → ℕ → ℕ
@@ -271,7 +271,7 @@ with_carry_bit is_set address = (if is_set then 512 else 0) + address % 512
 -- `org N`
 unfoldable pub org_requests : ParseState → ℕ → List ℕ → Result ParseState Refusal
 org_requests now line word =
-    if_number_in_range (number_of_word word) line word ToCell (λ n. if is_cell_address n then Ok (with_added_request now line (Go (with_carry_bit now.carries n))) else refusal_at_line line (NoNumberHere word ToCell)) (refusal_at_line line Missing)
+    if_number_in_range (number_spelled_by_word word) line word ToCell (λ n. if is_cell_address n then Ok (with_added_request now line (Go (with_carry_bit now.carries n))) else refusal_at_line line (NoNumberHere word ToCell)) (refusal_at_line line Missing)
 
 -- what a register is given
 abbrev pub register_value_in : InitialRegisters → RegisterName → Option RegisterValue
@@ -293,8 +293,8 @@ set_register_once now line register value =
 -- `/p X`, `/a X`, `/b X`
 unfoldable pub register_requests : ParseState → ℕ → RegisterName → List ℕ → Result ParseState Refusal
 register_requests now line register word =
-    if_number_in_range (number_of_word word) line word (register_range register) (λ n. if nat_lt n (register_bound register) then set_register_once now line register (Number n) else refusal_at_line line (NoNumberHere word (register_range register)))
-    (if is_reserved word then refusal_at_line line Missing else set_register_once (with_named_label now line word) line register (Label (label_number now.labels word)))
+    if_number_in_range (number_spelled_by_word word) line word (register_range register) (λ n. if nat_lt n (register_bound register) then set_register_once now line register (Number n) else refusal_at_line line (NoNumberHere word (register_range register)))
+    (if is_reserved word then refusal_at_line line Missing else set_register_once (state_with_mentioned_label now line word) line register (Label (label_number now.labels word)))
 
 -- a word by what is expected
 abbrev pub expected_word_requests : ParseState → Expect → ℕ → List ℕ → List ℕ → Result ParseState Refusal
@@ -328,14 +328,14 @@ expects_operand (Register _) = true
 expects_operand Nothing = false
 
 -- the line of a control word
-abbrev pub open_word_line : Open → ℕ
-open_word_line (Loop line _) = line
-open_word_line (JumpAhead line _) = line
+abbrev pub open_control_word_line : Open → ℕ
+open_control_word_line (Loop line _) = line
+open_control_word_line (JumpAhead line _) = line
 
 -- no control word is open; otherwise the fault names the outermost one
 unfoldable pub refuse_unclosed : ParseState → List Open → Result ParseState Refusal
 refuse_unclosed now [] = Ok now
-refuse_unclosed now (one ∷ []) = refusal_at_line (open_word_line one) Unclosed
+refuse_unclosed now (one ∷ []) = refusal_at_line (open_control_word_line one) Unclosed
 refuse_unclosed now (one ∷ around) = refuse_unclosed now around
 
 -- each name has a place; otherwise the fault names the first that has none
@@ -351,14 +351,14 @@ finished_parse now last =
 -- ---- the words of a node
 
 -- the text of the next word, empty where there is none
-abbrev pub next_text : List TokenContent → List ℕ
-next_text [] = []
-next_text (said ∷ rest) = said.text
+abbrev pub next_word_text : List TokenContent → List ℕ
+next_word_text [] = []
+next_word_text (said ∷ rest) = said.text
 
 -- the requests of words after others, the last of which was on this line
 unfoldable pub parse_words_from : ParseState → ℕ → List TokenContent → Result ParseState Refusal
 parse_words_from now last [] = finished_parse now last
-parse_words_from now last (said ∷ rest) = parse_one_word now said (next_text rest) ▷ (λ after. parse_words_from after said.line rest)
+parse_words_from now last (said ∷ rest) = parse_one_word now said (next_word_text rest) ▷ (λ after. parse_words_from after said.line rest)
 
 -- the requests of the words after a node's name, which is on this line
 abbrev pub requests_of_words : ℕ → List TokenContent → Result ParseState Refusal

@@ -5,7 +5,7 @@ use Rattle.std.specs.Option.{option_to_list}
 use Rattle.ga_grid.specs.declared.node_id.NodeId.{NodeId}
 use Rattle.ga_grid.specs.Grid.{node_id}
 use Rattle.ga_parser.specs.declared.expectations.ExpectationLine.{ExpectationLine}
-use Rattle.ga_parser.specs.Constants.{Names, resolved_word_text, ConstantResolution, constant_resolution}
+use Rattle.ga_parser.specs.Constants.{ConstantAndLabelNames, resolved_word_text, ConstantResolution, constant_resolution}
 use Rattle.ga_parser.specs.Groups.{NodeNaming, begins_node, is_further_node_name, naming_after_word}
 use Rattle.ga_parser.specs.Groups.NodeNaming.{Nothing, Node, Name}
 use Rattle.ga_parser.specs.Plain.{named_node_number}
@@ -23,8 +23,8 @@ pub record NodeGroup : Type 0 where
   pub nodes : List NodeId
 
 -- no `node` yet
-abbrev pub no_group : NodeGroup
-no_group = record { naming = Nothing; nodes = [] }
+abbrev pub no_node_group : NodeGroup
+no_node_group = record { naming = Nothing; nodes = [] }
 
 -- the word names a node: it comes after `node`, or is a further name
 abbrev pub is_node_name : NodeNaming → PlacedToken → Bool
@@ -43,29 +43,29 @@ abbrev pub group_after_word : NodeGroup → PlacedToken → NodeGroup
 group_after_word group one = record { naming = naming_after_word group.naming one; nodes = nodes_after_word group one }
 
 -- after the words before a line
-unfoldable pub group_before : ℕ → NodeGroup → List PlacedToken → NodeGroup
-group_before line group [] = group
-group_before line group (one ∷ rest) = if nat_lt one.said.line line then group_before line (group_after_word group one) rest else group
+unfoldable pub node_group_before_line : ℕ → NodeGroup → List PlacedToken → NodeGroup
+node_group_before_line line group [] = group
+node_group_before_line line group (one ∷ rest) = if nat_lt one.said.line line then node_group_before_line line (group_after_word group one) rest else group
 
 -- the nodes that the last `node` before a line names
-abbrev pub nodes_before : ℕ → List PlacedToken → List NodeId
-nodes_before line words = (group_before line no_group words).nodes
+abbrev pub nodes_before_line : ℕ → List PlacedToken → List NodeId
+nodes_before_line line words = (node_group_before_line line no_node_group words).nodes
 
 -- ---- what an expectation says
 
 -- texts with a blank between two
-abbrev pub spaced : List (List ℕ) → List ℕ
-spaced [] = []
-spaced (text ∷ texts) = text ++ flat_map (λ next. 32 ∷ next) texts
+abbrev pub joined_with_spaces : List (List ℕ) → List ℕ
+joined_with_spaces [] = []
+joined_with_spaces (text ∷ texts) = text ++ flat_map (λ next. 32 ∷ next) texts
 
 -- the texts of words, with constants as their numbers
-abbrev pub resolved_texts : Names → List TokenContent → List (List ℕ)
-resolved_texts known words = map (λ said. resolved_word_text known said.text) words
+abbrev pub resolved_word_texts : ConstantAndLabelNames → List TokenContent → List (List ℕ)
+resolved_word_texts known words = map (λ said. resolved_word_text known said.text) words
 
 -- the words after `expect`
-abbrev pub expectation_text : Names → List TokenContent → List ℕ
+abbrev pub expectation_text : ConstantAndLabelNames → List TokenContent → List ℕ
 expectation_text known [] = []
-expectation_text known (expect ∷ words) = spaced (resolved_texts known words)
+expectation_text known (expect ∷ words) = joined_with_spaces (resolved_word_texts known words)
 
 -- an expectation: its line, the nodes of its program, and its text
 pub record ExpectationContent : Type 0 where
@@ -83,15 +83,15 @@ abbrev pub is_expectation : List TokenContent → Bool
 is_expectation said = list_all is_word said && begins_expectation said
 
 -- the expectation of a line with these tokens, if it is one, in the program of these nodes
-abbrev pub expectation_of_tokens : Names → List NodeId → ℕ → List TokenContent → List ExpectationContent
+abbrev pub expectation_of_tokens : ConstantAndLabelNames → List NodeId → ℕ → List TokenContent → List ExpectationContent
 expectation_of_tokens known nodes line said = if is_expectation said then record { line = line; nodes = nodes; text = expectation_text known said } ∷ [] else []
 
 -- those of the lines up to one that is `end`, numbered from here on
-unfoldable pub expectations_of_lines : Names → List PlacedToken → ℕ → List (List ℕ) → List ExpectationContent
+unfoldable pub expectations_of_lines : ConstantAndLabelNames → List PlacedToken → ℕ → List (List ℕ) → List ExpectationContent
 expectations_of_lines known words line [] = []
 expectations_of_lines known words line (text ∷ texts) =
     if bytes_eq (stripped_source_line line text) (codes "end") then []
-    else expectation_of_tokens known (nodes_before line words) line (all_tokens_of_line line (stripped_source_line line text)) ++ expectations_of_lines known words (next_line_number line) texts
+    else expectation_of_tokens known (nodes_before_line line words) line (all_tokens_of_line line (stripped_source_line line text)) ++ expectations_of_lines known words (next_line_number line) texts
 
 abbrev pub expectations_of_resolution : ConstantResolution → List (List ℕ) → List ExpectationContent
 expectations_of_resolution resolved lines = expectations_of_lines resolved.known resolved.words 1 lines

@@ -31,15 +31,15 @@ words_after_names node [] = []
 words_after_names node (one ∷ rest) = if is_further_node_name node one then words_after_names node rest else one ∷ rest
 
 -- the words before the next `node`
-unfoldable pub body : List PlacedToken → List PlacedToken
-body [] = []
-body (one ∷ rest) = if begins_node one then [] else one ∷ body rest
+unfoldable pub words_before_next_node : List PlacedToken → List PlacedToken
+words_before_next_node [] = []
+words_before_next_node (one ∷ rest) = if begins_node one then [] else one ∷ words_before_next_node rest
 
 -- before a further name come `node` and, if the words are to be whole, the program
 abbrev pub words_before_name : Bool → NodeNaming → PlacedToken → List PlacedToken → List PlacedToken
 words_before_name is_whole Nothing one rest = []
 words_before_name is_whole (Node node) one rest = []
-words_before_name is_whole (Name node) one rest = if is_further_node_name node one then (if is_whole then body (words_after_names node rest) else []) ++ node ∷ [] else []
+words_before_name is_whole (Name node) one rest = if is_further_node_name node one then (if is_whole then words_before_next_node (words_after_names node rest) else []) ++ node ∷ [] else []
 
 -- If the words are to be whole, the program of several nodes comes after each name, otherwise after the last alone.
 unfoldable pub expand_node_groups : Bool → NodeNaming → List PlacedToken → List PlacedToken

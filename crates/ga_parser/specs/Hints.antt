@@ -4,7 +4,7 @@ use Rattle.std.specs.Cmp.Lexicographic.{pointwise}
 use Rattle.std.specs.Char.{eq_ignore_ascii_case}
 use Rattle.ga_ports.specs.Steps.{◌>>=◌}
 use Rattle.ga_parser.specs.Nearness.{is_within_one_edit}
-use Rattle.ga_parser.specs.Vocabulary.{find_in_table, has_prefix, value_of_digits, number_of_word, is_a_number}
+use Rattle.ga_parser.specs.Vocabulary.{find_in_table, has_prefix, value_of_digits, number_spelled_by_word, is_a_number}
 use Rattle.ga_parser.specs.declared.hint.Hint.{Hint}
 
 -- ---- words of other Forths and of assemblers
@@ -64,24 +64,24 @@ foreign_spelling word = find_in_table foreign_words word
 -- ---- words that are spelled as elsewhere, or that lack a blank
 
 -- the text, where the test holds
-abbrev pub text_if : Bool → List ℕ → Option (List ℕ)
-text_if test text = if test then Some text else None
+abbrev pub some_text_if : Bool → List ℕ → Option (List ℕ)
+some_text_if test text = if test then Some text else None
 
 -- the digits of `$1f`
 abbrev pub digits_after_dollar : List ℕ → Option (List ℕ)
-digits_after_dollar word = text_if (has_prefix word (codes "$") && is_some (value_of_digits 16 (drop 1 word))) (drop 1 word)
+digits_after_dollar word = some_text_if (has_prefix word (codes "$") && is_some (value_of_digits 16 (drop 1 word))) (drop 1 word)
 
 -- the word without its last byte, where it is this one and others stand before it
 abbrev pub word_before_byte : ℕ → List ℕ → Option (List ℕ)
-word_before_byte end word = text_if (slice_index word (length word - 1) == end && nat_lt 1 (length word)) (take (length word - 1) word)
+word_before_byte end word = some_text_if (slice_index word (length word - 1) == end && nat_lt 1 (length word)) (take (length word - 1) word)
 
 -- the name of `:main`
 abbrev pub name_after_colon : List ℕ → Option (List ℕ)
-name_after_colon word = text_if (has_prefix word (codes ":") && nat_lt 1 (length word)) (drop 1 word)
+name_after_colon word = some_text_if (has_prefix word (codes ":") && nat_lt 1 (length word)) (drop 1 word)
 
 -- the number of `5,`
 abbrev pub number_before_comma : List ℕ → Option (List ℕ)
-number_before_comma word = word_before_byte 44 word >>= (λ rest. text_if (is_a_number (number_of_word rest)) rest)
+number_before_comma word = word_before_byte 44 word >>= (λ rest. some_text_if (is_a_number (number_spelled_by_word rest)) rest)
 
 -- the first text that is there, put into others; else another one
 abbrev pub map_text_or : {X : Type 0} → Option (List ℕ) → (List ℕ → X) → X → X

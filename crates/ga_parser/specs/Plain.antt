@@ -6,7 +6,7 @@ use Rattle.ga_parser.specs.declared.number.Number.{Number as NumberIn}
 use Rattle.ga_parser.specs.declared.number.Number.TheVariants.{Of, OutOfRange, Nothing}
 use Rattle.ga_parser.specs.declared.item.Operand.{Operand}
 use Rattle.ga_parser.specs.declared.item.Operand.TheVariants.{Number}
-use Rattle.ga_parser.specs.declared.item.Item.TheVariants.{Cell}
+use Rattle.ga_parser.specs.declared.item.AssemblyItem.TheVariants.{Cell}
 use Rattle.ga_parser.specs.declared.item.AssemblyRequest.{AssemblyRequest}
 use Rattle.ga_parser.specs.declared.item.AssemblyRequest.TheVariants.{Put, Go}
 use Rattle.ga_parser.specs.declared.item.LocatedRequest.{LocatedRequest}
@@ -14,7 +14,7 @@ use Rattle.ga_parser.specs.declared.item.RegisterValue.{RegisterValue}
 use Rattle.ga_parser.specs.declared.item.InitialRegisters.{InitialRegisters}
 use Rattle.ga_parser.specs.Saying.{TokenContent}
 use Rattle.ga_ports.specs.Steps.{◌>>=◌}
-use Rattle.ga_parser.specs.Vocabulary.{number_of_word}
+use Rattle.ga_parser.specs.Vocabulary.{number_spelled_by_word}
 
 -- ---- the words of each node
 
@@ -50,23 +50,23 @@ pub record Plain : Type 0 where
   pub b : Option Operand
 
 -- no request
-abbrev pub no_request : Plain
-no_request = record { requests = []; p = None; a = None; b = None }
+abbrev pub no_plain_requests : Plain
+no_plain_requests = record { requests = []; p = None; a = None; b = None }
 
 -- one request more
-abbrev pub with_request : Plain → AssemblyRequest → Plain
-with_request plain request = record plain { requests = plain.requests ++ request ∷ [] }
+abbrev pub with_plain_request : Plain → AssemblyRequest → Plain
+with_plain_request plain request = record plain { requests = plain.requests ++ request ∷ [] }
 
 -- what a number asks for, where the word is one that is in range
-abbrev pub if_number : {X : Type 0} → NumberIn → (ℕ → Option X) → Option X
-if_number (Of n) asks = asks n
-if_number OutOfRange asks = None
-if_number Nothing asks = None
+abbrev pub and_then_number : {X : Type 0} → NumberIn → (ℕ → Option X) → Option X
+and_then_number (Of n) asks = asks n
+and_then_number OutOfRange asks = None
+and_then_number Nothing asks = None
 
 -- the value, where the test holds
-abbrev pub value_if : {X : Type 0} → Bool → X → Option X
-value_if true x = Some x
-value_if false x = None
+abbrev pub some_value_if : {X : Type 0} → Bool → X → Option X
+some_value_if true x = Some x
+some_value_if false x = None
 
 -- an address of RAM or of ROM
 abbrev pub is_cell_address : ℕ → Bool
@@ -77,36 +77,36 @@ abbrev pub may_set_register : Option Operand → ℕ → ℕ → Bool
 may_set_register given n bound = is_none given && nat_lt n bound
 
 -- two words more: `N ,`, `org N`, `/p N`, `/a N` or `/b N`, with N in range, and each register at most once
-abbrev pub with_two_words : Plain → List ℕ → List ℕ → Option Plain
-with_two_words plain first second =
-    if bytes_eq second (codes ",") then if_number (number_of_word first) (λ n. Some (with_request plain (Put (Cell (Number n)))))
-    else if bytes_eq first (codes "org") then if_number (number_of_word second) (λ n. value_if (is_cell_address n) (with_request plain (Go n)))
-    else if bytes_eq first (codes "/p") then if_number (number_of_word second) (λ n. value_if (may_set_register plain.p n 0x400) (record plain { p = Some (Number n) }))
-    else if bytes_eq first (codes "/a") then if_number (number_of_word second) (λ n. value_if (may_set_register plain.a n 0x40000) (record plain { a = Some (Number n) }))
-    else if bytes_eq first (codes "/b") then if_number (number_of_word second) (λ n. value_if (may_set_register plain.b n 0x200) (record plain { b = Some (Number n) }))
+abbrev pub with_plain_word_pair : Plain → List ℕ → List ℕ → Option Plain
+with_plain_word_pair plain first second =
+    if bytes_eq second (codes ",") then and_then_number (number_spelled_by_word first) (λ n. Some (with_plain_request plain (Put (Cell (Number n)))))
+    else if bytes_eq first (codes "org") then and_then_number (number_spelled_by_word second) (λ n. some_value_if (is_cell_address n) (with_plain_request plain (Go n)))
+    else if bytes_eq first (codes "/p") then and_then_number (number_spelled_by_word second) (λ n. some_value_if (may_set_register plain.p n 0x400) (record plain { p = Some (Number n) }))
+    else if bytes_eq first (codes "/a") then and_then_number (number_spelled_by_word second) (λ n. some_value_if (may_set_register plain.a n 0x40000) (record plain { a = Some (Number n) }))
+    else if bytes_eq first (codes "/b") then and_then_number (number_spelled_by_word second) (λ n. some_value_if (may_set_register plain.b n 0x200) (record plain { b = Some (Number n) }))
     else None
 
 -- the requests of words after others, if each is plain
 unfoldable pub plain_requests_from : Plain → List (List ℕ) → Option Plain
 plain_requests_from plain [] = Some plain
 plain_requests_from plain (word ∷ []) = None
-plain_requests_from plain (first ∷ second ∷ words) = with_two_words plain first second >>= (λ more. plain_requests_from more words)
+plain_requests_from plain (first ∷ second ∷ words) = with_plain_word_pair plain first second >>= (λ more. plain_requests_from more words)
 
 -- the requests of the words after a node's name, if each is plain
 abbrev pub plain_requests_of : List (List ℕ) → Option Plain
-plain_requests_of words = plain_requests_from no_request words
+plain_requests_of words = plain_requests_from no_plain_requests words
 
 -- ---- requests as plain words
 
 -- a register's value, where it is given
-abbrev pub value_in : Option RegisterValue → Option Operand
-value_in given = option_map (λ one. one.value) given
+abbrev pub optional_register_operand : Option RegisterValue → Option Operand
+optional_register_operand given = option_map (λ one. one.value) given
 
 -- requests without their lines, and the registers' values
 abbrev pub as_plain_requests : List LocatedRequest → InitialRegisters → Plain
 as_plain_requests asked registers = record {
   requests = map (λ one. one.request) asked;
-  p = value_in registers.p;
-  a = value_in registers.a;
-  b = value_in registers.b;
+  p = optional_register_operand registers.p;
+  a = optional_register_operand registers.a;
+  b = optional_register_operand registers.b;
 }

@@ -5,8 +5,8 @@ use Rattle.ga_parser.specs.declared.controls.Open.{Open}
 use Rattle.ga_parser.specs.declared.fault.SourceFault.{SourceFault}
 use Rattle.ga_parser.specs.declared.item.LocatedRequest.{LocatedRequest}
 use Rattle.ga_parser.specs.declared.item.RegisterValue.{RegisterValue}
-use Rattle.ga_parser.specs.declared.item.Item.{Item}
-use Rattle.ga_parser.specs.declared.item.Item.TheVariants.{Opcode, Literal, Back, Ahead, Cell}
+use Rattle.ga_parser.specs.declared.item.AssemblyItem.{AssemblyItem}
+use Rattle.ga_parser.specs.declared.item.AssemblyItem.TheVariants.{Opcode, Literal, Back, Ahead, Cell}
 use Rattle.ga_parser.specs.declared.item.NodeRequests.{NodeRequests}
 use Rattle.ga_parser.specs.declared.item.Operand.{Operand}
 use Rattle.ga_parser.specs.declared.item.Operand.TheVariants.{Number, Label}
@@ -15,7 +15,7 @@ use Rattle.ga_parser.specs.declared.item.AssemblyRequest.{AssemblyRequest}
 use Rattle.ga_parser.specs.declared.item.AssemblyRequest.TheVariants.{Put, Unext}
 use Rattle.ga_parser.specs.declared.draft.Expect.{Expect}
 use Rattle.ga_parser.specs.declared.draft.Expect.TheVariants.{Word}
-use Rattle.ga_parser.specs.Asking.{ParseState, LabelContent, Refusal, initial_parse_state, parse_one_word, expects_operand, open_word_line, label_at, label_content, next_text}
+use Rattle.ga_parser.specs.Asking.{ParseState, LabelContent, Refusal, initial_parse_state, parse_one_word, expects_operand, open_control_word_line, label_at, label_content, next_word_text}
 use Rattle.ga_parser.specs.Asking.RefusalCause.{Missing, Unclosed, Unknown}
 use Rattle.ga_parser.specs.Requests.{word_refusal}
 use Rattle.ga_parser.specs.Saying.{TokenContent, has_bytes}
@@ -45,17 +45,17 @@ is_comma said = bytes_eq said.text (codes ",")
 abbrev pub recover_next_word : Recovery → TokenContent → List ℕ → Recovery
 recover_next_word so_far said next = if so_far.is_last_skipped && is_comma said then so_far else recovery_after_result so_far said.line (parse_one_word so_far.now said next)
 
-unfoldable pub recover_from : Recovery → List TokenContent → Recovery
-recover_from so_far [] = so_far
-recover_from so_far (said ∷ rest) = recover_from (recover_next_word so_far said (next_text rest)) rest
+unfoldable pub recover_words_from : Recovery → List TokenContent → Recovery
+recover_words_from so_far [] = so_far
+recover_words_from so_far (said ∷ rest) = recover_words_from (recover_next_word so_far said (next_word_text rest)) rest
 
 -- before the words of a node, whose name is on this line
 abbrev pub initial_recovery : ℕ → Recovery
 initial_recovery line = record { last = line; now = initial_parse_state; refused = []; is_last_skipped = false }
 
 -- all words after the name
-abbrev pub recover : ℕ → List TokenContent → Recovery
-recover line words = recover_from (initial_recovery line) words
+abbrev pub recovery_of_words : ℕ → List TokenContent → Recovery
+recovery_of_words line words = recover_words_from (initial_recovery line) words
 
 -- ---- at the end: a word that is missing, control words that are open, and names that no place has
 
@@ -63,14 +63,14 @@ abbrev pub missing_word_refusals : ℕ → Expect → List Refusal
 missing_word_refusals last expect = if expects_operand expect then record { line = last; wrong = Missing } ∷ [] else []
 
 abbrev pub unclosed_word_refusal : Open → Refusal
-unclosed_word_refusal one = record { line = open_word_line one; wrong = Unclosed }
+unclosed_word_refusal one = record { line = open_control_word_line one; wrong = Unclosed }
 
 -- the label of which a request or a register needs the place
 abbrev pub operand_label : Operand → Option ℕ
 operand_label (Number n) = None
 operand_label (Label label) = Some label
 
-abbrev pub item_label : Item → Option ℕ
+abbrev pub item_label : AssemblyItem → Option ℕ
 item_label (Opcode op) = None
 item_label (Literal value) = operand_label value
 item_label (Back op label) = Some label
@@ -87,9 +87,9 @@ register_label (Some given) = operand_label given.value
 register_label None = None
 
 -- no label is needed, or it has its place
-abbrev pub has_place : List LabelContent → Option ℕ → Bool
-has_place labels (Some label) = (label_at labels label).is_marked
-has_place labels None = true
+abbrev pub has_placed_label : List LabelContent → Option ℕ → Bool
+has_placed_label labels (Some label) = (label_at labels label).is_marked
+has_placed_label labels None = true
 
 -- The word on this line names a label that has no place. If a control word made the label, the fault is that it is open.
 abbrev pub unplaced_label_refusals : List LabelContent → ℕ → Option ℕ → List Refusal
@@ -113,10 +113,10 @@ refusals_at_end last now =
 -- ---- what is left
 
 abbrev pub is_recovered_request : List LabelContent → LocatedRequest → Bool
-is_recovered_request labels asked = has_place labels (request_label asked.request)
+is_recovered_request labels asked = has_placed_label labels (request_label asked.request)
 
 abbrev pub recovered_register_value : List LabelContent → Option RegisterValue → Option RegisterValue
-recovered_register_value labels given = if has_place labels (register_label given) then given else None
+recovered_register_value labels given = if has_placed_label labels (register_label given) then given else None
 
 abbrev pub recovered_registers : List LabelContent → InitialRegisters → InitialRegisters
 recovered_registers labels registers = record { p = recovered_register_value labels registers.p; a = recovered_register_value labels registers.a; b = recovered_register_value labels registers.b }
@@ -124,7 +124,7 @@ recovered_registers labels registers = record { p = recovered_register_value lab
 -- The requests are those of the words after a node's name on this line, without those at fault: neither skipped, nor with a
 -- label that has no place. The faults are theirs, those of skipped words first.
 pub record AreRecoveredRequests (line : ℕ) (words : List TokenContent) (requests : NodeRequests) (faults : List SourceFault) : Type 0 where
-  pub asked : requests.asked.items ≡ filter (is_recovered_request (recover line words).now.labels) (recover line words).now.asked
-  pub names : map label_content requests.names.items ≡ (recover line words).now.labels
-  pub registers : requests.registers ≡ recovered_registers (recover line words).now.labels (recover line words).now.registers
-  pub told : map word_refusal faults ≡ (recover line words).refused ++ refusals_at_end (recover line words).last (recover line words).now
+  pub asked : requests.asked.items ≡ filter (is_recovered_request (recovery_of_words line words).now.labels) (recovery_of_words line words).now.asked
+  pub names : map label_content requests.names.items ≡ (recovery_of_words line words).now.labels
+  pub registers : requests.registers ≡ recovered_registers (recovery_of_words line words).now.labels (recovery_of_words line words).now.registers
+  pub told : map word_refusal faults ≡ (recovery_of_words line words).refused ++ refusals_at_end (recovery_of_words line words).last (recovery_of_words line words).now

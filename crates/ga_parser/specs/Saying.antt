@@ -3,7 +3,7 @@
 -- word's first byte, counted in bytes from 1 on, after a byte order mark. A fault of a line has column 1.
 use Rattle.std.specs.Prelude.{ℕ, ◌+◌, ◌-◌, ◌^◌, ◌==◌, nat_lt, Bool, true, false, ◌||◌, ◌&&◌, not, if◌then◌else◌, List, [], ◌∷◌, ◌++◌, length, map, min, filter, take, drop, slice_index, codes, bytes_eq}
 use Rattle.std.specs.List.{list_all}
-use Rattle.ga_text.specs.Lines.{with_byte}
+use Rattle.ga_text.specs.Lines.{lines_with_first_byte}
 use Rattle.ga_parser.specs.declared.scan.TokenKind.{TokenKind}
 use Rattle.ga_parser.specs.declared.scan.TokenKind.TheVariants.{Word, LongLine, OpenComment, NoNumber, Missing, Taken}
 use Rattle.ga_parser.specs.declared.scan.Token.{Token}
@@ -13,7 +13,7 @@ use Rattle.ga_parser.specs.declared.scan.Token.{Token}
 -- The parts of a text that some bytes end. The last may lack its end. An empty text has no part.
 unfoldable pub parts_ended_by : (ℕ → Bool) → List ℕ → List (List ℕ)
 parts_ended_by ends [] = []
-parts_ended_by ends (byte ∷ text) = if ends byte then [] ∷ parts_ended_by ends text else with_byte byte (parts_ended_by ends text)
+parts_ended_by ends (byte ∷ text) = if ends byte then [] ∷ parts_ended_by ends text else lines_with_first_byte byte (parts_ended_by ends text)
 
 -- a line feed
 abbrev pub is_line_feed : ℕ → Bool

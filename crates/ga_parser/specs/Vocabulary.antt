@@ -81,8 +81,8 @@ abbrev pub named_port_address : List ℕ → Option ℕ
 named_port_address text = option_or (find_in_table named_ports text) (named_port_set text)
 
 -- ---- what a word says of a number: the address of a port, or the number modulo 2^18
-abbrev pub number_of_word : List ℕ → Number
-number_of_word text = option_map_or Of (named_port_address text) (signed_number text)
+abbrev pub number_spelled_by_word : List ℕ → Number
+number_spelled_by_word text = option_map_or Of (named_port_address text) (signed_number text)
 
 -- ---- opcodes
 
@@ -110,8 +110,8 @@ opcode_without_address MinusIf = None
 opcode_without_address op = Some op
 
 -- the opcode that a word is
-unfoldable pub opcode_in : List ℕ → Option Op
-opcode_in word = option_or (find_in_table opcode_aliases word) (find_in_table opcode_names word) >>= opcode_without_address
+unfoldable pub opcode_of_word : List ℕ → Option Op
+opcode_of_word word = option_or (find_in_table opcode_aliases word) (find_in_table opcode_names word) >>= opcode_without_address
 
 -- ---- control words
 
@@ -141,8 +141,8 @@ controls =
     ∷ loop_closing_words
 
 -- the control word that a word is
-unfoldable pub control_in : List ℕ → Option Control
-control_in word = find_in_table controls word
+unfoldable pub control_of_word : List ℕ → Option Control
+control_of_word word = find_in_table controls word
 
 -- ---- directives
 
@@ -159,8 +159,8 @@ directive_words =
     ∷ []
 
 -- the directive that a word is
-unfoldable pub directive_in : List ℕ → Option Directive
-directive_in word = find_in_table directive_words word
+unfoldable pub directive_of_word : List ℕ → Option Directive
+directive_of_word word = find_in_table directive_words word
 
 -- what a register is given is below this
 abbrev pub register_bound : Register → ℕ
@@ -190,8 +190,8 @@ is_syntax_word word = bytes_eq word (codes "node") || bytes_eq word (codes "expe
 -- a port, a directive, or a sign.
 unfoldable pub is_reserved : List ℕ → Bool
 is_reserved word =
-    (is_some (opcode_in word) || bytes_eq word (codes "jump") || bytes_eq word (codes "call"))
-    || is_some (control_in word)
-    || is_a_number (number_of_word word)
-    || is_some (directive_in word)
+    (is_some (opcode_of_word word) || bytes_eq word (codes "jump") || bytes_eq word (codes "call"))
+    || is_some (control_of_word word)
+    || is_a_number (number_spelled_by_word word)
+    || is_some (directive_of_word word)
     || is_syntax_word word

@@ -1,7 +1,7 @@
 //! Words without the definitions of constants, which are read as their numbers.
 
 ghost use Rattle.std.specs.Prelude.{◌≡◌, IfOk};
-ghost use Rattle.ga_parser.specs.Constants.{begins_definition as defines_by, begins_label as begins_label_in, constant_resolution, without_definitions, fault_token as fault_token_for, number_or_word as or_word_in};
+ghost use Rattle.ga_parser.specs.Constants.{begins_definition as defines_by, begins_label as begins_label_in, constant_resolution, without_definitions, fault_token as constant_fault_token, number_or_word as or_word_in};
 ghost use Rattle.ga_parser.specs.inner.Placing.{placed, placed_all};
 ghost use Rattle.ga_parser.specs.inner.Resolving.{resolving_of};
 
@@ -49,7 +49,7 @@ fn begins_label(word: Token<'_>) -> bool
 
 /// A fault in the place of a word.
 fn fault_token<'s>(kind: TokenKind, word: Token<'s>) -> Token<'s>
-    ensures { placed result ≡ fault_token_for kind (placed word.entry) }
+    ensures { placed result ≡ constant_fault_token kind (placed word.entry) }
 {
     Token {
         line: word.line,

@@ -1,13 +1,13 @@
 //! The control words: loops and jumps ahead.
 
 ghost use Rattle.std.specs.Prelude.{◌≡◌, Ok};
-ghost use Rattle.ga_parser.specs.Asking.{with_added_request, begin_loop as begin_row, ahead as ahead_row, end_loop, end_jump_ahead, end_outer_loop, control as control_row, jump as jump_row, open_word_line, ◌▷◌};
+ghost use Rattle.ga_parser.specs.Asking.{with_added_request, begin_loop as begin_row, begin_jump_ahead as ahead_row, end_loop, end_jump_ahead, end_outer_loop, control_word as control_row, jump_to_label as jump_row, open_control_word_line, ◌▷◌};
 ghost use Rattle.ga_parser.specs.inner.Drafting.{Answers, asking_of};
 ghost use Rattle.ga_parser.specs.declared.vocabulary.Control.TheVariants.{Else as ElseWord, Then as ThenWord, NextAround as NextAroundWord, Unext as UnextWord, While as WhileWord, Repeat as RepeatWord, For as ForWord};
 
 use super::draft::RequestBuilder;
 use super::fault::{SourceCause, SourceFault, fault_at};
-use super::item::{AssemblyRequest, Item};
+use super::item::{AssemblyItem, AssemblyRequest};
 use super::vocabulary::Control;
 use ga_slots::Op;
 
@@ -23,7 +23,7 @@ pub(crate) enum Open {
 impl Open {
     /// The line of the control word.
     pub(crate) fn line(self) -> u32
-        ensures { result ≡ open_word_line self }
+        ensures { result ≡ open_control_word_line self }
     {
         match self {
             Open::Loop(line, _) | Open::Ahead(line, _) => line,
@@ -33,13 +33,13 @@ impl Open {
 
 impl<'s> RequestBuilder<'s> {
     /// What a control word asks for.
-    pub(crate) fn control(&mut self, line: u32, word: Control) -> Result<(), SourceFault<'s>>
+    pub(crate) fn control_word(&mut self, line: u32, word: Control) -> Result<(), SourceFault<'s>>
         ensures { Answers result (control_row (asking_of self.old) line word) (λ _. asking_of self.new) }
     {
         match word {
             Control::Begin => self.begin(line),
             Control::For => self.begin_for(line),
-            Control::If(op) => self.ahead(line, op),
+            Control::If(op) => self.begin_jump_ahead(line, op),
             Control::Else => self.otherwise(line),
             Control::Then => self.join(line),
             Control::Again => self.back(line, Op::Jump),
@@ -66,16 +66,16 @@ impl<'s> RequestBuilder<'s> {
     fn begin_for(&mut self, line: u32) -> Result<(), SourceFault<'s>>
         ensures { Answers result (control_row (asking_of self.old) line ForWord) (λ _. asking_of self.new) }
     {
-        self.ask(line, AssemblyRequest::Put(Item::Opcode(Op::Push)))?;
+        self.ask(line, AssemblyRequest::Put(AssemblyItem::Opcode(Op::Push)))?;
         self.begin(line)
     }
 
     /// A jump ahead, open until its label is marked.
-    fn ahead(&mut self, line: u32, op: Op) -> Result<(), SourceFault<'s>>
+    fn begin_jump_ahead(&mut self, line: u32, op: Op) -> Result<(), SourceFault<'s>>
         ensures { Answers result (Ok (ahead_row (asking_of self.old) line op)) (λ _. asking_of self.new) }
     {
         let label = self.labels.add_anonymous(line, false)?;
-        self.jump(line, op, label)?;
+        self.jump_to_label(line, op, label)?;
         self.open.push(Open::Ahead(line, label))?;
         Ok(())
     }
@@ -85,8 +85,8 @@ impl<'s> RequestBuilder<'s> {
         ensures { Answers result (control_row (asking_of self.old) line ElseWord) (λ _. asking_of self.new) }
     {
         let label = self.close_ahead(line)?;
-        self.ahead(line, Op::Jump)?;
-        self.mark(line, label)
+        self.begin_jump_ahead(line, Op::Jump)?;
+        self.mark_label(line, label)
     }
 
     /// `then`.
@@ -94,7 +94,7 @@ impl<'s> RequestBuilder<'s> {
         ensures { Answers result (control_row (asking_of self.old) line ThenWord) (λ _. asking_of self.new) }
     {
         let label = self.close_ahead(line)?;
-        self.mark(line, label)
+        self.mark_label(line, label)
     }
 
     /// A jump back that ends the innermost loop.
@@ -102,7 +102,7 @@ impl<'s> RequestBuilder<'s> {
         ensures { Answers result (end_loop (asking_of self.old) line ▷ (λ end. Ok (jump_row end.1 line op end.0))) (λ _. asking_of self.new) }
     {
         let label = self.close_loop(line)?;
-        self.jump(line, op, label)
+        self.jump_to_label(line, op, label)
     }
 
     /// `*next`.
@@ -110,7 +110,7 @@ impl<'s> RequestBuilder<'s> {
         ensures { Answers result (control_row (asking_of self.old) line NextAroundWord) (λ _. asking_of self.new) }
     {
         let label = self.close_around(line)?;
-        self.jump(line, Op::Next, label)
+        self.jump_to_label(line, Op::Next, label)
     }
 
     /// `unext`.
@@ -126,7 +126,7 @@ impl<'s> RequestBuilder<'s> {
         ensures { Answers result (control_row (asking_of self.old) line (WhileWord op)) (λ _. asking_of self.new) }
     {
         let label = self.close_loop(line)?;
-        self.ahead(line, op)?;
+        self.begin_jump_ahead(line, op)?;
         self.open.push(Open::Loop(line, label))?;
         Ok(())
     }
@@ -136,9 +136,9 @@ impl<'s> RequestBuilder<'s> {
         ensures { Answers result (control_row (asking_of self.old) line RepeatWord) (λ _. asking_of self.new) }
     {
         let label = self.close_loop(line)?;
-        self.jump(line, Op::Jump, label)?;
+        self.jump_to_label(line, Op::Jump, label)?;
         let behind = self.close_ahead(line)?;
-        self.mark(line, behind)
+        self.mark_label(line, behind)
     }
 
     /// The label of the innermost open word, which is a loop.

@@ -12,7 +12,8 @@ ghost use Rattle.ga_parser.specs.Saying.{token_contents};
 use super::controls::Open;
 use super::fault::{NumberRange, SourceCause, SourceFault, fault_at};
 use super::item::{
-    AssemblyRequest, InitialRegisters, Item, LocatedRequest, NodeRequests, Operand, RegisterValue,
+    AssemblyItem, AssemblyRequest, InitialRegisters, LocatedRequest, NodeRequests, Operand,
+    RegisterValue,
 };
 use super::labels::Labels;
 use super::number::{Number, number_of};
@@ -49,7 +50,7 @@ pub(crate) struct RequestBuilder<'s> {
 
 impl<'s> RequestBuilder<'s> {
     ghost use Rattle.std.specs.Prelude.{◌≡◌, Ok};
-    ghost use Rattle.ga_parser.specs.Asking.{◌▷◌, initial_parse_state, with_added_request, jump as jump_row, mark as mark_row, value_of_word, label_name_requests, register_requests, org_requests, directive as directive_row, cell as cell_row, call as call_row, word_requests, parse_one_word, set_register_once, with_named_label, label_number as number_of_label, finished_parse};
+    ghost use Rattle.ga_parser.specs.Asking.{◌▷◌, initial_parse_state, with_added_request, jump_to_label as jump_row, mark_label as mark_row, value_of_word, label_name_requests, register_requests, org_requests, directive as directive_row, cell as cell_row, call_label as call_row, word_requests, parse_one_word, set_register_once, state_with_mentioned_label, label_number as number_of_label, finished_parse};
     ghost use Rattle.ga_parser.specs.declared.item.Operand.TheVariants.{Label as LabelOf};
     ghost use Rattle.ga_parser.specs.inner.Drafting.{Answers, asking_of};
     ghost use Rattle.ga_parser.specs.Saying.{token_content};
@@ -79,25 +80,30 @@ impl<'s> RequestBuilder<'s> {
     }
 
     /// Asks for an opcode with the address of a label.
-    pub(crate) fn jump(&mut self, line: u32, op: Op, label: usize) -> Result<(), SourceFault<'s>>
+    pub(crate) fn jump_to_label(
+        &mut self,
+        line: u32,
+        op: Op,
+        label: usize,
+    ) -> Result<(), SourceFault<'s>>
         ensures { Answers result (Ok (jump_row (asking_of self.old) line op label)) (λ _. asking_of self.new) }
     {
         let item = if self.labels.is_marked(label) {
-            Item::Back(op, label)
+            AssemblyItem::Back(op, label)
         } else {
-            Item::Ahead(op, label)
+            AssemblyItem::Ahead(op, label)
         };
         self.ask(line, AssemblyRequest::Put(item))
     }
 
     /// The label has its place here.
-    pub(crate) fn mark(&mut self, line: u32, label: usize) -> Result<(), SourceFault<'s>>
+    pub(crate) fn mark_label(&mut self, line: u32, label: usize) -> Result<(), SourceFault<'s>>
         ensures { Answers result (mark_row (asking_of self.old) line label) (λ _. asking_of self.new) }
     {
         if self.labels.is_marked(label) {
             return Err(fault_at(line, SourceCause::LabelTwice));
         }
-        self.labels.mark(label);
+        self.labels.mark_label(label);
         self.ask(line, AssemblyRequest::Mark(label))
     }
 
@@ -128,7 +134,7 @@ impl<'s> RequestBuilder<'s> {
             return Err(fault_at(line, SourceCause::Taken));
         }
         let label = self.labels.named(line, name)?;
-        self.mark(line, label)
+        self.mark_label(line, label)
     }
 
     /// A number, a port or a label, as a register's value at load.
@@ -212,12 +218,12 @@ impl<'s> RequestBuilder<'s> {
             return Err(fault_at(line, SourceCause::Missing));
         };
         self.expect = Expect::Nothing;
-        self.ask(line, AssemblyRequest::Put(Item::Cell(value)))
+        self.ask(line, AssemblyRequest::Put(AssemblyItem::Cell(value)))
     }
 
     /// A call of a label, or a jump there where `;` is next.
-    #[tactic(auto, unfolding(crate::specs::Asking::call))]
-    fn call(&mut self, line: u32, name: &'s [u8], next: &[u8]) -> Result<(), SourceFault<'s>>
+    #[tactic(auto, unfolding(crate::specs::Asking::call_label))]
+    fn call_label(&mut self, line: u32, name: &'s [u8], next: &[u8]) -> Result<(), SourceFault<'s>>
         ensures { Answers result (call_row (asking_of self.old) line name.now next.now) (λ _. asking_of self.new) }
     {
         if is_reserved(name) {
@@ -228,7 +234,7 @@ impl<'s> RequestBuilder<'s> {
         if op == Op::Jump {
             self.expect = Expect::Nothing;
         }
-        self.jump(line, op, label)
+        self.jump_to_label(line, op, label)
     }
 
     /// A word without arguments. The next word decides whether it is a cell, and whether a call is a jump.
@@ -243,15 +249,15 @@ impl<'s> RequestBuilder<'s> {
             return self.directive(line, directive);
         }
         if let Some(op) = parse_opcode(text) {
-            return self.ask(line, AssemblyRequest::Put(Item::Opcode(op)));
+            return self.ask(line, AssemblyRequest::Put(AssemblyItem::Opcode(op)));
         }
-        if let Some(control) = control_named(text) {
-            return self.control(line, control);
+        if let Some(control_word) = control_named(text) {
+            return self.control_word(line, control_word);
         }
         if let Some(value) = self.value(line, text)? {
-            return self.ask(line, AssemblyRequest::Put(Item::Literal(value)));
+            return self.ask(line, AssemblyRequest::Put(AssemblyItem::Literal(value)));
         }
-        self.call(line, text, next)
+        self.call_label(line, text, next)
     }
 
     pub(crate) fn take(&mut self, token: Token<'s>, next: &[u8]) -> Result<(), SourceFault<'s>>

@@ -2,7 +2,7 @@
 
 ghost use Rattle.std.specs.Prelude.{◌≡◌, ◌≤◌, ◌++◌, ℕ, length, drop, map, flat_map, option_map, IfOk, OnOk};
 ghost use Rattle.ga_grid.specs.Grid.{node_id};
-ghost use Rattle.ga_parser.specs.Expectations.{named_nodes, is_node_name as is_name_in, nodes_after_word, no_group, group_after_word, group_before, nodes_before, expectation_text as text_of_words, expectation_content, expectation_of_tokens, expectations_of_resolution, expectation_lines as lines_of_source};
+ghost use Rattle.ga_parser.specs.Expectations.{named_nodes, is_node_name as is_name_in, nodes_after_word, no_node_group, group_after_word, node_group_before_line, nodes_before_line, expectation_text as text_of_words, expectation_content, expectation_of_tokens, expectations_of_resolution, expectation_lines as lines_of_source};
 ghost use Rattle.ga_parser.specs.Plain.{named_node_number};
 ghost use Rattle.ga_parser.specs.Saying.{source_lines, token_contents, all_tokens_of_line};
 ghost use Rattle.ga_parser.specs.inner.Expecting.{group_of, words_from, spaced_token};
@@ -67,12 +67,12 @@ fn is_node_name(naming: Naming<'_>, word: &Token<'_>) -> bool
 
 impl<'s> NamedGroup<'s> {
     ghost use Rattle.std.specs.Prelude.{◌≡◌, OnOk};
-    ghost use Rattle.ga_parser.specs.Expectations.{nodes_after_word, group_after_word, no_group};
+    ghost use Rattle.ga_parser.specs.Expectations.{nodes_after_word, group_after_word, no_node_group};
     ghost use Rattle.ga_parser.specs.inner.Expecting.{group_of};
     ghost use Rattle.ga_parser.specs.inner.Placing.{placed};
 
     fn new(alloc: Global) -> Self
-        ensures { group_of result ≡ no_group }
+        ensures { group_of result ≡ no_node_group }
     {
         NamedGroup {
             naming: Naming::Nothing,
@@ -113,7 +113,7 @@ fn take_before<'s>(
     line: u32,
 ) -> Result<usize, AllocError>
     requires { from ≤ length words.now }
-    ensures group { OnOk result (group_of group.new ≡ group_before line (group_of group.old) (placed_all (drop from words.now))) }
+    ensures group { OnOk result (group_of group.new ≡ node_group_before_line line (group_of group.old) (placed_all (drop from words.now))) }
     ensures left { IfOk result (λ next. placed_all (drop next words.now) ≡ words_from line (placed_all (drop from words.now))) }
     ensures within { IfOk result (λ next. next ≤ length words.now) }
 {
@@ -173,9 +173,9 @@ fn add_line<'s>(
 ) -> Result<usize, AllocError>
     requires { from ≤ length resolved.now.words.items }
     ensures lines { OnOk result (map expectation_content all.new.items ≡ map expectation_content all.old.items
-        ++ expectation_of_tokens (known_of resolved.now) (group_before line (group_of group.old) (placed_all (drop from resolved.now.words.items))).nodes line (all_tokens_of_line line text.now)) }
-    ensures left { IfOk result (λ next. (later : ℕ) → line ≤ later → group_before later (group_of group.new) (placed_all (drop next resolved.now.words.items))
-        ≡ group_before later (group_of group.old) (placed_all (drop from resolved.now.words.items))) }
+        ++ expectation_of_tokens (known_of resolved.now) (node_group_before_line line (group_of group.old) (placed_all (drop from resolved.now.words.items))).nodes line (all_tokens_of_line line text.now)) }
+    ensures left { IfOk result (λ next. (later : ℕ) → line ≤ later → node_group_before_line later (group_of group.new) (placed_all (drop next resolved.now.words.items))
+        ≡ node_group_before_line later (group_of group.old) (placed_all (drop from resolved.now.words.items))) }
     ensures within { IfOk result (λ next. next ≤ length resolved.now.words.items) }
 {
     let mut said = Vec::new(alloc);

@@ -1,7 +1,7 @@
 //! Words in which each node has a `node` of its own.
 
 ghost use Rattle.std.specs.Prelude.{◌≡◌, ◌++◌, IfOk, OnOk};
-ghost use Rattle.ga_parser.specs.Groups.{expand_node_groups as grouped_by, begins_node as begins_by, is_further_node_name as is_further_by, naming_after_word as begun_by, words_after_names as behind_names_in, body as body_words, words_before_name};
+ghost use Rattle.ga_parser.specs.Groups.{expand_node_groups as grouped_by, begins_node as begins_by, is_further_node_name as is_further_by, naming_after_word as begun_by, words_after_names as behind_names_in, words_before_next_node as body_words, words_before_name};
 ghost use Rattle.ga_parser.specs.Groups.NodeNaming.{Nothing};
 ghost use Rattle.ga_parser.specs.inner.Placing.{placed, placed_all};
 ghost use Rattle.ga_parser.specs.inner.Grouping.{begun_of};
@@ -68,7 +68,7 @@ fn words_after_names<'a, 's>(node: Token<'s>, words: &'a [Token<'s>]) -> &'a [To
 }
 
 /// The words before the next `node`.
-fn body<'a, 's>(words: &'a [Token<'s>]) -> &'a [Token<'s>]
+fn words_before_next_node<'a, 's>(words: &'a [Token<'s>]) -> &'a [Token<'s>]
     ensures { placed_all result.now ≡ body_words (placed_all words.now) }
 {
     for (i, word) in words.iter().enumerate() {
@@ -96,7 +96,7 @@ fn push_before<'s>(
         return Ok(());
     }
     if is_whole {
-        all.extend_from_slice(body(words_after_names(node, rest)))?;
+        all.extend_from_slice(words_before_next_node(words_after_names(node, rest)))?;
     }
     all.push(node)?;
     Ok(())

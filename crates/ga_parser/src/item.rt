@@ -12,7 +12,7 @@ pub enum Operand {
 
 /// The content of a slot or of a cell.
 #[derive(Clone, Copy)]
-pub enum Item {
+pub enum AssemblyItem {
     /// An opcode without an address.
     Opcode(Op),
     /// `@p`, and its value in a later cell.
@@ -25,9 +25,9 @@ pub enum Item {
     Cell(Operand),
 }
 
-impl Default for Item {
+impl Default for AssemblyItem {
     fn default() -> Self {
-        Item::Opcode(Op::Nop)
+        AssemblyItem::Opcode(Op::Nop)
     }
 }
 
@@ -35,7 +35,7 @@ impl Default for Item {
 #[derive(Clone, Copy)]
 pub enum AssemblyRequest {
     /// An item in the next place where it fits.
-    Put(Item),
+    Put(AssemblyItem),
     /// `unext` to this label.
     Unext(usize),
     /// The label is the address of the next cell.

@@ -120,7 +120,7 @@ impl<'s> Labels<'s> {
 
     /// The label's place is met.
     #[tactic(auto, using(crate::proofs::Asking::names_marked, crate::proofs::Asking::marked_view))]
-    pub(crate) fn mark(&mut self, label: usize)
+    pub(crate) fn mark_label(&mut self, label: usize)
         ensures { self.new ≡ with_marked_label self.old label }
     {
         if label < self.list.len() {

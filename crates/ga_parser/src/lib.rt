@@ -25,7 +25,8 @@ pub use expectations::{ExpectationLine, expectation_lines};
 pub use fault::{NumberRange, SourceCause, SourceFault, fault_at};
 pub use hint::{Hint, hint_for};
 pub use item::{
-    AssemblyRequest, InitialRegisters, Item, LocatedRequest, NodeRequests, Operand, RegisterValue,
+    AssemblyItem, AssemblyRequest, InitialRegisters, LocatedRequest, NodeRequests, Operand,
+    RegisterValue,
 };
 pub use labels::Label;
 pub use nearness::is_within_one_edit;

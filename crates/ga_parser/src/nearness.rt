@@ -3,7 +3,7 @@
 ghost use Rattle.std.specs.Prelude.{◌≡◌};
 ghost use Rattle.std.specs.Cmp.Lexicographic.{pointwise};
 ghost use Rattle.std.specs.Char.{eq_ignore_ascii_case};
-ghost use Rattle.ga_parser.specs.Nearness.{is_within_one_edit, are_exchanged};
+ghost use Rattle.ga_parser.specs.Nearness.{is_within_one_edit, are_first_letters_exchanged};
 
 /// Whether a word is a name but for one letter: one is missing, too much or another, or two that stand together are exchanged.
 #[tactic(auto, unfolding(crate::specs::Nearness::is_within_one_edit))]
@@ -19,13 +19,13 @@ pub fn is_within_one_edit(word: &[u8], name: &[u8]) -> bool
     if first == letter {
         return is_within_one_edit(rest, more);
     }
-    rest == more || rest == name || word == more || are_exchanged(word, name)
+    rest == more || rest == name || word == more || are_first_letters_exchanged(word, name)
 }
 
 /// Whether the first two letters of two words are exchanged, and the others the same.
-#[tactic(auto, unfolding(crate::specs::Nearness::are_exchanged))]
-fn are_exchanged(word: &[u8], name: &[u8]) -> bool
-    ensures { result ≡ are_exchanged word.now name.now }
+#[tactic(auto, unfolding(crate::specs::Nearness::are_first_letters_exchanged))]
+fn are_first_letters_exchanged(word: &[u8], name: &[u8]) -> bool
+    ensures { result ≡ are_first_letters_exchanged word.now name.now }
 {
     match word {
         [first, second, rest @ ..] => match name {

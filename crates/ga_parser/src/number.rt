@@ -4,7 +4,7 @@ ghost use Rattle.std.specs.Prelude.{◌≡◌, ◌<◌, ◌≤◌, ◌^◌, min,
 ghost use Rattle.std.specs.Char.{digit_value};
 ghost use Rattle.std.specs.Option.{option_map_or, SomeIff};
 ghost use Rattle.ga_parser.specs.declared.number.Number.TheVariants.{Nothing};
-ghost use Rattle.ga_parser.specs.Vocabulary.{value_of_digits, unsigned_number, checked_word, checked_negative_word, signed_number, named_port_set, named_port_address, number_of_word};
+ghost use Rattle.ga_parser.specs.Vocabulary.{value_of_digits, unsigned_number, checked_word, checked_negative_word, signed_number, named_port_set, named_port_address, number_spelled_by_word};
 
 use ga_ports::parse_side_set;
 
@@ -110,7 +110,7 @@ fn numeral(text: &[u8]) -> Number
 
 /// The number of a word modulo 2^18.
 pub(crate) fn number_of(text: &[u8]) -> Number
-    ensures { result ≡ number_of_word text.now }
+    ensures { result ≡ number_spelled_by_word text.now }
 {
     match parse_port(text) {
         Some(address) => Number::Of(address),

@@ -5,7 +5,7 @@ ghost use Rattle.std.specs.List.{flat_map};
 ghost use Rattle.ga_parser.specs.declared.fault.SourceCause.TheVariants.{Memory};
 ghost use Rattle.ga_parser.specs.Asking.{label_content};
 ghost use Rattle.ga_parser.specs.Requests.{word_refusal};
-ghost use Rattle.ga_parser.specs.Recovery.{AreRecoveredRequests, operand_label as label_by, item_label as label_of_item, request_label as label_of_request, has_place as place_by, unplaced_label_refusals, unplaced_request_refusals, unplaced_register_refusals, register_label as label_of_given, recovered_register_value as left_of, recovered_registers as left_by, is_recovered_request as is_left_by, recover, missing_word_refusals, unclosed_word_refusal};
+ghost use Rattle.ga_parser.specs.Recovery.{AreRecoveredRequests, operand_label as label_by, item_label as label_of_item, request_label as label_of_request, has_placed_label as place_by, unplaced_label_refusals, unplaced_request_refusals, unplaced_register_refusals, register_label as label_of_given, recovered_register_value as left_of, recovered_registers as left_by, is_recovered_request as is_left_by, recovery_of_words, missing_word_refusals, unclosed_word_refusal};
 ghost use Rattle.ga_parser.specs.Saying.{token_contents};
 ghost use Rattle.ga_parser.specs.inner.Recovering.{recovery_of};
 
@@ -13,7 +13,8 @@ use super::controls::Open;
 use super::draft::{Expect, RequestBuilder, expects_operand, text_at};
 use super::fault::{SourceCause, SourceFault, fault_at};
 use super::item::{
-    AssemblyRequest, InitialRegisters, Item, LocatedRequest, NodeRequests, Operand, RegisterValue,
+    AssemblyItem, AssemblyRequest, InitialRegisters, LocatedRequest, NodeRequests, Operand,
+    RegisterValue,
 };
 use super::labels::Label;
 use super::scan::Token;
@@ -38,13 +39,13 @@ fn operand_label(value: Operand) -> Option<usize>
 }
 
 /// The label of which an item needs the place.
-fn item_label(item: Item) -> Option<usize>
+fn item_label(item: AssemblyItem) -> Option<usize>
     ensures { result ≡ label_of_item item }
 {
     match item {
-        Item::Opcode(_) => None,
-        Item::Back(_, label) | Item::Ahead(_, label) => Some(label),
-        Item::Literal(value) | Item::Cell(value) => operand_label(value),
+        AssemblyItem::Opcode(_) => None,
+        AssemblyItem::Back(_, label) | AssemblyItem::Ahead(_, label) => Some(label),
+        AssemblyItem::Literal(value) | AssemblyItem::Cell(value) => operand_label(value),
     }
 }
 
@@ -63,7 +64,7 @@ fn request_label(request: AssemblyRequest) -> Option<usize>
 }
 
 /// Whether no label is needed, or it has its place.
-fn has_place(labels: &[Label<'_>], label: Option<usize>) -> bool
+fn has_placed_label(labels: &[Label<'_>], label: Option<usize>) -> bool
     ensures { result ≡ place_by (map label_content labels.now) label }
 {
     match label {
@@ -120,7 +121,7 @@ fn recovered_register_value(
     let Some(found) = given else {
         return None;
     };
-    if has_place(labels, operand_label(found.value)) {
+    if has_placed_label(labels, operand_label(found.value)) {
         given
     } else {
         None
@@ -142,7 +143,7 @@ fn recovered_registers(labels: &[Label<'_>], registers: InitialRegisters) -> Ini
 fn is_recovered_request(labels: &[Label<'_>], asked: LocatedRequest) -> bool
     ensures { result ≡ is_left_by (map label_content labels.now) asked }
 {
-    has_place(labels, request_label(asked.request))
+    has_placed_label(labels, request_label(asked.request))
 }
 
 /// The requests that are left, and the faults of the others.
@@ -249,7 +250,7 @@ fn read_left<'s>(
     line: u32,
     tokens: &[Token<'s>],
 ) -> Result<Reading<'s>, SourceFault<'s>>
-    ensures read { IfOk result (λ reading. recovery_of reading ≡ recover line (token_contents tokens.now)) }
+    ensures read { IfOk result (λ reading. recovery_of reading ≡ recovery_of_words line (token_contents tokens.now)) }
     ensures refused { IfErr result (λ fault. fault.cause ≡ Memory) }
 {
     let mut reading = Reading::new(alloc, line);

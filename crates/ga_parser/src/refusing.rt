@@ -33,7 +33,7 @@ fn cell_cause<'s>(text: &'s [u8]) -> Option<SourceCause<'s>>
 }
 
 /// Why a literal or a label's name is refused, where it is.
-#[tactic(auto, unfolding(crate::specs::Asking::value_of_word, crate::specs::Asking::call))]
+#[tactic(auto, unfolding(crate::specs::Asking::value_of_word, crate::specs::Asking::call_label))]
 fn literal_cause<'s>(text: &'s [u8]) -> Option<SourceCause<'s>>
     ensures { (now : ParseState) (line : ℕ) (next : List ℕ) → RefusesBy result line (value_of_word now line text.now ▷ (λ said. value_or_call said.1 line text.now next said.0)) }
 {
@@ -136,10 +136,10 @@ impl<'s> RequestBuilder<'s> {
     }
 
     /// Why a control word is refused, where it is.
-    fn control_cause(&self, control: Control) -> Option<SourceCause<'s>>
-        ensures { result ≡ control_cause_of self.now.labels (reverse self.now.open.items) control }
+    fn control_cause(&self, control_word: Control) -> Option<SourceCause<'s>>
+        ensures { result ≡ control_cause_of self.now.labels (reverse self.now.open.items) control_word }
     {
-        match control {
+        match control_word {
             Control::Begin | Control::For | Control::If(_) => None,
             Control::Else | Control::Then => self.ahead_cause(self.innermost()),
             Control::Again => loop_cause(self.innermost()),
@@ -224,7 +224,7 @@ impl<'s> RequestBuilder<'s> {
             None => match parse_opcode(text) {
                 Some(_) => None,
                 None => match control_named(text) {
-                    Some(control) => self.control_cause(control),
+                    Some(control_word) => self.control_cause(control_word),
                     None => literal_cause(text),
                 },
             },

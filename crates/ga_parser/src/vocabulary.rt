@@ -1,7 +1,7 @@
 //! The words that stand for themselves.
 
 ghost use Rattle.std.specs.Prelude.{◌≡◌, ◌||◌, is_some, codes, bytes_eq};
-ghost use Rattle.ga_parser.specs.Vocabulary.{find_in_table, loop_closing_words, opcode_aliases, opcode_names, opcode_without_address, opcode_in, control_in, directive_in, register_bound, register_range, is_a_number as is_number_in, is_syntax_word as is_sign_word, is_reserved as is_taken_word};
+ghost use Rattle.ga_parser.specs.Vocabulary.{find_in_table, loop_closing_words, opcode_aliases, opcode_names, opcode_without_address, opcode_of_word, control_of_word, directive_of_word, register_bound, register_range, is_a_number as is_number_in, is_syntax_word as is_sign_word, is_reserved as is_taken_word};
 
 use super::fault::NumberRange;
 use super::number::{Number, number_of};
@@ -70,9 +70,9 @@ fn opcode_without_address(op: Op) -> Option<Op>
 }
 
 /// The opcode of a name, where the word is an opcode without an address.
-#[tactic(auto, unfolding(crate::specs::Vocabulary::opcode_in))]
+#[tactic(auto, unfolding(crate::specs::Vocabulary::opcode_of_word))]
 pub(crate) fn parse_opcode(text: &[u8]) -> Option<Op>
-    ensures { result ≡ opcode_in text.now }
+    ensures { result ≡ opcode_of_word text.now }
 {
     match other_name(text) {
         Some(op) => opcode_without_address(op),
@@ -122,7 +122,7 @@ fn is_syntax_word(text: &[u8]) -> bool
 
 /// Whether the word is an opcode, with an address or without.
 fn is_opcode(text: &[u8]) -> bool
-    ensures { result ≡ (is_some (opcode_in text.now) || bytes_eq text.now (codes "jump") || bytes_eq text.now (codes "call")) }
+    ensures { result ≡ (is_some (opcode_of_word text.now) || bytes_eq text.now (codes "jump") || bytes_eq text.now (codes "call")) }
 {
     parse_opcode(text).is_some() || text == b"jump".as_slice() || text == b"call".as_slice()
 }
@@ -175,9 +175,9 @@ impl Register {
 }
 
 /// The directive of a name.
-#[tactic(auto, unfolding(crate::specs::Vocabulary::directive_in))]
+#[tactic(auto, unfolding(crate::specs::Vocabulary::directive_of_word))]
 pub fn parse_directive(text: &[u8]) -> Option<Directive>
-    ensures { result ≡ directive_in text.now }
+    ensures { result ≡ directive_of_word text.now }
 {
     find_in_table!(text;
         b":" => Directive::Label,
@@ -192,9 +192,9 @@ pub fn parse_directive(text: &[u8]) -> Option<Directive>
 }
 
 /// The control word of a name.
-#[tactic(auto, unfolding(crate::specs::Vocabulary::control_in))]
+#[tactic(auto, unfolding(crate::specs::Vocabulary::control_of_word))]
 pub(crate) fn control_named(text: &[u8]) -> Option<Control>
-    ensures { result ≡ control_in text.now }
+    ensures { result ≡ control_of_word text.now }
 {
     find_in_table!(text;
         b"begin" => Control::Begin,

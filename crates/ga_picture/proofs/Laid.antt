@@ -9,7 +9,7 @@ use Rattle.ga_causal.specs.Dependence.{is_transfer_event}
 use Rattle.ga_grid.specs.declared.node_id.NodeId.{NodeId}
 use Rattle.ga_picture.specs.declared.item.PictureItem.{PictureItem}
 use Rattle.ga_picture.specs.declared.placing.PictureRow.{PictureRow}
-use Rattle.ga_picture.specs.Items.{item_at_place, IsPlainOwnEvent, run_events_before, run_events_after, folded_count, folded_count_at, has_row, row_places_below}
+use Rattle.ga_picture.specs.Items.{item_at_place, IsPlainOwnEvent, run_events_before, run_events_after, folded_event_count, folded_event_count_at, has_picture_row, row_places_below}
 use Rattle.ga_picture.specs.Drawing.{IsPictureRow}
 use Rattle.ga_picture.specs.Picture.{IsSvgGroup, AreSvgGroups, row_index_from}
 use Rattle.ga_picture.specs.declared.race_marks.RaceMark.{RaceMark}
@@ -20,11 +20,11 @@ rows_none : (items : List PictureItem) (fold : ℕ) → row_places_below items f
 unfolding row_places_below
 rows_none items fold = refl
 
-rows_one : (items : List PictureItem) (fold place : ℕ) → row_places_below items fold (suc place) ≡ row_places_below items fold place ++ (if has_row items fold place then place ∷ [] else [])
+rows_one : (items : List PictureItem) (fold place : ℕ) → row_places_below items fold (suc place) ≡ row_places_below items fold place ++ (if has_picture_row items fold place then place ∷ [] else [])
 unfolding row_places_below
 rows_one items fold place = refl
 
-rows_next : (items : List PictureItem) (fold place : ℕ) (has : Bool) → has_row items fold place ≡ has
+rows_next : (items : List PictureItem) (fold place : ℕ) (has : Bool) → has_picture_row items fold place ≡ has
     → row_places_below items fold (place + 1) ≡ row_places_below items fold place ++ (if has then place ∷ [] else [])
 rows_next items fold place has e =
     ap (row_places_below items fold) (add-one place) ∙ rows_one items fold place
@@ -49,7 +49,7 @@ places_push [] row = refl
 places_push (x ∷ xs) row = ap (λ (z : List ℕ). x.place ∷ z) (places_push xs row)
 
 pub laid_more : (items : List PictureItem) (fold : ℕ) (lines : List NodeId) (place : ℕ) (rows more : List PictureRow) (row : PictureRow) → AreLaid items fold lines place rows
-    → has_row items fold place ≡ true → row.place ≡ place → IsPictureRow items fold lines row → more ≡ rows ++ row ∷ [] → AreLaid items fold lines (place + 1) more
+    → has_picture_row items fold place ≡ true → row.place ≡ place → IsPictureRow items fold lines row → more ≡ rows ++ row ∷ [] → AreLaid items fold lines (place + 1) more
 laid_more items fold lines place rows more row a has at is e = record {
   places = ap places_of e ∙ places_push rows row ∙ ap (λ (z : ℕ). places_of rows ++ z ∷ []) at
       ∙ ap (λ (z : List ℕ). z ++ place ∷ []) a.places ∙ sym (rows_next items fold place true has);
@@ -57,7 +57,7 @@ laid_more items fold lines place rows more row a has at is e = record {
 }
 
 pub laid_same : (items : List PictureItem) (fold : ℕ) (lines : List NodeId) (place : ℕ) (rows : List PictureRow) → AreLaid items fold lines place rows
-    → has_row items fold place ≡ false → AreLaid items fold lines (place + 1) rows
+    → has_picture_row items fold place ≡ false → AreLaid items fold lines (place + 1) rows
 laid_same items fold lines place rows a has = record {
   places = a.places ∙ sym (append-nil (row_places_below items fold place)) ∙ sym (rows_next items fold place false has);
   drawn = a.drawn;
@@ -65,15 +65,15 @@ laid_same items fold lines place rows a has = record {
 
 -- what the code computes for an event is its value by the definition
 pub steps_are : (items : List PictureItem) (fold place : ℕ) (item : PictureItem) (before behind steps : ℕ) → item_at_place items place ≡ item → before ≡ run_events_before items place
-    → behind ≡ run_events_after items place → steps ≡ folded_count item before behind fold → steps ≡ folded_count_at items fold place
+    → behind ≡ run_events_after items place → steps ≡ folded_event_count item before behind fold → steps ≡ folded_event_count_at items fold place
 steps_are items fold place item before behind steps here b f s =
-    s ∙ ap (λ (z : ℕ). folded_count item z behind fold) b ∙ ap (λ (z : ℕ). folded_count item (run_events_before items place) z fold) f
-    ∙ ap (λ (z : PictureItem). folded_count z (run_events_before items place) (run_events_after items place) fold) (sym here)
+    s ∙ ap (λ (z : ℕ). folded_event_count item z behind fold) b ∙ ap (λ (z : ℕ). folded_event_count item (run_events_before items place) z fold) f
+    ∙ ap (λ (z : PictureItem). folded_event_count z (run_events_before items place) (run_events_after items place) fold) (sym here)
 
 pub row_is : (items : List PictureItem) (fold place : ℕ) (item : PictureItem) (before steps : ℕ) (has : Bool) → item_at_place items place ≡ item → before ≡ run_events_before items place
-    → steps ≡ folded_count_at items fold place → has ≡ (not item.out && ((steps == 1) || (before == 0))) → has_row items fold place ≡ has
+    → steps ≡ folded_event_count_at items fold place → has ≡ (not item.out && ((steps == 1) || (before == 0))) → has_picture_row items fold place ≡ has
 row_is items fold place item before steps has here b s h =
-    ap (λ (z : PictureItem). not z.out && ((folded_count_at items fold place == 1) || (run_events_before items place == 0))) here
+    ap (λ (z : PictureItem). not z.out && ((folded_event_count_at items fold place == 1) || (run_events_before items place == 0))) here
     ∙ ap (λ (z : ℕ). not item.out && ((z == 1) || (run_events_before items place == 0))) (sym s)
     ∙ ap (λ (z : ℕ). not item.out && ((steps == 1) || (z == 0))) (sym b) ∙ sym h
 
@@ -83,13 +83,13 @@ is_in true rest has h e = absurd (true≢false (sym h ∙ e))
 is_in false rest has h e = refl
 
 -- a pass is drawn alone
-pub alone : (item : PictureItem) (before behind fold : ℕ) → IsPlainOwnEvent item → is_transfer_event item.cause.event ≡ true → folded_count item before behind fold ≡ 1
+pub alone : (item : PictureItem) (before behind fold : ℕ) → IsPlainOwnEvent item → is_transfer_event item.cause.event ≡ true → folded_event_count item before behind fold ≡ 1
 alone item before behind fold simple p = ⊎_elim
     (λ t. absurd (both_ways (is_transfer_event item.cause.event) (simple t).0 p))
     (λ f. ap (λ (b : Bool). if b && (not (fold == 0) && nat_le fold (before + behind + 1)) then before + behind + 1 else 1) f)
     (cases_Bool item.plain)
 
-pub steps_shown : (item : PictureItem) (shown steps before behind fold : ℕ) → IsPlainOwnEvent item → steps ≡ folded_count item before behind fold
+pub steps_shown : (item : PictureItem) (shown steps before behind fold : ℕ) → IsPlainOwnEvent item → steps ≡ folded_event_count item before behind fold
     → (is_transfer_event item.cause.event ≡ false → shown ≡ steps) → (is_transfer_event item.cause.event ≡ true → shown ≡ 1) → shown ≡ steps
 steps_shown item shown steps before behind fold simple s many one = ⊎_elim
     (λ t. one t ∙ sym (s ∙ alone item before behind fold simple t))

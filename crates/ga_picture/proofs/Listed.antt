@@ -10,8 +10,8 @@ use Rattle.ga_event.specs.declared.event.Cause.{Cause}
 use Rattle.ga_event.specs.Touches.{event_nodes}
 use Rattle.ga_causal.specs.Dependence.{cause_touches, event_at, default_cause, is_transfer_event}
 use Rattle.ga_picture.specs.declared.item.PictureItem.{PictureItem}
-use Rattle.ga_picture.specs.Items.{item_at_place, actor, runs_before_events, is_plain, is_plain_at, PictureFacts, picture_item, picture_item_at, picture_items, IsPlainOwnEvent}
-use Rattle.ga_picture.specs.Drawing.{HasDrawnEvent, IsLineOf, IsMark, IsArrow, AreShades, without_nodes}
+use Rattle.ga_picture.specs.Items.{item_at_place, acting_node_of_event, runs_before_events, is_plain_event, is_plain_event_at, PictureFacts, picture_item, picture_item_at, picture_items, IsPlainOwnEvent}
+use Rattle.ga_picture.specs.Drawing.{HasDrawnEvent, IsLineOfNode, IsMarkOfOwnEvent, IsArrowOfTransfer, AreShadesOfEvents, item_without_node_events}
 use Rattle.std.specs.Prelude.{not, if◌then◌else◌}
 use Rattle.std.proofs.lemmas.List.{drop_more, drop_all, length-map}
 use Rattle.std.proofs.lemmas.Grind.{get_or-set_at}
@@ -93,20 +93,20 @@ touched_below (Pass w r side) n t = ⊎_elim
 
 -- each node of the event has its line noted
 abbrev pub HasColumns : Cause → List NodeId → List ℕ → Type 0
-HasColumns e lines columns = (n : ℕ) → cause_touches e n ≡ true → IsLineOf lines (slice_index columns n) n
+HasColumns e lines columns = (n : ℕ) → cause_touches e n ≡ true → IsLineOfNode lines (slice_index columns n) n
 
-pub mark_drawn : (e : Cause) (lines : List NodeId) (columns : List ℕ) (node : NodeId) (k : ℕ) → e.event ≡ Own node → k ≡ node.number → HasColumns e lines columns → IsMark e lines (slice_index columns k)
+pub mark_drawn : (e : Cause) (lines : List NodeId) (columns : List ℕ) (node : NodeId) (k : ℕ) → e.event ≡ Own node → k ≡ node.number → HasColumns e lines columns → IsMarkOfOwnEvent e lines (slice_index columns k)
 mark_drawn e lines columns node k is at h =
-    record { node = node; own = is; on = subst (λ z. IsLineOf lines (slice_index columns z) node.number) (sym at) (h node.number (own_touches e node is)) }
+    record { node = node; own = is; on = subst (λ z. IsLineOfNode lines (slice_index columns z) node.number) (sym at) (h node.number (own_touches e node is)) }
 
-pub arrow_drawn : (e : Cause) (lines : List NodeId) (columns : List ℕ) (w r : NodeId) (side : Side) (k j : ℕ) → e.event ≡ Pass w r side → k ≡ w.number → j ≡ r.number → HasColumns e lines columns → IsArrow e lines (slice_index columns k) (slice_index columns j)
+pub arrow_drawn : (e : Cause) (lines : List NodeId) (columns : List ℕ) (w r : NodeId) (side : Side) (k j : ℕ) → e.event ≡ Pass w r side → k ≡ w.number → j ≡ r.number → HasColumns e lines columns → IsArrowOfTransfer e lines (slice_index columns k) (slice_index columns j)
 arrow_drawn e lines columns w r side k j is at to h = record {
   writer = w;
   reader = r;
   side = side;
   pass = is;
-  start = subst (λ z. IsLineOf lines (slice_index columns z) w.number) (sym at) (h w.number (writer_touches e w r side is));
-  head = subst (λ z. IsLineOf lines (slice_index columns z) r.number) (sym to) (h r.number (reader_touches e w r side is));
+  start = subst (λ z. IsLineOfNode lines (slice_index columns z) w.number) (sym at) (h w.number (writer_touches e w r side is));
+  head = subst (λ z. IsLineOfNode lines (slice_index columns z) r.number) (sym to) (h r.number (reader_touches e w r side is));
 }
 
 -- ---- which nodes run after the events of a list, visited from its end
@@ -115,7 +115,7 @@ arrow_drawn e lines columns w r side k j is at to h = record {
 pub record ArePlain (ready : ℕ → Bool) (events : List Cause) (from : ℕ) (flags : List Bool) (runs : ℕ → Bool) : Type 0 where
   pub size : length flags ≡ length events
   pub behind : (n : ℕ) → runs n ≡ runs_before_events ready (drop from events) n
-  pub done : (place : ℕ) → from ≤ place → place < length events → get_or flags place false ≡ is_plain_at ready events place
+  pub done : (place : ℕ) → from ≤ place → place < length events → get_or flags place false ≡ is_plain_event_at ready events place
 
 pub plain_none : (ready : ℕ → Bool) (events : List Cause) (flags : List Bool) → length flags ≡ length events → ArePlain ready events (length events) flags ready
 plain_none ready events flags size = record {
@@ -125,18 +125,18 @@ plain_none ready events flags size = record {
 }
 
 pub plain_more : (ready : ℕ → Bool) (events : List Cause) (at : ℕ) (flags : List Bool) (runs more : ℕ → Bool) (e : Cause) (flag : Bool) → at < length events
-    → ArePlain ready events (at + 1) flags runs → event_at events at ≡ e → flag ≡ is_plain runs e
+    → ArePlain ready events (at + 1) flags runs → event_at events at ≡ e → flag ≡ is_plain_event runs e
     → ((n : ℕ) → more n ≡ (if cause_touches e n then not (is_transfer_event e.event) else runs n)) → ArePlain ready events at (set flags at flag) more
 plain_more ready events at flags runs more e flag within a here is m =
     let front : drop at events ≡ e ∷ drop (at + 1) events = drop_more events at default_cause within ∙ ap (λ (z : Cause). z ∷ drop (at + 1) events) here in
-    let known : flag ≡ is_plain (runs_before_events ready (drop (at + 1) events)) e = is ∙ ap (λ (b : Bool). not (is_transfer_event e.event) && (not e.look && b)) (a.behind (actor e.event)) in
-    let placed : flag ≡ is_plain_at ready events at = known ∙ ap (λ (z : Cause). is_plain (runs_before_events ready (drop (at + 1) events)) z) (sym here) in
+    let known : flag ≡ is_plain_event (runs_before_events ready (drop (at + 1) events)) e = is ∙ ap (λ (b : Bool). not (is_transfer_event e.event) && (not e.look && b)) (a.behind (acting_node_of_event e.event)) in
+    let placed : flag ≡ is_plain_event_at ready events at = known ∙ ap (λ (z : Cause). is_plain_event (runs_before_events ready (drop (at + 1) events)) z) (sym here) in
     let size : length flags ≡ length events = a.size in
     record {
       size = length-set flags at flag ∙ a.size;
       behind = λ n. m n ∙ ap (λ (b : Bool). if cause_touches e n then not (is_transfer_event e.event) else b) (a.behind n) ∙ ap (λ (z : List Cause). runs_before_events ready z n) (sym front);
       done = λ place b k. elim (cases_eq place at) [
-        | inl q ↦ get_or-set_at flags at place flag false q (omega arith) ∙ placed ∙ ap (is_plain_at ready events) (sym q)
+        | inl q ↦ get_or-set_at flags at place flag false q (omega arith) ∙ placed ∙ ap (is_plain_event_at ready events) (sym q)
         | inr ne ↦ get_or-set_other flags at place flag false ne ∙ a.done place (omega (arith, b, ne)) k
       ];
     }
@@ -170,20 +170,20 @@ items_held known view from to = λ k d l.
     subst IsHeld (sym (get_or-map-range_with_len (picture_item_at known view) from (to - from) k (from + k) d (omega arith) refl))
     (λ p. or_right _ _ (or_right _ _ (or_left _ _ p)))
 
-without_simple : (alone : ℕ → Bool) (item : PictureItem) → IsPlainOwnEvent item → IsPlainOwnEvent (without_nodes alone item)
-without_simple alone item h = simple (alone (actor item.cause.event)) item h where
+without_simple : (alone : ℕ → Bool) (item : PictureItem) → IsPlainOwnEvent item → IsPlainOwnEvent (item_without_node_events alone item)
+without_simple alone item h = simple (alone (acting_node_of_event item.cause.event)) item h where
   simple : (left : Bool) (item : PictureItem) → IsPlainOwnEvent item
       → IsPlainOwnEvent (if left then record { cause = item.cause; shade = item.shade; plain = false; out = true; holds = item.holds } else item)
   simple true item h = λ e. absurd (true≢false (sym e))
   simple false item h = h
 
 pub items_drawn : (events : List Cause) (ready idle : ℕ → Bool) (view : PictureView) (shades list : List Shade) (cause rewind : Option ℕ) (from to : ℕ) (items : List PictureItem) (told : List IndependentNode)
-    → AreShades events cause rewind shades → list ≡ shades → cause ≡ optional_step_place events view.cause → rewind ≡ optional_step_place events view.rewind
+    → AreShadesOfEvents events cause rewind shades → list ≡ shades → cause ≡ optional_step_place events view.cause → rewind ≡ optional_step_place events view.rewind
     → from ≡ view_start events view → to ≡ view_end events view → AreListed (picture_items (known_by events list ready idle cause rewind) view from to) items told
     → AreItemsOf events ready idle view items told
 items_drawn events ready idle view shades list cause rewind from to items told a l p q f t e = record {
   shades = shades;
-  shaded = subst (λ (z : Option ℕ). AreShades events z (optional_step_place events view.rewind) shades) p (subst (λ (z : Option ℕ). AreShades events cause z shades) q a);
+  shaded = subst (λ (z : Option ℕ). AreShadesOfEvents events z (optional_step_place events view.rewind) shades) p (subst (λ (z : Option ℕ). AreShadesOfEvents events cause z shades) q a);
   listed = subst (λ (z : List PictureItem). AreListed z items told)
       (ap (λ (z : List Shade). picture_items (known_by events z ready idle cause rewind) view from to) l
       ∙ ap (λ (z : Option ℕ). picture_items (known_by events shades ready idle z rewind) view from to) p
@@ -199,7 +199,7 @@ drawn_few events ready idle view items told a =
     let known = picture_facts events ready idle view a.shades in
     let looked = viewed_items events ready idle view a.shades in
     let size : length items ≡ view_end events view - view_start events view =
-    ap (λ (z : List PictureItem). length z) a.listed.are ∙ length-map looked (without_nodes a.listed.alone)
+    ap (λ (z : List PictureItem). length z) a.listed.are ∙ length-map looked (item_without_node_events a.listed.alone)
     ∙ length-map-range_with_len (picture_item_at known view) (view_start events view) (view_end events view - view_start events view) in
     let within : view_end events view ≤ length events = omega arith in
     omega arith
@@ -209,5 +209,5 @@ pub drawn_simple : (events : List Cause) (ready idle : ℕ → Bool) (view : Pic
 drawn_simple events ready idle view items told a =
     let looked = viewed_items events ready idle view a.shades in
     subst (λ (z : List PictureItem). All IsPlainOwnEvent z) (sym a.listed.are)
-    (All-map IsPlainOwnEvent (without_nodes a.listed.alone) looked
+    (All-map IsPlainOwnEvent (item_without_node_events a.listed.alone) looked
     (λ k d l. without_simple a.listed.alone _ (items_simple (picture_facts events ready idle view a.shades) view (view_start events view) (view_end events view) k d l)))

@@ -20,8 +20,8 @@ use Rattle.ga_causal.specs.Dependence.{cause_touches, is_transfer_event, is_mark
 use Rattle.ga_causal.specs.Equivalence.{observes}
 use Rattle.ga_causal.proofs.Oldest.{any_neighbours}
 use Rattle.ga_picture.specs.declared.item.PictureItem.{PictureItem}
-use Rattle.ga_picture.specs.Items.{item_at_place, no_item}
-use Rattle.ga_picture.specs.Drawing.{HasDrawnEvent, IsDrawnEventOf, HasIndependentEvents, IsIndependentNode, drawn_event_count}
+use Rattle.ga_picture.specs.Items.{item_at_place, default_picture_item}
+use Rattle.ga_picture.specs.Drawing.{HasDrawnEvent, IsDrawnEventOfNode, HasIndependentEvents, IsIndependentNode, drawn_event_count}
 use Rattle.ga_picture.specs.inner.{IsHeld, is_on, is_look, touched_in, held_in, looking_in, is_loose, AreTallied, HasJoined, works_loose, works_joined}
 use Rattle.ga_picture.proofs.Shaded.{any_of_one, any_at}
 use Rattle.ga_picture.proofs.Listed.{touched_below}
@@ -130,17 +130,17 @@ record IsSomewhere (p : PictureItem → Bool) (items : List PictureItem) : Type 
 somewhere : (p : PictureItem → Bool) (items : List PictureItem) → list_any p items ≡ true → IsSomewhere p items
 somewhere p items t =
     let a = Any-from_list_any p items t in
-    let is : item_at_place items a.0 ≡ a.1 = get_or_default items a.0 no_item a.1 a.2 ∙ a.3 in
+    let is : item_at_place items a.0 ≡ a.1 = get_or_default items a.0 default_picture_item a.1 a.2 ∙ a.3 in
     record { place = a.0; within = a.2; passes = ap p is ∙ a.4 }
 
 from_somewhere : (p : PictureItem → Bool) (items : List PictureItem) (place : ℕ) → place < length items → p (item_at_place items place) ≡ true → list_any p items ≡ true
 from_somewhere p items place l t =
-    list_any-from_Any p items (place, item_at_place items place, l, get_or_default items place (item_at_place items place) no_item l, t)
+    list_any-from_Any p items (place, item_at_place items place, l, get_or_default items place (item_at_place items place) default_picture_item l, t)
 
-on_of : (items : List PictureItem) (place n : ℕ) → IsDrawnEventOf items place n → is_on (item_at_place items place) n ≡ true
+on_of : (items : List PictureItem) (place n : ℕ) → IsDrawnEventOfNode items place n → is_on (item_at_place items place) n ≡ true
 on_of items place n o = and_from _ _ (not_from_false _ o.drawn) o.touched
 
-of_on : (items : List PictureItem) (place n : ℕ) → place < length items → is_on (item_at_place items place) n ≡ true → IsDrawnEventOf items place n
+of_on : (items : List PictureItem) (place n : ℕ) → place < length items → is_on (item_at_place items place) n ≡ true → IsDrawnEventOfNode items place n
 of_on items place n l t = let parts = and_parts _ _ t in record { within = l; drawn = not-true _ parts.0; touched = parts.1 }
 
 pub touched_from : (items : List PictureItem) (n : ℕ) → touched_in items n ≡ true → HasDrawnEvent items n
@@ -149,19 +149,19 @@ touched_from items n t =
     let o = of_on items s.place n s.within s.passes in
     record { place = s.place; within = s.within; drawn = o.drawn; touched = o.touched }
 
-of_touched : (items : List PictureItem) (n : ℕ) (t : HasDrawnEvent items n) → IsDrawnEventOf items t.place n
+of_touched : (items : List PictureItem) (n : ℕ) (t : HasDrawnEvent items n) → IsDrawnEventOfNode items t.place n
 of_touched items n t = record { within = t.within; drawn = t.drawn; touched = t.touched }
 
-touched_of : (items : List PictureItem) (place n : ℕ) → IsDrawnEventOf items place n → touched_in items n ≡ true
+touched_of : (items : List PictureItem) (place n : ℕ) → IsDrawnEventOfNode items place n → touched_in items n ≡ true
 touched_of items place n o = from_somewhere (λ item. is_on item n) items place o.within (on_of items place n o)
 
 pub into_touched : (items : List PictureItem) (n : ℕ) → HasDrawnEvent items n → touched_in items n ≡ true
 into_touched items n t = touched_of items t.place n (of_touched items n t)
 
-held_of : (items : List PictureItem) (place n : ℕ) → IsDrawnEventOf items place n → (item_at_place items place).holds ≡ true → held_in items n ≡ true
+held_of : (items : List PictureItem) (place n : ℕ) → IsDrawnEventOfNode items place n → (item_at_place items place).holds ≡ true → held_in items n ≡ true
 held_of items place n o h = from_somewhere (λ (item : PictureItem). is_on item n && item.holds) items place o.within (and_from _ _ (on_of items place n o) h)
 
-looking_of : (items : List PictureItem) (place n : ℕ) → IsDrawnEventOf items place n → is_look (item_at_place items place) ≡ true → looking_in items n ≡ true
+looking_of : (items : List PictureItem) (place n : ℕ) → IsDrawnEventOfNode items place n → is_look (item_at_place items place) ≡ true → looking_in items n ≡ true
 looking_of items place n o h = from_somewhere (λ item. is_on item n && is_look item) items place o.within (and_from _ _ (on_of items place n o) h)
 
 -- ---- where nothing holds a node or joins it to another, by what is marked
@@ -184,18 +184,18 @@ unjoined items n t =
       unseen = not-true _ second.1;
     }
 
-own_of : (items : List PictureItem) (place n : ℕ) → All IsHeld items → held_in items n ≡ false → IsDrawnEventOf items place n
+own_of : (items : List PictureItem) (place n : ℕ) → All IsHeld items → held_in items n ≡ false → IsDrawnEventOfNode items place n
     → ((item_at_place items place).holds ≡ false) × (is_transfer_event (item_at_place items place).cause.event ≡ false)
 own_of items place n held f o =
     let loose : (item_at_place items place).holds ≡ false = false_from_ne_true _ (λ h. both_ways _ f (held_of items place n o h)) in
-    (loose, false_from_ne_true _ (λ p. both_ways _ loose (held place no_item o.within p)))
+    (loose, false_from_ne_true _ (λ p. both_ways _ loose (held place default_picture_item o.within p)))
 
 -- an event of another node doesn't touch it
-untouched : (items : List PictureItem) (by n other : ℕ) → All IsHeld items → held_in items n ≡ false → IsDrawnEventOf items by other → other ≢ n
+untouched : (items : List PictureItem) (by n other : ℕ) → All IsHeld items → held_in items n ≡ false → IsDrawnEventOfNode items by other → other ≢ n
     → cause_touches (item_at_place items by).cause n ≡ false
 untouched items by n other held f q ne =
     false_from_ne_true _ (λ t.
-    let o : IsDrawnEventOf items by n = record { within = q.within; drawn = q.drawn; touched = t } in
+    let o : IsDrawnEventOfNode items by n = record { within = q.within; drawn = q.drawn; touched = t } in
     ne (own_alone (item_at_place items by).cause.event n other (own_of items by n held f o).1 t q.touched))
 
 pub free_from : (items : List PictureItem) (n : ℕ) → All IsHeld items → loose_in items n ≡ true → HasIndependentEvents items n
@@ -212,10 +212,10 @@ free_from items n held t =
             first = λ m at s.
                 let here : m ≡ n = own_alone e.event n m own o.touched at in
                 let k = is_seen f n (subst (λ z. observes f z ≡ true) here s) off in
-                let looker : IsDrawnEventOf items by k.from = record { within = q.within; drawn = q.drawn; touched = k.touched } in
+                let looker : IsDrawnEventOfNode items by k.from = record { within = q.within; drawn = q.drawn; touched = k.touched } in
                 both_ways _ u.unseen (any_of_one (looking_in items) k.from (looking_of items by k.from looker k.looks) (neighbours n) (beside_back k.from n k.within k.beside));
             second = λ m at s.
-                let there : IsDrawnEventOf items by m = record { within = q.within; drawn = q.drawn; touched = at } in
+                let there : IsDrawnEventOfNode items by m = record { within = q.within; drawn = q.drawn; touched = at } in
                 let away : cause_touches e m ≡ false = false_from_ne_true _ (λ v. both_ways _ off (subst (λ z. cause_touches f z ≡ true) (own_alone e.event n m own o.touched v) at)) in
                 let k = is_seen e m s away in
                 let same : k.from ≡ n = own_alone e.event n k.from own o.touched k.touched in
@@ -247,7 +247,7 @@ loose_from items n held t free =
           (free.apart s.place q.place b.0 (of_on items s.place n s.within parts.0) (of_touched items b.0 q) (beside_other n b.0 b.1)).second b.0 q.touched
           (sees_beside (item_at_place items s.place).cause n b.0 parts.1 (of_on items s.place n s.within parts.0).touched b.1))
 
-      unseen : (items : List PictureItem) (n place : ℕ) → IsDrawnEventOf items place n → n < 144 → HasIndependentEvents items n → list_any (looking_in items) (neighbours n) ≡ false
+      unseen : (items : List PictureItem) (n place : ℕ) → IsDrawnEventOfNode items place n → n < 144 → HasIndependentEvents items n → list_any (looking_in items) (neighbours n) ≡ false
       unseen items n place o small free = false_from_ne_true _ (λ h.
           let b = any_at (looking_in items) (neighbours n) h in
           let s = somewhere (λ item. is_on item b.0 && is_look item) items b.2 in

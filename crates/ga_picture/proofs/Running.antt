@@ -14,14 +14,14 @@ use Rattle.ga_picture.specs.declared.shade.Shade.{Shade}
 use Rattle.ga_picture.specs.declared.shade.Shade.TheVariants.{Black, Grey, Red}
 use Rattle.ga_picture.specs.declared.item.PictureItem.{PictureItem}
 use Rattle.ga_picture.specs.declared.runs.Runs.{Runs}
-use Rattle.ga_picture.specs.Items.{actor, item_at_place, no_item, is_same_shade, IsPlainOwnEvent, run_length_with, run_length_before, run_length_ahead, run_events_after}
+use Rattle.ga_picture.specs.Items.{acting_node_of_event, item_at_place, default_picture_item, is_same_shade, IsPlainOwnEvent, run_length_with_event, run_length_before, run_length_ahead, run_events_after}
 use Rattle.ga_picture.specs.inner.{count_in, HasNodes, AreWithin}
 
 before_none : (n : ℕ) (shade : Shade) (items : List PictureItem) → run_length_before n shade items zero ≡ 0
 unfolding run_length_before
 before_none n shade items = refl
 
-before_one : (n : ℕ) (shade : Shade) (items : List PictureItem) (place : ℕ) → run_length_before n shade items (suc place) ≡ run_length_with n shade (item_at_place items place) (run_length_before n shade items place)
+before_one : (n : ℕ) (shade : Shade) (items : List PictureItem) (place : ℕ) → run_length_before n shade items (suc place) ≡ run_length_with_event n shade (item_at_place items place) (run_length_before n shade items place)
 unfolding run_length_before
 before_one n shade items place = refl
 
@@ -29,7 +29,7 @@ front_none : (n : ℕ) (shade : Shade) → run_length_ahead n shade [] ≡ 0
 unfolding run_length_ahead
 front_none n shade = refl
 
-front_one : (n : ℕ) (shade : Shade) (item : PictureItem) (items : List PictureItem) → run_length_ahead n shade (item ∷ items) ≡ run_length_with n shade item (run_length_ahead n shade items)
+front_one : (n : ℕ) (shade : Shade) (item : PictureItem) (items : List PictureItem) → run_length_ahead n shade (item ∷ items) ≡ run_length_with_event n shade item (run_length_ahead n shade items)
 unfolding run_length_ahead
 front_one n shade item items = refl
 
@@ -40,13 +40,13 @@ pub record AreBefore (items : List PictureItem) (place : ℕ) (runs : Runs) : Ty
   pub counts : (n : ℕ) (shade : Shade) → n < 144 → count_in runs n shade ≡ run_length_before n shade items place
 
 pub before_more : (items : List PictureItem) (place : ℕ) (runs more : Runs) (item : PictureItem) → AreBefore items place runs → item_at_place items place ≡ item → HasNodes more
-    → AreWithin more (place + 1) → ((n : ℕ) (shade : Shade) → n < 144 → count_in more n shade ≡ run_length_with n shade item (count_in runs n shade))
+    → AreWithin more (place + 1) → ((n : ℕ) (shade : Shade) → n < 144 → count_in more n shade ≡ run_length_with_event n shade item (count_in runs n shade))
     → AreBefore items (place + 1) more
 before_more items place runs more item a here sizes within counts = record {
   sizes = sizes;
   within = within;
-  counts = λ n shade l. counts n shade l ∙ ap (run_length_with n shade item) (a.counts n shade l)
-      ∙ ap (λ (z : PictureItem). run_length_with n shade z (run_length_before n shade items place)) (sym here)
+  counts = λ n shade l. counts n shade l ∙ ap (run_length_with_event n shade item) (a.counts n shade l)
+      ∙ ap (λ (z : PictureItem). run_length_with_event n shade z (run_length_before n shade items place)) (sym here)
       ∙ sym (before_one n shade items place) ∙ ap (run_length_before n shade items) (sym (add-one place));
 }
 
@@ -59,20 +59,20 @@ pub record AreBehind (items : List PictureItem) (from : ℕ) (told : List ℕ) (
   pub done : (place : ℕ) → from ≤ place → place < length items → get_or told place 0 ≡ run_events_after items place
 
 pub behind_more : (items : List PictureItem) (at : ℕ) (told : List ℕ) (runs more : Runs) (item : PictureItem) (count : ℕ) → at < length items → AreBehind items (at + 1) told runs
-    → item_at_place items at ≡ item → count ≡ count_in runs (actor item.cause.event) item.shade → actor item.cause.event < 144 → HasNodes more
-    → AreWithin more (length items - at) → ((n : ℕ) (shade : Shade) → n < 144 → count_in more n shade ≡ run_length_with n shade item (count_in runs n shade))
+    → item_at_place items at ≡ item → count ≡ count_in runs (acting_node_of_event item.cause.event) item.shade → acting_node_of_event item.cause.event < 144 → HasNodes more
+    → AreWithin more (length items - at) → ((n : ℕ) (shade : Shade) → n < 144 → count_in more n shade ≡ run_length_with_event n shade item (count_in runs n shade))
     → AreBehind items at (set told at count) more
 behind_more items at told runs more item count within a here is node sizes few counts =
-    let front : drop at items ≡ item ∷ drop (at + 1) items = drop_more items at no_item within ∙ ap (λ (z : PictureItem). z ∷ drop (at + 1) items) here in
+    let front : drop at items ≡ item ∷ drop (at + 1) items = drop_more items at default_picture_item within ∙ ap (λ (z : PictureItem). z ∷ drop (at + 1) items) here in
     let placed : count ≡ run_events_after items at =
-    is ∙ a.counts (actor item.cause.event) item.shade node
-    ∙ ap (λ (z : PictureItem). run_length_ahead (actor z.cause.event) z.shade (drop (at + 1) items)) (sym here) in
+    is ∙ a.counts (acting_node_of_event item.cause.event) item.shade node
+    ∙ ap (λ (z : PictureItem). run_length_ahead (acting_node_of_event z.cause.event) z.shade (drop (at + 1) items)) (sym here) in
     let size : length told ≡ length items = a.size in
     record {
       size = length-set told at count ∙ a.size;
       sizes = sizes;
       within = few;
-      counts = λ n shade l. counts n shade l ∙ ap (run_length_with n shade item) (a.counts n shade l) ∙ sym (front_one n shade item (drop (at + 1) items))
+      counts = λ n shade l. counts n shade l ∙ ap (run_length_with_event n shade item) (a.counts n shade l) ∙ sym (front_one n shade item (drop (at + 1) items))
           ∙ ap (run_length_ahead n shade) (sym front);
       done = λ place b k. elim (cases_eq place at) [
         | inl q ↦ get_or-set_at told at place count 0 q (omega arith) ∙ placed ∙ ap (run_events_after items) (sym q)
@@ -108,11 +108,11 @@ or_false true = refl
 or_false false = refl
 
 -- an own event without a look touches and sees its node alone
-touches_alone : (event : Event) (n : ℕ) → is_transfer_event event ≡ false → cause_touches (record { event = event; look = false }) n ≡ (actor event == n)
+touches_alone : (event : Event) (n : ℕ) → is_transfer_event event ≡ false → cause_touches (record { event = event; look = false }) n ≡ (acting_node_of_event event == n)
 touches_alone (Own node) n e = or_false (node.number == n)
 touches_alone (Pass writer reader side) n e = absurd (true≢false e)
 
-sees_alone : (event : Event) (n : ℕ) → is_transfer_event event ≡ false → observes (record { event = event; look = false }) n ≡ (actor event == n)
+sees_alone : (event : Event) (n : ℕ) → is_transfer_event event ≡ false → observes (record { event = event; look = false }) n ≡ (acting_node_of_event event == n)
 unfolding observed_by
 sees_alone (Own node) n e = or_false (node.number == n)
 sees_alone (Pass writer reader side) n e = absurd (true≢false e)
@@ -120,10 +120,10 @@ sees_alone (Pass writer reader side) n e = absurd (true≢false e)
 cause_alone : (e : Cause) → e.look ≡ false → e ≡ record { event = e.event; look = false }
 cause_alone e h = ap (λ (b : Bool). let cause : Cause = record { event = e.event; look = b } in cause) h
 
-simple_touches : (item : PictureItem) (n : ℕ) → is_transfer_event item.cause.event ≡ false → item.cause.look ≡ false → cause_touches item.cause n ≡ (actor item.cause.event == n)
+simple_touches : (item : PictureItem) (n : ℕ) → is_transfer_event item.cause.event ≡ false → item.cause.look ≡ false → cause_touches item.cause n ≡ (acting_node_of_event item.cause.event == n)
 simple_touches item n p l = ap (λ (e : Cause). cause_touches e n) (cause_alone item.cause l) ∙ touches_alone item.cause.event n p
 
-simple_sees : (item : PictureItem) (n : ℕ) → is_transfer_event item.cause.event ≡ false → item.cause.look ≡ false → observes item.cause n ≡ (actor item.cause.event == n)
+simple_sees : (item : PictureItem) (n : ℕ) → is_transfer_event item.cause.event ≡ false → item.cause.look ≡ false → observes item.cause n ≡ (acting_node_of_event item.cause.event == n)
 simple_sees item n p l = ap (λ (e : Cause). observes e n) (cause_alone item.cause l) ∙ sees_alone item.cause.event n p
 
 same_shade : (s t : Shade) → is_same_shade s t ≡ true → s ≡ t
@@ -145,14 +145,14 @@ eqb_false : (m n : ℕ) → (m ≡ n → ⊥) → (m == n) ≡ false
 eqb_false m n h = ⊎_elim (λ t. absurd (h (eqb-true m n t))) (λ f. f) (cases_Bool (m == n))
 
 -- one more of a run
-pub with_added : (runs more : Runs) (item : PictureItem) (m n : ℕ) (shade : Shade) → HasNodes runs → n < 144 → m < 144 → m ≡ actor item.cause.event → IsPlainOwnEvent item → item.plain ≡ true
+pub with_added : (runs more : Runs) (item : PictureItem) (m n : ℕ) (shade : Shade) → HasNodes runs → n < 144 → m < 144 → m ≡ acting_node_of_event item.cause.event → IsPlainOwnEvent item → item.plain ≡ true
     → more.counts ≡ set runs.counts m (count_in runs m item.shade + 1)
-    → more.shades ≡ set runs.shades m item.shade → count_in more n shade ≡ run_length_with n shade item (count_in runs n shade)
+    → more.shades ≡ set runs.shades m item.shade → count_in more n shade ≡ run_length_with_event n shade item (count_in runs n shade)
 with_added runs more item m n shade sizes l k at simple plain counts shades =
     let alone = simple plain in
     let touches : cause_touches item.cause n ≡ (m == n) = simple_touches item n alone.0 alone.1 ∙ ap (λ (z : ℕ). z == n) (sym at) in
     let seen : observes item.cause n ≡ (m == n) = simple_sees item n alone.0 alone.1 ∙ ap (λ (z : ℕ). z == n) (sym at) in
-    let asked : run_length_with n shade item (count_in runs n shade) ≡ step_by true (m == n) (is_same_shade item.shade shade) (m == n) (count_in runs n shade) =
+    let asked : run_length_with_event n shade item (count_in runs n shade) ≡ step_by true (m == n) (is_same_shade item.shade shade) (m == n) (count_in runs n shade) =
     ap (λ (b : Bool). step_by b (cause_touches item.cause n) (is_same_shade item.shade shade) (observes item.cause n) (count_in runs n shade)) plain
     ∙ ap (λ (b : Bool). step_by true b (is_same_shade item.shade shade) (observes item.cause n) (count_in runs n shade)) touches
     ∙ ap (λ (b : Bool). step_by true (m == n) (is_same_shade item.shade shade) b (count_in runs n shade)) seen in
@@ -169,7 +169,7 @@ with_added runs more item m n shade sizes l k at simple plain counts shades =
           let left : count_in more n shade ≡ (if is_same_shade item.shade shade then count_in runs m item.shade + 1 else 0) =
           had ∙ ap (λ (z : Shade). if is_same_shade z shade then get_or (set runs.counts m (count_in runs m item.shade + 1)) n 0 else 0) one
           ∙ ap (λ (z : ℕ). if is_same_shade item.shade shade then z else 0) two in
-          let right : run_length_with n shade item (count_in runs n shade) ≡ (if is_same_shade item.shade shade then count_in runs n shade + 1 else 0) =
+          let right : run_length_with_event n shade item (count_in runs n shade) ≡ (if is_same_shade item.shade shade then count_in runs n shade + 1 else 0) =
           asked ∙ ap (λ (b : Bool). step_by true b (is_same_shade item.shade shade) b (count_in runs n shade)) is in
           left ∙ ⊎_elim
           (λ t. ap (λ (b : Bool). if b then count_in runs m item.shade + 1 else 0) t
@@ -194,7 +194,7 @@ both_ended false false k = refl
 
 -- runs end
 pub with_ended : (runs more : Runs) (item : PictureItem) (n : ℕ) (shade : Shade) → item.plain ≡ false → more.shades ≡ runs.shades
-    → get_or more.counts n 0 ≡ (if observes item.cause n then 0 else get_or runs.counts n 0) → count_in more n shade ≡ run_length_with n shade item (count_in runs n shade)
+    → get_or more.counts n 0 ≡ (if observes item.cause n then 0 else get_or runs.counts n 0) → count_in more n shade ≡ run_length_with_event n shade item (count_in runs n shade)
 with_ended runs more item n shade plain shades counts =
     ap (λ (z : List Shade). if is_same_shade (get_or z n Black) shade then get_or more.counts n 0 else 0) shades
     ∙ ap (λ (z : ℕ). if is_same_shade (get_or runs.shades n Black) shade then z else 0) counts
@@ -285,12 +285,12 @@ ended_within old now e number bound a h = λ n. ⊎_elim
 front_few : (n : ℕ) (shade : Shade) (items : List PictureItem) → run_length_ahead n shade items ≤ length items
 front_few n shade [] = omega (arith, front_none n shade)
 front_few n shade (item ∷ items) =
-    let more : run_length_with n shade item (run_length_ahead n shade items) ≤ run_length_ahead n shade items + 1 = with_few n shade item (run_length_ahead n shade items) in
+    let more : run_length_with_event n shade item (run_length_ahead n shade items) ≤ run_length_ahead n shade items + 1 = with_few n shade item (run_length_ahead n shade items) in
     omega (arith, front_one n shade item items, front_few n shade items, more) where
-      with_few : (n : ℕ) (shade : Shade) (item : PictureItem) (count : ℕ) → run_length_with n shade item count ≤ count + 1
+      with_few : (n : ℕ) (shade : Shade) (item : PictureItem) (count : ℕ) → run_length_with_event n shade item count ≤ count + 1
       with_few n shade item count = grind arith
 
 pub behind_few : (items : List PictureItem) (place : ℕ) → place < length items → run_events_after items place + place + 1 ≤ length items
 behind_few items place l =
     let size : length (drop (place + 1) items) ≡ length items - (place + 1) = length-drop (place + 1) items in
-    omega (arith, front_few (actor (item_at_place items place).cause.event) (item_at_place items place).shade (drop (place + 1) items))
+    omega (arith, front_few (acting_node_of_event (item_at_place items place).cause.event) (item_at_place items place).shade (drop (place + 1) items))

@@ -13,7 +13,7 @@ use Rattle.ga_picture.specs.declared.placing.DrawnShape.TheVariants.{Mark, Arrow
 use Rattle.ga_picture.specs.declared.placing.PictureRow.{PictureRow}
 use Rattle.ga_picture.specs.declared.placing.Drawing.{Drawing}
 use Rattle.ga_picture.specs.declared.item.PictureItem.{PictureItem}
-use Rattle.ga_picture.specs.Items.{item_at_place, folded_count_at, row_places, actor}
+use Rattle.ga_picture.specs.Items.{item_at_place, folded_event_count_at, row_places, acting_node_of_event}
 use Rattle.ga_grid.specs.Grid.{node_id}
 use Rattle.ga_causal.specs.Equivalence.{AreIndependent}
 use Rattle.ga_picture.specs.declared.independent.IndependentNode.{IndependentNode}
@@ -21,9 +21,9 @@ use Rattle.ga_picture.specs.declared.independent.IndependentNode.{IndependentNod
 -- ---- what is drawn
 
 -- a rollback of the step removes the event at the place; without such a step none is removed
-abbrev pub Goes : List Cause → Option ℕ → ℕ → Type 0
-Goes events None place = ⊥
-Goes events (Some step) place = DependsOn events step place
+abbrev pub IsRemovedByRollback : List Cause → Option ℕ → ℕ → Type 0
+IsRemovedByRollback events None place = ⊥
+IsRemovedByRollback events (Some step) place = DependsOn events step place
 
 -- the step depends on the event at the place; without such a step all are as good
 abbrev pub IsCauseOfStep : List Cause → Option ℕ → ℕ → Type 0
@@ -31,45 +31,45 @@ IsCauseOfStep events None place = Unit {0}
 IsCauseOfStep events (Some step) place = DependsOn events place step
 
 -- the colour of the event at a place, where the causes of one step were asked for, and what a rollback of another takes
-abbrev pub IsShade : List Cause → Option ℕ → Option ℕ → ℕ → Shade → Type 0
-IsShade events cause rewind place Red = Goes events rewind place
-IsShade events cause rewind place Black = (¬ Goes events rewind place) × IsCauseOfStep events cause place
-IsShade events cause rewind place Grey = (¬ Goes events rewind place) × (¬ IsCauseOfStep events cause place)
+abbrev pub IsShadeOfEvent : List Cause → Option ℕ → Option ℕ → ℕ → Shade → Type 0
+IsShadeOfEvent events cause rewind place Red = IsRemovedByRollback events rewind place
+IsShadeOfEvent events cause rewind place Black = (¬ IsRemovedByRollback events rewind place) × IsCauseOfStep events cause place
+IsShadeOfEvent events cause rewind place Grey = (¬ IsRemovedByRollback events rewind place) × (¬ IsCauseOfStep events cause place)
 
 -- one colour for each event
-pub record AreShades (events : List Cause) (cause rewind : Option ℕ) (shades : List Shade) : Type 0 where
+pub record AreShadesOfEvents (events : List Cause) (cause rewind : Option ℕ) (shades : List Shade) : Type 0 where
   pub size : length shades ≡ length events
-  pub exact : (place : ℕ) (shade : Shade) → slice_get shades place ≡ Some shade → IsShade events cause rewind place shade
+  pub exact : (place : ℕ) (shade : Shade) → slice_get shades place ≡ Some shade → IsShadeOfEvent events cause rewind place shade
 
 -- the line at this index is that of the node
-pub record IsLineOf (lines : List NodeId) (line node : ℕ) : Type 0 where
+pub record IsLineOfNode (lines : List NodeId) (line node : ℕ) : Type 0 where
   pub at : NodeId
   pub found : slice_get lines line ≡ Some at
   pub is : at.number ≡ node
 
 -- an own event is drawn as a mark on the line of its node
-pub record IsMark (event : Cause) (lines : List NodeId) (line : ℕ) : Type 0 where
+pub record IsMarkOfOwnEvent (event : Cause) (lines : List NodeId) (line : ℕ) : Type 0 where
   pub node : NodeId
   pub own : event.event ≡ Own node
-  pub on : IsLineOf lines line node.number
+  pub on : IsLineOfNode lines line node.number
 
 -- a pass is drawn as an arrow from the line of its writer to that of its reader
-pub record IsArrow (event : Cause) (lines : List NodeId) (from to : ℕ) : Type 0 where
+pub record IsArrowOfTransfer (event : Cause) (lines : List NodeId) (from to : ℕ) : Type 0 where
   pub writer : NodeId
   pub reader : NodeId
   pub side : Side
   pub pass : event.event ≡ Pass writer reader side
-  pub start : IsLineOf lines from writer.number
-  pub head : IsLineOf lines to reader.number
+  pub start : IsLineOfNode lines from writer.number
+  pub head : IsLineOfNode lines to reader.number
 
 -- the event is drawn so on these lines
 abbrev pub IsDrawnShape : Cause → List NodeId → DrawnShape → Type 0
-IsDrawnShape event lines (Mark line look steps shade) = IsMark event lines line × (event.look ≡ look)
-IsDrawnShape event lines (Arrow from to shade) = IsArrow event lines from to
+IsDrawnShape event lines (Mark line look steps shade) = IsMarkOfOwnEvent event lines line × (event.look ≡ look)
+IsDrawnShape event lines (Arrow from to shade) = IsArrowOfTransfer event lines from to
 
-abbrev pub shade_of : DrawnShape → Shade
-shade_of (Mark line look steps shade) = shade
-shade_of (Arrow from to shade) = shade
+abbrev pub shade_of_shape : DrawnShape → Shade
+shade_of_shape (Mark line look steps shade) = shade
+shade_of_shape (Arrow from to shade) = shade
 
 -- how many events it represents
 abbrev pub represented_events : DrawnShape → ℕ
@@ -86,8 +86,8 @@ pub record HasDrawnEvent (items : List PictureItem) (node : ℕ) : Type 0 where
 -- a row shows its event, in its colour, and with it the run that begins with it
 pub record IsPictureRow (items : List PictureItem) (fold : ℕ) (lines : List NodeId) (row : PictureRow) : Type 0 where
   pub shape : IsDrawnShape (item_at_place items row.place).cause lines row.shape
-  pub shaded : shade_of row.shape ≡ (item_at_place items row.place).shade
-  pub steps : represented_events row.shape ≡ folded_count_at items fold row.place
+  pub shaded : shade_of_shape row.shape ≡ (item_at_place items row.place).shade
+  pub steps : represented_events row.shape ≡ folded_event_count_at items fold row.place
 
 -- The picture of some events: a row for each that isn't left out, in their order, but one for each run that is drawn together; each on
 -- the lines of its nodes. There are lines for the nodes that these events touch and for no others, by their numbers.
@@ -104,15 +104,15 @@ pub record IsDrawing (items : List PictureItem) (fold : ℕ) (drawing : Drawing)
 -- "Reversible Communicating Systems", 2004), so the picture of the others shows as much without them.
 
 -- the event at the place touches the node, and isn't left out
-pub record IsDrawnEventOf (items : List PictureItem) (place node : ℕ) : Type 0 where
+pub record IsDrawnEventOfNode (items : List PictureItem) (place node : ℕ) : Type 0 where
   pub within : place < length items
   pub drawn : (item_at_place items place).out ≡ false
   pub touched : cause_touches (item_at_place items place).cause node ≡ true
 
 -- The node has to be drawn for none of its events, and each of them is apart from each event of another node.
 pub record HasIndependentEvents (items : List PictureItem) (node : ℕ) : Type 0 where
-  pub loose : (place : ℕ) → IsDrawnEventOf items place node → (item_at_place items place).holds ≡ false
-  pub apart : (place by other : ℕ) → IsDrawnEventOf items place node → IsDrawnEventOf items by other → other ≢ node
+  pub loose : (place : ℕ) → IsDrawnEventOfNode items place node → (item_at_place items place).holds ≡ false
+  pub apart : (place by other : ℕ) → IsDrawnEventOfNode items place node → IsDrawnEventOfNode items by other → other ≢ node
       → AreIndependent (item_at_place items place).cause (item_at_place items by).cause
 
 -- The node is independent, and not all nodes are.
@@ -124,13 +124,13 @@ pub record IsIndependentNode (items : List PictureItem) (node : ℕ) : Type 0 wh
   pub joined : ¬ HasIndependentEvents items other
 
 -- an event of these nodes is left out
-abbrev pub without_nodes : (ℕ → Bool) → PictureItem → PictureItem
-without_nodes alone item =
-    if alone (actor item.cause.event) then record { cause = item.cause; shade = item.shade; plain = false; out = true; holds = item.holds } else item
+abbrev pub item_without_node_events : (ℕ → Bool) → PictureItem → PictureItem
+item_without_node_events alone item =
+    if alone (acting_node_of_event item.cause.event) then record { cause = item.cause; shade = item.shade; plain = false; out = true; holds = item.holds } else item
 
 -- how many events the node makes that aren't left out
 abbrev pub drawn_event_count : List PictureItem → ℕ → ℕ
-drawn_event_count items n = count_by (λ (item : PictureItem). not item.out && (actor item.cause.event == n)) items
+drawn_event_count items n = count_by (λ (item : PictureItem). not item.out && (acting_node_of_event item.cause.event == n)) items
 
 -- these nodes, each with how many events it makes that aren't left out
 abbrev pub independent_nodes_of : List PictureItem → (ℕ → Bool) → List IndependentNode

@@ -1,13 +1,13 @@
 -- A session whose answers are dropped, and one that ends with a picture (docs/REFERENCE.md, "Pictures"; this project's own).
 use Rattle.std.specs.Prelude.{◌≡◌, ℕ, ◌-◌, ◌⊎◌, [], ◌++◌, length, take, codes, Option, Result, Ok, Err, true, false}
 use Rattle.ga_text.specs.Lines.{Bytes, Text, Line}
-use Rattle.ga_explorer.specs.Opening.{ExplorerState, OpensLeadingText, IsLeadingText, IsUnopenedSession}
+use Rattle.ga_explorer.specs.Opening.{ExplorerState, OpensTextBeforeCommands, IsTextBeforeCommands, IsUnopenedSession}
 use Rattle.ga_lab.specs.declared.fault.LabFault.{LabFault}
 use Rattle.ga_lab.specs.declared.fault.LabFault.TheVariants.{Memory, Waiting, Stopped, Full, Empty, NoStep, Spent}
 use Rattle.ga_text.specs.Input.{input_limit}
 use Rattle.ga_text.specs.Output.{TextHasPrefix}
-use Rattle.ga_console.specs.Run.{status_of}
-use Rattle.ga_console.specs.Session.{ServesCommands, EndsAtNoAnswer, IsWrittenOrPrefix, AnswerRelation}
+use Rattle.ga_console.specs.Run.{status_of_commands_end}
+use Rattle.ga_console.specs.Session.{ServesCommands, EndsSessionAtNoAnswer, IsWholeOrPrefixOnWriteError, AnswerRelation}
 use Rattle.ga_display.specs.Texts.{refusal_text, advised_refusal_text}
 use Rattle.ga_console.specs.declared.commands.CommandsEnd.{CommandsEnd}
 use Rattle.ga_text.specs.declared.output.WriteError.{WriteError}
@@ -40,10 +40,10 @@ pub record IsSilentSession (A : AnswerRelation ExplorerState) (chip : Option Tex
   pub machine : ExplorerState
   pub said : Text
   pub splits : read ≡ text ++ commands
-  pub front : IsLeadingText text (commands ++ rest)
-  pub opens : OpensLeadingText chip text limit machine
-  pub serves : ServesCommands A EndsAtNoAnswer (input_limit - length text) machine commands rest said last ending
-  pub out : IsWrittenOrPrefix ending said written
+  pub front : IsTextBeforeCommands text (commands ++ rest)
+  pub opens : OpensTextBeforeCommands chip text limit machine
+  pub serves : ServesCommands A EndsSessionAtNoAnswer (input_limit - length text) machine commands rest said last ending
+  pub out : IsWholeOrPrefixOnWriteError ending said written
 
 -- a refusal was written whole, or that failed
 abbrev pub WritesRefusal : LabFault → Text → Status → Type 0
@@ -55,18 +55,18 @@ WritesRefusal fault text CommandRefused = ⊥
 
 -- Why no machine was reached: no session began; in the commands a read failed, or they went past the bound of the input; or
 -- memory was wanting for one of them.
-pub data HasNoMachine (chip : Option Text) (limit : ℕ) (read rest : Bytes) (text : Text) (status : Status) : Type 0 where
-  unbegun : IsUnopenedSession chip read rest text status → HasNoMachine chip limit read rest text status
-  broken : (last : ExplorerState) → (ending : Result CommandsEnd WriteError) → status_of ending ≡ StreamFault → status ≡ StreamFault
-      → IsSilentSession IsSilentAnswer chip limit read rest text last ending → HasNoMachine chip limit read rest text status
-  short : (last : ExplorerState) → (ending : Result CommandsEnd WriteError) → status_of ending ≡ Done → IsSilentSession IsSilentAnswer chip limit read rest [] last ending
-      → WritesRefusal Memory text status → HasNoMachine chip limit read rest text status
+pub data IsSessionWithoutMachine (chip : Option Text) (limit : ℕ) (read rest : Bytes) (text : Text) (status : Status) : Type 0 where
+  unbegun : IsUnopenedSession chip read rest text status → IsSessionWithoutMachine chip limit read rest text status
+  broken : (last : ExplorerState) → (ending : Result CommandsEnd WriteError) → status_of_commands_end ending ≡ StreamFault → status ≡ StreamFault
+      → IsSilentSession IsSilentAnswer chip limit read rest text last ending → IsSessionWithoutMachine chip limit read rest text status
+  short : (last : ExplorerState) → (ending : Result CommandsEnd WriteError) → status_of_commands_end ending ≡ Done → IsSilentSession IsSilentAnswer chip limit read rest [] last ending
+      → WritesRefusal Memory text status → IsSessionWithoutMachine chip limit read rest text status
 
 -- If the input was executed to its end, or to `quit`, nothing is written, and the machine is the one after all lines.
 abbrev pub IsSilentSessionResult : Option Text → ℕ → Bytes → Bytes → Text → Result ExplorerState Status → Type 0
 IsSilentSessionResult chip limit read rest text (Ok last) =
-    (text ≡ []) × (ending : Result CommandsEnd WriteError) × (status_of ending ≡ Done) × IsSilentSession IsCompleteSilentAnswer chip limit read rest [] last ending
-IsSilentSessionResult chip limit read rest text (Err status) = HasNoMachine chip limit read rest text status
+    (text ≡ []) × (ending : Result CommandsEnd WriteError) × (status_of_commands_end ending ≡ Done) × IsSilentSession IsCompleteSilentAnswer chip limit read rest [] last ending
+IsSilentSessionResult chip limit read rest text (Err status) = IsSessionWithoutMachine chip limit read rest text status
 
 -- ---- what a session that ends with a picture may write, and its status
 
@@ -95,6 +95,6 @@ WritesPicture s view text status = ((picture : Text) × IsPictureText s view pic
 
 -- What may have been written, where read was read of the input and rest is left of it.
 pub data WritesSessionPicture (chip : Option Text) (limit : ℕ) (view : PictureView) (read rest : Bytes) (text : Text) (status : Status) : Type 0 where
-  reached : (last : ExplorerState) → (ending : Result CommandsEnd WriteError) → status_of ending ≡ Done → IsSilentSession IsCompleteSilentAnswer chip limit read rest [] last ending
+  reached : (last : ExplorerState) → (ending : Result CommandsEnd WriteError) → status_of_commands_end ending ≡ Done → IsSilentSession IsCompleteSilentAnswer chip limit read rest [] last ending
       → WritesPicture last.lab view text status → WritesSessionPicture chip limit view read rest text status
-  stopped : HasNoMachine chip limit read rest text status → WritesSessionPicture chip limit view read rest text status
+  stopped : IsSessionWithoutMachine chip limit read rest text status → WritesSessionPicture chip limit view read rest text status

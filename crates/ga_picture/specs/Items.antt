@@ -15,9 +15,9 @@ use Rattle.ga_causal.specs.Equivalence.{observes}
 -- ---- which events are left out, which may be drawn with others as one mark, and for which their nodes have to be drawn
 
 -- the node that makes an event, of a pass the writer
-abbrev pub actor : Event → ℕ
-actor (Own node) = node.number
-actor (Pass writer reader side) = writer.number
+abbrev pub acting_node_of_event : Event → ℕ
+acting_node_of_event (Own node) = node.number
+acting_node_of_event (Pass writer reader side) = writer.number
 
 -- The node runs before these events: the next of them that touches it is one of its own; where none does, it is ready.
 abbrev pub runs_before_events : (ℕ → Bool) → List Cause → ℕ → Bool
@@ -25,11 +25,11 @@ runs_before_events ready [] n = ready n
 runs_before_events ready (e ∷ es) n = if cause_touches e n then not (is_transfer_event e.event) else runs_before_events ready es n
 
 -- an own event that is no look, of a node that runs after it: a fetch or an opcode, and neither a wait nor a stop
-abbrev pub is_plain : (ℕ → Bool) → Cause → Bool
-is_plain runs e = not (is_transfer_event e.event) && (not e.look && runs (actor e.event))
+abbrev pub is_plain_event : (ℕ → Bool) → Cause → Bool
+is_plain_event runs e = not (is_transfer_event e.event) && (not e.look && runs (acting_node_of_event e.event))
 
-abbrev pub is_plain_at : (ℕ → Bool) → List Cause → ℕ → Bool
-is_plain_at ready events place = is_plain (runs_before_events ready (drop (place + 1) events)) (event_at events place)
+abbrev pub is_plain_event_at : (ℕ → Bool) → List Cause → ℕ → Bool
+is_plain_event_at ready events place = is_plain_event (runs_before_events ready (drop (place + 1) events)) (event_at events place)
 
 -- one of the requested steps
 abbrev pub is_requested_step : Option ℕ → Option ℕ → ℕ → Bool
@@ -46,8 +46,8 @@ abbrev pub shows_requested_only : PictureView → Bool
 shows_requested_only view = view.only && (is_some view.cause || is_some view.rewind)
 
 -- an event of an idle node, or where nothing else is wanted any event, that isn't asked for
-abbrev pub is_left_out : PictureView → Bool → Shade → Bool
-is_left_out view idle shade = (not view.all && (idle && not (is_requested_shade view shade))) || (shows_requested_only view && not (is_requested_shade view shade))
+abbrev pub is_event_left_out : PictureView → Bool → Shade → Bool
+is_event_left_out view idle shade = (not view.all && (idle && not (is_requested_shade view shade))) || (shows_requested_only view && not (is_requested_shade view shade))
 
 -- The node of an event must be drawn for it: the event is requested, or is a pass, a wait or a stop. If races are requested, so
 -- must that of a look.
@@ -58,7 +58,7 @@ requires_node_line view e shade plain =
 -- an event of a colour, which is plain, one of the requested steps, or of an idle node
 abbrev pub picture_item : PictureView → Cause → Shade → Bool → Bool → Bool → PictureItem
 picture_item view e shade plain named idle =
-    let out = is_left_out view idle shade in
+    let out = is_event_left_out view idle shade in
     record { cause = e; shade = shade; plain = plain && (not named && not out); out = out; holds = requires_node_line view e shade plain }
 
 -- what is known of the history: its events, their colours, the nodes that are ready after them, the idle ones, and the places
@@ -75,8 +75,8 @@ pub record PictureFacts : Type 0 where
 abbrev pub picture_item_at : PictureFacts → PictureView → ℕ → PictureItem
 picture_item_at known view place =
     let e = event_at known.events place in
-    picture_item view e (slice_index_or known.shades place Black) (is_plain_at known.ready known.events place) (is_requested_step known.cause known.rewind place)
-    (known.idle (actor e.event))
+    picture_item view e (slice_index_or known.shades place Black) (is_plain_event_at known.ready known.events place) (is_requested_step known.cause known.rewind place)
+    (known.idle (acting_node_of_event e.event))
 
 abbrev pub picture_items : PictureFacts → PictureView → ℕ → ℕ → List PictureItem
 picture_items known view from to = map (picture_item_at known view) (range_with_len from (to - from))
@@ -97,15 +97,15 @@ abbrev pub IsPlainOwnEvent : PictureItem → Type 0
 IsPlainOwnEvent item = item.plain ≡ true → (is_transfer_event item.cause.event ≡ false) × (item.cause.look ≡ false)
 
 -- what is read past the end of a list
-abbrev pub no_item : PictureItem
-no_item = record { cause = default_cause; shade = Black; plain = false; out = true; holds = false }
+abbrev pub default_picture_item : PictureItem
+default_picture_item = record { cause = default_cause; shade = Black; plain = false; out = true; holds = false }
 
 abbrev pub item_at_place : List PictureItem → ℕ → PictureItem
-item_at_place items place = slice_index_or items place no_item
+item_at_place items place = slice_index_or items place default_picture_item
 
 -- how many events a run of the node in this colour has with this one, if it had `n` without it
-abbrev pub run_length_with : ℕ → Shade → PictureItem → ℕ → ℕ
-run_length_with n shade item count =
+abbrev pub run_length_with_event : ℕ → Shade → PictureItem → ℕ → ℕ
+run_length_with_event n shade item count =
     if item.plain && (cause_touches item.cause n && is_same_shade item.shade shade) then count + 1
     else if observes item.cause n then 0
     else count
@@ -113,35 +113,35 @@ run_length_with n shade item count =
 -- how many events of a run come right before a place, and how many are the first of these
 unfoldable pub run_length_before : ℕ → Shade → List PictureItem → ℕ → ℕ
 run_length_before n shade items zero = 0
-run_length_before n shade items (suc place) = run_length_with n shade (item_at_place items place) (run_length_before n shade items place)
+run_length_before n shade items (suc place) = run_length_with_event n shade (item_at_place items place) (run_length_before n shade items place)
 
 unfoldable pub run_length_ahead : ℕ → Shade → List PictureItem → ℕ
 run_length_ahead n shade [] = 0
-run_length_ahead n shade (item ∷ items) = run_length_with n shade item (run_length_ahead n shade items)
+run_length_ahead n shade (item ∷ items) = run_length_with_event n shade item (run_length_ahead n shade items)
 
 -- how many events of the run of the event at a place come before it, and how many after it
 abbrev pub run_events_before : List PictureItem → ℕ → ℕ
-run_events_before items place = run_length_before (actor (item_at_place items place).cause.event) (item_at_place items place).shade items place
+run_events_before items place = run_length_before (acting_node_of_event (item_at_place items place).cause.event) (item_at_place items place).shade items place
 
 abbrev pub run_events_after : List PictureItem → ℕ → ℕ
-run_events_after items place = run_length_ahead (actor (item_at_place items place).cause.event) (item_at_place items place).shade (drop (place + 1) items)
+run_events_after items place = run_length_ahead (acting_node_of_event (item_at_place items place).cause.event) (item_at_place items place).shade (drop (place + 1) items)
 
 -- how many events are drawn together with the one at a place: its run, if that has at least `fold` events
-abbrev pub folded_count : PictureItem → ℕ → ℕ → ℕ → ℕ
-folded_count item before behind fold =
+abbrev pub folded_event_count : PictureItem → ℕ → ℕ → ℕ → ℕ
+folded_event_count item before behind fold =
     let run = before + behind + 1 in if item.plain && (not (fold == 0) && nat_le fold run) then run else 1
 
-abbrev pub folded_count_at : List PictureItem → ℕ → ℕ → ℕ
-folded_count_at items fold place = folded_count (item_at_place items place) (run_events_before items place) (run_events_after items place) fold
+abbrev pub folded_event_count_at : List PictureItem → ℕ → ℕ → ℕ
+folded_event_count_at items fold place = folded_event_count (item_at_place items place) (run_events_before items place) (run_events_after items place) fold
 
 -- an event that isn't left out has a row, of a run that is drawn together the first alone
-abbrev pub has_row : List PictureItem → ℕ → ℕ → Bool
-has_row items fold place = not (item_at_place items place).out && ((folded_count_at items fold place == 1) || (run_events_before items place == 0))
+abbrev pub has_picture_row : List PictureItem → ℕ → ℕ → Bool
+has_picture_row items fold place = not (item_at_place items place).out && ((folded_event_count_at items fold place == 1) || (run_events_before items place == 0))
 
 -- the places that have rows, of the first `n`
 unfoldable pub row_places_below : List PictureItem → ℕ → ℕ → List ℕ
 row_places_below items fold zero = []
-row_places_below items fold (suc place) = row_places_below items fold place ++ (if has_row items fold place then place ∷ [] else [])
+row_places_below items fold (suc place) = row_places_below items fold place ++ (if has_picture_row items fold place then place ∷ [] else [])
 
 abbrev pub row_places : List PictureItem → ℕ → List ℕ
 row_places items fold = row_places_below items fold (length items)

@@ -4,7 +4,7 @@ use Rattle.ga_picture.specs.declared.placing.PictureRow.{PictureRow}
 use Rattle.ga_picture.specs.declared.race_marks.RaceMark.{RaceMark}
 use Rattle.ga_picture.specs.declared.shade.Shade.{Shade}
 use Rattle.ga_picture.specs.declared.shade.Shade.TheVariants.{Black, Grey, Red}
-use Rattle.ga_picture.specs.Drawing.{shade_of, AreShades, IsDrawing, IsIndependentNode, without_nodes, independent_nodes_of}
+use Rattle.ga_picture.specs.Drawing.{shade_of_shape, AreShadesOfEvents, IsDrawing, IsIndependentNode, item_without_node_events, independent_nodes_of}
 use Rattle.ga_grid.specs.declared.node_id.NodeId.{NodeId}
 use Rattle.ga_event.specs.declared.event.Cause.{Cause}
 use Rattle.ga_causal.specs.Dependence.{position_of_step}
@@ -53,7 +53,7 @@ AreSvgGroups (class ∷ classes) text = (group : List ℕ) × (more : List ℕ) 
 
 -- how the groups of rows begin, and those of marks
 abbrev pub row_group_tags : List PictureRow → List (List ℕ)
-row_group_tags rows = map (λ (row : PictureRow). shade_group_tag (shade_of row.shape)) rows
+row_group_tags rows = map (λ (row : PictureRow). shade_group_tag (shade_of_shape row.shape)) rows
 
 abbrev pub race_group_tags : List RaceMark → List (List ℕ)
 race_group_tags marks = map (λ (mark : RaceMark). race_group_tag) marks
@@ -146,20 +146,20 @@ viewed_items events ready idle view shades = picture_items (picture_facts events
 -- requested and on the one whose rollback is. Independent nodes are left out, and listed at the foot.
 pub record IsPictureOf (events : List Cause) (ready idle : ℕ → Bool) (view : PictureView) (drawing : Drawing) : Type 0 where
   pub shades : List Shade
-  pub shaded : AreShades events (optional_step_place events view.cause) (optional_step_place events view.rewind) shades
+  pub shaded : AreShadesOfEvents events (optional_step_place events view.cause) (optional_step_place events view.rewind) shades
   pub alone : ℕ → Bool
   pub are_alone : (n : ℕ) → IsTrue (alone n) ↔ IsIndependentNode (viewed_items events ready idle view shades) n
   pub told : drawing.independent_nodes.items ≡ independent_nodes_of (viewed_items events ready idle view shades) alone
-  pub drawn : IsDrawing (map (without_nodes alone) (viewed_items events ready idle view shades)) view.fold drawing
+  pub drawn : IsDrawing (map (item_without_node_events alone) (viewed_items events ready idle view shades)) view.fold drawing
 
 -- a node neither waits nor is stopped
-abbrev pub is_ready : List NodeRecord → ℕ → Bool
-is_ready chip n = is_none (refusal (record_at chip n))
+abbrev pub is_node_ready : List NodeRecord → ℕ → Bool
+is_node_ready chip n = is_none (refusal (record_at chip n))
 
 -- The picture of the machine's kept events.
 pub record IsPicture (s : State) (view : PictureView) (drawing : Drawing) : Type 0 where
   pub ready : ℕ → Bool
-  pub are_ready : (n : ℕ) → n < 144 → ready n ≡ is_ready (chip_of s) n
+  pub are_ready : (n : ℕ) → n < 144 → ready n ≡ is_node_ready (chip_of s) n
   pub idle : ℕ → Bool
   pub are_idle : AreIdleMarks s idle
   pub drawn : IsPictureOf (causes_of s) ready idle view drawing

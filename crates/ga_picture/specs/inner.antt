@@ -5,12 +5,12 @@ use Rattle.ga_event.specs.Touches.{neighbours}
 use Rattle.ga_causal.specs.Dependence.{cause_touches, is_transfer_event, is_marked}
 use Rattle.ga_picture.specs.declared.item.PictureItem.{PictureItem}
 use Rattle.ga_picture.specs.declared.independent.NodeActivity.{NodeActivity}
-use Rattle.ga_picture.specs.Drawing.{drawn_event_count, IsIndependentNode, without_nodes, independent_nodes_of}
+use Rattle.ga_picture.specs.Drawing.{drawn_event_count, IsIndependentNode, item_without_node_events, independent_nodes_of}
 use Rattle.ga_text.specs.Lines.{Bytes, Text, Line}
 use Rattle.ga_explorer.specs.Opening.{ExplorerState}
 use Rattle.ga_lab.specs.declared.fault.LabFault.TheVariants.{Memory}
-use Rattle.ga_console.specs.Run.{status_of}
-use Rattle.ga_console.specs.Session.{ServesCommands, EndsAtNoAnswer, IsWrittenOrPrefix}
+use Rattle.ga_console.specs.Run.{status_of_commands_end}
+use Rattle.ga_console.specs.Session.{ServesCommands, EndsSessionAtNoAnswer, IsWholeOrPrefixOnWriteError}
 use Rattle.ga_console.specs.declared.commands.CommandsEnd.{CommandsEnd}
 use Rattle.ga_text.specs.declared.output.WriteError.{WriteError}
 use Rattle.ga_console.specs.declared.run.Status.{Status}
@@ -22,8 +22,8 @@ use Rattle.ga_picture.specs.declared.independent.IndependentNode.{IndependentNod
 use Rattle.ga_picture.specs.declared.item.EventFacts.{EventFacts}
 use Rattle.ga_picture.specs.declared.shade.Shade.{Shade}
 use Rattle.ga_picture.specs.declared.view.PictureView.{PictureView}
-use Rattle.ga_picture.specs.Drawing.{AreShades, IsLineOf}
-use Rattle.ga_picture.specs.Items.{PictureFacts, is_plain_at, is_same_shade}
+use Rattle.ga_picture.specs.Drawing.{AreShadesOfEvents, IsLineOfNode}
+use Rattle.ga_picture.specs.Items.{PictureFacts, is_plain_event_at, is_same_shade}
 use Rattle.ga_picture.specs.Picture.{optional_step_place, viewed_items, AreSvgGroups, row_group_tags}
 use Rattle.ga_grid.specs.declared.node_id.NodeId.{NodeId}
 use Rattle.ga_picture.specs.declared.shade.Shade.TheVariants.{Black}
@@ -96,10 +96,10 @@ HearsLine s before line said new after = (said ≡ []) × (answer : Text) × Ans
 -- From this machine the commands are executed, up to `room` bytes of them.
 abbrev pub Goes : ℕ → ExplorerState → Bytes → Bytes → Text → Result ExplorerState Status → Type 0
 Goes room s read rest text (Ok last) =
-    (text ≡ []) × (ending : Result CommandsEnd WriteError) × (status_of ending ≡ Done) × ServesCommands IsCompleteSilentAnswer EndsAtNoAnswer room s read rest [] last ending
+    (text ≡ []) × (ending : Result CommandsEnd WriteError) × (status_of_commands_end ending ≡ Done) × ServesCommands IsCompleteSilentAnswer EndsSessionAtNoAnswer room s read rest [] last ending
 Goes room s read rest text (Err status) = (last : ExplorerState) × (ending : Result CommandsEnd WriteError)
-    × (((status_of ending ≡ StreamFault) × (status ≡ StreamFault) × (said : Text) × ServesCommands IsSilentAnswer EndsAtNoAnswer room s read rest said last ending × IsWrittenOrPrefix ending said text)
-    ⊎ ((status_of ending ≡ Done) × ServesCommands IsSilentAnswer EndsAtNoAnswer room s read rest [] last ending × WritesRefusal Memory text status))
+    × (((status_of_commands_end ending ≡ StreamFault) × (status ≡ StreamFault) × (said : Text) × ServesCommands IsSilentAnswer EndsSessionAtNoAnswer room s read rest said last ending × IsWholeOrPrefixOnWriteError ending said text)
+    ⊎ ((status_of_commands_end ending ≡ Done) × ServesCommands IsSilentAnswer EndsSessionAtNoAnswer room s read rest [] last ending × WritesRefusal Memory text status))
 
 -- What comes of a machine that was reached.
 abbrev pub Ends : ExplorerState → Bool → Text → Result ExplorerState Status → Type 0
@@ -126,19 +126,19 @@ pub record AreKnownBetween (facts : EventFacts) (from to : ℕ) : Type 0 where
 -- the events that are plain are those that are so if these nodes are ready after the events
 abbrev pub ArePlainAs : (ℕ → Bool) → EventFacts → Type 0
 ArePlainAs ready facts =
-    (place : ℕ) → place < length facts.events.now → slice_index_or facts.plain.now place false ≡ is_plain_at ready facts.events.now place
+    (place : ℕ) → place < length facts.events.now → slice_index_or facts.plain.now place false ≡ is_plain_event_at ready facts.events.now place
 
 -- what is drawn of events in view, and which nodes are listed at the foot
 pub record AreListed (looked items : List PictureItem) (told : List IndependentNode) : Type 0 where
   pub alone : ℕ → Bool
   pub are_alone : (n : ℕ) → IsTrue (alone n) ↔ IsIndependentNode looked n
   pub tells : told ≡ independent_nodes_of looked alone
-  pub are : items ≡ map (without_nodes alone) looked
+  pub are : items ≡ map (item_without_node_events alone) looked
 
 -- the events that are looked at, as the picture takes them
 pub record AreItemsOf (events : List Cause) (ready idle : ℕ → Bool) (view : PictureView) (items : List PictureItem) (told : List IndependentNode) : Type 0 where
   pub shades : List Shade
-  pub shaded : AreShades events (optional_step_place events view.cause) (optional_step_place events view.rewind) shades
+  pub shaded : AreShadesOfEvents events (optional_step_place events view.cause) (optional_step_place events view.rewind) shades
   pub listed : AreListed (viewed_items events ready idle view shades) items told
 
 -- ---- the lines of the first nodes, as they are appended one after another
@@ -147,7 +147,7 @@ pub record AreItemsOf (events : List Cause) (ready idle : ℕ → Bool) (view : 
 pub record AreLines (used : ℕ → Bool) (lines : List NodeId) (columns : List ℕ) (bound : ℕ) : Type 0 where
   pub size : length columns ≡ 144
   pub few : length lines ≤ bound
-  pub found : (n : ℕ) → n < bound → used n ≡ true → IsLineOf lines (slice_index columns n) n
+  pub found : (n : ℕ) → n < bound → used n ≡ true → IsLineOfNode lines (slice_index columns n) n
   pub below : (line : ℕ) (node : NodeId) → slice_get lines line ≡ Some node → node.number < bound
   pub needed : (line : ℕ) (node : NodeId) → slice_get lines line ≡ Some node → used node.number ≡ true
   pub rising : (line other : ℕ) (node next : NodeId) → slice_get lines line ≡ Some node → slice_get lines other ≡ Some next

@@ -7,7 +7,7 @@ ghost use Rattle.ga_picture.specs.Following.{IsSilentSessionResult, WritesRefusa
 ghost use Rattle.ga_picture.specs.inner.{Goes, Ends};
 
 use super::silent::SilentSession;
-use ga_console::{Status, serve_commands, status_of};
+use ga_console::{Status, serve_commands, status_of_commands_end};
 use ga_display::refusal_text;
 use ga_explorer::{Explorer, open_lab};
 use ga_lab::LabFault;
@@ -58,7 +58,7 @@ fn follow<R: Read, W: Write>(
     };
     let mut said = Writer::new(writer);
     let ending = serve_commands(alloc, input, reader, &mut said, &mut session);
-    match status_of(ending) {
+    match status_of_commands_end(ending) {
         Status::Done => reached(writer, session),
         _ => Err(Status::StreamFault),
     }

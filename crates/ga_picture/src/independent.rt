@@ -6,11 +6,11 @@ ghost use Rattle.ga_grid.specs.Grid.{neighbour_of};
 ghost use Rattle.ga_event.specs.Touches.{neighbours};
 ghost use Rattle.ga_causal.specs.Dependence.{cause_touches, is_marked};
 ghost use Rattle.ga_causal.specs.inner.{any_of};
-ghost use Rattle.ga_picture.specs.Items.{actor, picture_items};
+ghost use Rattle.ga_picture.specs.Items.{acting_node_of_event, picture_items};
 ghost use Rattle.ga_picture.specs.Drawing.{IsIndependentNode, independent_nodes_of};
 ghost use Rattle.ga_picture.specs.inner.{AreKnownBetween, ArePlainAs, known_in, AreTallied, HasFew, HasJoined, IsHeld, is_look, is_loose_by, works_loose, works_joined};
 
-use crate::item::{EventFacts, PictureItem, actor, is_pass, picture_item_at};
+use crate::item::{EventFacts, PictureItem, acting_node_of_event, is_pass, picture_item_at};
 use crate::view::PictureView;
 use ga_causal::{Memory, NodeSet};
 use ga_grid::{CHIP_NODES, NodeId, neighbour};
@@ -85,12 +85,12 @@ impl NodeActivity {
     /// Takes one more event in that isn't left out.
     fn count(&mut self, item: &PictureItem)
         requires { HasFew self.old 4294967294 }
-        ensures steps { self.new.steps ≡ slice_set self.old.steps (actor item.now.cause.event) (slice_index self.old.steps (actor item.now.cause.event) + 1) }
+        ensures steps { self.new.steps ≡ slice_set self.old.steps (acting_node_of_event item.now.cause.event) (slice_index self.old.steps (acting_node_of_event item.now.cause.event) + 1) }
         ensures touched { (n : ℕ) → is_marked self.new.touched n ≡ (is_marked self.old.touched n || cause_touches item.now.cause n) }
         ensures held { (n : ℕ) → is_marked self.new.held n ≡ (is_marked self.old.held n || (cause_touches item.now.cause n && item.now.holds)) }
         ensures looking { (n : ℕ) → is_marked self.new.looking n ≡ (is_marked self.old.looking n || (cause_touches item.now.cause n && is_look item.now)) }
     {
-        self.steps[actor(item.cause.event).index()] += 1;
+        self.steps[acting_node_of_event(item.cause.event).index()] += 1;
         self.touched.add_touched(&item.cause);
         if item.holds {
             self.held.add_touched(&item.cause);

@@ -3,8 +3,8 @@
 ghost use Rattle.std.specs.Prelude.{◌≡◌, ◌≤◌, ◌<◌, ◌&&◌, ◌||◌, not, ℕ, Bool, false, length, map, is_some, slice_index_or, IfOk, if◌then◌else◌};
 ghost use Rattle.ga_event.specs.Apply.{equals_some};
 ghost use Rattle.ga_causal.specs.Dependence.{is_marked, is_transfer_event, cause_touches};
-ghost use Rattle.ga_picture.specs.Items.{actor, is_plain_at, is_requested_step, is_requested_shade, shows_requested_only, is_left_out, requires_node_line, picture_item, picture_item_at, picture_items, is_plain};
-ghost use Rattle.ga_picture.specs.Drawing.{without_nodes};
+ghost use Rattle.ga_picture.specs.Items.{acting_node_of_event, is_plain_event_at, is_requested_step, is_requested_shade, shows_requested_only, is_event_left_out, requires_node_line, picture_item, picture_item_at, picture_items, is_plain_event};
+ghost use Rattle.ga_picture.specs.Drawing.{item_without_node_events};
 ghost use Rattle.ga_picture.specs.inner.{ArePlainAs, known_in};
 
 use crate::shade::Shade;
@@ -59,20 +59,20 @@ pub(crate) fn items(
     requires shades { length facts.shades.now ≡ length facts.events.now }
     requires plain { length facts.plain.now ≡ length facts.events.now }
     ensures { (ready : ℕ → Bool) → ArePlainAs ready facts.entry →
-        IfOk result (λ items. items.items ≡ map (without_nodes (is_marked alone.now)) (picture_items (known_in facts.entry ready) view from to)) }
+        IfOk result (λ items. items.items ≡ map (item_without_node_events (is_marked alone.now)) (picture_items (known_in facts.entry ready) view from to)) }
 {
     let mut items = Vec::with_capacity(alloc, to - from)?;
     'events: for place in from..to {
-        items.push(without_nodes(alone, picture_item_at(facts, view, place)))?;
+        items.push(item_without_node_events(alone, picture_item_at(facts, view, place)))?;
     }
     Ok(items)
 }
 
 /// The event, which is left out where it is of one of these nodes.
-fn without_nodes(alone: &[bool; 144], item: PictureItem) -> PictureItem
-    ensures { result ≡ without_nodes (is_marked alone.now) item }
+fn item_without_node_events(alone: &[bool; 144], item: PictureItem) -> PictureItem
+    ensures { result ≡ item_without_node_events (is_marked alone.now) item }
 {
-    if has(alone, actor(item.cause.event)) {
+    if has(alone, acting_node_of_event(item.cause.event)) {
         PictureItem {
             plain: false,
             out: true,
@@ -90,14 +90,14 @@ pub(crate) fn picture_item_at(facts: EventFacts<'_>, view: PictureView, place: u
     requires shades { length facts.shades.now ≡ length facts.events.now }
     requires plain { length facts.plain.now ≡ length facts.events.now }
     ensures { (ready : ℕ → Bool) →
-        slice_index_or facts.entry.plain.now place false ≡ is_plain_at ready facts.entry.events.now place →
+        slice_index_or facts.entry.plain.now place false ≡ is_plain_event_at ready facts.entry.events.now place →
         result ≡ picture_item_at (known_in facts.entry ready) view place }
 {
     let cause = facts.events[place];
     let shade = facts.shades[place];
     let plain = facts.plain[place];
     let named = is_named(facts.cause, facts.rewind, place);
-    let silent = has(facts.idle, actor(cause.event));
+    let silent = has(facts.idle, acting_node_of_event(cause.event));
     picture_item(view, cause, shade, plain, named, silent)
 }
 
@@ -112,7 +112,7 @@ fn picture_item(
 ) -> PictureItem
     ensures { result ≡ picture_item view cause shade plain named idle }
 {
-    let out = is_left_out(view, idle, shade);
+    let out = is_event_left_out(view, idle, shade);
     PictureItem {
         cause,
         shade,
@@ -141,8 +141,8 @@ pub(crate) fn is_pass(event: Event) -> bool
 }
 
 /// Whether an event is left out.
-fn is_left_out(view: PictureView, idle: bool, shade: Shade) -> bool
-    ensures { result ≡ is_left_out view idle shade }
+fn is_event_left_out(view: PictureView, idle: bool, shade: Shade) -> bool
+    ensures { result ≡ is_event_left_out view idle shade }
 {
     let asked = is_asked(view, shade);
     (!view.all && (idle && !asked)) || (shows_requested_only(view) && !asked)
@@ -191,8 +191,8 @@ fn is_asked(view: PictureView, shade: Shade) -> bool
 }
 
 /// The node that makes an event, of a pass the writer.
-pub(crate) fn actor(event: Event) -> NodeId
-    ensures { result.number ≡ actor event }
+pub(crate) fn acting_node_of_event(event: Event) -> NodeId
+    ensures { result.number ≡ acting_node_of_event event }
 {
     match event {
         Event::Own(node) => node,
@@ -209,22 +209,22 @@ pub(crate) fn plain_events(
 ) -> Result<Vec<bool>, Memory>
     ensures size { IfOk result (λ flags. length flags.items ≡ length events.now) }
     ensures exact { IfOk result (λ flags. (place : ℕ) → place < length events.now →
-        slice_index_or flags.items place false ≡ is_plain_at (is_marked ready) events.now place) }
+        slice_index_or flags.items place false ≡ is_plain_event_at (is_marked ready) events.now place) }
 {
     let mut runs = ready;
     let mut flags = vec![in alloc; false; events.len()]?;
     'events: for back in 0..events.len() {
         let at = events.len() - 1 - back;
         let event = events[at];
-        flags[at] = is_plain(event, &runs);
+        flags[at] = is_plain_event(event, &runs);
         go_back(&mut runs, event);
     }
     Ok(flags)
 }
 
 /// Whether an event is an own one and no look, of a node that runs after it.
-fn is_plain(event: Cause, runs: &[bool; 144]) -> bool
-    ensures { result ≡ is_plain (is_marked runs.now) event }
+fn is_plain_event(event: Cause, runs: &[bool; 144]) -> bool
+    ensures { result ≡ is_plain_event (is_marked runs.now) event }
 {
     match event.event {
         Event::Own(node) => !event.look && runs[node.index()],

@@ -3,12 +3,12 @@
 ghost use Rattle.std.specs.Prelude.{◌==◌, ◌&&◌, ◌||◌, not, ◌≡◌, ◌<◌, ◌^◌, ℕ, true, false, List, length, slice_index, IfOk, ◌+◌};
 ghost use Rattle.std.specs.List.{All};
 ghost use Rattle.ga_grid.specs.declared.node_id.NodeId.{NodeId};
-ghost use Rattle.ga_picture.specs.Drawing.{IsDrawing, IsDrawnShape, IsLineOf, shade_of, represented_events};
-ghost use Rattle.ga_picture.specs.Items.{folded_count, IsPlainOwnEvent};
+ghost use Rattle.ga_picture.specs.Drawing.{IsDrawing, IsDrawnShape, IsLineOfNode, shade_of_shape, represented_events};
+ghost use Rattle.ga_picture.specs.Items.{folded_event_count, IsPlainOwnEvent};
 ghost use Rattle.ga_causal.specs.Dependence.{cause_touches, is_transfer_event};
 
 use crate::independent::IndependentNode;
-use crate::item::{PictureItem, actor};
+use crate::item::{PictureItem, acting_node_of_event};
 use crate::lines::{Lines, lines_of, touched_by};
 use crate::runs::{Runs, runs_behind};
 use crate::shade::Shade;
@@ -39,7 +39,7 @@ pub enum DrawnShape {
 impl DrawnShape {
     /// In which colour a shape is drawn.
     pub fn shade(&self) -> Shade
-        ensures { result ≡ shade_of self.now }
+        ensures { result ≡ shade_of_shape self.now }
     {
         match self {
             DrawnShape::Mark { shade, .. } => *shade,
@@ -92,9 +92,9 @@ pub fn layout(
     let mut rows = Vec::new(alloc);
     'items: for place in 0..items.len() {
         let item = items[place];
-        let before = runs.count(actor(item.cause.event), item.shade);
-        let steps = folded_count(&item, before, behind[place], fold);
-        if has_row(&item, steps, before) {
+        let before = runs.count(acting_node_of_event(item.cause.event), item.shade);
+        let steps = folded_event_count(&item, before, behind[place], fold);
+        if has_picture_row(&item, steps, before) {
             rows.push(PictureRow {
                 place: place as u32,
                 shape: shape_of(&item, steps, &columns),
@@ -110,16 +110,16 @@ pub fn layout(
 }
 
 /// Whether an event has a row: one drawn together with `steps` events, with `before` of its run before it.
-fn has_row(item: &PictureItem, steps: u32, before: u32) -> bool
+fn has_picture_row(item: &PictureItem, steps: u32, before: u32) -> bool
     ensures { result ≡ (not item.now.out && ((steps == 1) || (before == 0))) }
 {
     !item.out && (steps == 1 || before == 0)
 }
 
 /// How many events are drawn together with this one, which has `before` events of its run before and `behind` after it.
-fn folded_count(item: &PictureItem, before: u32, behind: u32, fold: u32) -> u32
+fn folded_event_count(item: &PictureItem, before: u32, behind: u32, fold: u32) -> u32
     requires { before + behind + 1 < 2 ^ 32 }
-    ensures { result ≡ folded_count item.now before behind fold }
+    ensures { result ≡ folded_event_count item.now before behind fold }
 {
     let run = before + behind + 1;
     if item.plain && (fold != 0 && run >= fold) {
@@ -132,8 +132,8 @@ fn folded_count(item: &PictureItem, before: u32, behind: u32, fold: u32) -> u32
 /// What is drawn of an event, or of a run that it begins.
 fn shape_of(item: &PictureItem, steps: u32, columns: &[u8; 144]) -> DrawnShape
     ensures drawn { (lines : List NodeId) →
-        ((n : ℕ) → cause_touches item.now.cause n ≡ true → IsLineOf lines (slice_index columns.now n) n) → IsDrawnShape item.now.cause lines result }
-    ensures shaded { shade_of result ≡ item.now.shade }
+        ((n : ℕ) → cause_touches item.now.cause n ≡ true → IsLineOfNode lines (slice_index columns.now n) n) → IsDrawnShape item.now.cause lines result }
+    ensures shaded { shade_of_shape result ≡ item.now.shade }
     ensures steps { is_transfer_event item.now.cause.event ≡ false → represented_events result ≡ steps }
     ensures one { is_transfer_event item.now.cause.event ≡ true → represented_events result ≡ 1 }
 {

@@ -4,10 +4,10 @@ ghost use Rattle.std.specs.Prelude.{◌≡◌, ◌<◌, ◌+◌, ◌^◌, ℕ, i
 ghost use Rattle.std.specs.List.{All};
 ghost use Rattle.ga_causal.specs.Equivalence.{observes};
 ghost use Rattle.ga_picture.specs.declared.shade.Shade.{Shade};
-ghost use Rattle.ga_picture.specs.Items.{run_length_with, run_events_after, is_same_shade, IsPlainOwnEvent};
+ghost use Rattle.ga_picture.specs.Items.{run_length_with_event, run_events_after, is_same_shade, IsPlainOwnEvent};
 ghost use Rattle.ga_picture.specs.inner.{count_in, HasNodes, AreWithin};
 
-use crate::item::{PictureItem, actor};
+use crate::item::{PictureItem, acting_node_of_event};
 use crate::shade::Shade;
 use ga_causal::{Memory, NodeSet};
 use ga_grid::{CHIP_NODES, NodeId};
@@ -51,11 +51,11 @@ impl Runs {
         requires few { AreWithin self.old 4294967294 }
         requires simple { IsPlainOwnEvent item.now }
         ensures sizes { HasNodes self.new }
-        ensures counts { (n : ℕ) (shade : Shade) → n < 144 → count_in self.new n shade ≡ run_length_with n shade item.now (count_in self.old n shade) }
+        ensures counts { (n : ℕ) (shade : Shade) → n < 144 → count_in self.new n shade ≡ run_length_with_event n shade item.now (count_in self.old n shade) }
         ensures within { (bound : ℕ) → AreWithin self.old bound → AreWithin self.new (bound + 1) }
     {
         if item.plain {
-            self.add(actor(item.cause.event), item.shade);
+            self.add(acting_node_of_event(item.cause.event), item.shade);
         } else {
             self.end(item);
         }
@@ -118,7 +118,7 @@ pub(crate) fn runs_behind(alloc: Global, items: &[PictureItem]) -> Result<Vec<u3
     'items: for back in 0..items.len() {
         let at = items.len() - 1 - back;
         let item = items[at];
-        counts[at] = runs.count(actor(item.cause.event), item.shade);
+        counts[at] = runs.count(acting_node_of_event(item.cause.event), item.shade);
         runs.pass(&item);
     }
     Ok(counts)

@@ -1,7 +1,7 @@
 //! The colours of the events.
 
 ghost use Rattle.std.specs.Prelude.{◌≡◌, ◌↔◌, ◌<◌, ℕ, true, false, length, Option, Some, IfOk, IfSome, IsTrue, slice_index_or};
-ghost use Rattle.ga_picture.specs.Drawing.{AreShades, Goes, IsCauseOfStep};
+ghost use Rattle.ga_picture.specs.Drawing.{AreShadesOfEvents, IsRemovedByRollback, IsCauseOfStep};
 ghost use Rattle.ga_causal.specs.Dependence.{DependsOn};
 
 use ga_causal::{Cause, Memory, NodeSet, find_dependents};
@@ -28,7 +28,7 @@ pub fn shades(
 ) -> Result<Vec<Shade>, Memory>
     requires cause { IfSome cause (λ place. place < length events.now) }
     requires rewind { IfSome rewind (λ place. place < length events.now) }
-    ensures { IfOk result (λ shades. AreShades events.now cause rewind shades.items) }
+    ensures { IfOk result (λ shades. AreShadesOfEvents events.now cause rewind shades.items) }
 {
     let leads = leading(alloc, events, cause)?;
     let goes = going(alloc, events, rewind)?;
@@ -57,7 +57,7 @@ fn going(alloc: Global, events: &[Cause], rewind: Option<u32>) -> Result<Vec<boo
     requires { IfSome rewind (λ place. place < length events.now) }
     ensures size { IfOk result (λ flags. length flags.items ≡ length events.now) }
     ensures exact { IfOk result (λ flags.
-        (j : ℕ) → j < length events.now → (IsTrue (slice_index_or flags.items j false) ↔ Goes events.now rewind j)) }
+        (j : ℕ) → j < length events.now → (IsTrue (slice_index_or flags.items j false) ↔ IsRemovedByRollback events.now rewind j)) }
 {
     match rewind {
         Some(place) => find_dependents(alloc, events, place),

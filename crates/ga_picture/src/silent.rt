@@ -1,9 +1,9 @@
 //! A session that says nothing.
 ghost use Rattle.std.specs.Prelude.{◌≡◌, ◌↔◌, [], Some, Ok, IsTrue};
 ghost use Rattle.ga_text.specs.Lines.{Bytes};
-ghost use Rattle.ga_text.specs.Output.{IsWritten};
+ghost use Rattle.ga_text.specs.Output.{IsTextWritten};
 ghost use Rattle.ga_console.specs.declared.responder.LineAction.TheVariants.{Quit};
-ghost use Rattle.ga_console.specs.Session.{EndsAtNoAnswer};
+ghost use Rattle.ga_console.specs.Session.{EndsSessionAtNoAnswer};
 ghost use Rattle.ga_console.specs.inner.Run.{AnswersOrEnds, ObeysCommand};
 ghost use Rattle.ga_picture.specs.Following.{IsOutOfMemoryAnswer};
 ghost use Rattle.ga_picture.specs.inner.{Notes};
@@ -29,7 +29,7 @@ pub struct SilentSession {
 impl SilentSession {
     /// Answers a line, of which at least the first 201 bytes are here, and says nothing.
     fn hear(&mut self, alloc: Global, line: &[u8]) -> LineAction
-        ensures heard { (answer : Bytes) × AnswersOrEnds AnswersExplorerLine EndsAtNoAnswer self.old.explorer line.now self.new.explorer (Ok result) answer
+        ensures heard { (answer : Bytes) × AnswersOrEnds AnswersExplorerLine EndsSessionAtNoAnswer self.old.explorer line.now self.new.explorer (Ok result) answer
             × Notes self.old.short answer self.new.short }
         ensures ends { result ≡ Quit → self.new.short ≡ self.old.short }
     {
@@ -54,7 +54,7 @@ impl SilentSession {
 
     /// Answers a line that spells a command of the debugger, and says nothing.
     fn hear_command(&mut self, alloc: Global, command: Command) -> LineAction
-        ensures { (answer : Bytes) × ObeysCommand AnswersExplorerLine EndsAtNoAnswer self.old.explorer command self.new.explorer (Ok result) answer
+        ensures { (answer : Bytes) × ObeysCommand AnswersExplorerLine EndsSessionAtNoAnswer self.old.explorer command self.new.explorer (Ok result) answer
             × Notes self.old.short answer self.new.short }
     {
         let mut answer = Vec::new(alloc);
@@ -74,7 +74,7 @@ impl SilentSession {
     /// Notes an answer that reports out of memory.
     fn note(&mut self, said: &mut Writer<'_, Vec<u8>>)
         ensures same { self.new.explorer ≡ self.old.explorer }
-        ensures noted { (answer : Bytes) → IsWritten (Some said.old.stream.now.items) [] answer said.old.pending.items → Notes self.old.short answer self.new.short }
+        ensures noted { (answer : Bytes) → IsTextWritten (Some said.old.stream.now.items) [] answer said.old.pending.items → Notes self.old.short answer self.new.short }
     {
         match said.flush() {
             Ok(()) => self.short = self.short || is_short(said.stream.as_slice()),

@@ -1,7 +1,7 @@
 //! A picture as text in SVG: a group for each event, and of each node when it runs and when it waits.
 
 ghost use Rattle.std.specs.Prelude.{◌≡◌, IfOk, string_bytes};
-ghost use Rattle.ga_picture.specs.Drawing.{shade_of};
+ghost use Rattle.ga_picture.specs.Drawing.{shade_of_shape};
 ghost use Rattle.ga_picture.specs.Picture.{IsSvg, IsSvgGroup, AreSvgGroups, shade_group_tag, race_group_tag, race_group_tags};
 ghost use Rattle.ga_picture.specs.inner.{BeginsSvg};
 
@@ -105,7 +105,7 @@ fn group(
     shape: DrawnShape,
     made: Option<&Made>,
 ) -> Result<String, AllocError>
-    ensures { IfOk result (λ text. IsSvgGroup (shade_group_tag (shade_of shape)) (string_bytes text)) }
+    ensures { IfOk result (λ text. IsSvgGroup (shade_group_tag (shade_of_shape shape)) (string_bytes text)) }
 {
     let mut text = String::with_capacity(alloc, EVENT_ROOM)?;
     text.push_str(class(shape.shade()))?;

@@ -8,7 +8,7 @@ ghost use Rattle.ga_causal.specs.Steps.{count_touching_events};
 ghost use Rattle.ga_lab.specs.Machine.{causes_of};
 ghost use Rattle.ga_race_detector.specs.Races.{requested_races};
 ghost use Rattle.ga_race_detector.specs.Readings.{IsReportedLookRace, HasAllNearLookRaces};
-ghost use Rattle.ga_picture.specs.Picture.{IsPicture, IsPictureText, AreRaceMarks, is_ready, has_requested_steps, has_optional_step, optional_step_place};
+ghost use Rattle.ga_picture.specs.Picture.{IsPicture, IsPictureText, AreRaceMarks, is_node_ready, has_requested_steps, has_optional_step, optional_step_place};
 ghost use Rattle.ga_picture.specs.Items.{picture_items};
 ghost use Rattle.ga_picture.specs.inner.{AreItemsOf, AreKnownBetween, AreListed, ArePlainAs, known_in};
 
@@ -24,7 +24,7 @@ use ga_event::{Event, touches};
 use ga_grid::{CHIP_NODES, Chip, NodeId};
 use ga_lab::{Lab, LabFault, Made};
 use ga_race_detector::{Races, find_races};
-use ga_scheduler::find_idle;
+use ga_scheduler::find_idle_nodes;
 use std::alloc::Global;
 
 /// A step: its node, and its number, counted from 1, or the last.
@@ -111,7 +111,7 @@ fn drawn(lab: &Lab, view: PictureView) -> Result<Drawing, Memory>
 {
     let causes = kept_causes(lab)?;
     let alloc = *causes.allocator();
-    let idle = find_idle(lab);
+    let idle = find_idle_nodes(lab);
     let ready = ready_nodes(lab.chip());
     let Listed {
         items,
@@ -135,7 +135,7 @@ fn kept_causes(lab: &Lab) -> Result<Vec<Cause>, Memory>
 
 /// The nodes that neither wait nor are stopped.
 fn ready_nodes(chip: &Chip) -> [bool; 144]
-    ensures { (n : ℕ) → n < 144 → is_marked result n ≡ is_ready (records_of chip.now) n }
+    ensures { (n : ℕ) → n < 144 → is_marked result n ≡ is_node_ready (records_of chip.now) n }
 {
     let mut ready = [false; 144];
     'nodes: for number in 0..144u8 {

@@ -1,14 +1,14 @@
 //! What an address names, and the address after it.
 
 ghost use Rattle.std.specs.Prelude.{◌≡◌, ◌<◌, ◌^◌};
-ghost use Rattle.ga_ports.specs.Address.{address_target, advanced_address, IsTarget};
+ghost use Rattle.ga_ports.specs.Address.{address_target, advanced_address, IsValidTarget};
 
 use crate::side::PortSet;
 use ga_word::Word18;
 
 /// What an address names (DB001, addresses).
 #[derive(Clone, Copy, PartialEq, Eq, Debug)]
-pub enum Target {
+pub enum AddressTarget {
     /// A cell of RAM, 0 to 63.
     Ram(u8),
     /// A cell of ROM, 0 to 63.
@@ -23,24 +23,24 @@ pub enum Target {
 
 /// What the low nine bits of a number name.
 #[inline(always)]
-pub fn classify_address(address: u32) -> Target
+pub fn classify_address(address: u32) -> AddressTarget
     ensures value { result ≡ address_target address }
-    ensures in_range { IsTarget result }
+    ensures in_range { IsValidTarget result }
 {
     let low = address % 512;
     if low / 256 == 1 {
         let x = low ^ 0x155;
         if x == 8 {
-            return Target::Io;
+            return AddressTarget::Io;
         }
         if x == 0 || x % 16 != 0 {
-            return Target::Bad;
+            return AddressTarget::Bad;
         }
-        Target::Ports(PortSet::of((x / 16) as u8))
+        AddressTarget::Ports(PortSet::of((x / 16) as u8))
     } else if low / 128 == 0 {
-        Target::Ram((low % 64) as u8)
+        AddressTarget::Ram((low % 64) as u8)
     } else {
-        Target::Rom((low % 64) as u8)
+        AddressTarget::Rom((low % 64) as u8)
     }
 }
 

@@ -1,7 +1,7 @@
 //! Sides, and the sets of sides that an address names.
 
 ghost use Rattle.std.specs.Prelude.{◌≡◌, ◌<◌, ◌≤◌, IfSome, IsSome, ◌↔◌, IsTrue};
-ghost use Rattle.ga_ports.specs.Address.{only, has_side, side_of, sides_match, IsSingleSide};
+ghost use Rattle.ga_ports.specs.Address.{single_side_set, has_side, side_of_single_set, sides_match, IsSingleSide};
 
 use std::marker::Model;
 
@@ -21,7 +21,7 @@ pub enum Side {
 impl Side {
     /// The side's number in a set.
     pub fn bit(self) -> u8
-        ensures value { result ≡ only self }
+        ensures value { result ≡ single_side_set self }
         ensures in_range { result ≤ 8 }
     {
         match self {
@@ -94,8 +94,8 @@ impl PortSet {
 
     /// The side, where the set has no other.
     pub fn single(self) -> Option<Side>
-        ensures found { IfSome result (λ side. self ≡ only side) }
-        ensures side { IfSome result (λ side. side ≡ side_of self) }
+        ensures found { IfSome result (λ side. self ≡ single_side_set side) }
+        ensures side { IfSome result (λ side. side ≡ side_of_single_set self) }
         ensures none { IsSome result ↔ IsSingleSide self }
     {
         match self.sides {
@@ -109,7 +109,7 @@ impl PortSet {
 }
 
 /// Whether a node that waits reading a set and one that waits writing a side can transfer over a side.
-pub fn matches(reads: PortSet, writes: Side, side: Side) -> bool
+pub fn has_matching_sides(reads: PortSet, writes: Side, side: Side) -> bool
     ensures { result ≡ sides_match reads writes side }
 {
     reads.has(side) && writes == side

@@ -6,7 +6,7 @@ use Rattle.std.proofs.lemmas.Option.{same_Some}
 use Rattle.std.proofs.lemmas.Bool.{eq-eqb}
 use Rattle.std.proofs.lemmas.List.Sums.{sum_by-append}
 use Rattle.ga_node.specs.Record.{NodeRecord}
-use Rattle.ga_node.specs.declared.kind.NotReady.{NotReady}
+use Rattle.ga_node.specs.declared.kind.EventRefusal.{EventRefusal}
 use Rattle.ga_grid.specs.declared.node_id.NodeId.{NodeId}
 use Rattle.ga_event.specs.declared.event.Event.{Event}
 use Rattle.ga_event.specs.declared.event.Event.TheVariants as event
@@ -23,14 +23,14 @@ use Rattle.ga_provenance.proofs.Ran.{empty_some}
 use Rattle.ga_provenance.specs.declared.asked.QueriedPart.{QueriedPart}
 use Rattle.ga_provenance.specs.declared.asked.QueriedPart.TheVariants.{PartAfter, PartBefore, Nothing}
 use Rattle.ga_provenance.specs.declared.value.Value.{Value}
-use Rattle.ga_provenance.specs.Origins.{node_after, value_of_step, flow_at, moved_source_part_at, listed_part, origin_after_steps, origin_of}
+use Rattle.ga_provenance.specs.Origins.{node_after_steps, value_of_step, value_flow_at_step, moved_source_part_at, listed_part, origin_after_steps, origin_of_value}
 use Rattle.ga_provenance.specs.Asked.{queried_event_part, queried_part_value, queried_value}
 use Rattle.std.proofs.lemmas.List.Elements.{All-nil, All-cons, All-map, All-weaker, All-contains}
 use Rattle.ga_causal.proofs.Places.{stands_exact, older_step}
 use Rattle.ga_event.specs.declared.flow.part.NodePart.{NodePart}
 use Rattle.ga_event.specs.declared.flow.part.NodePart.TheVariants.{Data, Return, Ram, Rom, A, B, P, I, Io, Carry, Slot, Wait, Stop, Outside}
 use Rattle.ga_event.specs.Flow.{Flow, Same, From, top}
-use Rattle.ga_provenance.specs.Sources.{sent_value, source_values, value_sources_after, value_sources, IsCause, IsLoadedOrCause}
+use Rattle.ga_provenance.specs.Sources.{source_of_sent_word, source_values, value_sources_after, value_sources, IsCauseOfValue, IsLoadedOrCauseOfValue}
 use Rattle.ga_provenance.specs.Lines.{source_origins, IsProvenance, origin, source}
 
 -- ---- a node's step that is a pass is a step of the writer too
@@ -61,7 +61,7 @@ run_fits chip (x ∷ xs) done e = at_first (refusal_of chip x) (λ rest is. run_
     at_rest None f fit h = absurd (cc)
     at_rest (Some rest) f fit h = subst AreFit (ap (λ (z : List NodeRecord × List (Cause × EventOutcome)). z.1) (same_Some _ _ h)) (fit, f rest refl)
 
-    at_first : (why : Option NotReady) → ((rest : List NodeRecord × List (Cause × EventOutcome)) → run (after chip x).0 xs ≡ Some rest → AreFit rest.1) → is_fit x (after chip x).1 ≡ true
+    at_first : (why : Option EventRefusal) → ((rest : List NodeRecord × List (Cause × EventOutcome)) → run (after chip x).0 xs ≡ Some rest → AreFit rest.1) → is_fit x (after chip x).1 ≡ true
         → option_and_then {U = List NodeRecord × List (Cause × EventOutcome)} (λ first. option_map {U = List NodeRecord × List (Cause × EventOutcome)} (λ rest. (rest.0, (cause_of chip x, first.1) ∷ rest.1)) (run first.0 xs)) (some_if_allowed why (after chip x)) ≡ Some done
         → AreFit done.1
     at_first None f fit h = at_rest (run (after chip x).0 xs) f fit h
@@ -170,12 +170,12 @@ sent_is s n k w r i j word h =
 -- ---- the value that a step selects
 
 pub asked_here : (s : State) (node : NodeId) (step k : ℕ) (told : Made) (before : NodeRecord) (asked : QueriedPart) (value : Option Value) → suc k ≡ step
-    → Some told ≡ slice_get (history_of s node.number) k → before ≡ node_after s node.number k → asked ≡ queried_event_part told before node.number → value ≡ queried_part_value node k asked
+    → Some told ≡ slice_get (history_of s node.number) k → before ≡ node_after_steps s node.number k → asked ≡ queried_event_part told before node.number → value ≡ queried_part_value node k asked
     → value ≡ queried_value s node step
 asked_here s node step k told before asked value is tells stood means e =
     e
     ∙ ap (queried_part_value node k) (means ∙ ap (λ (n : NodeRecord). queried_event_part told n node.number) stood)
-    ∙ ap (option_and_then (λ (t : Made). queried_part_value node k (queried_event_part t (node_after s node.number k) node.number))) tells
+    ∙ ap (option_and_then (λ (t : Made). queried_part_value node k (queried_event_part t (node_after_steps s node.number k) node.number))) tells
     ∙ ap (queried_value s node) is
 
 -- it was in the node, after the step or before it
@@ -192,10 +192,10 @@ pub asked_near : (s : State) (node : NodeId) (step : ℕ) (value : Value) → qu
 asked_near s node zero value e = absurd (cc)
 asked_near s node (suc k) value e = go (slice_get (history_of s node.number) k) e
   where
-    go : (o : Option Made) → option_and_then (λ (told : Made). queried_part_value node k (queried_event_part told (node_after s node.number k) node.number)) o ≡ Some value
+    go : (o : Option Made) → option_and_then (λ (told : Made). queried_part_value node k (queried_event_part told (node_after_steps s node.number k) node.number)) o ≡ Some value
         → (value.node ≡ node) × (value.step ≤ suc k)
     go None h = absurd (cc)
-    go (Some told) h = at_or_before node k (queried_event_part told (node_after s node.number k) node.number) value h
+    go (Some told) h = at_or_before node k (queried_event_part told (node_after_steps s node.number k) node.number) value h
 
 joined : (events : List Cause) (a b c : ℕ) → DependsOn events a b → DependsOn events b c → DependsOn events a c
 joined events a b c first itself = first
@@ -206,7 +206,7 @@ found None is = absurd (cc)
 found (Some q) is = (q, refl)
 
 -- an earlier step of the node
-pub earlier_step : (s : State) (asked value other : Value) (k : ℕ) → other.step ≡ suc k → other.node ≡ value.node → other.step ≤ value.step → IsCause s value asked → IsCause s other asked
+pub earlier_step : (s : State) (asked value other : Value) (k : ℕ) → other.step ≡ suc k → other.node ≡ value.node → other.step ≤ value.step → IsCauseOfValue s value asked → IsCauseOfValue s other asked
 earlier_step s asked value other k is node less cause =
     let stands = (stands_exact (causes_of s) value.node.number value.step).0 (subst IsSome (sym cause.cause_place) refl) in
     let at : (q : ℕ) × (position_of_step (causes_of s) value.node.number other.step ≡ Some q) =
@@ -219,10 +219,10 @@ earlier_step s asked value other k is node less cause =
       depends = joined (causes_of s) at.0 cause.cause cause.effect (older_step (causes_of s) value.node.number other.step value.step at.0 cause.cause at.1 cause.cause_place less) cause.depends;
     }
 
-pub earlier : (s : State) (asked value other : Value) → other.node ≡ value.node → other.step ≤ value.step → IsLoadedOrCause s asked value → IsLoadedOrCause s asked other
+pub earlier : (s : State) (asked value other : Value) → other.node ≡ value.node → other.step ≤ value.step → IsLoadedOrCauseOfValue s asked value → IsLoadedOrCauseOfValue s asked other
 earlier s asked value other node less named = go other.step refl named
   where
-    go : (k : ℕ) → other.step ≡ k → IsLoadedOrCause s asked value → IsLoadedOrCause s asked other
+    go : (k : ℕ) → other.step ≡ k → IsLoadedOrCauseOfValue s asked value → IsLoadedOrCauseOfValue s asked other
     go zero is named = inl is
     go (suc k) is (inl none) = absurd (omega (arith, is, less, none))
     go (suc k) is (inr cause) = inr (earlier_step s asked value other k is node less cause)
@@ -233,30 +233,30 @@ made_before s node zero at = (refl, omega arith)
 made_before s node (suc k) at = go (moved_source_part_at s node.number k at) (made_before s node k)
   where
     go : (o : Option NodePart) → ((from : NodePart) → ((origin_after_steps s node k from).node ≡ node) × ((origin_after_steps s node k from).step ≤ k))
-        → let value : Value = unwrap_or (option_map (origin_after_steps s node k) o) (value_of_step node (suc k) (listed_part (flow_at s node.number k at) at)) in (value.node ≡ node) × (value.step ≤ suc k)
+        → let value : Value = unwrap_or (option_map (origin_after_steps s node k) o) (value_of_step node (suc k) (listed_part (value_flow_at_step s node.number k at) at)) in (value.node ≡ node) × (value.step ≤ suc k)
     go None before = (refl, omega arith)
     go (Some from) before = let b = before from in (b.0, omega (arith, b.1))
 
-pub named_origin : (s : State) (asked value : Value) → IsLoadedOrCause s asked value → IsLoadedOrCause s asked (origin_of s value)
+pub named_origin : (s : State) (asked value : Value) → IsLoadedOrCauseOfValue s asked value → IsLoadedOrCauseOfValue s asked (origin_of_value s value)
 named_origin s asked value named =
-    let before = made_before s value.node value.step value.part in earlier s asked value (origin_of s value) before.0 before.1 named
+    let before = made_before s value.node value.step value.part in earlier s asked value (origin_of_value s value) before.0 before.1 named
 
 -- what it came from: parts of the node, and T of the writer
-named_parts : (s : State) (asked value : Value) (k : ℕ) → k ≤ value.step → IsLoadedOrCause s asked value → (parts : List NodePart) → All (IsLoadedOrCause s asked) (map (value_of_step value.node k) parts)
-named_parts s asked value k less named [] = All-nil (IsLoadedOrCause s asked)
+named_parts : (s : State) (asked value : Value) (k : ℕ) → k ≤ value.step → IsLoadedOrCauseOfValue s asked value → (parts : List NodePart) → All (IsLoadedOrCauseOfValue s asked) (map (value_of_step value.node k) parts)
+named_parts s asked value k less named [] = All-nil (IsLoadedOrCauseOfValue s asked)
 named_parts s asked value k less named (at ∷ rest) =
-    All-cons (IsLoadedOrCause s asked) (value_of_step value.node k at) (map (value_of_step value.node k) rest)
+    All-cons (IsLoadedOrCauseOfValue s asked) (value_of_step value.node k at) (map (value_of_step value.node k) rest)
     (earlier s asked value (value_of_step value.node k at) refl less named)
     (named_parts s asked value k less named rest)
 
-pub named_sender : (s : State) (asked value : Value) (k : ℕ) → value.step ≡ suc k → IsLoadedOrCause s asked value
-    → (told : Option Made) → slice_get (history_of s value.node.number) k ≡ told → All (IsLoadedOrCause s asked) (option_to_list (sent_value told))
-named_sender s asked value k is named None h = All-nil (IsLoadedOrCause s asked)
-named_sender s asked value k is named (Some (made.Own node step kind)) h = All-nil (IsLoadedOrCause s asked)
+pub named_sender : (s : State) (asked value : Value) (k : ℕ) → value.step ≡ suc k → IsLoadedOrCauseOfValue s asked value
+    → (told : Option Made) → slice_get (history_of s value.node.number) k ≡ told → All (IsLoadedOrCauseOfValue s asked) (option_to_list (source_of_sent_word told))
+named_sender s asked value k is named None h = All-nil (IsLoadedOrCauseOfValue s asked)
+named_sender s asked value k is named (Some (made.Own node step kind)) h = All-nil (IsLoadedOrCauseOfValue s asked)
 named_sender s asked value k is named (Some (made.Pass w i r j word)) h =
-    All-cons (IsLoadedOrCause s asked) (value_of_step w (i - 1) top) [] (at_writer (sent_is s value.node.number k w r i j word h) named) (All-nil (IsLoadedOrCause s asked))
+    All-cons (IsLoadedOrCauseOfValue s asked) (value_of_step w (i - 1) top) [] (at_writer (sent_is s value.node.number k w r i j word h) named) (All-nil (IsLoadedOrCauseOfValue s asked))
   where
-    at_writer : IsOne s value.node.number k w.number i → IsLoadedOrCause s asked value → IsLoadedOrCause s asked (value_of_step w (i - 1) top)
+    at_writer : IsOne s value.node.number k w.number i → IsLoadedOrCauseOfValue s asked value → IsLoadedOrCauseOfValue s asked (value_of_step w (i - 1) top)
     at_writer one (inl none) = absurd (omega (arith, is, none))
     at_writer one (inr cause) =
         let q = one.number in
@@ -264,8 +264,8 @@ named_sender s asked value k is named (Some (made.Pass w i r j word)) h =
         earlier s asked (value_of_step w i top) (value_of_step w (i - 1) top) refl (omega (arith, q))
         (inr (record { cause = one.place; effect = cause.effect; cause_place = one.writers; effect_place = cause.effect_place; depends = subst (λ (z : ℕ). DependsOn (causes_of s) z cause.effect) (sym same) cause.depends }))
 
-named_by : (s : State) (asked value : Value) (k : ℕ) → value.step ≡ suc k → IsLoadedOrCause s asked value → (told : Option Made) → slice_get (history_of s value.node.number) k ≡ told
-    → (flow : Flow) → All (IsLoadedOrCause s asked) (source_values value.node k told flow)
+named_by : (s : State) (asked value : Value) (k : ℕ) → value.step ≡ suc k → IsLoadedOrCauseOfValue s asked value → (told : Option Made) → slice_get (history_of s value.node.number) k ≡ told
+    → (flow : Flow) → All (IsLoadedOrCauseOfValue s asked) (source_values value.node k told flow)
 named_by s asked value k is named told h (Same Outside) = named_sender s asked value k is named told h
 named_by s asked value k is named told h (Same (Data at)) = named_parts s asked value k (omega (arith, is)) named (Data at ∷ [])
 named_by s asked value k is named told h (Same (Return at)) = named_parts s asked value k (omega (arith, is)) named (Return at ∷ [])
@@ -282,30 +282,30 @@ named_by s asked value k is named told h (Same Wait) = named_parts s asked value
 named_by s asked value k is named told h (Same Stop) = named_parts s asked value k (omega (arith, is)) named (Stop ∷ [])
 named_by s asked value k is named told h (From parts) = named_parts s asked value k (omega (arith, is)) named parts
 
-named_sources : (s : State) (asked value : Value) → IsLoadedOrCause s asked value → All (IsLoadedOrCause s asked) (value_sources s value)
+named_sources : (s : State) (asked value : Value) → IsLoadedOrCauseOfValue s asked value → All (IsLoadedOrCauseOfValue s asked) (value_sources s value)
 named_sources s asked value named = go value.step refl
   where
-    go : (k : ℕ) → value.step ≡ k → All (IsLoadedOrCause s asked) (value_sources_after s value.node k value.part)
-    go zero is = All-nil (IsLoadedOrCause s asked)
-    go (suc k) is = named_by s asked value k is named (slice_get (history_of s value.node.number) k) refl (flow_at s value.node.number k value.part)
+    go : (k : ℕ) → value.step ≡ k → All (IsLoadedOrCauseOfValue s asked) (value_sources_after s value.node k value.part)
+    go zero is = All-nil (IsLoadedOrCauseOfValue s asked)
+    go (suc k) is = named_by s asked value k is named (slice_get (history_of s value.node.number) k) refl (value_flow_at_step s value.node.number k value.part)
 
 -- so are all from which it was made, as the steps made them
-pub named_origins : (s : State) (asked value : Value) → IsLoadedOrCause s asked value → All (IsLoadedOrCause s asked) (source_origins s value)
+pub named_origins : (s : State) (asked value : Value) → IsLoadedOrCauseOfValue s asked value → All (IsLoadedOrCauseOfValue s asked) (source_origins s value)
 named_origins s asked value named =
-    All-map (IsLoadedOrCause s asked) (origin_of s) (value_sources s value)
-    (All-weaker (IsLoadedOrCause s asked) (λ (x : Value). IsLoadedOrCause s asked (origin_of s x)) (named_origin s asked) (value_sources s value) (named_sources s asked value named))
+    All-map (IsLoadedOrCauseOfValue s asked) (origin_of_value s) (value_sources s value)
+    (All-weaker (IsLoadedOrCauseOfValue s asked) (λ (x : Value). IsLoadedOrCauseOfValue s asked (origin_of_value s x)) (named_origin s asked) (value_sources s value) (named_sources s asked value named))
 
-provenance_named : (s : State) (asked value found : Value) → IsLoadedOrCause s asked value → IsProvenance s value found → IsLoadedOrCause s asked found
+provenance_named : (s : State) (asked value found : Value) → IsLoadedOrCauseOfValue s asked value → IsProvenance s value found → IsLoadedOrCauseOfValue s asked found
 provenance_named s asked value found named origin = named_origin s asked value named
 provenance_named s asked value found named (source {value = v} of x in_sources) =
-    All-contains (IsLoadedOrCause s asked) (source_origins s v) x (named_origins s asked v (provenance_named s asked value v named of)) in_sources
+    All-contains (IsLoadedOrCauseOfValue s asked) (source_origins s v) x (named_origins s asked v (provenance_named s asked value v named of)) in_sources
 
-pub provenance_caused : (s : State) (value found : Value) (place : ℕ) → position_of_step (causes_of s) value.node.number value.step ≡ Some place → IsProvenance s value found → IsLoadedOrCause s value found
+pub provenance_caused : (s : State) (value found : Value) (place : ℕ) → position_of_step (causes_of s) value.node.number value.step ≡ Some place → IsProvenance s value found → IsLoadedOrCauseOfValue s value found
 provenance_caused s value found place is of =
     provenance_named s value value found (inr (record { cause = place; effect = place; cause_place = is; effect_place = is; depends = itself })) of
 
 pub selected_caused : (s : State) (node : NodeId) (step place : ℕ) (value found : Value) → position_of_step (causes_of s) node.number step ≡ Some place → queried_value s node step ≡ Some value → IsProvenance s value found
-    → IsLoadedOrCause s (value_of_step node step top) found
+    → IsLoadedOrCauseOfValue s (value_of_step node step top) found
 selected_caused s node step place value found is asked of =
     let near = asked_near s node step value asked in
     let here = value_of_step node step top in

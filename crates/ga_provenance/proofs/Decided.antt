@@ -6,7 +6,7 @@ use Rattle.std.proofs.lemmas.List.Elements.{All-head}
 use Rattle.std.proofs.lemmas.Option.{same_Some, none-some}
 use Rattle.ga_slots.specs.declared.op.Op.{Op}
 use Rattle.ga_slots.specs.declared.op.Op.TheVariants as op
-use Rattle.ga_slots.specs.Codes.{op_of}
+use Rattle.ga_slots.specs.Codes.{op_of_code}
 use Rattle.ga_node.specs.declared.kind.OwnEventKind.{OwnEventKind}
 use Rattle.ga_node.specs.declared.kind.OwnEventKind.TheVariants as kind
 use Rattle.ga_grid.specs.declared.node_id.NodeId.{NodeId}
@@ -19,8 +19,8 @@ use Rattle.ga_event.specs.declared.flow.part.NodePart.TheVariants as part
 use Rattle.ga_event.specs.Flow.{Flow, Same, From, IsNodePart, top, part_value}
 use Rattle.ga_provenance.specs.declared.value.Value.{Value}
 use Rattle.ga_provenance.specs.declared.deciding.Decision.{Decision}
-use Rattle.ga_provenance.specs.Origins.{value_of_step, node_after, flow_at, origin_of, IsMovedValue}
-use Rattle.ga_provenance.specs.Sources.{sent_value, IsCause, IsLoadedOrCause}
+use Rattle.ga_provenance.specs.Origins.{value_of_step, node_after_steps, value_flow_at_step, origin_of_value, IsMovedValue}
+use Rattle.ga_provenance.specs.Sources.{source_of_sent_word, IsCauseOfValue, IsLoadedOrCauseOfValue}
 use Rattle.ga_provenance.specs.Deciding.{port_code_source, is_incoming_code_at, has_port_code, tested_code_part, tested_opcode_part, tested_kind_part, tested_value_at, decision, step_decision, decision_at, newer_decision, newest_decision}
 use Rattle.ga_provenance.specs.inner.{IsOwn}
 use Rattle.ga_provenance.proofs.Causes.{earlier, earlier_step, named_origin, named_sender}
@@ -30,13 +30,13 @@ some_decision step told tested word source = Some (record { step = step; made = 
 
 -- a step of the node's own, with the word that it tested
 pub own_so : (s : State) (node : NodeId) (k step word : ℕ) (told : Made) (kind : OwnEventKind) (at : NodePart) (source : Value) → IsOwn kind told → Some at ≡ tested_kind_part s node k kind
-    → step ≡ suc k → word ≡ part_value 0 (node_after s node.number k) at → source ≡ origin_of s (value_of_step node k at)
+    → step ≡ suc k → word ≡ part_value 0 (node_after_steps s node.number k) at → source ≡ origin_of_value s (value_of_step node k at)
     → Some (record { step = step; made = told; tested = value_of_step node k at; word = word; source = source }) ≡ step_decision s node k told
 own_so s node k step word (Own other j ran) kind at source own tested is held from =
     let told : Made = Own other j ran in
     ap (λ (x : ℕ). some_decision x told (value_of_step node k at) word source) is
     ∙ ap (λ (y : ℕ). some_decision (suc k) told (value_of_step node k at) y source) held
-    ∙ ap (λ (z : Value). some_decision (suc k) told (value_of_step node k at) (part_value 0 (node_after s node.number k) at) z) from
+    ∙ ap (λ (z : Value). some_decision (suc k) told (value_of_step node k at) (part_value 0 (node_after_steps s node.number k) at) z) from
     ∙ ap (λ (o : Option NodePart). option_map (decision s k told) (option_map (value_of_step node k) o)) (tested ∙ ap (tested_kind_part s node k) (sym own))
 own_so s node k step word (Pass w i r j passed) kind at source own tested is held from = absurd own
 
@@ -56,7 +56,7 @@ decided_before s node left k is e = ap (λ (o : Option Decision). newer_decision
 
 -- ---- causes
 
-code_sent : (told : Option Made) (flow : Flow) (value : Value) → port_code_source told flow ≡ Some value → sent_value told ≡ Some value
+code_sent : (told : Option Made) (flow : Flow) (value : Value) → port_code_source told flow ≡ Some value → source_of_sent_word told ≡ Some value
 code_sent told (Same part.Outside) value h = h
 code_sent told (Same (part.Data at)) value h = absurd (none-some _ h)
 code_sent told (Same (part.Return at)) value h = absurd (none-some _ h)
@@ -75,25 +75,25 @@ code_sent told (From parts) value h = absurd (none-some _ h)
 
 -- the step itself, and the value before it
 step_named : (s : State) (node : NodeId) (step k place : ℕ) (at : NodePart) → position_of_step (causes_of s) node.number step ≡ Some place → k ≤ step
-    → IsLoadedOrCause s (value_of_step node step top) (value_of_step node k at)
+    → IsLoadedOrCauseOfValue s (value_of_step node step top) (value_of_step node k at)
 step_named s node step k place at is less =
     let asked = value_of_step node step top in
     earlier s asked asked (value_of_step node k at) refl less (inr (record { cause = place; effect = place; cause_place = is; effect_place = is; depends = itself }))
 
 -- the value by which it was decided
 tested_named : (s : State) (node : NodeId) (step k place : ℕ) (told : Made) (value : Value) → position_of_step (causes_of s) node.number step ≡ Some place → suc k ≤ step
-    → slice_get (history_of s node.number) k ≡ Some told → tested_value_at s node k told ≡ Some value → IsLoadedOrCause s (value_of_step node step top) value
+    → slice_get (history_of s node.number) k ≡ Some told → tested_value_at s node k told ≡ Some value → IsLoadedOrCauseOfValue s (value_of_step node step top) value
 tested_named s node step k place (Own other j kind) value is less at h = go (tested_kind_part s node k kind) h
   where
-    go : (o : Option NodePart) → option_map (value_of_step node k) o ≡ Some value → IsLoadedOrCause s (value_of_step node step top) value
+    go : (o : Option NodePart) → option_map (value_of_step node k) o ≡ Some value → IsLoadedOrCauseOfValue s (value_of_step node step top) value
     go None e = absurd (none-some _ e)
-    go (Some tested) e = subst (IsLoadedOrCause s (value_of_step node step top)) (same_Some _ _ e) (step_named s node step k place tested is (omega (arith, less)))
+    go (Some tested) e = subst (IsLoadedOrCauseOfValue s (value_of_step node step top)) (same_Some _ _ e) (step_named s node step k place tested is (omega (arith, less)))
 tested_named s node step k place (Pass w i r j word) value is less at h =
     let asked = value_of_step node step top in
     let told = slice_get (history_of s node.number) k in
-    let sent = code_sent told (flow_at s node.number k part.I) value h in
+    let sent = code_sent told (value_flow_at_step s node.number k part.I) value h in
     let all = named_sender s asked (value_of_step node (suc k) top) k refl (step_named s node step (suc k) place top is less) told refl in
-    All-head (IsLoadedOrCause s asked) value [] (subst (λ (o : Option Value). All (IsLoadedOrCause s asked) (option_to_list o)) sent all)
+    All-head (IsLoadedOrCauseOfValue s asked) value [] (subst (λ (o : Option Value). All (IsLoadedOrCauseOfValue s asked) (option_to_list o)) sent all)
 
 -- a step as made, and the value that decided it
 record IsToldSo (s : State) (node : NodeId) (k : ℕ) (d : Decision) : Type 0 where
@@ -116,20 +116,20 @@ told_decided s node k d h = go (slice_get (history_of s node.number) k) refl h
     go (Some told) at e = told_so s node k d told at (tested_value_at s node k told) refl e
 
 pub step_cause : (s : State) (node : NodeId) (step k place : ℕ) (d : Decision) → position_of_step (causes_of s) node.number step ≡ Some place → k < step → decision_at s node k ≡ Some d
-    → IsCause s (value_of_step node d.step top) (value_of_step node step top)
+    → IsCauseOfValue s (value_of_step node d.step top) (value_of_step node step top)
 step_cause s node step k place d is less h =
     let asked = value_of_step node step top in
     let told = told_decided s node k d h in
     let cause = earlier_step s asked asked (value_of_step node (suc k) top) k refl refl (omega (arith, less)) (record { cause = place; effect = place; cause_place = is; effect_place = is; depends = itself }) in
-    subst (λ (x : Decision). IsCause s (value_of_step node x.step top) asked) told.same cause
+    subst (λ (x : Decision). IsCauseOfValue s (value_of_step node x.step top) asked) told.same cause
 
 pub source_cause : (s : State) (node : NodeId) (step k place : ℕ) (d : Decision) → position_of_step (causes_of s) node.number step ≡ Some place → k < step → decision_at s node k ≡ Some d
-    → IsLoadedOrCause s (value_of_step node step top) d.source
+    → IsLoadedOrCauseOfValue s (value_of_step node step top) d.source
 source_cause s node step k place d is less h =
     let asked = value_of_step node step top in
     let told = told_decided s node k d h in
     let named = named_origin s asked told.value (tested_named s node step k place told.made told.value is (omega (arith, less)) told.there told.tested) in
-    subst (λ (x : Decision). IsLoadedOrCause s asked x.source) told.same named
+    subst (λ (x : Decision). IsLoadedOrCauseOfValue s asked x.source) told.same named
 
 -- ---- the value that decided a step was only moved since it was made
 
@@ -150,7 +150,7 @@ opcode_part s node k o at h = absurd (none-some _ h)
 
 kind_part : (s : State) (node : NodeId) (k : ℕ) (what : OwnEventKind) (at : NodePart) → tested_kind_part s node k what ≡ Some at → IsNodePart at
 kind_part s node k kind.Fetch at h = absurd (none-some _ h)
-kind_part s node k (kind.Run code) at h = opcode_part s node k (op_of (code % 32)) at h
+kind_part s node k (kind.Run code) at h = opcode_part s node k (op_of_code (code % 32)) at h
 kind_part s node k kind.Wait at h = absurd (none-some _ h)
 kind_part s node k (kind.Stop number) at h = absurd (none-some _ h)
 
@@ -160,9 +160,9 @@ tested_part_of s node k (Own other j what) value h = go (tested_kind_part s node
     go : (o : Option NodePart) → tested_kind_part s node k what ≡ o → option_map (value_of_step node k) o ≡ Some value → IsNodePart value.part
     go None is e = absurd (none-some _ e)
     go (Some at) is e = subst (λ (v : Value). IsNodePart v.part) (same_Some _ _ e) (kind_part s node k what at is)
-tested_part_of s node k (Pass w i r j word) value h = go (slice_get (history_of s node.number) k) (code_sent (slice_get (history_of s node.number) k) (flow_at s node.number k part.I) value h)
+tested_part_of s node k (Pass w i r j word) value h = go (slice_get (history_of s node.number) k) (code_sent (slice_get (history_of s node.number) k) (value_flow_at_step s node.number k part.I) value h)
   where
-    go : (o : Option Made) → sent_value o ≡ Some value → IsNodePart value.part
+    go : (o : Option Made) → source_of_sent_word o ≡ Some value → IsNodePart value.part
     go None e = absurd (none-some _ e)
     go (Some (Own other j what)) e = absurd (none-some _ e)
     go (Some (Pass w i r j word)) e = subst (λ (v : Value). IsNodePart v.part) (same_Some _ _ e) (omega arith)

@@ -10,12 +10,12 @@ use Rattle.ga_event.specs.declared.made.Made.{Made}
 use Rattle.ga_event.specs.Touches.{touches}
 use Rattle.ga_event.specs.Told.{count_steps}
 use Rattle.ga_grid.specs.Chip.{record_at}
-use Rattle.ga_lab.specs.Machine.{State, NodeAtStep, node_at_step, chip_of, earlier, history_of}
+use Rattle.ga_lab.specs.Machine.{State, NodeAtStep, node_at_step, chip_of, earlier_state, history_of}
 use Rattle.ga_event.specs.declared.flow.part.NodePart.{NodePart}
 use Rattle.ga_event.specs.declared.flow.part.NodePart.TheVariants.{Data, Return, Ram, Rom, A, B, P, I, Io, Carry, Slot, Wait, Stop, Outside}
-use Rattle.ga_event.specs.Flow.{Flow, Same, IsNodePart, IsSource}
+use Rattle.ga_event.specs.Flow.{Flow, Same, IsNodePart, IsFlowSource}
 use Rattle.ga_provenance.specs.declared.value.Value.{Value}
-use Rattle.ga_provenance.specs.Origins.{place_after_steps, node_after, event_flow, optional_event_flow, flow_at, moved_source_part, moved_source_part_at, listed_part, value_of_step, origin_after_steps, origin_of}
+use Rattle.ga_provenance.specs.Origins.{place_after_steps, node_after_steps, event_flow, optional_event_flow, value_flow_at_step, moved_source_part, moved_source_part_at, listed_part, value_of_step, origin_after_steps, origin_of_value}
 use Rattle.std.proofs.lemmas.Option.{none-some}
 
 steps-cons : (n : ℕ) (e : Event) (es : List Event) → count_steps n (e ∷ es) ≡ cond (touches e n) 1 0 + count_steps n es
@@ -51,7 +51,7 @@ some_within (x ∷ xs) zero l h = none-some _ h
 some_within (x ∷ xs) (suc i) l h = some_within xs i (omega (arith, l)) h
 
 -- a part of a node is a source
-pub is_source : (at : NodePart) → IsNodePart at → IsSource at
+pub is_source : (at : NodePart) → IsNodePart at → IsFlowSource at
 is_source (Data k) is = is
 is_source (Return k) is = is
 is_source (Ram k) is = is
@@ -68,23 +68,23 @@ is_source Stop is = is
 is_source Outside is = absurd is
 
 -- past the steps of a node its parts stay
-pub flow_past : (s : State) (n k : ℕ) (at : NodePart) → length (history_of s n) ≤ k → Same at ≡ flow_at s n k at
-flow_past s n k at l = sym (ap (λ told. optional_event_flow told (node_after s n k) n at) (none_past (history_of s n) k l))
+pub flow_past : (s : State) (n k : ℕ) (at : NodePart) → length (history_of s n) ≤ k → Same at ≡ value_flow_at_step s n k at
+flow_past s n k at l = sym (ap (λ told. optional_event_flow told (node_after_steps s n k) n at) (none_past (history_of s n) k l))
 
 -- the flow at a step that exists
-pub flow_within : (s : State) (n k : ℕ) (at : NodePart) (told : Made) (before : NodeRecord) (flow : Flow) → Some told ≡ slice_get (history_of s n) k → before ≡ node_after s n k
-    → flow ≡ event_flow told before n at → flow ≡ flow_at s n k at
+pub flow_within : (s : State) (n k : ℕ) (at : NodePart) (told : Made) (before : NodeRecord) (flow : Flow) → Some told ≡ slice_get (history_of s n) k → before ≡ node_after_steps s n k
+    → flow ≡ event_flow told before n at → flow ≡ value_flow_at_step s n k at
 flow_within s n k at told before flow is node e =
-    e ∙ ap (λ (z : NodeRecord). event_flow told z n at) node ∙ ap (λ o. optional_event_flow o (node_after s n k) n at) is
+    e ∙ ap (λ (z : NodeRecord). event_flow told z n at) node ∙ ap (λ o. optional_event_flow o (node_after_steps s n k) n at) is
 
 -- a step that moved the value, and one that made it
 pub moved_on : (s : State) (node : NodeId) (k : ℕ) (at from : NodePart) → moved_source_part_at s node.number k at ≡ Some from → origin_after_steps s node (suc k) at ≡ origin_after_steps s node k from
-moved_on s node k at from e = ap (λ o. unwrap_or (option_map (origin_after_steps s node k) o) (value_of_step node (suc k) (listed_part (flow_at s node.number k at) at))) e
+moved_on s node k at from e = ap (λ o. unwrap_or (option_map (origin_after_steps s node k) o) (value_of_step node (suc k) (listed_part (value_flow_at_step s node.number k at) at))) e
 
-pub made_there : (s : State) (node : NodeId) (k : ℕ) (at : NodePart) → moved_source_part_at s node.number k at ≡ None → origin_after_steps s node (suc k) at ≡ value_of_step node (suc k) (listed_part (flow_at s node.number k at) at)
-made_there s node k at e = ap (λ o. unwrap_or (option_map (origin_after_steps s node k) o) (value_of_step node (suc k) (listed_part (flow_at s node.number k at) at))) e
+pub made_there : (s : State) (node : NodeId) (k : ℕ) (at : NodePart) → moved_source_part_at s node.number k at ≡ None → origin_after_steps s node (suc k) at ≡ value_of_step node (suc k) (listed_part (value_flow_at_step s node.number k at) at)
+made_there s node k at e = ap (λ o. unwrap_or (option_map (origin_after_steps s node k) o) (value_of_step node (suc k) (listed_part (value_flow_at_step s node.number k at) at))) e
 
-pub moved_so : (s : State) (n k : ℕ) (at : NodePart) (flow : Flow) (o : Option NodePart) → flow ≡ flow_at s n k at → o ≡ moved_source_part flow at → moved_source_part_at s n k at ≡ o
+pub moved_so : (s : State) (n k : ℕ) (at : NodePart) (flow : Flow) (o : Option NodePart) → flow ≡ value_flow_at_step s n k at → o ≡ moved_source_part flow at → moved_source_part_at s n k at ≡ o
 moved_so s n k at flow o is e = ap (λ (z : Flow). moved_source_part z at) (sym is) ∙ sym e
 
 -- the walk back continues, and ends at the step or at the load
@@ -92,7 +92,7 @@ pub back_on : (s : State) (node : NodeId) (step k : ℕ) (at from : NodePart) (v
     → origin_after_steps s node step at ≡ value → origin_after_steps s node k from ≡ value
 back_on s node step k at from value is moved same = sym (moved_on s node k at from (sym moved)) ∙ ap (λ (z : ℕ). origin_after_steps s node z at) is ∙ same
 
-pub back_end : (s : State) (node : NodeId) (step k : ℕ) (at told : NodePart) (flow : Flow) (value : Value) → suc k ≡ step → flow ≡ flow_at s node.number k at → None ≡ moved_source_part_at s node.number k at
+pub back_end : (s : State) (node : NodeId) (step k : ℕ) (at told : NodePart) (flow : Flow) (value : Value) → suc k ≡ step → flow ≡ value_flow_at_step s node.number k at → None ≡ moved_source_part_at s node.number k at
     → told ≡ listed_part flow at → origin_after_steps s node step at ≡ value → value_of_step node step told ≡ value
 back_end s node step k at told flow value is e moved part same =
     ap (λ (z : ℕ). value_of_step node z told) (sym is)
@@ -100,7 +100,7 @@ back_end s node step k at told flow value is e moved part same =
     ∙ sym (made_there s node k at (sym moved))
     ∙ ap (λ (z : ℕ). origin_after_steps s node z at) is ∙ same
 
-pub told_so : (s : State) (node : NodeId) (value told made : Value) → value.node ≡ node → told.node ≡ value.node → origin_of s told ≡ origin_of s value → origin_after_steps s node value.step value.part ≡ made
+pub told_so : (s : State) (node : NodeId) (value told made : Value) → value.node ≡ node → told.node ≡ value.node → origin_of_value s told ≡ origin_of_value s value → origin_after_steps s node value.step value.part ≡ made
     → origin_after_steps s node told.step told.part ≡ made
 told_so s node value told made is same e there =
     ap (λ (m : NodeId). origin_after_steps s m told.step told.part) (sym (same ∙ is)) ∙ e ∙ ap (λ (m : NodeId). origin_after_steps s m value.step value.part) is ∙ there
@@ -121,22 +121,22 @@ pub back_so : (s : State) (node : NodeId) (old new : NodeAtStep) → old ≡ nod
 back_so s node old new e f = f ∙ ap (λ (z : NodeAtStep). record z { step = old.step - 1 }) e
 
 pub then_of : (s : State) (node : NodeId) (walk : NodeAtStep) (behind : NodeRecord) → walk ≡ node_at_step s node walk.step → walk.step ≤ count_steps walk.node.number walk.machine.kept
-    → ((place : ℕ) → count_steps walk.node.number (take place walk.machine.kept) ≡ walk.step → behind ≡ record_at (chip_of (earlier walk.machine place)) walk.node.number)
-    → behind ≡ node_after s node.number walk.step
+    → ((place : ℕ) → count_steps walk.node.number (take place walk.machine.kept) ≡ walk.step → behind ≡ record_at (chip_of (earlier_state walk.machine place)) walk.node.number)
+    → behind ≡ node_after_steps s node.number walk.step
 then_of s node walk behind e within h =
     h (place_after_steps walk.machine.kept walk.node.number walk.step) (place_holds walk.machine.kept walk.node.number walk.step within)
-    ∙ ap (λ (z : NodeAtStep). node_after z.machine z.node.number walk.step) e
+    ∙ ap (λ (z : NodeAtStep). node_after_steps z.machine z.node.number walk.step) e
 
 -- the same for a walk at this step
 pub stood_of : (s : State) (node : NodeId) (walk : NodeAtStep) (step : ℕ) (behind : NodeRecord) → walk ≡ node_at_step s node step → step ≤ count_steps node.number s.kept
-    → ((place : ℕ) → count_steps walk.node.number (take place walk.machine.kept) ≡ walk.step → behind ≡ record_at (chip_of (earlier walk.machine place)) walk.node.number)
-    → behind ≡ node_after s node.number step
+    → ((place : ℕ) → count_steps walk.node.number (take place walk.machine.kept) ≡ walk.step → behind ≡ record_at (chip_of (earlier_state walk.machine place)) walk.node.number)
+    → behind ≡ node_after_steps s node.number step
 stood_of s node walk step behind e within h =
-    subst (λ (z : NodeAtStep). (place : ℕ) → count_steps z.node.number (take place z.machine.kept) ≡ z.step → behind ≡ record_at (chip_of (earlier z.machine place)) z.node.number) e h
+    subst (λ (z : NodeAtStep). (place : ℕ) → count_steps z.node.number (take place z.machine.kept) ≡ z.step → behind ≡ record_at (chip_of (earlier_state z.machine place)) z.node.number) e h
     (place_after_steps s.kept node.number step) (place_holds s.kept node.number step within)
 
-pub flow_none : (s : State) (n k j : ℕ) (at : NodePart) → None ≡ slice_get (history_of s n) j → j ≡ k → Same at ≡ flow_at s n k at
-flow_none s n k j at h e = ap (λ told. optional_event_flow told (node_after s n k) n at) (h ∙ ap (slice_get (history_of s n)) e)
+pub flow_none : (s : State) (n k j : ℕ) (at : NodePart) → None ≡ slice_get (history_of s n) j → j ≡ k → Same at ≡ value_flow_at_step s n k at
+flow_none s n k j at h e = ap (λ told. optional_event_flow told (node_after_steps s n k) n at) (h ∙ ap (slice_get (history_of s n)) e)
 
 -- what stays is passed over, and so is all past the steps of a node
 stays : (at : NodePart) → IsNodePart at → Some at ≡ moved_source_part (Same at) at

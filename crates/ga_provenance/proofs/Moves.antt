@@ -3,15 +3,15 @@ use Rattle.std.proofs.Common.{◌≡◌, ◌≢◌, ◌+◌, ◌-◌, ◌==◌, 
 use Rattle.std.specs.List.{slice_get}
 use Rattle.ga_slots.specs.declared.op.Op.{Op}
 use Rattle.ga_slots.specs.declared.op.Op.TheVariants as op
-use Rattle.ga_ports.specs.Address.{address_target, is_single_side, side_of}
-use Rattle.ga_ports.specs.declared.address.Target.{Target}
-use Rattle.ga_ports.specs.declared.address.Target.TheVariants as target
+use Rattle.ga_ports.specs.Address.{address_target, is_single_side, side_of_single_set}
+use Rattle.ga_ports.specs.declared.address.AddressTarget.{AddressTarget}
+use Rattle.ga_ports.specs.declared.address.AddressTarget.TheVariants as target
 use Rattle.ga_node.specs.Record.{NodeRecord}
 use Rattle.ga_node.specs.Changes.{Change}
-use Rattle.ga_node.specs.Table.{t, r, is_extended, next_action_of, found, stored, followed, wait_effect, stop_effect, with_kind, action_result, own_event, own}
+use Rattle.ga_node.specs.Table.{t, r, is_extended, next_action_of, target_read_result, target_write_result, with_following_changes, wait_effect, stop_effect, event_with_kind, action_result, own_event, own}
 use Rattle.ga_node.specs.declared.kind.OwnEventKind.{OwnEventKind}
 use Rattle.ga_node.specs.declared.kind.OwnEventKind.TheVariants as kind
-use Rattle.ga_node.specs.declared.seen.Seen.{Seen}
+use Rattle.ga_node.specs.declared.seen.SeenNeighbours.{SeenNeighbours}
 use Rattle.ga_node.specs.declared.due.NextAction.{NextAction}
 use Rattle.ga_node.specs.declared.due.NextAction.TheVariants as due
 use Rattle.ga_node.specs.declared.wait.Wait.TheVariants as wait
@@ -23,19 +23,19 @@ use Rattle.ga_event.specs.declared.made.Made.TheVariants as made
 use Rattle.ga_lab.specs.Machine.{State, history_of}
 use Rattle.ga_event.specs.declared.flow.part.NodePart.{NodePart}
 use Rattle.ga_event.specs.declared.flow.part.NodePart.TheVariants.{Data, Return, Ram, Rom, A, P, Wait, Stop, Outside}
-use Rattle.ga_event.specs.Flow.{Flow, Same, Move, PushData, PopData, SetP, SetA, SetI, SetIo, SetRam, SetWait, SetStop, GoOn, StartAgain, top, from, read_moves, write_moves, moves, action_moves, flows_after_moves, own_flow}
+use Rattle.ga_event.specs.Flow.{Flow, Same, FlowMove, PushData, PopData, SetP, SetA, SetI, SetIo, SetRam, SetWait, SetStop, GoOn, StartAgain, top, from, read_moves, write_moves, opcode_moves, action_moves, flows_after_moves, flow_of_own_event}
 use Rattle.ga_provenance.specs.declared.value.Value.{Value}
-use Rattle.ga_provenance.specs.Origins.{node_after, optional_event_flow, moved_source_part, moved_source_part_at, origin_after_steps, origin_of}
+use Rattle.ga_provenance.specs.Origins.{node_after_steps, optional_event_flow, moved_source_part, moved_source_part_at, origin_after_steps, origin_of_value}
 use Rattle.ga_provenance.specs.inner.{by_op, by_fetch, by_pause, by_kind, moved_by}
 use Rattle.ga_provenance.proofs.Made.{back_on}
 use Rattle.ga_provenance.proofs.Ran.{WasNext, ran_so}
 use Rattle.std.proofs.lemmas.Option.{none-some}
 
 -- with these moves the value came from there
-abbrev Moved : List Move → NodePart → NodePart → Type 0
+abbrev Moved : List FlowMove → NodePart → NodePart → Type 0
 Moved some at start = moved_source_part (flows_after_moves some Same at) at ≡ Some start
 
-by_test : (test : Bool) (some others : List Move) (at start : NodePart) → Moved some at start → Moved others at start → Moved (cond test some others) at start
+by_test : (test : Bool) (some others : List FlowMove) (at start : NodePart) → Moved some at start → Moved others at start → Moved (cond test some others) at start
 by_test true some others at start first second = first
 by_test false some others at start first second = second
 
@@ -64,9 +64,9 @@ stops Stop start h = absurd (none-some _ h)
 stops at start h = cc
 
 -- a read that gave a word
-by_read : (ran : OwnEventKind) (target : Target) (reader : ReadKind) (seen : Seen) (n : NodeRecord) (at start : NodePart) (changes : ℕ → List Change) (more : Flow → List Move)
-    → ((word : Flow) → by_kind ran at ≡ Some start → Moved (more word) at start) → by_kind (with_kind ran (followed (found target reader seen n) changes)).0 at ≡ Some start → Moved (read_moves target more) at start
-unfolding found followed
+by_read : (ran : OwnEventKind) (target : AddressTarget) (reader : ReadKind) (seen : SeenNeighbours) (n : NodeRecord) (at start : NodePart) (changes : ℕ → List Change) (more : Flow → List FlowMove)
+    → ((word : Flow) → by_kind ran at ≡ Some start → Moved (more word) at start) → by_kind (event_with_kind ran (with_following_changes (target_read_result target reader seen n) changes)).0 at ≡ Some start → Moved (read_moves target more) at start
+unfolding target_read_result with_following_changes
 by_read ran (target.Ram c) reader seen n at start changes more gave h = gave (Same (Ram c)) h
 by_read ran (target.Rom c) reader seen n at start changes more gave h = gave (Same (Rom c)) h
 by_read ran target.Io reader seen n at start changes more gave h = gave (Same Outside) h
@@ -86,20 +86,20 @@ fetch_b word (Data k) start h = by_place (k == 0) _ _ _ _ (Data k) start (λ g. 
 fetch_b word at start h = cc
 
 -- a write that was made: in RAM, in ROM or in `io`
-record Wrote (rest : List Move) (at start : NodePart) : Type 0 where
+record Wrote (rest : List FlowMove) (at start : NodePart) : Type 0 where
   in_ram : (c : ℕ) → Moved (SetRam c (Same top) ∷ rest) at start
   in_rom : Moved rest at start
   in_io : Moved (SetIo (Same top) ∷ rest) at start
 
-by_write : (ran : OwnEventKind) (target : Target) (n : NodeRecord) (at start : NodePart) (more : List Change) (rest : List Move)
-    → (by_kind ran at ≡ Some start → Wrote rest at start) → by_kind (with_kind ran (followed (stored target n) (λ changes. changes ++ more))).0 at ≡ Some start → Moved (write_moves target rest) at start
-unfolding stored followed
+by_write : (ran : OwnEventKind) (target : AddressTarget) (n : NodeRecord) (at start : NodePart) (more : List Change) (rest : List FlowMove)
+    → (by_kind ran at ≡ Some start → Wrote rest at start) → by_kind (event_with_kind ran (with_following_changes (target_write_result target n) (λ changes. changes ++ more))).0 at ≡ Some start → Moved (write_moves target rest) at start
+unfolding target_write_result with_following_changes
 by_write ran (target.Ram c) n at start more rest wrote h = (wrote h).in_ram c
 by_write ran (target.Rom c) n at start more rest wrote h = (wrote h).in_rom
 by_write ran target.Io n at start more rest wrote h = (wrote h).in_io
 by_write ran (target.Ports sides) n at start more rest wrote h = at_port (is_single_side sides) h
   where
-    at_port : (single : Bool) → by_kind (cond single (wait_effect (wait.Write (side_of sides))) (stop_effect 1)).0 at ≡ Some start
+    at_port : (single : Bool) → by_kind (cond single (wait_effect (wait.Write (side_of_single_set sides))) (stop_effect 1)).0 at ≡ Some start
         → Moved (cond single (SetWait ∷ []) (SetStop ∷ [])) at start
     at_port true g = waits at start g
     at_port false g = stops at start g
@@ -117,7 +117,7 @@ store_b : (at start : NodePart) → by_op op.StoreB at ≡ Some start → Wrote 
 store_b (Data k) start h = let up = up_data (k == 9) k (k + 1) start h in record { in_ram = λ c. up; in_rom = up; in_io = up }
 store_b at start h = record { in_ram = λ c. cc; in_rom = cc; in_io = cc }
 
-op_moves : (o : Op) (seen : Seen) (n : NodeRecord) (at start : NodePart) → by_kind (action_result (due.Run o) seen n).0 at ≡ Some start → Moved (moves o n) at start
+op_moves : (o : Op) (seen : SeenNeighbours) (n : NodeRecord) (at start : NodePart) → by_kind (action_result (due.Run o) seen n).0 at ≡ Some start → Moved (opcode_moves o n) at start
 op_moves op.Return seen n (Data k) start h = h
 op_moves op.Return seen n (Return k) start h = up_return (k == 8) k (k + 1) start h
 op_moves op.Return seen n at start h = cc
@@ -184,12 +184,12 @@ fetch_moves : (word : Flow) (at start : NodePart) → by_fetch at ≡ Some start
 fetch_moves word (Data k) start h = h
 fetch_moves word at start h = cc
 
-due_moves : (what : NextAction) (seen : Seen) (n : NodeRecord) (at start : NodePart) → by_kind (action_result what seen n).0 at ≡ Some start → Moved (action_moves what n) at start
+due_moves : (what : NextAction) (seen : SeenNeighbours) (n : NodeRecord) (at start : NodePart) → by_kind (action_result what seen n).0 at ≡ Some start → Moved (action_moves what n) at start
 due_moves due.Fetch seen n at start h = by_read kind.Fetch (address_target n.p) Instruction seen n at start _ (λ word. SetI word ∷ SetP (from P) ∷ StartAgain ∷ []) (λ word g. fetch_moves word at start g) h
 due_moves (due.Run o) seen n at start h = op_moves o seen n at start h
 
-own_moves : (seen : Seen) (n : NodeRecord) (at start : NodePart) → by_kind (own seen n).0 at ≡ Some start → moved_source_part (own_flow n at) at ≡ Some start
-unfolding own_flow own own_event
+own_moves : (seen : SeenNeighbours) (n : NodeRecord) (at start : NodePart) → by_kind (own seen n).0 at ≡ Some start → moved_source_part (flow_of_own_event n at) at ≡ Some start
+unfolding flow_of_own_event own own_event
 own_moves seen n at start h = due_moves (next_action_of n) seen n at start h
 
 told_moves : (told : Option Made) (before : NodeRecord) (n : ℕ) (at start : NodePart) → ((m : NodeId) (step : ℕ) (ran : OwnEventKind) → told ≡ Some (made.Own m step ran) → WasNext before ran)
@@ -201,11 +201,11 @@ told_moves (Some (made.Pass writer i reader j word)) before n at start next h = 
 -- of a step of a node
 moves_as_told : (s : State) (n k : ℕ) (at start : NodePart) (told : Option Made) → told ≡ slice_get (history_of s n) k → Some start ≡ moved_by told at → Some start ≡ moved_source_part_at s n k at
 moves_as_told s n k at start told tells is =
-    sym (told_moves (slice_get (history_of s n) k) (node_after s n k) n at start (λ m step ran h. ran_so s n k step m ran h) (ap (λ (z : Option Made). moved_by z at) (sym tells) ∙ sym is))
+    sym (told_moves (slice_get (history_of s n) k) (node_after_steps s n k) n at start (λ m step ran h. ran_so s n k step m ran h) (ap (λ (z : Option Made). moved_by z at) (sym tells) ∙ sym is))
 
 -- so a value that is followed back over it stays the same
 pub one_back : (s : State) (value : Value) (step : ℕ) (at from : NodePart) (told : Option Made) → step ≢ 0 → told ≡ slice_get (history_of s value.node.number) (step - 1) → Some from ≡ moved_by told at
-    → origin_after_steps s value.node step at ≡ origin_of s value → origin_after_steps s value.node (step - 1) from ≡ origin_of s value
+    → origin_after_steps s value.node step at ≡ origin_of_value s value → origin_after_steps s value.node (step - 1) from ≡ origin_of_value s value
 one_back s value step at from told some tells moved same =
     let is : suc (step - 1) ≡ step = omega (arith, some) in
-    back_on s value.node step (step - 1) at from (origin_of s value) is (moves_as_told s value.node.number (step - 1) at from told tells moved) same
+    back_on s value.node step (step - 1) at from (origin_of_value s value) is (moves_as_told s value.node.number (step - 1) at from told tells moved) same

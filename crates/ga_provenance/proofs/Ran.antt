@@ -5,10 +5,10 @@ use Rattle.std.specs.List.{slice_get}
 use Rattle.std.proofs.lemmas.Option.{same_Some, none-some}
 use Rattle.std.proofs.lemmas.Bool.{eqb-true}
 use Rattle.ga_node.specs.Record.{NodeRecord}
-use Rattle.ga_node.specs.Table.{t, own, sent, taken, Access, Plain, Reads, Writes, found, stored, followed, access_result, opcode_effect, fetch_access, next_action_of, wait_effect, stop_effect, with_kind, action_result, own_event}
+use Rattle.ga_node.specs.Table.{t, own, sent, taken, AddressAccess, Plain, Reads, Writes, target_read_result, target_write_result, with_following_changes, access_result, opcode_effect, fetch_access, next_action_of, wait_effect, stop_effect, event_with_kind, action_result, own_event}
 use Rattle.ga_node.specs.declared.kind.OwnEventKind.{OwnEventKind}
-use Rattle.ga_node.specs.declared.kind.NotReady.{NotReady}
-use Rattle.ga_node.specs.declared.seen.Seen.{Seen}
+use Rattle.ga_node.specs.declared.kind.EventRefusal.{EventRefusal}
+use Rattle.ga_node.specs.declared.seen.SeenNeighbours.{SeenNeighbours}
 use Rattle.ga_grid.specs.declared.node_id.NodeId.{NodeId}
 use Rattle.ga_grid.specs.Chip.{record_at}
 use Rattle.ga_event.specs.declared.event.Event.{Event}
@@ -21,13 +21,13 @@ use Rattle.ga_event.specs.Touches.{touches}
 use Rattle.ga_event.specs.Told.{made_event_after, made_events_after}
 use Rattle.ga_event.proofs.Locality.{apply_keeps}
 use Rattle.ga_lab.specs.Machine.{State, outcomes_of_run, history_of}
-use Rattle.ga_provenance.specs.Origins.{place_after_steps, node_after}
-use Rattle.ga_slots.specs.Codes.{code_of, op_of}
-use Rattle.ga_slots.proofs.Encoding.{op_of-code_of}
-use Rattle.ga_ports.specs.Address.{address_target, is_single_side, side_of}
+use Rattle.ga_provenance.specs.Origins.{place_after_steps, node_after_steps}
+use Rattle.ga_slots.specs.Codes.{code_of, op_of_code}
+use Rattle.ga_slots.proofs.Encoding.{op_of_code-code_of}
+use Rattle.ga_ports.specs.Address.{address_target, is_single_side, side_of_single_set}
 use Rattle.ga_ports.specs.declared.side.Side.{Side}
-use Rattle.ga_ports.specs.declared.address.Target.{Target}
-use Rattle.ga_ports.specs.declared.address.Target.TheVariants as target
+use Rattle.ga_ports.specs.declared.address.AddressTarget.{AddressTarget}
+use Rattle.ga_ports.specs.declared.address.AddressTarget.TheVariants as target
 use Rattle.ga_node.specs.Changes.{Change}
 use Rattle.ga_node.specs.declared.kind.OwnEventKind.TheVariants as kind
 use Rattle.ga_node.specs.declared.due.NextAction.{NextAction}
@@ -35,9 +35,9 @@ use Rattle.ga_node.specs.declared.due.NextAction.TheVariants as due
 use Rattle.ga_node.specs.declared.wait.Wait.TheVariants as wait
 use Rattle.ga_node.specs.declared.wait.ReadKind.{ReadKind}
 use Rattle.ga_node.specs.declared.wait.ReadKind.TheVariants.{Instruction, Stack}
-use Rattle.ga_event.specs.declared.flow.choice.Choice.{Choice}
+use Rattle.ga_event.specs.declared.flow.choice.ActionChoice.{ActionChoice}
 use Rattle.ga_event.specs.declared.flow.part.NodePart.{NodePart}
-use Rattle.ga_event.specs.Flow.{Same, choice, moves_by_choice, action_moves, flows_after_moves, flow_by_choice, own_flow}
+use Rattle.ga_event.specs.Flow.{Same, choice, moves_by_choice, action_moves, flows_after_moves, flow_by_choice, flow_of_own_event}
 use Rattle.ga_provenance.specs.inner.{IsDueBy}
 
 -- ---- a step of a node's own, as made, is what its next event was in the node before it
@@ -61,7 +61,7 @@ begins chip e es done h = at_first (refusal_of chip e) refl h
     at_rest None can runs is = absurd (cc)
     at_rest (Some rest) can runs is = record { rest = rest; can = can; runs = runs; is = sym (ap (λ (z : Ended). z.1) (same_Some _ _ is)); ends = sym (ap (λ (z : Ended). z.0) (same_Some _ _ is)) }
 
-    at_first : (why : Option NotReady) → refusal_of chip e ≡ why
+    at_first : (why : Option EventRefusal) → refusal_of chip e ≡ why
         → option_and_then {U = Ended} (λ first. option_map {U = Ended} (λ rest. (rest.0, (cause_of chip e, first.1) ∷ rest.1)) (run first.0 es)) (some_if_allowed why (after chip e)) ≡ Some done
         → Begins chip e es done
     at_first None can is = at_rest (run (after chip e).0 es) can refl is
@@ -74,7 +74,7 @@ front_of x (Some rest) = refl
 
 replay_on : (chip : List NodeRecord) (e : Event) (xs : List Event) → refusal_of chip e ≡ None → replay chip (e ∷ xs) ≡ replay (after chip e).0 xs
 replay_on chip e xs can =
-    ap (λ (why : Option NotReady). option_map (λ (z : Ended). z.0)
+    ap (λ (why : Option EventRefusal). option_map (λ (z : Ended). z.0)
     (option_and_then {U = Ended} (λ first. option_map {U = Ended} (λ rest. (rest.0, (cause_of chip e, first.1) ∷ rest.1)) (run first.0 xs)) (some_if_allowed why (after chip e)))) can
     ∙ front_of (cause_of chip e, (after chip e).1) (run (after chip e).0 xs)
 
@@ -82,7 +82,7 @@ replay_on chip e xs can =
 stays : (chip : List NodeRecord) (e : Event) (n : ℕ) → refusal_of chip e ≡ None → touches e n ≡ false → record_at chip n ≡ record_at (after chip e).0 n
 stays chip e n can other =
     let keeps : AgreeOutsideMarks (touches e) chip (after chip e).0 =
-    subst (λ (why : Option NotReady). IfSome (some_if_allowed why (after chip e)) (λ (done : List NodeRecord × EventOutcome). AgreeOutsideMarks (touches e) chip done.0)) can (apply_keeps chip e) in
+    subst (λ (why : Option EventRefusal). IfSome (some_if_allowed why (after chip e)) (λ (done : List NodeRecord × EventOutcome). AgreeOutsideMarks (touches e) chip done.0)) can (apply_keeps chip e) in
     keeps.same n other
 
 none_first : (es : List Event) (n : ℕ) → place_after_steps es n zero ≡ zero
@@ -95,7 +95,7 @@ empty_some (suc i) x h = none-some _ h
 
 -- a node that held this made an event of its own of this kind, and then held that, on a chip of all nodes
 record WentOwn (nodes : ℕ) (before behind : NodeRecord) (kind : OwnEventKind) : Type 0 where
-  seen : Seen
+  seen : SeenNeighbours
   ran : (own seen before).0 ≡ kind
   next : nodes ≡ 144 → behind ≡ (own seen before).1
 
@@ -115,7 +115,7 @@ touched_own : (chip : List NodeRecord) (node : NodeId) (n : ℕ) → touches (ev
     → WentOwn (length chip) (record_at chip n) (record_at (after chip (event.Own node)).0 n) (own (neighbour_states chip node.number) (record_at chip node.number)).0
 touched_own chip node n touched =
     let at : node.number ≡ n = number (node.number == n) refl touched in
-    let seen : Seen = neighbour_states chip node.number in
+    let seen : SeenNeighbours = neighbour_states chip node.number in
     record {
       seen = seen;
       ran = ap (λ (k : ℕ). (own seen (record_at chip k)).0) (sym at);
@@ -231,11 +231,11 @@ went chip (e ∷ es) before done n (suc k) x is h =
     (touches e n) (subst (λ z. slice_get (made_events_after before z n) (suc k) ≡ Some x) first.is h)
 
 went_so : (s : State) (n k : ℕ) (x : Made) → slice_get (history_of s n) k ≡ Some x
-    → Went (length s.load) n (node_after s n k) (node_after s n (suc k)) x
+    → Went (length s.load) n (node_after_steps s n k) (node_after_steps s n (suc k)) x
 went_so s n k x h = go (run s.load s.kept) refl h
   where
     go : (o : Option Ended) → run s.load s.kept ≡ o → slice_get (made_events_after [] (outcomes_of_run o) n) k ≡ Some x
-        → Went (length s.load) n (node_after s n k) (node_after s n (suc k)) x
+        → Went (length s.load) n (node_after_steps s n k) (node_after_steps s n (suc k)) x
     go None is at = absurd (empty_some k x at)
     go (Some done) is at = went s.load s.kept [] done n k x is at
 
@@ -255,27 +255,27 @@ whole_machine s chip leads size = go (run s.load s.kept) refl leads
 
 -- the next event of a node that held this was of this kind
 pub record WasNext (node : NodeRecord) (kind : OwnEventKind) : Type 0 where
-  pub seen : Seen
+  pub seen : SeenNeighbours
   pub is : (own seen node).0 ≡ kind
 
 -- the kind of a node's step, as made
-pub ran_so : (s : State) (n k step : ℕ) (m : NodeId) (kind : OwnEventKind) → slice_get (history_of s n) k ≡ Some (made.Own m step kind) → WasNext (node_after s n k) kind
-ran_so s n k step m kind h = let step_is : WentOwn (length s.load) (node_after s n k) (node_after s n (suc k)) kind = went_so s n k (made.Own m step kind) h in record { seen = step_is.seen; is = step_is.ran }
+pub ran_so : (s : State) (n k step : ℕ) (m : NodeId) (kind : OwnEventKind) → slice_get (history_of s n) k ≡ Some (made.Own m step kind) → WasNext (node_after_steps s n k) kind
+ran_so s n k step m kind h = let step_is : WentOwn (length s.load) (node_after_steps s n k) (node_after_steps s n (suc k)) kind = went_so s n k (made.Own m step kind) h in record { seen = step_is.seen; is = step_is.ran }
 
 -- and the node after it
 pub record Became (before behind : NodeRecord) (kind : OwnEventKind) : Type 0 where
-  pub seen : Seen
+  pub seen : SeenNeighbours
   pub ran : (own seen before).0 ≡ kind
   pub next : behind ≡ (own seen before).1
 
 pub became_so : (s : State) (n k step : ℕ) (m : NodeId) (kind : OwnEventKind) → length s.load ≡ 144 → slice_get (history_of s n) k ≡ Some (made.Own m step kind)
-    → Became (node_after s n k) (node_after s n (k + 1)) kind
+    → Became (node_after_steps s n k) (node_after_steps s n (k + 1)) kind
 became_so s n k step m kind whole h =
-    let step_is : WentOwn (length s.load) (node_after s n k) (node_after s n (suc k)) kind = went_so s n k (made.Own m step kind) h in
+    let step_is : WentOwn (length s.load) (node_after_steps s n k) (node_after_steps s n (suc k)) kind = went_so s n k (made.Own m step kind) h in
     record {
       seen = step_is.seen;
       ran = step_is.ran;
-      next = ap (node_after s n) (let e : k + 1 ≡ suc k = omega arith in e) ∙ step_is.next whole;
+      next = ap (node_after_steps s n) (let e : k + 1 ≡ suc k = omega arith in e) ∙ step_is.next whole;
     }
 
 -- a node after its half of a transfer to this reader
@@ -284,10 +284,10 @@ pub record Passed (n : ℕ) (before behind : NodeRecord) (reader : NodeId) : Typ
   pub took : n ≡ reader.number → behind ≡ taken word before
   pub gave : n ≢ reader.number → behind ≡ sent before
 
-pub passed_so : (s : State) (n k : ℕ) (w r : NodeId) (i j word : ℕ) → length s.load ≡ 144 → slice_get (history_of s n) k ≡ Some (made.Pass w i r j word) → Passed n (node_after s n k) (node_after s n (k + 1)) r
+pub passed_so : (s : State) (n k : ℕ) (w r : NodeId) (i j word : ℕ) → length s.load ≡ 144 → slice_get (history_of s n) k ≡ Some (made.Pass w i r j word) → Passed n (node_after_steps s n k) (node_after_steps s n (k + 1)) r
 passed_so s n k w r i j word whole h =
-    let step_is : WentPassing (length s.load) n (node_after s n k) (node_after s n (suc k)) r = went_so s n k (made.Pass w i r j word) h in
-    let there = ap (node_after s n) (let e : k + 1 ≡ suc k = omega arith in e) in
+    let step_is : WentPassing (length s.load) n (node_after_steps s n k) (node_after_steps s n (suc k)) r = went_so s n k (made.Pass w i r j word) h in
+    let there = ap (node_after_steps s n) (let e : k + 1 ≡ suc k = omega arith in e) in
     record { word = step_is.word; took = λ is. there ∙ step_is.took whole is; gave = λ other. there ∙ step_is.gave whole other }
 
 -- ---- what came next in a node, by the kind of its event
@@ -299,29 +299,29 @@ is_done (kind.Run code) = true
 is_done kind.Wait = false
 is_done (kind.Stop code) = false
 
-read_done : (ran did : OwnEventKind) (at : Target) (reader : ReadKind) (seen : Seen) (n : NodeRecord) (more : ℕ → List Change) → is_done did ≡ true
-    → (with_kind ran (followed (found at reader seen n) more)).0 ≡ did → ran ≡ did
-unfolding is_done found followed
+read_done : (ran did : OwnEventKind) (at : AddressTarget) (reader : ReadKind) (seen : SeenNeighbours) (n : NodeRecord) (more : ℕ → List Change) → is_done did ≡ true
+    → (event_with_kind ran (with_following_changes (target_read_result at reader seen n) more)).0 ≡ did → ran ≡ did
+unfolding is_done target_read_result with_following_changes
 read_done ran did (target.Ram c) reader seen n more done h = h
 read_done ran did (target.Rom c) reader seen n more done h = h
 read_done ran did target.Io reader seen n more done h = h
 read_done ran did (target.Ports sides) reader seen n more done h = absurd (cc)
 read_done ran did target.Bad reader seen n more done h = absurd (cc)
 
-write_done : (ran did : OwnEventKind) (at : Target) (n : NodeRecord) (more : List Change) → is_done did ≡ true
-    → (with_kind ran (followed (stored at n) (λ changes. changes ++ more))).0 ≡ did → ran ≡ did
-unfolding is_done stored followed
+write_done : (ran did : OwnEventKind) (at : AddressTarget) (n : NodeRecord) (more : List Change) → is_done did ≡ true
+    → (event_with_kind ran (with_following_changes (target_write_result at n) (λ changes. changes ++ more))).0 ≡ did → ran ≡ did
+unfolding is_done target_write_result with_following_changes
 write_done ran did (target.Ram c) n more done h = h
 write_done ran did (target.Rom c) n more done h = h
 write_done ran did target.Io n more done h = h
 write_done ran did (target.Ports sides) n more done h = absurd (at_port (is_single_side sides) h)
   where
-    at_port : (single : Bool) → (cond single (wait_effect (wait.Write (side_of sides))) (stop_effect 1)).0 ≡ did → ⊥
+    at_port : (single : Bool) → (cond single (wait_effect (wait.Write (side_of_single_set sides))) (stop_effect 1)).0 ≡ did → ⊥
     at_port true g = cc
     at_port false g = cc
 write_done ran did target.Bad n more done h = absurd (cc)
 
-all_done : (ran did : OwnEventKind) (reader : ReadKind) (access : Access) (seen : Seen) (n : NodeRecord) → is_done did ≡ true → (with_kind ran (access_result reader access seen n)).0 ≡ did → ran ≡ did
+all_done : (ran did : OwnEventKind) (reader : ReadKind) (access : AddressAccess) (seen : SeenNeighbours) (n : NodeRecord) → is_done did ≡ true → (event_with_kind ran (access_result reader access seen n)).0 ≡ did → ran ≡ did
 all_done ran did reader (Plain changes) seen n done h = h
 all_done ran did reader (Reads address more) seen n done h = read_done ran did (address_target address) reader seen n more done h
 all_done ran did reader (Writes address more) seen n done h = write_done ran did (address_target address) n more done h
@@ -333,18 +333,18 @@ code_in kind.Fetch = 32
 code_in kind.Wait = 32
 code_in (kind.Stop code) = 32
 
-run_is : (what : NextAction) (seen : Seen) (n : NodeRecord) (code : ℕ) → (action_result what seen n).0 ≡ kind.Run code → what ≡ due.Run (op_of code)
+run_is : (what : NextAction) (seen : SeenNeighbours) (n : NodeRecord) (code : ℕ) → (action_result what seen n).0 ≡ kind.Run code → what ≡ due.Run (op_of_code code)
 unfolding is_done code_in
 run_is due.Fetch seen n code h = let is = all_done kind.Fetch (kind.Run code) Instruction (fetch_access n) seen n refl h in absurd (cc)
 run_is (due.Run o) seen n code h =
-    ap due.Run (sym (op_of-code_of o) ∙ ap op_of (ap code_in (all_done (kind.Run (code_of o)) (kind.Run code) Stack (opcode_effect o n) seen n refl h)))
+    ap due.Run (sym (op_of_code-code_of o) ∙ ap op_of_code (ap code_in (all_done (kind.Run (code_of o)) (kind.Run code) Stack (opcode_effect o n) seen n refl h)))
 
-fetch_is : (what : NextAction) (seen : Seen) (n : NodeRecord) → (action_result what seen n).0 ≡ kind.Fetch → what ≡ due.Fetch
+fetch_is : (what : NextAction) (seen : SeenNeighbours) (n : NodeRecord) → (action_result what seen n).0 ≡ kind.Fetch → what ≡ due.Fetch
 unfolding is_done
 fetch_is due.Fetch seen n h = refl
 fetch_is (due.Run o) seen n h = let is = all_done (kind.Run (code_of o)) kind.Fetch Stack (opcode_effect o n) seen n refl h in absurd (cc)
 
-ran_op : (n : NodeRecord) (code : ℕ) → WasNext n (kind.Run code) → next_action_of n ≡ due.Run (op_of code)
+ran_op : (n : NodeRecord) (code : ℕ) → WasNext n (kind.Run code) → next_action_of n ≡ due.Run (op_of_code code)
 unfolding own own_event
 ran_op n code was = run_is (next_action_of n) was.seen n code was.is
 
@@ -359,15 +359,15 @@ due_was n kind.Wait what was is = absurd is
 due_was n (kind.Stop code) what was is = absurd is
 
 -- of a step of a node
-pub due_told : (s : State) (n k step : ℕ) (m : NodeId) (ran : OwnEventKind) (what : NextAction) → slice_get (history_of s n) k ≡ Some (made.Own m step ran) → IsDueBy ran what → next_action_of (node_after s n k) ≡ what
-due_told s n k step m ran what told is = due_was (node_after s n k) ran what (ran_so s n k step m ran told) is
+pub due_told : (s : State) (n k step : ℕ) (m : NodeId) (ran : OwnEventKind) (what : NextAction) → slice_get (history_of s n) k ≡ Some (made.Own m step ran) → IsDueBy ran what → next_action_of (node_after_steps s n k) ≡ what
+due_told s n k step m ran what told is = due_was (node_after_steps s n k) ran what (ran_so s n k step m ran told) is
 
 -- what decides what came next determines from where its values come
 by_due : (what : NextAction) (n : NodeRecord) (at : NodePart) → flows_after_moves (moves_by_choice what (choice what n)) Same at ≡ flows_after_moves (action_moves what n) Same at
 by_due due.Fetch n at = refl
 by_due (due.Run o) n at = refl
 
-pub own_where : (n : NodeRecord) (what : NextAction) (known : Choice) (at : NodePart) → next_action_of n ≡ what → known ≡ choice what n → flow_by_choice what known at ≡ own_flow n at
-unfolding flow_by_choice own_flow
+pub own_where : (n : NodeRecord) (what : NextAction) (known : ActionChoice) (at : NodePart) → next_action_of n ≡ what → known ≡ choice what n → flow_by_choice what known at ≡ flow_of_own_event n at
+unfolding flow_by_choice flow_of_own_event
 own_where n what known at next is =
-    ap (λ (z : Choice). flows_after_moves (moves_by_choice what z) Same at) is ∙ by_due what n at ∙ ap (λ (d : NextAction). flows_after_moves (action_moves d n) Same at) (sym next)
+    ap (λ (z : ActionChoice). flows_after_moves (moves_by_choice what z) Same at) is ∙ by_due what n at ∙ ap (λ (d : NextAction). flows_after_moves (action_moves d n) Same at) (sym next)

@@ -4,24 +4,24 @@ use Rattle.ga_node.specs.declared.place.Place.{Place}
 use Rattle.ga_node.specs.Record.{NodeRecord}
 use Rattle.ga_grid.specs.Chip.{record_at}
 use Rattle.ga_event.specs.Told.{count_steps}
-use Rattle.ga_lab.specs.Machine.{State, chip_of, earlier, history_of}
+use Rattle.ga_lab.specs.Machine.{State, chip_of, earlier_state, history_of}
 use Rattle.ga_lab.specs.Holding.{HoldsValue}
 use Rattle.ga_provenance.specs.declared.kept.TrackedPlace.{TrackedPlace}
 use Rattle.ga_provenance.specs.declared.kept.TrackedPlace.TheVariants.{A, B, Ram}
-use Rattle.ga_provenance.specs.Origins.{place_after_steps, node_after}
+use Rattle.ga_provenance.specs.Origins.{place_after_steps, node_after_steps}
 use Rattle.ga_provenance.specs.inner.{place_of, word_of, writes, rests_by, is_unchanged_by, IsWhole}
 use Rattle.ga_provenance.proofs.Made.{place_holds}
 use Rattle.std.specs.List.{slice_get}
 use Rattle.ga_slots.specs.declared.op.Op.{Op}
 use Rattle.ga_slots.specs.declared.op.Op.TheVariants as op
-use Rattle.ga_ports.specs.Address.{address_target, is_single_side, side_of}
-use Rattle.ga_ports.specs.declared.address.Target.{Target}
-use Rattle.ga_ports.specs.declared.address.Target.TheVariants as target
-use Rattle.ga_node.specs.Changes.{Change, SetA, SetB, SetRam, SetIo, SetWait, SetStop, node_after_change, after_changes}
-use Rattle.ga_node.specs.Table.{t, r, is_extended, next_action_of, found, stored, followed, wait_effect, stop_effect, reader_wait, with_kind, action_result, own_event, own}
+use Rattle.ga_ports.specs.Address.{address_target, is_single_side, side_of_single_set}
+use Rattle.ga_ports.specs.declared.address.AddressTarget.{AddressTarget}
+use Rattle.ga_ports.specs.declared.address.AddressTarget.TheVariants as target
+use Rattle.ga_node.specs.Changes.{Change, SetA, SetB, SetRam, SetIo, SetWait, SetStop, node_after_change, node_after_changes}
+use Rattle.ga_node.specs.Table.{t, r, is_extended, next_action_of, target_read_result, target_write_result, with_following_changes, wait_effect, stop_effect, reader_wait, event_with_kind, action_result, own_event, own}
 use Rattle.ga_node.specs.declared.kind.OwnEventKind.{OwnEventKind}
 use Rattle.ga_node.specs.declared.kind.OwnEventKind.TheVariants as kind
-use Rattle.ga_node.specs.declared.seen.Seen.{Seen}
+use Rattle.ga_node.specs.declared.seen.SeenNeighbours.{SeenNeighbours}
 use Rattle.ga_node.specs.declared.due.NextAction.{NextAction}
 use Rattle.ga_node.specs.declared.due.NextAction.TheVariants as due
 use Rattle.ga_node.specs.declared.wait.Wait.TheVariants as wait
@@ -35,14 +35,14 @@ use Rattle.ga_provenance.proofs.Ran.{became_so}
 
 -- the old value, if the step's entry has it
 pub held_old : (s : State) (n at old : ℕ) (what : Place) → at < count_steps n s.kept
-    → ((place : ℕ) → count_steps n (take place s.kept) ≡ at → HoldsValue (record_at (chip_of (earlier s place)) n) what old) → HoldsValue (node_after s n at) what old
+    → ((place : ℕ) → count_steps n (take place s.kept) ≡ at → HoldsValue (record_at (chip_of (earlier_state s place)) n) what old) → HoldsValue (node_after_steps s n at) what old
 held_old s n at old what within there = there (place_after_steps s.kept n at) (place_holds s.kept n at (omega (arith, within)))
 
 -- and where the step left it
 pub held_left : (s : State) (n at value : ℕ) (what : Place) → at + 1 ≤ count_steps n s.kept
     → ((before behind v : ℕ) → count_steps n (take before s.kept) ≡ at → count_steps n (take behind s.kept) ≡ at + 1
-    → HoldsValue (record_at (chip_of (earlier s behind)) n) what v → HoldsValue (record_at (chip_of (earlier s before)) n) what v)
-    → HoldsValue (node_after s n (at + 1)) what value → HoldsValue (node_after s n at) what value
+    → HoldsValue (record_at (chip_of (earlier_state s behind)) n) what v → HoldsValue (record_at (chip_of (earlier_state s before)) n) what v)
+    → HoldsValue (node_after_steps s n (at + 1)) what value → HoldsValue (node_after_steps s n at) what value
 held_left s n at value what within left held =
     left (place_after_steps s.kept n at) (place_after_steps s.kept n (at + 1)) value (place_holds s.kept n at (omega (arith, within))) (place_holds s.kept n (at + 1) within) held
 
@@ -80,7 +80,7 @@ stays change (Ram cell) n spares = refl
 
 -- after these changes it holds what it held
 abbrev Rest : TrackedPlace → List Change → NodeRecord → Type 0
-Rest kept changes n = word_of kept (after_changes changes n) ≡ word_of kept n
+Rest kept changes n = word_of kept (node_after_changes changes n) ≡ word_of kept n
 
 spared : (kept : TrackedPlace) (n : NodeRecord) (changes : List Change) → Spare changes kept → Rest kept changes n
 spared kept n [] spares = refl
@@ -94,26 +94,26 @@ by_test : (kept : TrackedPlace) (test : Bool) (some others : List Change) (n : N
 by_test kept true some others n first second = spared kept n some first
 by_test kept false some others n first second = spared kept n others second
 
-by_read : (kept : TrackedPlace) (ran : OwnEventKind) (target : Target) (reader : ReadKind) (seen : Seen) (n : NodeRecord) (more : ℕ → List Change)
-    → ((word : ℕ) → rests_by kept ran ≡ true → Spare (more word) kept) → RestBy kept (with_kind ran (followed (found target reader seen n) more)) n
-unfolding found followed
+by_read : (kept : TrackedPlace) (ran : OwnEventKind) (target : AddressTarget) (reader : ReadKind) (seen : SeenNeighbours) (n : NodeRecord) (more : ℕ → List Change)
+    → ((word : ℕ) → rests_by kept ran ≡ true → Spare (more word) kept) → RestBy kept (event_with_kind ran (with_following_changes (target_read_result target reader seen n) more)) n
+unfolding target_read_result with_following_changes
 by_read kept ran (target.Ram c) reader seen n more gave h = spared kept n _ (gave _ h)
 by_read kept ran (target.Rom c) reader seen n more gave h = spared kept n _ (gave _ h)
 by_read kept ran target.Io reader seen n more gave h = spared kept n _ (gave _ h)
 by_read kept ran (target.Ports sides) reader seen n more gave h = spared kept n (SetWait (reader_wait reader sides) ∷ []) (tt, tt)
 by_read kept ran target.Bad reader seen n more gave h = spared kept n (SetStop 2 ∷ []) (tt, tt)
 
-by_write : (kept : TrackedPlace) (ran : OwnEventKind) (target : Target) (n : NodeRecord) (more : List Change)
+by_write : (kept : TrackedPlace) (ran : OwnEventKind) (target : AddressTarget) (n : NodeRecord) (more : List Change)
     → ((cell : ℕ) → rests_by kept ran ≡ true → Spares (SetRam cell (t n)) kept) → (rests_by kept ran ≡ true → Spare more kept)
-    → RestBy kept (with_kind ran (followed (stored target n) (λ changes. changes ++ more))) n
-unfolding stored followed
+    → RestBy kept (event_with_kind ran (with_following_changes (target_write_result target n) (λ changes. changes ++ more))) n
+unfolding target_write_result with_following_changes
 by_write kept ran (target.Ram c) n more ram rest h = spared kept n (SetRam c (t n) ∷ more) (ram c h, rest h)
 by_write kept ran (target.Rom c) n more ram rest h = spared kept n more (rest h)
 by_write kept ran target.Io n more ram rest h = spared kept n (SetIo (t n) ∷ more) (tt, rest h)
 by_write kept ran (target.Ports sides) n more ram rest h = at_port (is_single_side sides)
   where
-    at_port : (single : Bool) → Rest kept (cond single (wait_effect (wait.Write (side_of sides))) (stop_effect 1)).1 n
-    at_port true = spared kept n (SetWait (wait.Write (side_of sides)) ∷ []) (tt, tt)
+    at_port : (single : Bool) → Rest kept (cond single (wait_effect (wait.Write (side_of_single_set sides))) (stop_effect 1)).1 n
+    at_port true = spared kept n (SetWait (wait.Write (side_of_single_set sides)) ∷ []) (tt, tt)
     at_port false = spared kept n (SetStop 1 ∷ []) (tt, tt)
 by_write kept ran target.Bad n more ram rest h = spared kept n (SetStop 2 ∷ []) (tt, tt)
 
@@ -133,7 +133,7 @@ no_ram A code cell is h = tt
 no_ram B code cell is h = tt
 no_ram (Ram other) code cell is h = absurd (cc)
 
-op_rests : (o : Op) (seen : Seen) (n : NodeRecord) (kept : TrackedPlace) → RestBy kept (action_result (due.Run o) seen n) n
+op_rests : (o : Op) (seen : SeenNeighbours) (n : NodeRecord) (kept : TrackedPlace) → RestBy kept (action_result (due.Run o) seen n) n
 op_rests op.Return seen n kept h = spared kept n (action_result (due.Run op.Return) seen n).1 (tt, (tt, (tt, tt)))
 op_rests op.Execute seen n kept h = spared kept n (action_result (due.Run op.Execute) seen n).1 (tt, (tt, (tt, tt)))
 op_rests op.Jump seen n kept h = spared kept n (action_result (due.Run op.Jump) seen n).1 (tt, (tt, tt))
@@ -167,24 +167,24 @@ op_rests op.Push seen n kept h = spared kept n (action_result (due.Run op.Push) 
 op_rests op.BStore seen n kept h = spared kept n (action_result (due.Run op.BStore) seen n).1 (no_b kept 30 refl h, (tt, (tt, tt)))
 op_rests op.AStore seen n kept h = spared kept n (action_result (due.Run op.AStore) seen n).1 (no_a kept 31 refl h, (tt, (tt, tt)))
 
-due_rests : (what : NextAction) (seen : Seen) (n : NodeRecord) (kept : TrackedPlace) → RestBy kept (action_result what seen n) n
+due_rests : (what : NextAction) (seen : SeenNeighbours) (n : NodeRecord) (kept : TrackedPlace) → RestBy kept (action_result what seen n) n
 due_rests due.Fetch seen n kept h = by_read kept kind.Fetch (address_target n.p) Instruction seen n _ (λ word g. (tt, (tt, (tt, tt)))) h
 due_rests (due.Run o) seen n kept h = op_rests o seen n kept h
 
-own_rests : (seen : Seen) (n : NodeRecord) (kept : TrackedPlace) → rests_by kept (own seen n).0 ≡ true → word_of kept (own seen n).1 ≡ word_of kept n
+own_rests : (seen : SeenNeighbours) (n : NodeRecord) (kept : TrackedPlace) → rests_by kept (own seen n).0 ≡ true → word_of kept (own seen n).1 ≡ word_of kept n
 unfolding own own_event
 own_rests seen n kept h = due_rests (next_action_of n) seen n kept h
 
 -- ---- of a step of a node
 
 told_rests : (s : State) (n k : ℕ) (kept : TrackedPlace) (told : Option Made) → IsWhole s → slice_get (history_of s n) k ≡ told → is_unchanged_by kept told ≡ true
-    → word_of kept (node_after s n (k + 1)) ≡ word_of kept (node_after s n k)
+    → word_of kept (node_after_steps s n (k + 1)) ≡ word_of kept (node_after_steps s n k)
 told_rests s n k kept None whole is h = absurd (cc)
 told_rests s n k kept (Some (made.Own m step ran)) whole is h =
     let became = became_so s n k step m ran whole is in
-    ap (word_of kept) became.next ∙ own_rests became.seen (node_after s n k) kept (ap (rests_by kept) became.ran ∙ h)
+    ap (word_of kept) became.next ∙ own_rests became.seen (node_after_steps s n k) kept (ap (rests_by kept) became.ran ∙ h)
 told_rests s n k kept (Some (made.Pass writer i reader j word)) whole is h = absurd (cc)
 
 pub word_rests : (s : State) (n k word : ℕ) (kept : TrackedPlace) (told : Option Made) → IsWhole s → told ≡ slice_get (history_of s n) k → is_unchanged_by kept told ≡ true
-    → word_of kept (node_after s n (k + 1)) ≡ word → word_of kept (node_after s n k) ≡ word
+    → word_of kept (node_after_steps s n (k + 1)) ≡ word → word_of kept (node_after_steps s n k) ≡ word
 word_rests s n k word kept told whole tells h behind = sym (told_rests s n k kept told whole (sym tells) h) ∙ behind

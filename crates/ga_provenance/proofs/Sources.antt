@@ -9,17 +9,17 @@ use Rattle.ga_grid.specs.declared.node_id.NodeId.{NodeId}
 use Rattle.ga_lab.specs.Machine.{State}
 use Rattle.ga_event.specs.declared.flow.part.NodePart.{NodePart}
 use Rattle.ga_event.specs.declared.flow.part.NodePart.TheVariants.{Data, Return, Ram, Rom, A, B, P, I, Io, Carry, Slot, Wait, Stop, Outside}
-use Rattle.ga_event.specs.Flow.{Flow, Same, From, top, AreParts, HasValidSources}
+use Rattle.ga_event.specs.Flow.{Flow, Same, From, top, AreNodeParts, HasValidSources}
 use Rattle.ga_provenance.specs.declared.value.Value.{Value}
 use Rattle.ga_provenance.specs.Origins.{value_of_step}
-use Rattle.ga_provenance.specs.Sources.{sent_value, source_values}
+use Rattle.ga_provenance.specs.Sources.{source_of_sent_word, source_values}
 use Rattle.ga_provenance.specs.inner.{IsOfPart}
 
-parts_stand : (node : NodeId) (k : ℕ) (parts : List NodePart) → AreParts parts → All IsOfPart (map (value_of_step node k) parts)
+parts_stand : (node : NodeId) (k : ℕ) (parts : List NodePart) → AreNodeParts parts → All IsOfPart (map (value_of_step node k) parts)
 parts_stand node k [] are = All-nil IsOfPart
 parts_stand node k (at ∷ rest) are = All-cons IsOfPart (value_of_step node k at) (map (value_of_step node k) rest) are.0 (parts_stand node k rest are.1)
 
-sender_stands : (told : Option Made) → All IsOfPart (option_to_list (sent_value told))
+sender_stands : (told : Option Made) → All IsOfPart (option_to_list (source_of_sent_word told))
 sender_stands None = All-nil IsOfPart
 sender_stands (Some (made.Own node step kind)) = All-nil IsOfPart
 sender_stands (Some (made.Pass w i r j word)) = All-cons IsOfPart (value_of_step w (i - 1) top) [] (omega arith) (All-nil IsOfPart)

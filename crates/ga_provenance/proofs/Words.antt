@@ -5,22 +5,22 @@ use Rattle.std.specs.List.{slice_get}
 use Rattle.std.proofs.lemmas.Option.{same_Some, none-some}
 use Rattle.std.proofs.lemmas.Bool.{eqb-true, eq-eqb}
 use Rattle.ga_stacks.specs.Ring.{words_after_push, words_after_pop, with_top}
-use Rattle.ga_node.specs.Record.{NodeRecord, HasSizes}
-use Rattle.ga_node.specs.Changes.{Change, PushData, PopData, SetTop, PopTo, PushReturn, PopReturn, SetTopReturn, SetRam, node_after_change, after_changes}
+use Rattle.ga_node.specs.Record.{NodeRecord, HasListSizes}
+use Rattle.ga_node.specs.Changes.{Change, PushData, PopData, SetTop, PopTo, PushReturn, PopReturn, SetTopReturn, SetRam, node_after_change, node_after_changes}
 use Rattle.ga_node.specs.Table.{own_event, own, send_changes, sent, take_changes, taken}
 use Rattle.ga_node.specs.Io.{io_word}
 use Rattle.ga_node.specs.declared.kind.OwnEventKind.{OwnEventKind}
-use Rattle.ga_node.specs.declared.seen.Seen.{Seen}
+use Rattle.ga_node.specs.declared.seen.SeenNeighbours.{SeenNeighbours}
 use Rattle.ga_event.specs.declared.made.Made.{Made}
 use Rattle.ga_event.specs.declared.made.Made.TheVariants as made
 use Rattle.ga_event.specs.declared.flow.part.NodePart.{NodePart}
 use Rattle.ga_event.specs.declared.flow.part.NodePart.TheVariants.{A, Carry, Outside}
-use Rattle.ga_event.specs.Flow.{Flow, Same, From, top, IsNodePart, part_value, own_flow, send_flow, take_flow, IsFlowOf}
+use Rattle.ga_event.specs.Flow.{Flow, Same, From, top, IsNodePart, part_value, flow_of_own_event, send_flow, take_flow, AreFlowValues}
 use Rattle.ga_event.proofs.Flowing.{own_flows, sent_flows, taken_flows}
 use Rattle.ga_grid.specs.declared.node_id.NodeId.{NodeId}
 use Rattle.ga_lab.specs.Machine.{State, history_of}
 use Rattle.ga_provenance.specs.declared.value.Value.{Value}
-use Rattle.ga_provenance.specs.Origins.{node_after, optional_event_flow, flow_at, moved_source_part, moved_source_part_at, is_three_part_flow, listed_part, is_made_with_t, value_of_step, origin_after_steps, origin_of}
+use Rattle.ga_provenance.specs.Origins.{node_after_steps, optional_event_flow, value_flow_at_step, moved_source_part, moved_source_part_at, is_three_part_flow, listed_part, is_made_with_a_or_carry, value_of_step, origin_after_steps, origin_of_value}
 use Rattle.ga_provenance.specs.inner.{IsWhole}
 use Rattle.ga_provenance.proofs.Ran.{became_so, passed_so}
 use Rattle.ga_provenance.proofs.Parts.{moved_part, sums_a, sums_carry}
@@ -43,7 +43,7 @@ topped_size : (word size : ℕ) (words : List ℕ) → 1 < size → length (with
 topped_size word size [] some is = absurd (omega (arith, some, is))
 topped_size word size (x ∷ xs) some is = is
 
-change_sizes : (change : Change) (n : NodeRecord) → HasSizes (node_after_change change n) → HasSizes n
+change_sizes : (change : Change) (n : NodeRecord) → HasListSizes (node_after_change change n) → HasListSizes n
 change_sizes (PushData word) n h = record { d = sym (pushed_size word n.d) ∙ h.d; r = h.r; ram = h.ram; rom = h.rom }
 change_sizes PopData n h = record { d = popped_size 2 10 n.d (omega arith) h.d; r = h.r; ram = h.ram; rom = h.rom }
 change_sizes (SetTop word) n h = record { d = topped_size word 10 n.d (omega arith) h.d; r = h.r; ram = h.ram; rom = h.rom }
@@ -55,19 +55,19 @@ change_sizes (SetTopReturn word) n h = record { d = h.d; r = topped_size word 9 
 change_sizes (SetRam cell word) n h = record { d = h.d; r = h.r; ram = sym (length-set n.ram cell word) ∙ h.ram; rom = h.rom }
 change_sizes change n h = record { d = h.d; r = h.r; ram = h.ram; rom = h.rom }
 
-changes_sizes : (changes : List Change) (n : NodeRecord) → HasSizes (after_changes changes n) → HasSizes n
+changes_sizes : (changes : List Change) (n : NodeRecord) → HasListSizes (node_after_changes changes n) → HasListSizes n
 changes_sizes [] n h = h
 changes_sizes (change ∷ rest) n h = change_sizes change n (changes_sizes rest (node_after_change change n) h)
 
-own_before : (seen : Seen) (n : NodeRecord) → HasSizes (own seen n).1 → HasSizes n
+own_before : (seen : SeenNeighbours) (n : NodeRecord) → HasListSizes (own seen n).1 → HasListSizes n
 unfolding own
 own_before seen n h = changes_sizes (own_event seen n).1 n h
 
-sent_before : (n : NodeRecord) → HasSizes (sent n) → HasSizes n
+sent_before : (n : NodeRecord) → HasListSizes (sent n) → HasListSizes n
 unfolding sent
 sent_before n h = changes_sizes send_changes n h
 
-taken_before : (word : ℕ) (n : NodeRecord) → HasSizes (taken word n) → HasSizes n
+taken_before : (word : ℕ) (n : NodeRecord) → HasListSizes (taken word n) → HasListSizes n
 unfolding taken
 taken_before word n h = changes_sizes (take_changes n.wait word) n h
 
@@ -84,7 +84,7 @@ picked : (b : Bool) (from start : NodePart) → cond b None (Some from) ≡ Some
 picked true from start h = absurd (none-some _ h)
 picked false from start h = same_Some _ _ h
 
-same_word : (word : ℕ) (n : NodeRecord) (flow : Flow) (x y : ℕ) (at start : NodePart) → moved_source_part flow at ≡ Some start → IsFlowOf word n word n flow x y → x ≡ part_value 0 n start
+same_word : (word : ℕ) (n : NodeRecord) (flow : Flow) (x y : ℕ) (at start : NodePart) → moved_source_part flow at ≡ Some start → AreFlowValues word n word n flow x y → x ≡ part_value 0 n start
 same_word word n (Same Outside) x y at start h comes = absurd (none-some _ h)
 same_word word n (Same from) x y at start h comes = comes.0 ∙ ap (part_value 0 n) (picked _ _ start h)
 same_word word n (From parts) x y at start h comes = absurd (none-some _ h)
@@ -93,24 +93,24 @@ same_word word n (From parts) x y at start h comes = absurd (none-some _ h)
 
 -- a node before a step has the sizes that it has after it, and a moved value has its word
 record Moves (s : State) (n k : ℕ) : Type 0 where
-  sizes : HasSizes (node_after s n (suc k)) → HasSizes (node_after s n k)
-  word : HasSizes (node_after s n k) → (at start : NodePart) → IsNodePart at → moved_source_part_at s n k at ≡ Some start
-      → part_value 0 (node_after s n (suc k)) at ≡ part_value 0 (node_after s n k) start
+  sizes : HasListSizes (node_after_steps s n (suc k)) → HasListSizes (node_after_steps s n k)
+  word : HasListSizes (node_after_steps s n k) → (at start : NodePart) → IsNodePart at → moved_source_part_at s n k at ≡ Some start
+      → part_value 0 (node_after_steps s n (suc k)) at ≡ part_value 0 (node_after_steps s n k) start
 
-next_place : (s : State) (n k : ℕ) → node_after s n (suc k) ≡ node_after s n (k + 1)
-next_place s n k = ap (node_after s n) (let e : suc k ≡ k + 1 = omega arith in e)
+next_place : (s : State) (n k : ℕ) → node_after_steps s n (suc k) ≡ node_after_steps s n (k + 1)
+next_place s n k = ap (node_after_steps s n) (let e : suc k ≡ k + 1 = omega arith in e)
 
 own_moves : (s : State) (n k step : ℕ) (m : NodeId) (kind : OwnEventKind) → IsWhole s → slice_get (history_of s n) k ≡ Some (made.Own m step kind) → Moves s n k
 own_moves s n k step m kind whole h =
     let step_is = became_so s n k step m kind whole h in
-    let before : NodeRecord = node_after s n k in
+    let before : NodeRecord = node_after_steps s n k in
     let next = next_place s n k ∙ step_is.next in
     record {
-      sizes = λ has. own_before step_is.seen before (subst HasSizes next has);
+      sizes = λ has. own_before step_is.seen before (subst HasListSizes next has);
       word = λ has at start is moved.
           ap (λ (z : NodeRecord). part_value 0 z at) next
           ∙ sym (word_free (io_word step_is.seen) (own step_is.seen before).1 at is)
-          ∙ same_word (io_word step_is.seen) before (own_flow before at) (part_value (io_word step_is.seen) (own step_is.seen before).1 at) (part_value (io_word step_is.seen) (own step_is.seen before).1 at) at start
+          ∙ same_word (io_word step_is.seen) before (flow_of_own_event before at) (part_value (io_word step_is.seen) (own step_is.seen before).1 at) (part_value (io_word step_is.seen) (own step_is.seen before).1 at) at start
           (ap (λ (o : Option Made). moved_source_part (optional_event_flow o before n at) at) (sym h) ∙ moved)
           (own_flows step_is.seen step_is.seen before before (record { due = refl; choice = refl }) has has at is);
     }
@@ -121,10 +121,10 @@ passed_moves s n k w r i j word whole h = go (n == r.number) refl
     go : (b : Bool) → (n == r.number) ≡ b → Moves s n k
     go true is =
         let step_is = passed_so s n k w r i j word whole h in
-        let before : NodeRecord = node_after s n k in
+        let before : NodeRecord = node_after_steps s n k in
         let next = next_place s n k ∙ step_is.took (eqb-true n r.number is) in
         record {
-          sizes = λ has. taken_before step_is.word before (subst HasSizes next has);
+          sizes = λ has. taken_before step_is.word before (subst HasListSizes next has);
           word = λ has at start part moved.
               ap (λ (z : NodeRecord). part_value 0 z at) next
               ∙ sym (word_free step_is.word (taken step_is.word before) at part)
@@ -134,11 +134,11 @@ passed_moves s n k w r i j word whole h = go (n == r.number) refl
         }
     go false is =
         let step_is = passed_so s n k w r i j word whole h in
-        let before : NodeRecord = node_after s n k in
+        let before : NodeRecord = node_after_steps s n k in
         let other : n ≢ r.number = (λ e. absurd (true_false (sym (eq-eqb n r.number e) ∙ is))) in
         let next = next_place s n k ∙ step_is.gave other in
         record {
-          sizes = λ has. sent_before before (subst HasSizes next has);
+          sizes = λ has. sent_before before (subst HasListSizes next has);
           word = λ has at start part moved.
               ap (λ (z : NodeRecord). part_value 0 z at) next
               ∙ same_word 0 before (send_flow at) (part_value 0 (sent before) at) (part_value 0 (sent before) at) at start
@@ -160,35 +160,35 @@ some_within (x ∷ xs) (suc i) l = some_within xs i (omega (arith, l))
 -- a value was made with this word in a part, which it is listed as, or as the T that was made with it
 record HasWord (s : State) (node : NodeId) (held : ℕ) (value : Value) : Type 0 where
   part : NodePart
-  word : held ≡ part_value 0 (node_after s node.number value.step) part
-  listed : (value.part ≡ part) ⊎ ((value.part ≡ top) × (is_made_with_t (slice_get (history_of s node.number) (value.step - 1)) ≡ true))
+  word : held ≡ part_value 0 (node_after_steps s node.number value.step) part
+  listed : (value.part ≡ part) ⊎ ((value.part ≡ top) × (is_made_with_a_or_carry (slice_get (history_of s node.number) (value.step - 1)) ≡ true))
 
 listed_as : (s : State) (n k : ℕ) (x : Made) (at : NodePart) → slice_get (history_of s n) k ≡ Some x
-    → (listed_part (flow_at s n k at) at ≡ at) ⊎ ((listed_part (flow_at s n k at) at ≡ top) × (is_made_with_t (slice_get (history_of s n) (suc k - 1)) ≡ true))
-listed_as s n k x A h = go (is_three_part_flow (flow_at s n k A)) refl
+    → (listed_part (value_flow_at_step s n k at) at ≡ at) ⊎ ((listed_part (value_flow_at_step s n k at) at ≡ top) × (is_made_with_a_or_carry (slice_get (history_of s n) (suc k - 1)) ≡ true))
+listed_as s n k x A h = go (is_three_part_flow (value_flow_at_step s n k A)) refl
   where
-    go : (b : Bool) → is_three_part_flow (flow_at s n k A) ≡ b → (cond b top A ≡ A) ⊎ ((cond b top A ≡ top) × (is_made_with_t (slice_get (history_of s n) (suc k - 1)) ≡ true))
-    go true is = inr (refl, ap (λ (z : ℕ). is_made_with_t (slice_get (history_of s n) z)) (let e : suc k - 1 ≡ k = omega arith in e) ∙ sums_a s n k x h is)
+    go : (b : Bool) → is_three_part_flow (value_flow_at_step s n k A) ≡ b → (cond b top A ≡ A) ⊎ ((cond b top A ≡ top) × (is_made_with_a_or_carry (slice_get (history_of s n) (suc k - 1)) ≡ true))
+    go true is = inr (refl, ap (λ (z : ℕ). is_made_with_a_or_carry (slice_get (history_of s n) z)) (let e : suc k - 1 ≡ k = omega arith in e) ∙ sums_a s n k x h is)
     go false is = inl refl
-listed_as s n k x Carry h = go (is_three_part_flow (flow_at s n k Carry)) refl
+listed_as s n k x Carry h = go (is_three_part_flow (value_flow_at_step s n k Carry)) refl
   where
-    go : (b : Bool) → is_three_part_flow (flow_at s n k Carry) ≡ b → (cond b top Carry ≡ Carry) ⊎ ((cond b top Carry ≡ top) × (is_made_with_t (slice_get (history_of s n) (suc k - 1)) ≡ true))
-    go true is = inr (refl, ap (λ (z : ℕ). is_made_with_t (slice_get (history_of s n) z)) (let e : suc k - 1 ≡ k = omega arith in e) ∙ sums_carry s n k x h is)
+    go : (b : Bool) → is_three_part_flow (value_flow_at_step s n k Carry) ≡ b → (cond b top Carry ≡ Carry) ⊎ ((cond b top Carry ≡ top) × (is_made_with_a_or_carry (slice_get (history_of s n) (suc k - 1)) ≡ true))
+    go true is = inr (refl, ap (λ (z : ℕ). is_made_with_a_or_carry (slice_get (history_of s n) z)) (let e : suc k - 1 ≡ k = omega arith in e) ∙ sums_carry s n k x h is)
     go false is = inl refl
 listed_as s n k x at h = inl refl
 
-has_word : (s : State) (node : NodeId) → IsWhole s → (step : ℕ) (at : NodePart) → step ≤ length (history_of s node.number) → IsNodePart at → HasSizes (node_after s node.number step)
-    → HasWord s node (part_value 0 (node_after s node.number step) at) (origin_after_steps s node step at)
+has_word : (s : State) (node : NodeId) → IsWhole s → (step : ℕ) (at : NodePart) → step ≤ length (history_of s node.number) → IsNodePart at → HasListSizes (node_after_steps s node.number step)
+    → HasWord s node (part_value 0 (node_after_steps s node.number step) at) (origin_after_steps s node step at)
 has_word s node whole zero at l is has = record { part = at; word = refl; listed = inl refl }
 has_word s node whole (suc k) at l is has =
     let made = some_within (history_of s node.number) k (omega (arith, l)) in
     go made.0 made.1 (step_moves s node.number k made.0 whole made.1) (has_word s node whole k) (moved_source_part_at s node.number k at) refl
   where
     go : (x : Made) → slice_get (history_of s node.number) k ≡ Some x → Moves s node.number k
-        → ((from : NodePart) → k ≤ length (history_of s node.number) → IsNodePart from → HasSizes (node_after s node.number k) → HasWord s node (part_value 0 (node_after s node.number k) from) (origin_after_steps s node k from))
+        → ((from : NodePart) → k ≤ length (history_of s node.number) → IsNodePart from → HasListSizes (node_after_steps s node.number k) → HasWord s node (part_value 0 (node_after_steps s node.number k) from) (origin_after_steps s node k from))
         → (o : Option NodePart) → moved_source_part_at s node.number k at ≡ o
-        → HasWord s node (part_value 0 (node_after s node.number (suc k)) at)
-        (unwrap_or (option_map (origin_after_steps s node k) o) (value_of_step node (suc k) (listed_part (flow_at s node.number k at) at)))
+        → HasWord s node (part_value 0 (node_after_steps s node.number (suc k)) at)
+        (unwrap_or (option_map (origin_after_steps s node k) o) (value_of_step node (suc k) (listed_part (value_flow_at_step s node.number k at) at)))
     go x told moves before None e = record { part = at; word = refl; listed = listed_as s node.number k x at told }
     go x told moves before (Some from) e =
         let sizes = moves.sizes has in
@@ -196,14 +196,14 @@ has_word s node whole (suc k) at l is has =
         record { part = on.part; word = moves.word sizes at from is e ∙ on.word; listed = on.listed }
 
 -- so it keeps its word, unless its step made T with it
-pub word_kept : (s : State) (value : Value) → IsWhole s → value.step ≤ length (history_of s value.node.number) → IsNodePart value.part → HasSizes (node_after s value.node.number value.step)
-    → ((origin_of s value).part ≡ top → is_made_with_t (slice_get (history_of s value.node.number) ((origin_of s value).step - 1)) ≡ false)
-    → part_value 0 (node_after s value.node.number value.step) value.part ≡ part_value 0 (node_after s value.node.number (origin_of s value).step) (origin_of s value).part
+pub word_kept : (s : State) (value : Value) → IsWhole s → value.step ≤ length (history_of s value.node.number) → IsNodePart value.part → HasListSizes (node_after_steps s value.node.number value.step)
+    → ((origin_of_value s value).part ≡ top → is_made_with_a_or_carry (slice_get (history_of s value.node.number) ((origin_of_value s value).step - 1)) ≡ false)
+    → part_value 0 (node_after_steps s value.node.number value.step) value.part ≡ part_value 0 (node_after_steps s value.node.number (origin_of_value s value).step) (origin_of_value s value).part
 word_kept s value whole l is has other = go (has_word s value.node whole value.step value.part l is has)
   where
-    go : HasWord s value.node (part_value 0 (node_after s value.node.number value.step) value.part) (origin_of s value)
-        → part_value 0 (node_after s value.node.number value.step) value.part ≡ part_value 0 (node_after s value.node.number (origin_of s value).step) (origin_of s value).part
+    go : HasWord s value.node (part_value 0 (node_after_steps s value.node.number value.step) value.part) (origin_of_value s value)
+        → part_value 0 (node_after_steps s value.node.number value.step) value.part ≡ part_value 0 (node_after_steps s value.node.number (origin_of_value s value).step) (origin_of_value s value).part
     go here = ⊎_elim
-        (λ same. here.word ∙ ap (part_value 0 (node_after s value.node.number (origin_of s value).step)) (sym same))
+        (λ same. here.word ∙ ap (part_value 0 (node_after_steps s value.node.number (origin_of_value s value).step)) (sym same))
         (λ with. absurd (true_false (sym with.1 ∙ other with.0)))
         here.listed

@@ -6,8 +6,8 @@ use Rattle.std.specs.List.{slice_get}
 use Rattle.ga_slots.specs.declared.op.Op.{Op}
 use Rattle.ga_slots.specs.declared.op.Op.TheVariants.{Return, Execute, Jump, Call, Unext, Next, If, MinusIf, FetchP, FetchPlus, FetchB, Fetch, StoreP, StorePlus, StoreB, Store, MultiplyStep, TwoStar, TwoSlash, Invert, Plus, And, Or, Drop, Dup, Pop, Over, A, Nop, Push, BStore, AStore}
 use Rattle.ga_ports.specs.Address.{address_target}
-use Rattle.ga_ports.specs.declared.address.Target.{Target}
-use Rattle.ga_ports.specs.declared.address.Target.TheVariants as target
+use Rattle.ga_ports.specs.declared.address.AddressTarget.{AddressTarget}
+use Rattle.ga_ports.specs.declared.address.AddressTarget.TheVariants as target
 use Rattle.ga_node.specs.Record.{NodeRecord}
 use Rattle.ga_node.specs.Table.{next_action_of}
 use Rattle.ga_node.specs.declared.due.NextAction.{NextAction}
@@ -24,11 +24,11 @@ use Rattle.ga_event.specs.Flow.{top, top_return}
 use Rattle.ga_provenance.specs.declared.asked.QueriedPart.{QueriedPart}
 use Rattle.ga_provenance.specs.declared.asked.QueriedPart.TheVariants.{PartAfter, PartBefore, Nothing}
 use Rattle.ga_provenance.specs.declared.value.Value.{Value}
-use Rattle.ga_provenance.specs.Origins.{value_of_step, node_after}
+use Rattle.ga_provenance.specs.Origins.{value_of_step, node_after_steps}
 
 -- The selected value of a read: the word that it left in a part. A read at a port or at no address becomes a wait or a stop,
 -- decided by the address.
-abbrev pub queried_read_part : NodePart → NodePart → Target → QueriedPart
+abbrev pub queried_read_part : NodePart → NodePart → AddressTarget → QueriedPart
 queried_read_part address there (target.Ram k) = PartAfter there
 queried_read_part address there (target.Rom k) = PartAfter there
 queried_read_part address there target.Io = PartAfter there
@@ -37,7 +37,7 @@ queried_read_part address there target.Bad = PartBefore address
 
 -- The selected value of a write: it leaves T in a cell or in `io`, and nothing in ROM; a wait or a stop is decided by the
 -- address.
-abbrev pub queried_write_part : NodePart → Target → QueriedPart
+abbrev pub queried_write_part : NodePart → AddressTarget → QueriedPart
 queried_write_part address (target.Ram k) = PartAfter (part.Ram k)
 queried_write_part address (target.Rom k) = Nothing
 queried_write_part address target.Io = PartAfter part.Io
@@ -104,7 +104,7 @@ queried_part_value node k Nothing = None
 
 abbrev pub queried_value_after : State → NodeId → ℕ → Option Value
 queried_value_after s node k =
-    option_and_then (λ told. queried_part_value node k (queried_event_part told (node_after s node.number k) node.number)) (slice_get (history_of s node.number) k)
+    option_and_then (λ told. queried_part_value node k (queried_event_part told (node_after_steps s node.number k) node.number)) (slice_get (history_of s node.number) k)
 
 -- the value that a step of a node selects, by the step's number, if the step exists
 abbrev pub queried_value : State → NodeId → ℕ → Option Value

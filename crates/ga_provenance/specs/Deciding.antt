@@ -2,7 +2,7 @@
 -- over a port to be carried out (F18A Technology Reference DB001, opcodes and port execution).
 use Rattle.std.specs.Prelude.{ℕ, zero, suc, ◌%◌, Bool, true, false, if◌then◌else◌, Option, Some, None, option_map, option_and_then, unwrap_or}
 use Rattle.std.specs.List.{slice_get}
-use Rattle.ga_slots.specs.Codes.{op_of}
+use Rattle.ga_slots.specs.Codes.{op_of_code}
 use Rattle.ga_slots.specs.declared.op.Op.{Op}
 use Rattle.ga_slots.specs.declared.op.Op.TheVariants.{Return, Execute, Jump, Call, Unext, Next, If, MinusIf}
 use Rattle.ga_node.specs.declared.kind.OwnEventKind.{OwnEventKind}
@@ -16,8 +16,8 @@ use Rattle.ga_event.specs.declared.flow.part.NodePart.TheVariants as part
 use Rattle.ga_event.specs.Flow.{Flow, Same, From, top, top_return, part_value}
 use Rattle.ga_provenance.specs.declared.value.Value.{Value}
 use Rattle.ga_provenance.specs.declared.deciding.Decision.{Decision}
-use Rattle.ga_provenance.specs.Origins.{value_of_step, node_after, flow_at, origin_of}
-use Rattle.ga_provenance.specs.Sources.{sent_value}
+use Rattle.ga_provenance.specs.Origins.{value_of_step, node_after_steps, value_flow_at_step, origin_of_value}
+use Rattle.ga_provenance.specs.Sources.{source_of_sent_word}
 
 -- the part before it that an opcode tests, or that it makes P of
 abbrev pub tested_part : Op → Option NodePart
@@ -31,12 +31,12 @@ tested_part _ = None
 
 -- the source of an instruction word that came over a port by a step of a node, as made: T of the writer before
 abbrev pub port_code_source : Option Made → Flow → Option Value
-port_code_source told (Same part.Outside) = sent_value told
+port_code_source told (Same part.Outside) = source_of_sent_word told
 port_code_source told (Same from) = None
 port_code_source told (From parts) = None
 
 abbrev pub port_code_source_at : State → ℕ → ℕ → Option Value
-port_code_source_at s n k = port_code_source (slice_get (history_of s n) k) (flow_at s n k part.I)
+port_code_source_at s n k = port_code_source (slice_get (history_of s n) k) (value_flow_at_step s n k part.I)
 
 -- whether a step, as made, brought an instruction word over a port: false for a fetch, which brought another; none if it left
 -- the word that was there
@@ -68,7 +68,7 @@ tested_opcode_part s node k op = tested_part op
 
 abbrev pub tested_kind_part : State → NodeId → ℕ → OwnEventKind → Option NodePart
 tested_kind_part s node k kind.Fetch = None
-tested_kind_part s node k (kind.Run code) = tested_opcode_part s node k (op_of (code % 32))
+tested_kind_part s node k (kind.Run code) = tested_opcode_part s node k (op_of_code (code % 32))
 tested_kind_part s node k kind.Wait = None
 tested_kind_part s node k (kind.Stop number) = None
 
@@ -79,11 +79,11 @@ tested_value_at s node k (made.Pass writer i reader j word) = port_code_source_a
 
 -- the word of the value that decided a step: the one in its part, or the transferred one
 abbrev pub tested_word : State → Made → Value → ℕ
-tested_word s (made.Own other step kind) value = part_value 0 (node_after s value.node.number value.step) value.part
+tested_word s (made.Own other step kind) value = part_value 0 (node_after_steps s value.node.number value.step) value.part
 tested_word s (made.Pass writer i reader j word) value = word
 
 abbrev pub decision : State → ℕ → Made → Value → Decision
-decision s k told value = record { step = suc k; made = told; tested = value; word = tested_word s told value; source = origin_of s value }
+decision s k told value = record { step = suc k; made = told; tested = value; word = tested_word s told value; source = origin_of_value s value }
 
 -- the step after k steps of a node, as made, if a value decided it
 abbrev pub step_decision : State → NodeId → ℕ → Made → Option Decision

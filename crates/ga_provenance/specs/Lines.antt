@@ -11,18 +11,18 @@ use Rattle.ga_lab.specs.Machine.{State, history_of}
 use Rattle.ga_provenance.specs.declared.value.Value.{Value}
 use Rattle.ga_provenance.specs.declared.lines.ProvenanceLine.{ProvenanceLine}
 use Rattle.ga_provenance.specs.declared.lines.UsedValue.{UsedValue}
-use Rattle.ga_provenance.specs.Origins.{value_of_step, origin_of, IsMovedValue}
+use Rattle.ga_provenance.specs.Origins.{value_of_step, origin_of_value, IsMovedValue}
 use Rattle.ga_provenance.specs.Sources.{is_same_value, value_sources}
 
 -- ---- provenance
 
 -- the values from which a value was made, as the steps made them
 abbrev pub source_origins : State → Value → List Value
-source_origins s value = map (origin_of s) (value_sources s value)
+source_origins s value = map (origin_of_value s) (value_sources s value)
 
 -- The provenance of a value: the value as a step made it, and with each value those from which it was made.
 pub data IsProvenance (s : State) (queried : Value) : Value → Type 0 where
-  origin : IsProvenance s queried (origin_of s queried)
+  origin : IsProvenance s queried (origin_of_value s queried)
   source : {value : Value} → IsProvenance s queried value → (source : Value) → Contains (source_origins s value) source → IsProvenance s queried source
 
 -- ---- runs
@@ -39,123 +39,123 @@ is_same_event (Some (made.Own node step kind)) (Some (made.Own other place more)
 is_same_event _ _ = false
 
 -- the step that made a value, as made
-abbrev pub making_event : State → Value → Option Made
-making_event s value = slice_get (history_of s value.node.number) (value.step - 1)
+abbrev pub event_that_made_value : State → Value → Option Made
+event_that_made_value s value = slice_get (history_of s value.node.number) (value.step - 1)
 
 -- whether two values are of one part, and were made by the same opcode, the second one earlier
-abbrev pub is_repetition : State → Value → Value → Bool
-is_repetition s value next =
+abbrev pub is_same_opcode_repetition : State → Value → Value → Bool
+is_same_opcode_repetition s value next =
     nat_lt 0 next.step && (nat_lt next.step value.step && ((value.node.number == next.node.number) && (is_equal_to value.part next.part
-    && is_same_event (making_event s value) (making_event s next))))
+    && is_same_event (event_that_made_value s value) (event_that_made_value s next))))
 
 -- whether each value is this one or among some others
-abbrev pub are_among : Value → List Value → List Value → Bool
-are_among value others values = list_all (λ it. is_same_value it value || list_any (is_same_value it) others) values
+abbrev pub are_values_among : Value → List Value → List Value → Bool
+are_values_among value others values = list_all (λ it. is_same_value it value || list_any (is_same_value it) others) values
 
 -- Whether the run of a value continues with another: that is an earlier repetition, and was made from all the other values from which
 -- the first one was made. So what a run was made from is among that from which its oldest value was made.
-abbrev pub is_next_in_run : State → Value → Value → Bool
-is_next_in_run s value next = is_repetition s value next && are_among next (source_origins s next) (source_origins s value)
+abbrev pub is_next_value_in_run : State → Value → Value → Bool
+is_next_value_in_run s value next = is_same_opcode_repetition s value next && are_values_among next (source_origins s next) (source_origins s value)
 
 -- the first such among those from which it was made
-abbrev pub next_in_run : State → Value → Option Value
-next_in_run s value = find (is_next_in_run s value) (source_origins s value)
+abbrev pub next_value_in_run : State → Value → Option Value
+next_value_in_run s value = find (is_next_value_in_run s value) (source_origins s value)
 
 -- ---- lines
 
 -- the value at a place of the run of a line, 0 for the newest, and the oldest one
-abbrev pub run_value : ProvenanceLine → ℕ → Value
-run_value line at = value_of_step line.value.node (line.value.step - at * line.period) line.value.part
+abbrev pub value_in_run_at : ProvenanceLine → ℕ → Value
+value_in_run_at line at = value_of_step line.value.node (line.value.step - at * line.period) line.value.part
 
-abbrev pub oldest_value : ProvenanceLine → Value
-oldest_value line = run_value line (line.count - 1)
+abbrev pub oldest_value_of_run : ProvenanceLine → Value
+oldest_value_of_run line = value_in_run_at line (line.count - 1)
 
 -- whether a value this number of steps before the newest is in the run of a line: at a whole number of periods
-abbrev pub is_at_period : ProvenanceLine → ℕ → Bool
-is_at_period line back = if line.period == 0 then back == 0 else (back % line.period == 0) && nat_lt (back / line.period) line.count
+abbrev pub is_at_run_period : ProvenanceLine → ℕ → Bool
+is_at_run_period line back = if line.period == 0 then back == 0 else (back % line.period == 0) && nat_lt (back / line.period) line.count
 
 -- whether a value is in the run of a line, and whether it is listed
-abbrev pub is_in_run : ProvenanceLine → Value → Bool
-is_in_run line value =
+abbrev pub is_value_in_run : ProvenanceLine → Value → Bool
+is_value_in_run line value =
     (line.value.node.number == value.node.number) && (is_equal_to line.value.part value.part && (nat_le value.step line.value.step
-    && is_at_period line (line.value.step - value.step)))
+    && is_at_run_period line (line.value.step - value.step)))
 
 abbrev pub is_value_listed : List ProvenanceLine → Value → Bool
-is_value_listed lines value = list_any (λ (line : ProvenanceLine). is_in_run line value) lines
+is_value_listed lines value = list_any (λ (line : ProvenanceLine). is_value_in_run line value) lines
 
 -- the number of values that follow one in a run, each a period before the last and not listed: at most `most`
-abbrev pub is_follower : List ProvenanceLine → ℕ → Value → Value → Bool
-is_follower lines period value next = (value.step - next.step == period) && not (is_value_listed lines next)
+abbrev pub is_follower_in_run : List ProvenanceLine → ℕ → Value → Value → Bool
+is_follower_in_run lines period value next = (value.step - next.step == period) && not (is_value_listed lines next)
 
-abbrev pub count_from : (Value → Bool) → (Value → ℕ) → Option Value → ℕ
-count_from follows count None = 0
-count_from follows count (Some next) = if follows next then suc (count next) else 0
+abbrev pub count_followers_from : (Value → Bool) → (Value → ℕ) → Option Value → ℕ
+count_followers_from follows count None = 0
+count_followers_from follows count (Some next) = if follows next then suc (count next) else 0
 
 abbrev pub count_followers : State → List ProvenanceLine → ℕ → ℕ → Value → ℕ
 count_followers s lines period zero value = 0
-count_followers s lines period (suc most) value = count_from (is_follower lines period value) (count_followers s lines period most) (next_in_run s value)
+count_followers s lines period (suc most) value = count_followers_from (is_follower_in_run lines period value) (count_followers s lines period most) (next_value_in_run s value)
 
 -- the number of steps to the next value of a run
-abbrev pub steps_to : Value → Option Value → ℕ
-steps_to value None = 0
-steps_to value (Some next) = value.step - next.step
+abbrev pub steps_to_next_value : Value → Option Value → ℕ
+steps_to_next_value value None = 0
+steps_to_next_value value (Some next) = value.step - next.step
 
 -- the line of a used value after these lines: the longest run of values that these don't list
-abbrev pub line_of_run : UsedValue → Value → ℕ → ℕ → ProvenanceLine
-line_of_run usage value period followers =
+abbrev pub provenance_line_of_run : UsedValue → Value → ℕ → ℕ → ProvenanceLine
+provenance_line_of_run usage value period followers =
     record { user = usage.user; value = value; used = usage.used; count = suc followers; period = if followers == 0 then 0 else period }
 
-abbrev pub run_of : State → List ProvenanceLine → UsedValue → Value → ℕ → ProvenanceLine
-run_of s lines usage value period = line_of_run usage value period (count_followers s lines period value.step value)
+abbrev pub run_line_of_value : State → List ProvenanceLine → UsedValue → Value → ℕ → ProvenanceLine
+run_line_of_value s lines usage value period = provenance_line_of_run usage value period (count_followers s lines period value.step value)
 
-abbrev pub line_of : State → List ProvenanceLine → UsedValue → ProvenanceLine
-line_of s lines usage = run_of s lines usage (origin_of s usage.used) (steps_to (origin_of s usage.used) (next_in_run s (origin_of s usage.used)))
+abbrev pub provenance_line_of_use : State → List ProvenanceLine → UsedValue → ProvenanceLine
+provenance_line_of_use s lines usage = run_line_of_value s lines usage (origin_of_value s usage.used) (steps_to_next_value (origin_of_value s usage.used) (next_value_in_run s (origin_of_value s usage.used)))
 
 -- ---- listings
 
 -- values that the line with this number used, and those that lines used from this number on: those from which the oldest value of
 -- each was made
-abbrev pub used_by : ℕ → List Value → List UsedValue
-used_by user values = map (λ (value : Value). record { user = user; used = value }) values
+abbrev pub values_used_by_line : ℕ → List Value → List UsedValue
+values_used_by_line user values = map (λ (value : Value). record { user = user; used = value }) values
 
-abbrev pub values_used : State → ℕ → List ProvenanceLine → List UsedValue
-values_used s user [] = []
-values_used s user (line ∷ lines) = used_by user (value_sources s (oldest_value line)) ++ values_used s (suc user) lines
+abbrev pub values_used_by_lines : State → ℕ → List ProvenanceLine → List UsedValue
+values_used_by_lines s user [] = []
+values_used_by_lines s user (line ∷ lines) = values_used_by_line user (value_sources s (oldest_value_of_run line)) ++ values_used_by_lines s (suc user) lines
 
 -- the values that a listing of a value has to list: this value, and those that its lines used
 abbrev pub values_to_list : State → Value → List ProvenanceLine → List UsedValue
-values_to_list s value lines = record { user = 0; used = value } ∷ values_used s 1 lines
+values_to_list s value lines = record { user = 0; used = value } ∷ values_used_by_lines s 1 lines
 
 -- the first of them that these lines don't list
-abbrev pub is_unlisted : State → List ProvenanceLine → UsedValue → Bool
-is_unlisted s lines usage = not (is_value_listed lines (origin_of s usage.used))
+abbrev pub is_unlisted_use : State → List ProvenanceLine → UsedValue → Bool
+is_unlisted_use s lines usage = not (is_value_listed lines (origin_of_value s usage.used))
 
-abbrev pub next_use : State → Value → List ProvenanceLine → Option UsedValue
-next_use s value lines = find (is_unlisted s lines) (values_to_list s value lines)
+abbrev pub next_unlisted_use : State → Value → List ProvenanceLine → Option UsedValue
+next_unlisted_use s value lines = find (is_unlisted_use s lines) (values_to_list s value lines)
 
 -- The first `count` lines of a value: each next one is the line of the first value that is used and isn't listed. So lines of values that are
 -- fewer steps of provenance away come first.
-abbrev pub with_next_line : State → List ProvenanceLine → Option UsedValue → List ProvenanceLine
-with_next_line s lines usage = lines ++ option_to_list (option_map (line_of s lines) usage)
+abbrev pub with_next_provenance_line : State → List ProvenanceLine → Option UsedValue → List ProvenanceLine
+with_next_provenance_line s lines usage = lines ++ option_to_list (option_map (provenance_line_of_use s lines) usage)
 
-abbrev pub first_lines : State → Value → ℕ → List ProvenanceLine
-first_lines s value zero = []
-first_lines s value (suc count) = with_next_line s (first_lines s value count) (next_use s value (first_lines s value count))
+abbrev pub first_provenance_lines : State → Value → ℕ → List ProvenanceLine
+first_provenance_lines s value zero = []
+first_provenance_lines s value (suc count) = with_next_provenance_line s (first_provenance_lines s value count) (next_unlisted_use s value (first_provenance_lines s value count))
 
 -- the first lines of a value, and whether they are all
-pub record AreLinesOf (s : State) (value : Value) (lines : List ProvenanceLine) (is_whole : Bool) : Type 0 where
-  pub first : lines ≡ first_lines s value (length lines)
-  pub whole : is_whole ≡ is_none (next_use s value lines)
+pub record AreProvenanceLinesOf (s : State) (value : Value) (lines : List ProvenanceLine) (is_whole : Bool) : Type 0 where
+  pub first : lines ≡ first_provenance_lines s value (length lines)
+  pub whole : is_whole ≡ is_none (next_unlisted_use s value lines)
 
 -- the value of a line was only moved between the step that made it and its use
-abbrev pub IsMovedLine : State → ProvenanceLine → Type 0
-IsMovedLine s line = IsMovedValue s line.value line.used
+abbrev pub IsLineOfMovedValue : State → ProvenanceLine → Type 0
+IsLineOfMovedValue s line = IsMovedValue s line.value line.used
 
 -- ---- laws
 
 -- a value at a place of a line's run
-pub record IsListedAt (lines : List ProvenanceLine) (line at : ℕ) (value : Value) : Type 0 where
+pub record IsValueListedAt (lines : List ProvenanceLine) (line at : ℕ) (value : Value) : Type 0 where
   pub found : ProvenanceLine
   pub there : slice_get lines line ≡ Some found
   pub within : at < found.count
-  pub same : run_value found at ≡ value
+  pub same : value_in_run_at found at ≡ value

@@ -11,10 +11,10 @@ use Rattle.ga_event.specs.declared.event.Event.{Event}
 use Rattle.ga_event.specs.declared.made.Made.{Made}
 use Rattle.ga_event.specs.declared.made.Made.TheVariants as made
 use Rattle.ga_event.specs.Touches.{touches}
-use Rattle.ga_lab.specs.Machine.{State, chip_of, earlier, history_of}
+use Rattle.ga_lab.specs.Machine.{State, chip_of, earlier_state, history_of}
 use Rattle.ga_event.specs.declared.flow.part.NodePart.{NodePart}
 use Rattle.ga_event.specs.declared.flow.part.NodePart.TheVariants as part
-use Rattle.ga_event.specs.Flow.{Flow, Same, From, IsNodePart, top, own_flow, send_flow, take_flow}
+use Rattle.ga_event.specs.Flow.{Flow, Same, From, IsNodePart, top, flow_of_own_event, send_flow, take_flow}
 use Rattle.ga_provenance.specs.declared.value.Value.{Value}
 
 -- the number of first events that contain k steps of a node, and the node after these
@@ -23,12 +23,12 @@ place_after_steps [] n k = 0
 place_after_steps (e ∷ es) n zero = 0
 place_after_steps (e ∷ es) n (suc k) = suc (place_after_steps es n (if touches e n then k else suc k))
 
-abbrev pub node_after : State → ℕ → ℕ → NodeRecord
-node_after s n k = record_at (chip_of (earlier s (place_after_steps s.kept n k))) n
+abbrev pub node_after_steps : State → ℕ → ℕ → NodeRecord
+node_after_steps s n k = record_at (chip_of (earlier_state s (place_after_steps s.kept n k))) n
 
 -- the source of the value that an event, as made, leaves in a part of a node, by the node before
 abbrev pub event_flow : Made → NodeRecord → ℕ → NodePart → Flow
-event_flow (made.Own node step kind) before n at = own_flow before at
+event_flow (made.Own node step kind) before n at = flow_of_own_event before at
 event_flow (made.Pass writer i reader j word) before n at = if n == reader.number then take_flow before.wait at else send_flow at
 
 abbrev pub optional_event_flow : Option Made → NodeRecord → ℕ → NodePart → Flow
@@ -36,8 +36,8 @@ optional_event_flow None before n at = Same at
 optional_event_flow (Some told) before n at = event_flow told before n at
 
 -- the source of the value that the step after k steps of a node leaves in a part; past its steps each value stays
-abbrev pub flow_at : State → ℕ → ℕ → NodePart → Flow
-flow_at s n k at = optional_event_flow (slice_get (history_of s n) k) (node_after s n k) n at
+abbrev pub value_flow_at_step : State → ℕ → ℕ → NodePart → Flow
+value_flow_at_step s n k at = optional_event_flow (slice_get (history_of s n) k) (node_after_steps s n k) n at
 
 -- whether a part is a cell of memory; and whether a value that moves from a part to another is read from memory or stored there
 abbrev pub is_memory_part : NodePart → Bool
@@ -66,32 +66,32 @@ listed_part flow part.Carry = if is_three_part_flow flow then top else part.Carr
 listed_part flow at = at
 
 -- whether a step, as made, may have made T with A or the carry: `+*`, and `+`
-abbrev pub is_made_with_t_by : OwnEventKind → Bool
-is_made_with_t_by (kind.Run code) = code == 16 || code == 20
-is_made_with_t_by _ = false
+abbrev pub makes_t_with_a_or_carry : OwnEventKind → Bool
+makes_t_with_a_or_carry (kind.Run code) = code == 16 || code == 20
+makes_t_with_a_or_carry _ = false
 
-abbrev pub is_made_with_t : Option Made → Bool
-is_made_with_t None = false
-is_made_with_t (Some (made.Own node step kind)) = is_made_with_t_by kind
-is_made_with_t (Some (made.Pass writer i reader j word)) = false
+abbrev pub is_made_with_a_or_carry : Option Made → Bool
+is_made_with_a_or_carry None = false
+is_made_with_a_or_carry (Some (made.Own node step kind)) = makes_t_with_a_or_carry kind
+is_made_with_a_or_carry (Some (made.Pass writer i reader j word)) = false
 
 -- the value that a step made, or one at load
 abbrev pub value_of_step : NodeId → ℕ → NodePart → Value
 value_of_step node step at = record { node = node; step = step; part = at }
 
 abbrev pub moved_source_part_at : State → ℕ → ℕ → NodePart → Option NodePart
-moved_source_part_at s n k at = moved_source_part (flow_at s n k at) at
+moved_source_part_at s n k at = moved_source_part (value_flow_at_step s n k at) at
 
 -- the origin of the value in a part after a number of steps of the node
 abbrev pub origin_after_steps : State → NodeId → ℕ → NodePart → Value
 origin_after_steps s node zero at = value_of_step node 0 at
 origin_after_steps s node (suc k) at =
     unwrap_or (option_map (origin_after_steps s node k) (moved_source_part_at s node.number k at))
-    (value_of_step node (suc k) (listed_part (flow_at s node.number k at) at))
+    (value_of_step node (suc k) (listed_part (value_flow_at_step s node.number k at) at))
 
-abbrev pub origin_of : State → Value → Value
-origin_of s value = origin_after_steps s value.node value.step value.part
+abbrev pub origin_of_value : State → Value → Value
+origin_of_value s value = origin_after_steps s value.node value.step value.part
 
 -- a value was only moved between the step that made it and its use
 abbrev pub IsMovedValue : State → Value → Value → Type 0
-IsMovedValue s value used = (origin_of s used ≡ value) × IsNodePart used.part
+IsMovedValue s value used = (origin_of_value s used ≡ value) × IsNodePart used.part

@@ -10,12 +10,12 @@ use Rattle.ga_grid.specs.declared.node_id.NodeId.{NodeId}
 use Rattle.ga_event.specs.declared.made.Made.{Made}
 use Rattle.ga_event.specs.declared.flow.part.NodePart.{NodePart}
 use Rattle.ga_event.specs.Flow.{Flow, Same, From, top, is_equal_to}
-use Rattle.ga_provenance.specs.Origins.{value_of_step, flow_at}
+use Rattle.ga_provenance.specs.Origins.{value_of_step, value_flow_at_step}
 
 -- ---- values whose steps are causes of another's (Danos and Krivine, "Reversible Communicating Systems", 2004)
 
 -- the step of the second value, which is in the history, depends on that of the first
-pub record IsCause (s : State) (earlier later : Value) : Type 0 where
+pub record IsCauseOfValue (s : State) (earlier later : Value) : Type 0 where
   pub cause : ℕ
   pub effect : ℕ
   pub cause_place : position_of_step (causes_of s) earlier.node.number earlier.step ≡ Some cause
@@ -23,23 +23,23 @@ pub record IsCause (s : State) (earlier later : Value) : Type 0 where
   pub depends : DependsOn (causes_of s) cause effect
 
 -- a value that was loaded, or whose step is a cause of the queried one's
-abbrev pub IsLoadedOrCause : State → Value → Value → Type 0
-IsLoadedOrCause s asked value = (value.step ≡ 0) ⊎ IsCause s value asked
+abbrev pub IsLoadedOrCauseOfValue : State → Value → Value → Type 0
+IsLoadedOrCauseOfValue s asked value = (value.step ≡ 0) ⊎ IsCauseOfValue s value asked
 
 -- whether two values are one
 abbrev pub is_same_value : Value → Value → Bool
 is_same_value value other = (value.node.number == other.node.number) && ((value.step == other.step) && is_equal_to value.part other.part)
 
 -- what a word came from that an event carried: T of the writer before
-abbrev pub sent_value : Option Made → Option Value
-sent_value (Some (made.Pass writer i reader j word)) = Some (value_of_step writer (i - 1) top)
-sent_value (Some (made.Own node step kind)) = None
-sent_value None = None
+abbrev pub source_of_sent_word : Option Made → Option Value
+source_of_sent_word (Some (made.Pass writer i reader j word)) = Some (value_of_step writer (i - 1) top)
+source_of_sent_word (Some (made.Own node step kind)) = None
+source_of_sent_word None = None
 
 -- the values from which one comes that the step after k steps of a node made: over a link, or in the node before. A word that a
 -- read of `io` shows comes from none.
 abbrev pub source_values : NodeId → ℕ → Option Made → Flow → List Value
-source_values node k told (Same part.Outside) = option_to_list (sent_value told)
+source_values node k told (Same part.Outside) = option_to_list (source_of_sent_word told)
 source_values node k told (Same from) = value_of_step node k from ∷ []
 source_values node k told (From parts) = map (value_of_step node k) parts
 
@@ -47,7 +47,7 @@ source_values node k told (From parts) = map (value_of_step node k) parts
 -- none
 abbrev pub value_sources_after : State → NodeId → ℕ → NodePart → List Value
 value_sources_after s node zero at = []
-value_sources_after s node (suc k) at = source_values node k (slice_get (history_of s node.number) k) (flow_at s node.number k at)
+value_sources_after s node (suc k) at = source_values node k (slice_get (history_of s node.number) k) (value_flow_at_step s node.number k at)
 
 abbrev pub value_sources : State → Value → List Value
 value_sources s value = value_sources_after s value.node value.step value.part

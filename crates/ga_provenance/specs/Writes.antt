@@ -8,7 +8,7 @@ use Rattle.ga_lab.specs.Machine.{State, history_of}
 use Rattle.ga_event.specs.declared.flow.part.NodePart.TheVariants as part
 use Rattle.ga_event.specs.Flow.{Flow, Same, From}
 use Rattle.ga_provenance.specs.declared.writes.CellWrite.{CellWrite}
-use Rattle.ga_provenance.specs.Origins.{is_memory_part, node_after, flow_at}
+use Rattle.ga_provenance.specs.Origins.{is_memory_part, node_after_steps, value_flow_at_step}
 
 -- the word in a cell comes from elsewhere: a cell that is not written keeps its own
 abbrev pub is_write_flow : Flow → Bool
@@ -21,19 +21,19 @@ cell_write step word made = record { step = step; made = made; word = word }
 -- the step after k steps of a node, if it wrote the cell, with the cell's word after it
 abbrev pub cell_write_at : State → ℕ → ℕ → ℕ → Option CellWrite
 cell_write_at s n cell k =
-    if is_write_flow (flow_at s n k (part.Ram cell))
-    then option_map (cell_write (k + 1) (slice_index (node_after s n (k + 1)).ram cell)) (slice_get (history_of s n) k)
+    if is_write_flow (value_flow_at_step s n k (part.Ram cell))
+    then option_map (cell_write (k + 1) (slice_index (node_after_steps s n (k + 1)).ram cell)) (slice_get (history_of s n) k)
     else None
 
 -- what the first names, or else the second
-abbrev pub newer_write : Option CellWrite → Option CellWrite → Option CellWrite
-newer_write (Some written) other = Some written
-newer_write None other = other
+abbrev pub newer_cell_write : Option CellWrite → Option CellWrite → Option CellWrite
+newer_cell_write (Some written) other = Some written
+newer_cell_write None other = other
 
 -- the newest that wrote the cell among the first steps of a node
 abbrev pub newest_cell_write : State → ℕ → ℕ → ℕ → Option CellWrite
 newest_cell_write s n cell zero = None
-newest_cell_write s n cell (suc k) = newer_write (cell_write_at s n cell k) (newest_cell_write s n cell k)
+newest_cell_write s n cell (suc k) = newer_cell_write (cell_write_at s n cell k) (newest_cell_write s n cell k)
 
 -- a search for the steps of a node that wrote a cell, among the first `step` of them
 pub record CellWriteSearch : Type 0 where
@@ -42,5 +42,5 @@ pub record CellWriteSearch : Type 0 where
   pub cell : ℕ
   pub step : ℕ
 
-abbrev pub search : State → NodeId → ℕ → ℕ → CellWriteSearch
-search s node cell step = record { machine = s; node = node; cell = cell; step = step }
+abbrev pub cell_write_search : State → NodeId → ℕ → ℕ → CellWriteSearch
+cell_write_search s node cell step = record { machine = s; node = node; cell = cell; step = step }

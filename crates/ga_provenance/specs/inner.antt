@@ -1,11 +1,11 @@
 -- What private contracts, invariants and bridges cite.
 use Rattle.std.specs.Prelude.{ℕ, ◌+◌, ◌-◌, ◌==◌, ◌||◌, nat_lt, if◌then◌else◌, Bool, true, false, not, Option, Some, None, ◌/◌, ◌≡◌, ◌≤◌, ◌<◌, ◌^◌, ◌&&◌, List, length, slice_index}
 use Rattle.ga_ports.specs.Address.{address_target}
-use Rattle.ga_ports.specs.declared.address.Target.{Target}
-use Rattle.ga_ports.specs.declared.address.Target.TheVariants as target
+use Rattle.ga_ports.specs.declared.address.AddressTarget.{AddressTarget}
+use Rattle.ga_ports.specs.declared.address.AddressTarget.TheVariants as target
 use Rattle.ga_slots.specs.declared.op.Op.{Op}
 use Rattle.ga_slots.specs.declared.op.Op.TheVariants as op
-use Rattle.ga_slots.specs.Codes.{op_of}
+use Rattle.ga_slots.specs.Codes.{op_of_code}
 use Rattle.ga_node.specs.declared.kind.OwnEventKind.{OwnEventKind}
 use Rattle.ga_node.specs.declared.kind.OwnEventKind.TheVariants as kind
 use Rattle.ga_event.specs.declared.made.Made.{Made}
@@ -24,7 +24,7 @@ use Rattle.ga_event.specs.Told.{count_steps}
 use Rattle.ga_lab.specs.Machine.{State, NodeAtStep, node_at_step, history_of}
 use Rattle.ga_provenance.specs.declared.kept.TrackedPlace.{TrackedPlace}
 use Rattle.ga_provenance.specs.declared.kept.TrackedPlace.TheVariants as hand
-use Rattle.ga_provenance.specs.Origins.{node_after, origin_of}
+use Rattle.ga_provenance.specs.Origins.{node_after_steps, origin_of_value}
 use Rattle.ga_provenance.specs.declared.value.Value.{Value}
 use Rattle.std.specs.List.{All, slice_get}
 use Rattle.ga_grid.specs.declared.node_id.NodeId.{NodeId}
@@ -181,7 +181,7 @@ by_pause at = Some at
 -- the part whose value an event leaves in a part: an own event by its kind, and any event as made
 abbrev pub by_kind : OwnEventKind → NodePart → Option NodePart
 by_kind kind.Fetch at = by_fetch at
-by_kind (kind.Run code) at = if nat_lt code 32 then by_op (op_of code) at else None
+by_kind (kind.Run code) at = if nat_lt code 32 then by_op (op_of_code code) at else None
 by_kind kind.Wait at = by_pause at
 by_kind (kind.Stop code) at = by_pause at
 
@@ -191,14 +191,14 @@ moved_by (Some (Own node step kind)) at = by_kind kind at
 moved_by (Some (Pass writer i reader j word)) at = None
 
 -- what the address of a store by A or B names, of the opcode with this code: !+, !b and !
-abbrev pub stored_at : ℕ → Registers → Option Target
+abbrev pub stored_at : ℕ → Registers → Option AddressTarget
 stored_at code before =
     if code == 13 || code == 15 then Some (address_target before.a)
     else if code == 14 then Some (address_target before.b)
     else None
 
 -- the address of a store is known to name something else than this cell
-abbrev pub misses_at : Option Target → ℕ → Bool
+abbrev pub misses_at : Option AddressTarget → ℕ → Bool
 misses_at None cell = false
 misses_at (Some (target.Ram other)) cell = not (other == cell)
 misses_at (Some named) cell = true
@@ -254,15 +254,15 @@ IsWhole s = length s.load ≡ 144
 pub record AreHeld (s : State) (n step : ℕ) (registers : Registers) : Type 0 where
   pub whole : IsWhole s
   pub within : step ≤ count_steps n s.kept
-  pub a : (node_after s n step).a ≡ registers.a
-  pub b : (node_after s n step).b ≡ registers.b
+  pub a : (node_after_steps s n step).a ≡ registers.a
+  pub b : (node_after_steps s n step).b ≡ registers.b
   pub a_fits : registers.a < 2 ^ 18
   pub b_fits : registers.b < 2 ^ 18
 
 -- A, B and the word in a cell of a node after the steps that are still to be searched
 pub record IsReached (s : State) (n cell : ℕ) (reached : Reached) : Type 0 where
   pub registers : AreHeld s n reached.step reached.registers
-  pub word : slice_index (node_after s n reached.step).ram cell ≡ reached.word
+  pub word : slice_index (node_after_steps s n reached.step).ram cell ≡ reached.word
   pub fits : reached.word < 2 ^ 18
 
 -- A, B and the word in a cell of a node, followed back over no step that wrote the cell
@@ -284,7 +284,7 @@ pub record IsSearch (s : State) (node : NodeId) (cell : ℕ) (walk : NodeAtStep)
 -- what came next if the event was of this kind: a fetch or an opcode; none by a wait or a stop, which replaces either
 abbrev pub IsDueBy : OwnEventKind → NextAction → Type 0
 IsDueBy kind.Fetch what = what ≡ due.Fetch
-IsDueBy (kind.Run code) what = what ≡ due.Run (op_of code)
+IsDueBy (kind.Run code) what = what ≡ due.Run (op_of_code code)
 IsDueBy _ what = ⊥
 
 -- ---- searched and selected values
@@ -299,7 +299,7 @@ pub record IsKept (s : State) (value : Value) : Type 0 where
 
 -- a used value as the step made it
 abbrev pub use_origin : State → UsedValue → Value
-use_origin s usage = origin_of s usage.used
+use_origin s usage = origin_of_value s usage.used
 
 -- a value with those from which it was made
 abbrev pub traced_value : TracedValue → Value
@@ -364,7 +364,7 @@ pub record IsDeciding (s : State) (node : NodeId) (walk : NodeAtStep) (step : �
 -- A value leads to another one: that has the same origin, it was in the same node and no later, and the step that left it
 -- there, as made, doesn't determine from where.
 pub record IsFollowed (s : State) (from to : Value) : Type 0 where
-  pub same : origin_of s to ≡ origin_of s from
+  pub same : origin_of_value s to ≡ origin_of_value s from
   pub part : IsNodePart to.part
   pub node : to.node ≡ from.node
   pub within : to.step ≤ from.step

@@ -1,7 +1,7 @@
 //! The value that a step selects for a query.
 
 ghost use Rattle.std.specs.Prelude.{◌≡◌, ◌≤◌, ◌<◌, ◌+◌, ◌^◌, IfSome};
-ghost use Rattle.ga_ports.specs.Address.{address_target, IsTarget};
+ghost use Rattle.ga_ports.specs.Address.{address_target, IsValidTarget};
 ghost use Rattle.ga_node.specs.Record.{record_of};
 ghost use Rattle.ga_node.specs.Table.{next_action_of};
 ghost use Rattle.ga_lab.specs.Machine.{node_at_step};
@@ -14,7 +14,7 @@ use ga_event::{Made, NodePart, next_action_in};
 use ga_grid::NodeId;
 use ga_lab::{Lab, NodeWalk};
 use ga_node::{NextAction, Node, Place, Wait};
-use ga_ports::{Target, classify_address};
+use ga_ports::{AddressTarget, classify_address};
 use ga_slots::Op;
 
 /// The value that a step of a node selects.
@@ -30,58 +30,58 @@ pub(crate) enum QueriedPart {
 
 // What P, A and B name.
 #[tactic(auto, unfolding(ga_node::specs::Record::record_of))]
-fn p_target(node: &Node) -> Target
+fn p_target(node: &Node) -> AddressTarget
     ensures value { result ≡ address_target (record_of node.now).p }
-    ensures in_range { IsTarget result }
+    ensures in_range { IsValidTarget result }
 {
     classify_address(node.get(Place::P))
 }
 
 #[tactic(auto, unfolding(ga_node::specs::Record::record_of))]
-fn a_target(node: &Node) -> Target
+fn a_target(node: &Node) -> AddressTarget
     ensures value { result ≡ address_target (record_of node.now).a }
-    ensures in_range { IsTarget result }
+    ensures in_range { IsValidTarget result }
 {
     classify_address(node.get(Place::A))
 }
 
 #[tactic(auto, unfolding(ga_node::specs::Record::record_of))]
-fn b_target(node: &Node) -> Target
+fn b_target(node: &Node) -> AddressTarget
     ensures value { result ≡ address_target (record_of node.now).b }
-    ensures in_range { IsTarget result }
+    ensures in_range { IsValidTarget result }
 {
     classify_address(node.get(Place::B))
 }
 
 // The selected value of a read at what the address in a part names, whose word comes to the part `there`.
-fn asked_of_read(address: NodePart, there: NodePart, target: Target) -> QueriedPart
+fn asked_of_read(address: NodePart, there: NodePart, target: AddressTarget) -> QueriedPart
     requires address { IsNodePart address }
     requires there { IsNodePart there }
     ensures value { result ≡ queried_read_part address there target }
     ensures part { IsAsked result }
 {
     match target {
-        Target::Ram(_) => QueriedPart::PartAfter(there),
-        Target::Rom(_) => QueriedPart::PartAfter(there),
-        Target::Io => QueriedPart::PartAfter(there),
-        Target::Ports(_) => QueriedPart::PartBefore(address),
-        Target::Bad => QueriedPart::PartBefore(address),
+        AddressTarget::Ram(_) => QueriedPart::PartAfter(there),
+        AddressTarget::Rom(_) => QueriedPart::PartAfter(there),
+        AddressTarget::Io => QueriedPart::PartAfter(there),
+        AddressTarget::Ports(_) => QueriedPart::PartBefore(address),
+        AddressTarget::Bad => QueriedPart::PartBefore(address),
     }
 }
 
 // The selected value of a write at what the address in a part names.
-fn asked_of_write(address: NodePart, target: Target) -> QueriedPart
+fn asked_of_write(address: NodePart, target: AddressTarget) -> QueriedPart
     requires address { IsNodePart address }
-    requires target { IsTarget target }
+    requires target { IsValidTarget target }
     ensures value { result ≡ queried_write_part address target }
     ensures part { IsAsked result }
 {
     match target {
-        Target::Ram(k) => QueriedPart::PartAfter(NodePart::Ram(k)),
-        Target::Rom(_) => QueriedPart::Nothing,
-        Target::Io => QueriedPart::PartAfter(NodePart::Io),
-        Target::Ports(_) => QueriedPart::PartBefore(address),
-        Target::Bad => QueriedPart::PartBefore(address),
+        AddressTarget::Ram(k) => QueriedPart::PartAfter(NodePart::Ram(k)),
+        AddressTarget::Rom(_) => QueriedPart::Nothing,
+        AddressTarget::Io => QueriedPart::PartAfter(NodePart::Io),
+        AddressTarget::Ports(_) => QueriedPart::PartBefore(address),
+        AddressTarget::Bad => QueriedPart::PartBefore(address),
     }
 }
 

@@ -5,14 +5,14 @@ ghost use Rattle.ga_node.specs.Record.{record_of};
 ghost use Rattle.ga_event.specs.Told.{count_steps};
 ghost use Rattle.ga_lab.specs.Machine.{node_at_step};
 ghost use Rattle.ga_event.specs.Flow.{IsNodePart, part_value};
-ghost use Rattle.ga_provenance.specs.Origins.{origin_of};
+ghost use Rattle.ga_provenance.specs.Origins.{origin_of_value};
 ghost use Rattle.ga_provenance.specs.Deciding.{tested_part, port_code_source_at, is_incoming_code_at, has_port_code, tested_opcode_part, tested_kind_part, step_decision, decision_at};
 ghost use Rattle.ga_provenance.specs.inner.{IsTested, IsOwn, IsTrailTo};
 
 use crate::origin::{flow_by_trail, kept_step, origin_behind, trail_near};
 use crate::trail::CachedWalk;
 use crate::value::Value;
-use crate::value_sources::sent_value;
+use crate::value_sources::source_of_sent_word;
 use ga_event::{Flow, Made, NodePart};
 use ga_grid::NodeId;
 use ga_lab::{Lab, NodeWalk};
@@ -73,7 +73,7 @@ fn code_by_trail(lab: &Lab, trail: &mut CachedWalk<'_>, node: NodeId, place: u32
     ensures order { place ≤ trail.new.step }
 {
     match flow_by_trail(lab, trail, node, place, NodePart::I) {
-        Flow::Same(NodePart::Outside) => sent_value(lab.made_event_of_step(node, place)),
+        Flow::Same(NodePart::Outside) => source_of_sent_word(lab.made_event_of_step(node, place)),
         Flow::Same(_) => None,
         Flow::From(_) => None,
     }
@@ -193,7 +193,7 @@ fn tested_kind_part<'l>(
 fn source_of<'l>(lab: &'l Lab, trail: &CachedWalk<'l>, node: NodeId, value: Value) -> Value
     requires part { IsNodePart value.part }
     requires trail { trail.now ≡ node_at_step lab.now node trail.now.step }
-    ensures { result ≡ origin_of lab.now value }
+    ensures { result ≡ origin_of_value lab.now value }
 {
     let step = kept_step(lab, value);
     let mut from = trail_near(lab, trail.walk(), node, value.node, step);

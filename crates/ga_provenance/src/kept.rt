@@ -5,7 +5,7 @@ ghost use Rattle.std.specs.Prelude.{◌≡◌, ◌<◌, ◌≤◌, ◌+◌, ◌^
 ghost use Rattle.std.specs.List.{slice_get};
 ghost use Rattle.ga_event.specs.Told.{count_steps};
 ghost use Rattle.ga_lab.specs.Machine.{history_of, node_at_step};
-ghost use Rattle.ga_provenance.specs.Origins.{node_after};
+ghost use Rattle.ga_provenance.specs.Origins.{node_after_steps};
 ghost use Rattle.ga_provenance.specs.inner.{place_of, word_of, writes, is_unchanged_by, IsWhole, AreHeld};
 ghost use Rattle.ga_node.specs.Record.{record_of};
 
@@ -82,9 +82,9 @@ pub(crate) fn both_rest(told: &Option<Made>) -> bool
 /// The tracked word of a node right before the step at a place, if it is `word` after it, by the step's entry.
 pub(crate) fn word_before(lab: &Lab, node: NodeId, at: u32, kept: TrackedPlace, word: u32) -> u32
     requires within { at + 1 ≤ count_steps node.number lab.now.kept }
-    requires behind { word_of kept (node_after lab.now node.number (at + 1)) ≡ word }
+    requires behind { word_of kept (node_after_steps lab.now node.number (at + 1)) ≡ word }
     requires fits { word < 2 ^ 18 }
-    ensures value { word_of kept (node_after lab.now node.number at) ≡ result }
+    ensures value { word_of kept (node_after_steps lab.now node.number at) ≡ result }
     ensures fits { result < 2 ^ 18 }
 {
     match lab.overwritten_value(node, at, kept.place()) {
@@ -108,9 +108,9 @@ pub(crate) fn value_after(
     requires told { told.now ≡ slice_get (history_of lab.now node.number) at }
     requires within { at + 1 ≤ count_steps node.number lab.now.kept }
     requires whole { IsWhole lab.now }
-    requires behind { word_of kept (node_after lab.now node.number (at + 1)) ≡ word }
+    requires behind { word_of kept (node_after_steps lab.now node.number (at + 1)) ≡ word }
     requires fits { word < 2 ^ 18 }
-    ensures value { word_of kept (node_after lab.now node.number at) ≡ result }
+    ensures value { word_of kept (node_after_steps lab.now node.number at) ≡ result }
     ensures fits { result < 2 ^ 18 }
 {
     if kept.is_unchanged_by(told) {

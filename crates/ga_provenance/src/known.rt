@@ -1,17 +1,17 @@
 //! The source of a value that a step leaves, if the entries of the steps determine it.
 
 ghost use Rattle.std.specs.Prelude.{◌≡◌, ◌<◌, ◌≤◌, IfSome};
-ghost use Rattle.ga_ports.specs.Address.{IsTarget};
+ghost use Rattle.ga_ports.specs.Address.{IsValidTarget};
 ghost use Rattle.ga_node.specs.Table.{next_action_of};
-ghost use Rattle.ga_node.specs.State.{wait_of};
+ghost use Rattle.ga_node.specs.State.{wait_of_code};
 ghost use Rattle.ga_node.specs.declared.due.NextAction.TheVariants as due;
 ghost use Rattle.ga_lab.specs.Machine.{node_at_step};
-ghost use Rattle.ga_event.specs.Flow.{IsNodePart, choice, choice_target, own_flow, take_flow, flow_of, HasValidSources};
-ghost use Rattle.ga_provenance.specs.Origins.{node_after, flow_at};
+ghost use Rattle.ga_event.specs.Flow.{IsNodePart, choice, choice_target, flow_of_own_event, take_flow, flow_of, HasValidSources};
+ghost use Rattle.ga_provenance.specs.Origins.{node_after_steps, value_flow_at_step};
 ghost use Rattle.ga_provenance.specs.inner.{IsDueBy, IsTrailTo};
 
 use crate::trail::CachedWalk;
-use ga_event::{Choice, Flow, Made, NodePart, flow_by_choice, send_flow, take_flow};
+use ga_event::{ActionChoice, Flow, Made, NodePart, flow_by_choice, send_flow, take_flow};
 use ga_grid::NodeId;
 use ga_lab::Lab;
 use ga_node::{NextAction, OwnEventKind, Place, Wait};
@@ -24,7 +24,7 @@ const AHEAD: u32 = 8;
 
 // P right before the step at a place, where one of the next few steps wrote P.
 pub(crate) fn p_at(lab: &Lab, node: NodeId, place: u32) -> Option<u32>
-    ensures { IfSome result (λ p. (node_after lab.now node.number place).p ≡ p) }
+    ensures { IfSome result (λ p. (node_after_steps lab.now node.number place).p ≡ p) }
 {
     let steps = lab.steps(node);
     let mut at = place;
@@ -44,25 +44,27 @@ fn choice_of(
     node: NodeId,
     place: u32,
     op: Op,
-) -> Option<Choice>
+) -> Option<ActionChoice>
     requires trail { IsTrailTo lab.now node trail.old place }
-    ensures value { IfSome result (λ known. known ≡ choice (due.Run op) (node_after lab.now node.number place)) }
-    ensures target { IfSome result (λ known. IsTarget (choice_target known)) }
+    ensures value { IfSome result (λ known. known ≡ choice (due.Run op) (node_after_steps lab.now node.number place)) }
+    ensures target { IfSome result (λ known. IsValidTarget (choice_target known)) }
     ensures same { trail.new ≡ trail.old }
 {
     match op {
         Op::Unext | Op::Next | Op::If | Op::MinusIf => None,
-        Op::FetchP | Op::StoreP => Some(Choice::At(classify_address(p_at(lab, node, place)?))),
-        Op::Plus => Some(Choice::Test(p_at(lab, node, place)? / 512 % 2 == 1)),
+        Op::FetchP | Op::StoreP => Some(ActionChoice::At(classify_address(p_at(
+            lab, node, place,
+        )?))),
+        Op::Plus => Some(ActionChoice::Test(p_at(lab, node, place)? / 512 % 2 == 1)),
         Op::FetchPlus | Op::Fetch | Op::StorePlus | Op::Store => {
             let registers = trail.registers(lab, node, place);
-            Some(Choice::At(classify_address(registers.a)))
+            Some(ActionChoice::At(classify_address(registers.a)))
         }
         Op::FetchB | Op::StoreB => {
             let registers = trail.registers(lab, node, place);
-            Some(Choice::At(classify_address(registers.b)))
+            Some(ActionChoice::At(classify_address(registers.b)))
         }
-        _ => Some(Choice::Plain),
+        _ => Some(ActionChoice::Plain),
     }
 }
 
@@ -73,14 +75,14 @@ fn choice_at(
     node: NodeId,
     place: u32,
     due: NextAction,
-) -> Option<Choice>
+) -> Option<ActionChoice>
     requires trail { IsTrailTo lab.now node trail.old place }
-    ensures value { IfSome result (λ known. known ≡ choice due (node_after lab.now node.number place)) }
-    ensures target { IfSome result (λ known. IsTarget (choice_target known)) }
+    ensures value { IfSome result (λ known. known ≡ choice due (node_after_steps lab.now node.number place)) }
+    ensures target { IfSome result (λ known. IsValidTarget (choice_target known)) }
     ensures same { trail.new ≡ trail.old }
 {
     match due {
-        NextAction::Fetch => Some(Choice::At(classify_address(p_at(lab, node, place)?))),
+        NextAction::Fetch => Some(ActionChoice::At(classify_address(p_at(lab, node, place)?))),
         NextAction::Run(op) => choice_of(lab, trail, node, place, op),
     }
 }
@@ -97,8 +99,8 @@ fn own_flow_at(
 ) -> Option<Flow>
     requires part { IsNodePart part }
     requires trail { IsTrailTo lab.now node trail.old place }
-    requires due { next_action_of (node_after lab.now node.number place) ≡ due }
-    ensures value { IfSome result (λ flow. flow_of flow ≡ own_flow (node_after lab.now node.number place) part) }
+    requires due { next_action_of (node_after_steps lab.now node.number place) ≡ due }
+    ensures value { IfSome result (λ flow. flow_of flow ≡ flow_of_own_event (node_after_steps lab.now node.number place) part) }
     ensures sources { IfSome result (λ flow. HasValidSources (flow_of flow)) }
     ensures same { trail.new ≡ trail.old }
 {
@@ -127,7 +129,7 @@ fn due_by(kind: OwnEventKind) -> Option<NextAction>
 
 // The wait of a reader, by its number.
 fn reading(code: u32) -> Option<Wait>
-    ensures { IfSome result (λ wait. wait ≡ wait_of code) }
+    ensures { IfSome result (λ wait. wait ≡ wait_of_code code) }
 {
     match code {
         17..32 => Some(Wait::Fetch(PortSet::of((code - 16) as u8))),
@@ -139,7 +141,7 @@ fn reading(code: u32) -> Option<Wait>
 // What the reader's half of the pass at a place leaves in a part.
 fn taken_flow(lab: &Lab, node: NodeId, place: u32, part: NodePart) -> Option<Flow>
     requires { IsNodePart part }
-    ensures value { IfSome result (λ flow. flow_of flow ≡ take_flow (node_after lab.now node.number place).wait part) }
+    ensures value { IfSome result (λ flow. flow_of flow ≡ take_flow (node_after_steps lab.now node.number place).wait part) }
     ensures sources { IfSome result (λ flow. HasValidSources (flow_of flow)) }
 {
     let wait = reading(lab.overwritten_value(node, place, Place::Wait)?)?;
@@ -156,7 +158,7 @@ pub(crate) fn known_flow(
 ) -> Option<Flow>
     requires part { IsNodePart part }
     requires trail { IsTrailTo lab.now node trail.old place }
-    ensures value { IfSome result (λ flow. flow_of flow ≡ flow_at lab.now node.number place part) }
+    ensures value { IfSome result (λ flow. flow_of flow ≡ value_flow_at_step lab.now node.number place part) }
     ensures sources { IfSome result (λ flow. HasValidSources (flow_of flow)) }
     ensures same { trail.new ≡ trail.old }
 {

@@ -2,17 +2,17 @@
 
 ghost use Rattle.std.specs.Prelude.{◌≡◌, ◌<◌, ◌≤◌, ◌-◌, ℕ, List, [], ◌∷◌, Bool, true, false, All, Some, length, take};
 ghost use Rattle.std.specs.List.{slice_get};
-ghost use Rattle.ga_node.specs.Record.{HasSizes};
+ghost use Rattle.ga_node.specs.Record.{HasListSizes};
 ghost use Rattle.ga_causal.specs.Dependence.{position_of_step};
 ghost use Rattle.ga_grid.specs.declared.node_id.NodeId.{NodeId};
 ghost use Rattle.ga_lab.specs.Machine.{State, causes_of, history_of};
 ghost use Rattle.ga_event.specs.Flow.{top, IsNodePart, part_value};
 ghost use Rattle.ga_provenance.specs.declared.value.Value.{Value};
-ghost use Rattle.ga_provenance.specs.Origins.{value_of_step, node_after, is_made_with_t, origin_of};
+ghost use Rattle.ga_provenance.specs.Origins.{value_of_step, node_after_steps, is_made_with_a_or_carry, origin_of_value};
 ghost use Rattle.ga_provenance.specs.Asked.{queried_value};
-ghost use Rattle.ga_provenance.specs.Sources.{IsCause, IsLoadedOrCause};
+ghost use Rattle.ga_provenance.specs.Sources.{IsCauseOfValue, IsLoadedOrCauseOfValue};
 ghost use Rattle.ga_provenance.specs.declared.lines.ProvenanceLine.{ProvenanceLine};
-ghost use Rattle.ga_provenance.specs.Lines.{source_origins, IsProvenance, is_value_listed, AreLinesOf, IsListedAt};
+ghost use Rattle.ga_provenance.specs.Lines.{source_origins, IsProvenance, is_value_listed, AreProvenanceLinesOf, IsValueListedAt};
 ghost use Rattle.ga_provenance.specs.declared.deciding.Decision.{Decision};
 ghost use Rattle.ga_provenance.specs.Deciding.{decision_at};
 
@@ -21,7 +21,7 @@ ghost use Rattle.ga_provenance.specs.Deciding.{decision_at};
 #[tactic(auto, using(crate::proofs::Causes::provenance_caused))]
 pub fn provenance_is_loaded_or_cause()
     ensures { (s : State) (value found : Value) (place : ℕ) →
-        position_of_step (causes_of s) value.node.number value.step ≡ Some place → IsProvenance s value found → IsLoadedOrCause s value found }
+        position_of_step (causes_of s) value.node.number value.step ≡ Some place → IsProvenance s value found → IsLoadedOrCauseOfValue s value found }
 {}
 
 /// For the value that a step selects, each value of its provenance was loaded, or its step is one on which this step depends.
@@ -29,7 +29,7 @@ pub fn provenance_is_loaded_or_cause()
 pub fn queried_provenance_is_loaded_or_cause()
     ensures { (s : State) (node : NodeId) (step place : ℕ) (value found : Value) →
         position_of_step (causes_of s) node.number step ≡ Some place → queried_value s node step ≡ Some value →
-        IsProvenance s value found → IsLoadedOrCause s (value_of_step node step top) found }
+        IsProvenance s value found → IsLoadedOrCauseOfValue s (value_of_step node step top) found }
 {}
 
 /// Each step that a value decided is a cause of every later step of its node, so that `why` leads from it there; and so is the step
@@ -38,55 +38,55 @@ pub fn queried_provenance_is_loaded_or_cause()
 pub fn deciding_steps_are_causes()
     ensures step { (s : State) (node : NodeId) (step k place : ℕ) (decision : Decision) →
         position_of_step (causes_of s) node.number step ≡ Some place → k < step → decision_at s node k ≡ Some decision →
-        IsCause s (value_of_step node decision.step top) (value_of_step node step top) }
+        IsCauseOfValue s (value_of_step node decision.step top) (value_of_step node step top) }
     ensures source { (s : State) (node : NodeId) (step k place : ℕ) (decision : Decision) →
         position_of_step (causes_of s) node.number step ≡ Some place → k < step → decision_at s node k ≡ Some decision →
-        IsLoadedOrCause s (value_of_step node step top) decision.source }
+        IsLoadedOrCauseOfValue s (value_of_step node step top) decision.source }
 {}
 
 /// A value that was only moved since a step made it has the same word as then, unless that step made T with it, as which it is listed.
 pub fn moved_values_keep_their_words()
     ensures { (s : State) (value : Value) →
-        length s.load ≡ 144 → value.step ≤ length (history_of s value.node.number) → IsNodePart value.part → HasSizes (node_after s value.node.number value.step) →
-        ((origin_of s value).part ≡ top → is_made_with_t (slice_get (history_of s value.node.number) ((origin_of s value).step - 1)) ≡ false) →
-        part_value 0 (node_after s value.node.number value.step) value.part
-        ≡ part_value 0 (node_after s value.node.number (origin_of s value).step) (origin_of s value).part }
+        length s.load ≡ 144 → value.step ≤ length (history_of s value.node.number) → IsNodePart value.part → HasListSizes (node_after_steps s value.node.number value.step) →
+        ((origin_of_value s value).part ≡ top → is_made_with_a_or_carry (slice_get (history_of s value.node.number) ((origin_of_value s value).step - 1)) ≡ false) →
+        part_value 0 (node_after_steps s value.node.number value.step) value.part
+        ≡ part_value 0 (node_after_steps s value.node.number (origin_of_value s value).step) (origin_of_value s value).part }
 {}
 
 /// Each listed value was loaded, or its step is one on which the queried step depends.
 pub fn listed_values_are_causes()
     ensures { (s : State) (value : Value) (place : ℕ) (lines : List ProvenanceLine) (whole : Bool) →
-        position_of_step (causes_of s) value.node.number value.step ≡ Some place → AreLinesOf s value lines whole →
-        (line at : ℕ) (listed : Value) → IsListedAt lines line at listed → IsLoadedOrCause s value listed }
+        position_of_step (causes_of s) value.node.number value.step ≡ Some place → AreProvenanceLinesOf s value lines whole →
+        (line at : ℕ) (listed : Value) → IsValueListedAt lines line at listed → IsLoadedOrCauseOfValue s value listed }
 {}
 
 /// If all lines are listed, none is missing: the step that made the queried value is listed, and with each value of a run those that
 /// made the values from which it was made.
 #[tactic(auto, using(crate::proofs::Whole::queried_listed))]
 pub fn whole_lines_miss_nothing()
-    ensures asked { (s : State) (value : Value) (lines : List ProvenanceLine) → AreLinesOf s value lines true → is_value_listed lines (origin_of s value) ≡ true }
-    ensures sources { (s : State) (value : Value) (lines : List ProvenanceLine) → AreLinesOf s value lines true →
-        (line at : ℕ) (listed : Value) → IsListedAt lines line at listed → All (λ (source : Value). is_value_listed lines source ≡ true) (source_origins s listed) }
+    ensures asked { (s : State) (value : Value) (lines : List ProvenanceLine) → AreProvenanceLinesOf s value lines true → is_value_listed lines (origin_of_value s value) ≡ true }
+    ensures sources { (s : State) (value : Value) (lines : List ProvenanceLine) → AreProvenanceLinesOf s value lines true →
+        (line at : ℕ) (listed : Value) → IsValueListedAt lines line at listed → All (λ (source : Value). is_value_listed lines source ≡ true) (source_origins s listed) }
 {}
 
 /// No value is listed twice.
 pub fn values_are_listed_once()
-    ensures { (s : State) (value : Value) (lines : List ProvenanceLine) (whole : Bool) → AreLinesOf s value lines whole →
-        (line other at place : ℕ) (listed : Value) → IsListedAt lines line at listed → IsListedAt lines other place listed → (line ≡ other) × (at ≡ place) }
+    ensures { (s : State) (value : Value) (lines : List ProvenanceLine) (whole : Bool) → AreProvenanceLinesOf s value lines whole →
+        (line other at place : ℕ) (listed : Value) → IsValueListedAt lines line at listed → IsValueListedAt lines other place listed → (line ≡ other) × (at ≡ place) }
 {}
 
 /// Fewer lines are the first of more: so the answers that continue one another join to all lines.
 #[tactic(auto, using(crate::proofs::Whole::lines_join))]
 pub fn lines_continue()
     ensures { (s : State) (value : Value) (lines more : List ProvenanceLine) (is_whole is_more_whole : Bool) →
-        AreLinesOf s value lines is_whole → AreLinesOf s value more is_more_whole → length lines ≤ length more → take (length lines) more ≡ lines }
+        AreProvenanceLinesOf s value lines is_whole → AreProvenanceLinesOf s value more is_more_whole → length lines ≤ length more → take (length lines) more ≡ lines }
 {}
 
 /// The runs of all lines have exactly the values of the provenance; those of the first lines have no others.
 #[tactic(auto, using(crate::proofs::Whole::listed_sound, crate::proofs::Whole::provenance_listed))]
 pub fn runs_unfold_to_provenance()
-    ensures first { (s : State) (value : Value) (lines : List ProvenanceLine) (whole : Bool) → AreLinesOf s value lines whole →
+    ensures first { (s : State) (value : Value) (lines : List ProvenanceLine) (whole : Bool) → AreProvenanceLinesOf s value lines whole →
         (listed : Value) → is_value_listed lines listed ≡ true → IsProvenance s value listed }
-    ensures whole { (s : State) (value : Value) (lines : List ProvenanceLine) → AreLinesOf s value lines true →
+    ensures whole { (s : State) (value : Value) (lines : List ProvenanceLine) → AreProvenanceLinesOf s value lines true →
         (found : Value) → IsProvenance s value found → is_value_listed lines found ≡ true }
 {}

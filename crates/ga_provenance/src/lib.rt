@@ -17,7 +17,7 @@ mod writes;
 
 pub use asked::{queried_value, queried_value_at};
 pub use deciding::{Decision, Decisions};
-pub use lines::{ProvenanceLine, ProvenanceLines, find_lines_at};
-pub use origin::{fetched_cell_at, origin_of};
+pub use lines::{ProvenanceLine, ProvenanceLines, find_provenance_lines_at};
+pub use origin::{fetched_cell_at, origin_of_value};
 pub use value::Value;
 pub use writes::{CellWrite, CellWrites};

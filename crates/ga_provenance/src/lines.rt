@@ -3,9 +3,9 @@
 ghost use Rattle.std.specs.Prelude.{◌≡◌, ◌≤◌, ◌<◌, ◌+◌, ◌++◌, false, IfOk, IfSome, OnOk, All, length, map, option_map};
 ghost use Rattle.ga_event.specs.Flow.{IsNodePart};
 ghost use Rattle.ga_lab.specs.Machine.{node_at_step};
-ghost use Rattle.ga_provenance.specs.Origins.{origin_of};
+ghost use Rattle.ga_provenance.specs.Origins.{origin_of_value};
 ghost use Rattle.ga_provenance.specs.Sources.{value_sources};
-ghost use Rattle.ga_provenance.specs.Lines.{is_in_run, is_value_listed, next_in_run, oldest_value, line_of, used_by, AreLinesOf, IsMovedLine};
+ghost use Rattle.ga_provenance.specs.Lines.{is_value_in_run, is_value_listed, next_value_in_run, oldest_value_of_run, provenance_line_of_use, values_used_by_line, AreProvenanceLinesOf, IsLineOfMovedValue};
 ghost use Rattle.ga_provenance.specs.inner.{IsOfPart, IsKept, IsTraced, traced_value, follows_in_run, following};
 
 use crate::source_search::{SourceSearch, TracedValue};
@@ -49,8 +49,8 @@ pub(crate) struct UsedValue {
 
 impl ProvenanceLine {
     /// Whether a value is in the run.
-    pub fn is_in_run(self, value: Value) -> bool
-        ensures { result ≡ is_in_run self value }
+    pub fn is_value_in_run(self, value: Value) -> bool
+        ensures { result ≡ is_value_in_run self value }
     {
         let newest = self.value;
         if newest.node.number != value.node.number
@@ -72,7 +72,7 @@ impl ProvenanceLine {
 fn is_value_listed(lines: &[ProvenanceLine], value: Value) -> bool
     ensures { result ≡ is_value_listed lines.now value }
 {
-    lines.iter().any(|line| line.is_in_run(value))
+    lines.iter().any(|line| line.is_value_in_run(value))
 }
 
 // Whether a value follows the oldest one of a run that these lines don't list.
@@ -97,10 +97,10 @@ fn find_following<'l, 'n>(
 ) -> (SourceSearch<'l, 'n>, Option<TracedValue>)
     requires { IsTraced search.lab.now oldest.now }
     ensures lab { result.0.lab.now ≡ search.entry.lab.now }
-    ensures next { option_map traced_value result.1 ≡ following lines.now line oldest.now.value (next_in_run search.entry.lab.now oldest.now.value) }
+    ensures next { option_map traced_value result.1 ≡ following lines.now line oldest.now.value (next_value_in_run search.entry.lab.now oldest.now.value) }
     ensures traced { IfSome result.1 (IsTraced search.entry.lab.now) }
 {
-    let (found, next) = search.next_in_run(oldest);
+    let (found, next) = search.next_value_in_run(oldest);
     match next {
         Some(next) => {
             if follows_in_run(lines, line, oldest.value, next.value) {
@@ -126,13 +126,13 @@ fn find_line<'l, 'n>(
     ArrayVec<Value, 3>,
     ArrayVec<Value, 3>,
 )
-    requires value { value ≡ origin_of search.lab.now usage.used }
+    requires value { value ≡ origin_of_value search.lab.now usage.used }
     requires kept { IsKept search.lab.now value }
     ensures lab { result.0.lab.now ≡ search.entry.lab.now }
-    ensures line { result.1 ≡ line_of search.entry.lab.now lines.now usage }
-    ensures used { result.2.items ≡ value_sources search.entry.lab.now (oldest_value (line_of search.entry.lab.now lines.now usage)) }
+    ensures line { result.1 ≡ provenance_line_of_use search.entry.lab.now lines.now usage }
+    ensures used { result.2.items ≡ value_sources search.entry.lab.now (oldest_value_of_run (provenance_line_of_use search.entry.lab.now lines.now usage)) }
     ensures parts { All IsOfPart result.2.items }
-    ensures origins { result.3.items ≡ map (origin_of search.entry.lab.now) result.2.items }
+    ensures origins { result.3.items ≡ map (origin_of_value search.entry.lab.now) result.2.items }
     ensures kept { All (IsKept search.entry.lab.now) result.3.items }
 {
     let (mut search, mut oldest) = search.trace(value);
@@ -166,7 +166,7 @@ fn push_used(
     user: u32,
     values: ArrayVec<Value, 3>,
 ) -> Result<(), AllocError>
-    ensures ok { OnOk result (uses.new.items ≡ uses.old.items ++ used_by user values.items) }
+    ensures ok { OnOk result (uses.new.items ≡ uses.old.items ++ values_used_by_line user values.items) }
     ensures few { OnOk result (length uses.new.items ≤ length uses.old.items + 3) }
 {
     let count = values.len();
@@ -198,7 +198,7 @@ fn push_origins(origins: &mut Vec<Value>, values: ArrayVec<Value, 3>) -> Result<
 ///
 /// # Errors
 /// An allocation failed.
-pub fn find_lines_at<'l>(
+pub fn find_provenance_lines_at<'l>(
     alloc: Global,
     lab: &'l Lab,
     near: &NodeWalk<'l>,
@@ -208,10 +208,10 @@ pub fn find_lines_at<'l>(
 ) -> Result<ProvenanceLines, AllocError>
     requires part { IsNodePart value.part }
     requires near { near.now ≡ node_at_step lab.now at near.now.step }
-    ensures lines { IfOk result (λ found. AreLinesOf lab.now value found.lines.items found.is_whole) }
+    ensures lines { IfOk result (λ found. AreProvenanceLinesOf lab.now value found.lines.items found.is_whole) }
     ensures most { IfOk result (λ found. length found.lines.items ≤ most) }
     ensures cut { IfOk result (λ found. found.is_whole ≡ false → length found.lines.items ≡ most) }
-    ensures used { IfOk result (λ found. All (IsMovedLine lab.now) found.lines.items) }
+    ensures used { IfOk result (λ found. All (IsLineOfMovedValue lab.now) found.lines.items) }
 {
     let mut lines: Vec<ProvenanceLine> = Vec::new(alloc);
     let mut uses: Vec<UsedValue> = Vec::new(alloc);
@@ -220,7 +220,7 @@ pub fn find_lines_at<'l>(
         used: value,
     })?;
     let mut origins: Vec<Value> = Vec::new(alloc);
-    let (mut search, origin) = SourceSearch::new(lab, near, at).origin_of(value);
+    let (mut search, origin) = SourceSearch::new(lab, near, at).origin_of_value(value);
     origins.push(origin)?;
     let mut next = 0;
     'listing: while next < uses.len() {

@@ -7,7 +7,7 @@ ghost use Rattle.ga_provenance.specs.inner.{on_data, on_return, pushed, popped_t
 use crate::kept::Registers;
 use ga_event::{Made, NodePart};
 use ga_node::OwnEventKind;
-use ga_ports::{Target, classify_address};
+use ga_ports::{AddressTarget, classify_address};
 use ga_slots::Op;
 
 /// What an opcode does to the words of a stack.
@@ -247,7 +247,7 @@ fn by_pause(part: NodePart) -> Option<NodePart>
 
 // What the address of a store by A or B names, of the opcode with this code.
 #[inline(always)]
-fn stored_at(code: u8, before: Registers) -> Option<Target>
+fn stored_at(code: u8, before: Registers) -> Option<AddressTarget>
     ensures { result ≡ stored_at code before }
 {
     match code {
@@ -264,7 +264,7 @@ fn misses_by(code: u8, before: Registers, part: NodePart) -> bool
 {
     match part {
         NodePart::Ram(cell) => match stored_at(code, before) {
-            Some(Target::Ram(other)) => other != cell,
+            Some(AddressTarget::Ram(other)) => other != cell,
             Some(_) => true,
             None => false,
         },

@@ -5,7 +5,7 @@ ghost use Rattle.ga_node.specs.Record.{record_of};
 ghost use Rattle.ga_event.specs.Told.{count_steps};
 ghost use Rattle.ga_lab.specs.Machine.{history_of, node_at_step};
 ghost use Rattle.ga_event.specs.Flow.{IsNodePart, flow_of, HasValidSources};
-ghost use Rattle.ga_provenance.specs.Origins.{is_memory_part, crosses_memory_border, moved_source_part, is_three_part_flow, listed_part, event_flow, flow_at, origin_after_steps, origin_of, node_after};
+ghost use Rattle.ga_provenance.specs.Origins.{is_memory_part, crosses_memory_border, moved_source_part, is_three_part_flow, listed_part, event_flow, value_flow_at_step, origin_after_steps, origin_of_value, node_after_steps};
 ghost use Rattle.ga_provenance.specs.inner.{moved_by, IsTrailTo};
 ghost use Rattle.ga_ports.specs.Address.{address_target};
 ghost use Rattle.ga_provenance.specs.Fetched.{cell_of_target, fetched_cell};
@@ -14,11 +14,11 @@ use crate::known::{known_flow, p_at};
 use crate::moving::moved_by;
 use crate::trail::CachedWalk;
 use crate::value::Value;
-use ga_event::{Flow, Made, NodePart, own_flow, send_flow, take_flow};
+use ga_event::{Flow, Made, NodePart, flow_of_own_event, send_flow, take_flow};
 use ga_grid::NodeId;
 use ga_lab::{Lab, NodeWalk};
 use ga_node::{Node, Place};
-use ga_ports::{Target, classify_address};
+use ga_ports::{AddressTarget, classify_address};
 
 // Whether the part is a cell of memory.
 pub(crate) fn is_cell(part: NodePart) -> bool
@@ -103,7 +103,7 @@ fn event_flow(made: &Made, before: &Node, node: NodeId, part: NodePart) -> Flow
     ensures sources { HasValidSources (flow_of result) }
 {
     match made {
-        Made::Own { .. } => own_flow(before, part),
+        Made::Own { .. } => flow_of_own_event(before, part),
         Made::Pass { reader, .. } => {
             if node.number == reader.number {
                 take_flow(before.wait(), part)
@@ -118,7 +118,7 @@ fn event_flow(made: &Made, before: &Node, node: NodeId, part: NodePart) -> Flow
 pub(crate) fn flow_behind(lab: &Lab, walk: &NodeWalk<'_>, node: NodeId, part: NodePart) -> Flow
     requires part { IsNodePart part }
     requires walk { walk.now ≡ node_at_step lab.now node walk.now.step }
-    ensures value { flow_of result ≡ flow_at lab.now node.number walk.now.step part }
+    ensures value { flow_of result ≡ value_flow_at_step lab.now node.number walk.now.step part }
     ensures sources { HasValidSources (flow_of result) }
 {
     match lab.made_event_of_step(node, walk.step()) {
@@ -131,7 +131,7 @@ pub(crate) fn flow_behind(lab: &Lab, walk: &NodeWalk<'_>, node: NodeId, part: No
 #[tactic(auto, using(crate::proofs::Made::origin_last))]
 pub(crate) fn kept_step(lab: &Lab, value: Value) -> u32
     requires { IsNodePart value.part }
-    ensures same { origin_after_steps lab.now value.node result value.part ≡ origin_of lab.now value }
+    ensures same { origin_after_steps lab.now value.node result value.part ≡ origin_of_value lab.now value }
     ensures within { result ≤ count_steps value.node.number lab.now.kept }
 {
     let steps = lab.steps(value.node);
@@ -145,9 +145,9 @@ pub(crate) fn kept_step(lab: &Lab, value: Value) -> u32
 /// The newest step up to the value's own that made it, with the value's part then, or step 0 if the value was loaded. A step
 /// that only moved the value from part to part of the node, as `dup` or `push`, made nothing. Takes time linear in the number
 /// of steps that the node made since.
-pub fn origin_of(lab: &Lab, value: Value) -> Value
+pub fn origin_of_value(lab: &Lab, value: Value) -> Value
     requires { IsNodePart value.part }
-    ensures value { result ≡ origin_of lab.now value }
+    ensures value { result ≡ origin_of_value lab.now value }
     ensures part { IsNodePart result.part }
     ensures within { result.step ≤ count_steps value.node.number lab.now.kept }
 {
@@ -212,7 +212,7 @@ pub(crate) fn flow_by_trail(
 ) -> Flow
     requires part { IsNodePart part }
     requires trail { IsTrailTo lab.now node trail.old place }
-    ensures value { flow_of result ≡ flow_at lab.now node.number place part }
+    ensures value { flow_of result ≡ value_flow_at_step lab.now node.number place part }
     ensures sources { HasValidSources (flow_of result) }
     ensures trail { trail.new ≡ node_at_step lab.now node trail.new.step }
     ensures order { place ≤ trail.new.step }
@@ -267,8 +267,8 @@ fn cell_of(address: u32) -> Option<u8>
     ensures { result ≡ cell_of_target (address_target address) }
 {
     match classify_address(address) {
-        Target::Ram(cell) => Some(cell),
-        Target::Rom(cell) => Some(128 + cell),
+        AddressTarget::Ram(cell) => Some(cell),
+        AddressTarget::Rom(cell) => Some(128 + cell),
         _ => None,
     }
 }
@@ -285,7 +285,7 @@ fn p_of(node: &Node) -> u32
 fn p_by_trail(lab: &Lab, trail: &mut CachedWalk<'_>, node: NodeId, place: u32) -> u32
     requires trail { IsTrailTo lab.now node trail.old place }
     requires within { place ≤ count_steps node.number lab.now.kept }
-    ensures { (node_after lab.now node.number place).p ≡ result }
+    ensures { (node_after_steps lab.now node.number place).p ≡ result }
 {
     if let Some(p) = p_at(lab, node, place) {
         return p;

@@ -3,7 +3,7 @@
 ghost use Rattle.std.specs.Prelude.{◌≡◌};
 ghost use Rattle.std.specs.List.{list_any};
 ghost use Rattle.ga_provenance.specs.Sources.{is_same_value};
-ghost use Rattle.ga_provenance.specs.Lines.{is_same_action, is_same_event, making_event, is_repetition, are_among};
+ghost use Rattle.ga_provenance.specs.Lines.{is_same_action, is_same_event, event_that_made_value, is_same_opcode_repetition, are_values_among};
 
 use crate::origin::{kept_step, origin_behind, trail_on};
 use crate::trail::CachedWalk;
@@ -48,21 +48,24 @@ fn is_same_event(made: Option<Made>, other: Option<Made>) -> bool
 }
 
 // The step that made a value, as made.
-fn making_event(lab: &Lab, value: Value) -> Option<Made>
-    ensures { result ≡ making_event lab.now value }
+fn event_that_made_value(lab: &Lab, value: Value) -> Option<Made>
+    ensures { result ≡ event_that_made_value lab.now value }
 {
     lab.made_event_of_step(value.node, value.step.saturating_sub(1))
 }
 
 // Whether the same opcode left two values in one part of a node, the second one earlier.
-fn is_repetition(lab: &Lab, value: Value, next: Value) -> bool
-    ensures { result ≡ is_repetition lab.now value next }
+fn is_same_opcode_repetition(lab: &Lab, value: Value, next: Value) -> bool
+    ensures { result ≡ is_same_opcode_repetition lab.now value next }
 {
     next.step > 0
         && next.step < value.step
         && value.node.number == next.node.number
         && value.part.is_equal_to(next.part)
-        && is_same_event(making_event(lab, value), making_event(lab, next))
+        && is_same_event(
+            event_that_made_value(lab, value),
+            event_that_made_value(lab, next),
+        )
 }
 
 // Whether a value is among others.
@@ -73,8 +76,8 @@ fn is_among(value: Value, others: &[Value]) -> bool
 }
 
 // Whether each value is this one or among some others.
-fn are_among(value: Value, others: &[Value], values: &[Value]) -> bool
-    ensures { result ≡ are_among value others.now values.now }
+fn are_values_among(value: Value, others: &[Value], values: &[Value]) -> bool
+    ensures { result ≡ are_values_among value others.now values.now }
 {
     values
         .iter()
@@ -110,8 +113,8 @@ impl<'l, 'n> SourceSearch<'l, 'n> {
     ghost use Rattle.ga_event.specs.Flow.{IsNodePart};
     ghost use Rattle.ga_event.specs.Told.{count_steps};
     ghost use Rattle.ga_lab.specs.Machine.{node_at_step};
-    ghost use Rattle.ga_provenance.specs.Origins.{origin_of};
-    ghost use Rattle.ga_provenance.specs.Lines.{next_in_run};
+    ghost use Rattle.ga_provenance.specs.Origins.{origin_of_value};
+    ghost use Rattle.ga_provenance.specs.Lines.{next_value_in_run};
     ghost use Rattle.ga_provenance.specs.Sources.{value_sources};
     ghost use Rattle.ga_provenance.specs.inner.{IsOfPart, IsKept, IsTraced, traced_value};
 
@@ -153,10 +156,10 @@ impl<'l, 'n> SourceSearch<'l, 'n> {
     }
 
     /// Finds the step that made a value.
-    pub fn origin_of(self, value: Value) -> (Self, Value)
+    pub fn origin_of_value(self, value: Value) -> (Self, Value)
         requires { IsNodePart value.part }
         ensures lab { result.0.lab.now ≡ self.entry.lab.now }
-        ensures value { result.1 ≡ origin_of self.entry.lab.now value }
+        ensures value { result.1 ≡ origin_of_value self.entry.lab.now value }
         ensures kept { IsKept self.entry.lab.now result.1 }
     {
         let step = kept_step(self.lab, value);
@@ -213,7 +216,7 @@ impl<'l, 'n> SourceSearch<'l, 'n> {
         let (mut search, used) = self.sources_of(value);
         let mut origins = ArrayVec::new();
         'sources: for source in used.as_slice() {
-            let (found, origin) = search.origin_of(*source);
+            let (found, origin) = search.origin_of_value(*source);
             search = found;
             origins.push(origin);
         }
@@ -226,21 +229,21 @@ impl<'l, 'n> SourceSearch<'l, 'n> {
     }
 
     /// The value with which the run of a value continues.
-    pub fn next_in_run(self, traced: &TracedValue) -> (Self, Option<TracedValue>)
+    pub fn next_value_in_run(self, traced: &TracedValue) -> (Self, Option<TracedValue>)
         requires { IsTraced self.lab.now traced.now }
         ensures lab { result.0.lab.now ≡ self.entry.lab.now }
-        ensures next { option_map traced_value result.1 ≡ next_in_run self.entry.lab.now traced.now.value }
+        ensures next { option_map traced_value result.1 ≡ next_value_in_run self.entry.lab.now traced.now.value }
         ensures traced { IfSome result.1 (IsTraced self.entry.lab.now) }
     {
         let mut search = self;
         'origins: for next in traced.origins.as_slice() {
             let next = *next;
-            if !is_repetition(search.lab, traced.value, next) {
+            if !is_same_opcode_repetition(search.lab, traced.value, next) {
                 continue 'origins;
             }
             let (found, further) = search.trace(next);
             search = found;
-            if are_among(next, further.origins.as_slice(), traced.origins.as_slice()) {
+            if are_values_among(next, further.origins.as_slice(), traced.origins.as_slice()) {
                 return (search, Some(further));
             }
         }

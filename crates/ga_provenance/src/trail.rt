@@ -2,7 +2,7 @@
 
 ghost use Rattle.std.specs.Prelude.{◌≡◌, ◌≤◌, ◌+◌, true, IfSome};
 ghost use Rattle.ga_event.specs.Flow.{IsNodePart};
-ghost use Rattle.ga_provenance.specs.Origins.{origin_of};
+ghost use Rattle.ga_provenance.specs.Origins.{origin_of_value};
 ghost use Rattle.ga_provenance.specs.inner.{AreHeld, IsFollowed};
 
 use crate::kept::{Registers, registers_at, registers_before, registers_in};
@@ -26,7 +26,7 @@ struct Followed {
 fn follow_data(lab: &Lab, followed: Followed, along: bool) -> Followed
     requires part { IsNodePart followed.value.part }
     requires held { along ≡ true → AreHeld lab.now followed.value.node.number followed.value.step followed.registers }
-    ensures same { origin_of lab.now result.value ≡ origin_of lab.now followed.value }
+    ensures same { origin_of_value lab.now result.value ≡ origin_of_value lab.now followed.value }
     ensures part { IsNodePart result.value.part }
     ensures node { result.value.node ≡ followed.value.node }
     ensures within { result.value.step ≤ followed.value.step }
@@ -94,7 +94,7 @@ fn follow(lab: &Lab, value: Value, along: bool, behind: Registers) -> Followed
 fn passed(lab: &Lab, followed: Followed) -> Option<Followed>
     requires part { IsNodePart followed.value.part }
     requires held { AreHeld lab.now followed.value.node.number followed.value.step followed.registers }
-    ensures same { IfSome result (λ before. origin_of lab.now before.value ≡ origin_of lab.now followed.value) }
+    ensures same { IfSome result (λ before. origin_of_value lab.now before.value ≡ origin_of_value lab.now followed.value) }
     ensures part { IfSome result (λ before. IsNodePart before.value.part) }
     ensures node { IfSome result (λ before. before.value.node ≡ followed.value.node) }
     ensures step { IfSome result (λ before. before.value.step + 1 ≡ followed.value.step) }

@@ -4,7 +4,7 @@ ghost use Rattle.std.specs.Prelude.{◌≡◌, ◌≤◌, ◌-◌, All, IfSome, 
 ghost use Rattle.ga_event.specs.Flow.{IsNodePart, Same};
 ghost use Rattle.ga_lab.specs.Machine.{node_at_step};
 ghost use Rattle.ga_provenance.specs.Origins.{value_of_step};
-ghost use Rattle.ga_provenance.specs.Sources.{sent_value, source_values, value_sources};
+ghost use Rattle.ga_provenance.specs.Sources.{source_of_sent_word, source_values, value_sources};
 ghost use Rattle.ga_provenance.specs.inner.{IsOfPart};
 
 use crate::origin::flow_by_trail;
@@ -16,8 +16,8 @@ use ga_grid::NodeId;
 use ga_lab::Lab;
 
 // What a word came from that an event carried: T of the writer before.
-pub(crate) fn sent_value(made: Option<Made>) -> Option<Value>
-    ensures value { result ≡ sent_value made }
+pub(crate) fn source_of_sent_word(made: Option<Made>) -> Option<Value>
+    ensures value { result ≡ source_of_sent_word made }
     ensures part { IfSome result (λ value. IsNodePart value.part) }
 {
     match made {
@@ -42,7 +42,7 @@ fn source_in(node: NodeId, step: u32, told: Option<Made>, from: NodePart) -> Opt
     ensures { option_to_list result ≡ source_values node step told (Same from) }
 {
     match from {
-        NodePart::Outside => sent_value(told),
+        NodePart::Outside => source_of_sent_word(told),
         _ => Some(Value {
             node,
             step,

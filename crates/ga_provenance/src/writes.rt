@@ -164,12 +164,12 @@ pub struct CellWrites<'l> {
 }
 
 impl<'l> Model for CellWrites<'l> {
-    ghost use Rattle.ga_provenance.specs.Writes.{CellWriteSearch, search};
+    ghost use Rattle.ga_provenance.specs.Writes.{CellWriteSearch, cell_write_search};
     ghost use Rattle.ga_provenance.specs.inner.{IsSearch};
 
     ghost Value = { CellWriteSearch };
 
-    ghost view = { λ w. search w.lab.now w.node w.cell w.reached.step };
+    ghost view = { λ w. cell_write_search w.lab.now w.node w.cell w.reached.step };
 
     ghost invariant = { λ w. IsSearch w.lab.now w.node w.cell w.trail w.reached };
 }
@@ -177,12 +177,12 @@ impl<'l> Model for CellWrites<'l> {
 impl<'l> CellWrites<'l> {
     ghost use Rattle.std.specs.Prelude.{◌≡◌, ◌<◌, ◌≤◌, ◌+◌, IfSome};
     ghost use Rattle.ga_event.specs.Told.{count_steps};
-    ghost use Rattle.ga_provenance.specs.Writes.{cell_write_at, newest_cell_write, search};
+    ghost use Rattle.ga_provenance.specs.Writes.{cell_write_at, newest_cell_write, cell_write_search};
 
     /// All that a node made.
     pub fn new(lab: &'l Lab, node: NodeId, cell: u8) -> Self
         requires { cell < 64 }
-        ensures { result ≡ search lab.now node cell (count_steps node.number lab.now.kept) }
+        ensures { result ≡ cell_write_search lab.now node cell (count_steps node.number lab.now.kept) }
     {
         let step = lab.steps(node);
         let walk = lab.walk(node, step);
@@ -206,7 +206,7 @@ impl<'l> CellWrites<'l> {
     pub fn next(&mut self) -> Option<CellWrite>
         ensures value { result ≡ newest_cell_write self.old.machine self.old.node.number self.old.cell self.old.step }
         ensures step { IfSome result (λ written. self.new.step + 1 ≡ written.step) }
-        ensures same { self.new ≡ search self.old.machine self.old.node self.old.cell self.new.step }
+        ensures same { self.new ≡ cell_write_search self.old.machine self.old.node self.old.cell self.new.step }
     {
         self.seek();
         'going: while self.left() > 0 {
@@ -230,7 +230,7 @@ impl<'l> CellWrites<'l> {
         ensures newest { newest_cell_write self.old.machine self.old.node.number self.old.cell self.new.step
             ≡ newest_cell_write self.old.machine self.old.node.number self.old.cell self.old.step }
         ensures within { self.new.step ≤ self.old.step }
-        ensures same { self.new ≡ search self.old.machine self.old.node self.old.cell self.new.step }
+        ensures same { self.new ≡ cell_write_search self.old.machine self.old.node self.old.cell self.new.step }
     {
         self.reached = back_to_write(self.lab, self.node, self.cell, self.reached);
     }
@@ -240,7 +240,7 @@ impl<'l> CellWrites<'l> {
         requires { 0 < self.old.step }
         ensures value { result ≡ cell_write_at self.old.machine self.old.node.number self.old.cell self.new.step }
         ensures step { self.new.step + 1 ≡ self.old.step }
-        ensures same { self.new ≡ search self.old.machine self.old.node self.old.cell self.new.step }
+        ensures same { self.new ≡ cell_write_search self.old.machine self.old.node self.old.cell self.new.step }
     {
         let lab = self.lab;
         let node = self.node;

@@ -4,14 +4,14 @@ use Rattle.std.proofs.lemmas.List.{length-set, get_or-set_same, get_or-map, leng
 use Rattle.std.proofs.lemmas.Bool.{cases_eq, or_from}
 use Rattle.ga_event.specs.declared.event.Cause.{Cause}
 use Rattle.ga_causal.specs.Dependence.{event_at, default_cause}
-use Rattle.ga_lab.specs.Machine.{State, chip_of, outcomes_of_run, causes_of, earlier}
+use Rattle.ga_lab.specs.Machine.{State, chip_of, outcomes_of_run, causes_of, earlier_state}
 use Rattle.ga_race_detector.specs.declared.moments.StepCounts.{StepCounts}
 use Rattle.ga_race_detector.specs.inner.Glances.{IsMoment, AreMomentsFrom, AreMoments, no_moment, StoodSo, AllStood, IsAt, IsActAt}
 use Rattle.std.specs.Prelude.{map, unwrap_or, slice_index}
 use Rattle.std.proofs.Math.Seq.{take-append_seam, take-append-add}
 use Rattle.std.proofs.lemmas.List.Sums.{sum_by-append}
 use Rattle.ga_node.specs.Record.{NodeRecord}
-use Rattle.ga_node.specs.State.{wait_of, IsWaitCode}
+use Rattle.ga_node.specs.State.{wait_of_code, IsWaitCode}
 use Rattle.ga_ports.specs.declared.side.Side.{Side}
 use Rattle.ga_grid.specs.Grid.{neighbour_of}
 use Rattle.ga_grid.specs.Chip.{record_at}
@@ -25,7 +25,7 @@ use Rattle.ga_event.specs.Told.{count_steps}
 use Rattle.ga_races.specs.declared.act.EventAccess.{EventAccess}
 use Rattle.ga_races.specs.declared.act.SideSet.{SideSet}
 use Rattle.ga_races.specs.Orders.{IsEnabled}
-use Rattle.ga_races.specs.HappensBefore.{Action, no_action, action_of, actions, action_at, causes_of_actions}
+use Rattle.ga_races.specs.HappensBefore.{TraceAction, default_action, action_of, actions, action_at, causes_of_actions}
 use Rattle.ga_races.specs.Acts.{action_of_access, actions_of_accesses}
 use Rattle.ga_races.specs.inner.{changed_sides, HasChangedSides, AreAlike}
 use Rattle.ga_races.proofs.Independence.{first_of, replay_more, stays, touches_own, touches_writer, touches_reader}
@@ -60,13 +60,13 @@ moments_all s place causes moments low size made = record { size = size; each = 
 -- ---- the event at a place
 
 pub record Made (s : State) (p : ℕ) (e : Event) : Type 0 where
-  pub can : IsEnabled (chip_of (earlier s p)) e
-  pub then : chip_of (earlier s (p + 1)) ≡ (after (chip_of (earlier s p)) e).0
-  pub action : action_at (actions s.load s.kept) p ≡ action_of (chip_of (earlier s p)) e
+  pub can : IsEnabled (chip_of (earlier_state s p)) e
+  pub then : chip_of (earlier_state s (p + 1)) ≡ (after (chip_of (earlier_state s p)) e).0
+  pub action : action_at (actions s.load s.kept) p ≡ action_of (chip_of (earlier_state s p)) e
   pub steps : (m : ℕ) → count_steps m (take (p + 1) s.kept) ≡ count_steps m (take p s.kept) + cond (touches e m) 1 0
 
 -- the chip to which the first p events lead
-chip_led : (s : State) (xs : List Event) (p : ℕ) (now : List NodeRecord) → take p s.kept ≡ xs → replay s.load xs ≡ Some now → chip_of (earlier s p) ≡ now
+chip_led : (s : State) (xs : List Event) (p : ℕ) (now : List NodeRecord) → take p s.kept ≡ xs → replay s.load xs ≡ Some now → chip_of (earlier_state s p) ≡ now
 chip_led s xs p now is led = ap (λ (z : List Event). unwrap_or (replay s.load z) []) is ∙ ap (λ (o : Option (List NodeRecord)). unwrap_or o []) led
 
 made_split : (s : State) (mid : List Event) (y : Event) (post : List Event) (last : List NodeRecord) → s.kept ≡ mid ++ y ∷ post → replay s.load s.kept ≡ Some last → Made s (length mid) y
@@ -76,8 +76,8 @@ made_split s mid y post last is led =
     let f = first_of b.0 y post last (sym (replay_into mid (y ∷ post) s.load b.0 b.1) ∙ whole) in
     let front : take (length mid) s.kept ≡ mid = ap (take (length mid)) is ∙ take-append_seam mid (y ∷ post) in
     let more : take (length mid + 1) s.kept ≡ mid ++ y ∷ [] = ap (take (length mid + 1)) is ∙ take-append-add mid (y ∷ post) 1 in
-    let first : chip_of (earlier s (length mid)) ≡ b.0 = chip_led s mid (length mid) b.0 front b.1 in
-    let second : chip_of (earlier s (length mid + 1)) ≡ (after b.0 y).0 =
+    let first : chip_of (earlier_state s (length mid)) ≡ b.0 = chip_led s mid (length mid) b.0 front b.1 in
+    let second : chip_of (earlier_state s (length mid + 1)) ≡ (after b.0 y).0 =
     chip_led s (mid ++ y ∷ []) (length mid + 1) (after b.0 y).0 more (replay_into mid (y ∷ []) s.load b.0 b.1 ∙ replay_more b.0 y [] f.can) in
     record {
       can = subst (λ (z : List NodeRecord). IsEnabled z y) (sym first) f.can;
@@ -94,8 +94,8 @@ causes_are s last led =
     let r : Runs s = runs_of s (is_some_of (replay s.load s.kept) last led) in
     causes_of_run s.kept s.load r.last r.told r.run_is ∙ sym (ap (λ (o : Option (List NodeRecord × List (Cause × EventOutcome))). map (λ (x : Cause × EventOutcome). x.0) (outcomes_of_run o)) r.run_is)
 
-pub cause_there : (xs : List Action) (i : ℕ) → i < length xs → event_at (causes_of_actions xs) i ≡ (action_at xs i).cause
-cause_there xs i l = get_or-map (λ (a : Action). a.cause) xs i no_action default_cause l
+pub cause_there : (xs : List TraceAction) (i : ℕ) → i < length xs → event_at (causes_of_actions xs) i ≡ (action_at xs i).cause
+cause_there xs i l = get_or-map (λ (a : TraceAction). a.cause) xs i default_action default_cause l
 
 pub made_at : (s : State) (last : List NodeRecord) (p : ℕ) (cause : Cause) → replay s.load s.kept ≡ Some last → IsAt s p cause → Made s p cause.event
 made_at s last p cause led at =
@@ -116,7 +116,7 @@ made_at s last p cause led at =
         let l : p < length s.kept = at.within in
         let same : cause ≡ (action_at (actions s.load s.kept) p).cause =
         sym at.is ∙ ap (λ (z : List Cause). event_at z p) (sym (causes_are s last led)) ∙ cause_there (actions s.load s.kept) p (omega (arith, l, long)) in
-        let is_y : cause.event ≡ y = ap (λ (z : Cause). z.event) same ∙ ap (λ (a : Action). a.cause.event) n.action in
+        let is_y : cause.event ≡ y = ap (λ (z : Cause). z.event) same ∙ ap (λ (a : TraceAction). a.cause.event) n.action in
         subst (λ (z : Event). Made s p z) (sym is_y) n
 
 -- ---- nodes before and after it
@@ -127,7 +127,7 @@ stood_other s p m code count e made out stood =
     let none : cond {A = ℕ} (touches e m) 1 0 ≡ 0 = ap (λ (b : Bool). cond {A = ℕ} b 1 0) out in
     let steps : count ≡ count_steps m (take (p + 1) s.kept) = stood.steps in
     record {
-      wait = ap (λ (z : NodeRecord). z.wait) ((stays (chip_of (earlier s p)) e made.can).same m out) ∙ ap (λ (z : List NodeRecord). (record_at z m).wait) (sym made.then) ∙ stood.wait;
+      wait = ap (λ (z : NodeRecord). z.wait) ((stays (chip_of (earlier_state s p)) e made.can).same m out) ∙ ap (λ (z : List NodeRecord). (record_at z m).wait) (sym made.then) ∙ stood.wait;
       valid = stood.valid;
       steps = omega (arith, more, none, steps);
     }
@@ -142,7 +142,7 @@ some_steps s p m code count e made on stood =
     omega (arith, more, steps)
 
 pub stood_same : (s : State) (m p a b x y : ℕ) → a ≡ x → b ≡ y → StoodSo s m p x y → StoodSo s m p a b
-stood_same s m p a b x y q r stood = record { wait = stood.wait ∙ ap wait_of (sym q); valid = subst IsWaitCode (sym q) stood.valid; steps = r ∙ stood.steps }
+stood_same s m p a b x y q r stood = record { wait = stood.wait ∙ ap wait_of_code (sym q); valid = subst IsWaitCode (sym q) stood.valid; steps = r ∙ stood.steps }
 
 -- what `back` requires of a node that the event touches
 pub before_node : (s : State) (last : List NodeRecord) (p m : ℕ) (cause : Cause) (waits steps : List ℕ) → replay s.load s.kept ≡ Some last → IsAt s p cause → AllStood s (p + 1) waits steps → touches cause.event m ≡ true → m < 144
@@ -151,20 +151,20 @@ before_node s last p m cause waits steps led at stood on l =
     (some_steps s p m (slice_index waits m) (slice_index steps m) cause.event (made_at s last p cause led at) on (stood m l), (stood m l).valid)
 
 -- the sides of one node
-side_is : (s : State) (p m code old count more : ℕ) (e : Event) (sides : SideSet) → Made s p e → StoodSo s m p code count → StoodSo s m (p + 1) old more → sides ≡ changed_sides (wait_of code) (wait_of old)
-    → sides ≡ changed_sides (record_at (chip_of (earlier s p)) m).wait (record_at (after (chip_of (earlier s p)) e).0 m).wait
+side_is : (s : State) (p m code old count more : ℕ) (e : Event) (sides : SideSet) → Made s p e → StoodSo s m p code count → StoodSo s m (p + 1) old more → sides ≡ changed_sides (wait_of_code code) (wait_of_code old)
+    → sides ≡ changed_sides (record_at (chip_of (earlier_state s p)) m).wait (record_at (after (chip_of (earlier_state s p)) e).0 m).wait
 side_is s p m code old count more e sides made now behind is =
     is ∙ ap₂ changed_sides (sym now.wait) (sym behind.wait ∙ ap (λ (z : List NodeRecord). (record_at z m).wait) made.then)
 
-act_at : (s : State) (p : ℕ) (act : EventAccess) (e : Event) → Made s p e → act.cause.event ≡ e → HasChangedSides (chip_of (earlier s p)) (after (chip_of (earlier s p)) e).0 act e → IsActAt s p act
-act_at s p act e made is has n l = act_changes (chip_of (earlier s p)) e act n l made.can is has ∙ ap (λ (a : Action). a.changes n) (sym made.action)
+act_at : (s : State) (p : ℕ) (act : EventAccess) (e : Event) → Made s p e → act.cause.event ≡ e → HasChangedSides (chip_of (earlier_state s p)) (after (chip_of (earlier_state s p)) e).0 act e → IsActAt s p act
+act_at s p act e made is has n l = act_changes (chip_of (earlier_state s p)) e act n l made.can is has ∙ ap (λ (a : TraceAction). a.changes n) (sym made.action)
 
 -- ---- an own event
 
 module _ (s : State) (last : List NodeRecord) (led : replay s.load s.kept ≡ Some last) (cause : Cause) (m : NodeId) (own : cause.event ≡ Own m) (waits steps nwaits nsteps : List ℕ) (first second : SideSet)
     (here : (p q : ℕ) → StoodSo s m.number q (slice_index waits m.number) (slice_index steps m.number) → count_steps m.number (take q s.kept) ≡ count_steps m.number (take p s.kept) + 1
     → StoodSo s m.number p (slice_index nwaits m.number) (slice_index nsteps m.number))
-    (sides : first ≡ changed_sides (wait_of (slice_index nwaits m.number)) (wait_of (slice_index waits m.number)))
+    (sides : first ≡ changed_sides (wait_of_code (slice_index nwaits m.number)) (wait_of_code (slice_index waits m.number)))
     (kept_waits : (n : ℕ) → n ≢ m.number → slice_index nwaits n ≡ slice_index waits n) (kept_steps : (n : ℕ) → n ≢ m.number → slice_index nsteps n ≡ slice_index steps n)
     (p : ℕ) (at : IsAt s p cause) (stood : AllStood s (p + 1) waits steps) where
   own_made : Made s p (Own m)
@@ -190,7 +190,7 @@ module _ (s : State) (last : List NodeRecord) (led : replay s.load s.kept ≡ So
 pub ends_apart : (s : State) (last : List NodeRecord) (p : ℕ) (cause : Cause) (w r : NodeId) (side : Side) → replay s.load s.kept ≡ Some last → IsAt s p cause → cause.event ≡ Pass w r side → r.number ≢ w.number
 ends_apart s last p cause w r side led at pass =
     let made : Made s p (Pass w r side) = subst (Made s p) pass (made_at s last p cause led at) in
-    let o = open_of (chip_of (earlier s p)) w r side made.can in
+    let o = open_of (chip_of (earlier_state s p)) w r side made.can in
     neighbour_of-other w.number r.number side (number_of (neighbour_of w.number side) r.number o.near)
 
 module _ (s : State) (last : List NodeRecord) (led : replay s.load s.kept ≡ Some last) (cause : Cause) (w r : NodeId) (side : Side) (pass : cause.event ≡ Pass w r side) (waits steps mwaits msteps nwaits nsteps : List ℕ) (first second : SideSet)
@@ -198,8 +198,8 @@ module _ (s : State) (last : List NodeRecord) (led : replay s.load s.kept ≡ So
     → StoodSo s w.number p (slice_index mwaits w.number) (slice_index msteps w.number))
     (there : (p q : ℕ) → StoodSo s r.number q (slice_index mwaits r.number) (slice_index msteps r.number) → count_steps r.number (take q s.kept) ≡ count_steps r.number (take p s.kept) + 1
     → StoodSo s r.number p (slice_index nwaits r.number) (slice_index nsteps r.number))
-    (one : first ≡ changed_sides (wait_of (slice_index mwaits w.number)) (wait_of (slice_index waits w.number)))
-    (two : second ≡ changed_sides (wait_of (slice_index nwaits r.number)) (wait_of (slice_index mwaits r.number)))
+    (one : first ≡ changed_sides (wait_of_code (slice_index mwaits w.number)) (wait_of_code (slice_index waits w.number)))
+    (two : second ≡ changed_sides (wait_of_code (slice_index nwaits r.number)) (wait_of_code (slice_index mwaits r.number)))
     (kept_waits : (n : ℕ) → n ≢ w.number → slice_index mwaits n ≡ slice_index waits n) (kept_steps : (n : ℕ) → n ≢ w.number → slice_index msteps n ≡ slice_index steps n)
     (left_waits : (n : ℕ) → n ≢ r.number → slice_index nwaits n ≡ slice_index mwaits n) (left_steps : (n : ℕ) → n ≢ r.number → slice_index nsteps n ≡ slice_index msteps n)
     (p : ℕ) (at : IsAt s p cause) (stood : AllStood s (p + 1) waits steps) where
@@ -253,10 +253,10 @@ plain_causes acts causes is i l =
     sym (cause_there (actions_of_accesses acts) i (omega (arith, l, size))) ∙ ap (λ (z : List Cause). event_at z i) is
 
 pub plain_size : (acts : List EventAccess) (causes : List Cause) → causes_of_actions (actions_of_accesses acts) ≡ causes → length acts ≡ length causes
-plain_size acts causes is = sym (length-map acts action_of_access) ∙ sym (length-map (actions_of_accesses acts) (λ (a : Action). a.cause)) ∙ ap length is
+plain_size acts causes is = sym (length-map acts action_of_access) ∙ sym (length-map (actions_of_accesses acts) (λ (a : TraceAction). a.cause)) ∙ ap length is
 
 there : (acts : List EventAccess) (i : ℕ) (d : EventAccess) → i < length acts → action_at (actions_of_accesses acts) i ≡ action_of_access (get_or acts i d)
-there acts i d l = get_or-map action_of_access acts i d no_action l
+there acts i d l = get_or-map action_of_access acts i d default_action l
 
 set_here : (acts : List EventAccess) (i : ℕ) (act : EventAccess) → i < length acts → action_at (actions_of_accesses (set acts i act)) i ≡ action_of_access act
 set_here acts i act l =
@@ -272,16 +272,16 @@ pub acts_next : (s : State) (place next : ℕ) (acts : List EventAccess) (act : 
 acts_next s place next acts act up l is made i n k m o =
     let size : length (set acts next act) ≡ length acts = length-set acts next act in
     elim (cases_eq i next) [
-      | inl q ↦ ap (λ (z : ℕ). (action_at (actions_of_accesses (set acts next act)) z).changes n) q ∙ ap (λ (a : Action). a.changes n) (set_here acts next act l) ∙ is n o ∙ ap (λ (z : ℕ). (action_at (actions s.load s.kept) z).changes n) (sym q)
-      | inr ne ↦ ap (λ (a : Action). a.changes n) (set_there acts next i act (omega (arith, m, size)) ne) ∙ made i n (omega (arith, k, ne, up)) (omega (arith, m, size)) o
+      | inl q ↦ ap (λ (z : ℕ). (action_at (actions_of_accesses (set acts next act)) z).changes n) q ∙ ap (λ (a : TraceAction). a.changes n) (set_here acts next act l) ∙ is n o ∙ ap (λ (z : ℕ). (action_at (actions s.load s.kept) z).changes n) (sym q)
+      | inr ne ↦ ap (λ (a : TraceAction). a.changes n) (set_there acts next i act (omega (arith, m, size)) ne) ∙ made i n (omega (arith, k, ne, up)) (omega (arith, m, size)) o
     ]
 
 pub causes_next : (next : ℕ) (acts : List EventAccess) (act : EventAccess) (causes : List Cause) → next < length acts → act.cause ≡ event_at causes next → HaveCauses acts causes → HaveCauses (set acts next act) causes
 causes_next next acts act causes l is have i m =
     let size : length (set acts next act) ≡ length acts = length-set acts next act in
     elim (cases_eq i next) [
-      | inl q ↦ ap (λ (z : ℕ). (action_at (actions_of_accesses (set acts next act)) z).cause) q ∙ ap (λ (a : Action). a.cause) (set_here acts next act l) ∙ is ∙ ap (event_at causes) (sym q)
-      | inr ne ↦ ap (λ (a : Action). a.cause) (set_there acts next i act (omega (arith, m, size)) ne) ∙ have i (omega (arith, m, size))
+      | inl q ↦ ap (λ (z : ℕ). (action_at (actions_of_accesses (set acts next act)) z).cause) q ∙ ap (λ (a : TraceAction). a.cause) (set_here acts next act l) ∙ is ∙ ap (event_at causes) (sym q)
+      | inr ne ↦ ap (λ (a : TraceAction). a.cause) (set_there acts next i act (omega (arith, m, size)) ne) ∙ have i (omega (arith, m, size))
     ]
 
 pub all_alike : (s : State) (last : List NodeRecord) (place : ℕ) (acts : List EventAccess) (causes : List Cause) → replay s.load s.kept ≡ Some last → causes ≡ causes_of s → length acts ≡ length causes → place ≤ 0 → HaveCauses acts causes → AreActsFrom s place acts
@@ -289,7 +289,7 @@ pub all_alike : (s : State) (last : List NodeRecord) (place : ℕ) (acts : List 
 all_alike s last place acts causes led all count low have made =
     let size : length (actions_of_accesses acts) ≡ length acts = length-map acts action_of_access in
     let long : length (actions s.load s.kept) ≡ length s.kept = actions_length s.load s.kept in
-    let kept : length (causes_of s) ≡ length (actions s.load s.kept) = sym (ap length (causes_are s last led)) ∙ length-map (actions s.load s.kept) (λ (a : Action). a.cause) in
+    let kept : length (causes_of s) ≡ length (actions s.load s.kept) = sym (ap length (causes_are s last led)) ∙ length-map (actions s.load s.kept) (λ (a : TraceAction). a.cause) in
     let many : length causes ≡ length (causes_of s) = ap length all in
     record {
       size = omega (arith, size, kept, count, many);
@@ -299,7 +299,7 @@ all_alike s last place acts causes led all count low have made =
 
 pub causes_long : (s : State) (last : List NodeRecord) → replay s.load s.kept ≡ Some last → length (causes_of s) ≡ length s.kept
 causes_long s last led =
-    sym (ap length (causes_are s last led)) ∙ length-map (actions s.load s.kept) (λ (a : Action). a.cause) ∙ actions_length s.load s.kept
+    sym (ap length (causes_are s last led)) ∙ length-map (actions s.load s.kept) (λ (a : TraceAction). a.cause) ∙ actions_length s.load s.kept
 
 pub cause_at : (causes : List Cause) (i : ℕ) (cause : Cause) → i < length causes → cause ≡ get_or causes i cause → cause ≡ event_at causes i
 cause_at causes i cause l is = is ∙ sym (same causes i l)
@@ -321,12 +321,12 @@ is_at s last causes place cause led all l is =
 -- ---- one node
 
 -- nodes in their current state
-pub stood_set : (s : State) (waits steps : List ℕ) (number at code count : ℕ) → length waits ≡ 144 → length steps ≡ 144 → number < 144 → at ≡ number → wait_of code ≡ (record_at (chip_of s) at).wait → IsWaitCode code
+pub stood_set : (s : State) (waits steps : List ℕ) (number at code count : ℕ) → length waits ≡ 144 → length steps ≡ 144 → number < 144 → at ≡ number → wait_of_code code ≡ (record_at (chip_of s) at).wait → IsWaitCode code
     → count ≡ count_steps at s.kept → (p : ℕ) → take p s.kept ≡ s.kept → ((m : ℕ) → m < number → StoodSo s m p (slice_index waits m) (slice_index steps m))
     → (m : ℕ) → m < number + 1 → StoodSo s m p (slice_index (set waits at code) m) (slice_index (set steps at count) m)
 stood_set s waits steps number at code count size long l is wait valid few p whole old m k = elim (cases_eq m at) [
   | inl q ↦ subst (λ (z : ℕ). StoodSo s z p (slice_index (set waits at code) z) (slice_index (set steps at count) z)) (sym q) (record {
-    wait = ap (λ (z : List Event). (record_at (unwrap_or (replay s.load z) []) at).wait) whole ∙ sym wait ∙ ap wait_of (sym (get_or-set_same waits at code 0 (omega (arith, size, l, is))));
+    wait = ap (λ (z : List Event). (record_at (unwrap_or (replay s.load z) []) at).wait) whole ∙ sym wait ∙ ap wait_of_code (sym (get_or-set_same waits at code 0 (omega (arith, size, l, is))));
     valid = subst IsWaitCode (sym (get_or-set_same waits at code 0 (omega (arith, size, l, is)))) valid;
     steps = get_or-set_same steps at count 0 (omega (arith, long, l, is)) ∙ few ∙ ap (count_steps at) (sym whole);
   })
@@ -336,13 +336,13 @@ stood_set s waits steps number at code count size long l is wait valid few p who
 
 -- a node before its last step
 pub stood_before : (s : State) (m : ℕ) (waits steps nwaits nsteps : List ℕ) (behind before had step : ℕ) → behind ≡ slice_index waits m → had ≡ slice_index steps m → step + 1 ≡ had → slice_index nwaits m ≡ before → slice_index nsteps m ≡ step → IsWaitCode before
-    → ((p q : ℕ) → count_steps m (take p s.kept) ≡ step → count_steps m (take q s.kept) ≡ step + 1 → (record_at (chip_of (earlier s q)) m).wait ≡ wait_of behind → (record_at (chip_of (earlier s p)) m).wait ≡ wait_of before)
+    → ((p q : ℕ) → count_steps m (take p s.kept) ≡ step → count_steps m (take q s.kept) ≡ step + 1 → (record_at (chip_of (earlier_state s q)) m).wait ≡ wait_of_code behind → (record_at (chip_of (earlier_state s p)) m).wait ≡ wait_of_code before)
     → (p q : ℕ) → StoodSo s m q (slice_index waits m) (slice_index steps m) → count_steps m (take q s.kept) ≡ count_steps m (take p s.kept) + 1
     → StoodSo s m p (slice_index nwaits m) (slice_index nsteps m)
 stood_before s m waits steps nwaits nsteps behind before had step read count one here now valid value p q stood more =
     let steps_then : slice_index steps m ≡ count_steps m (take q s.kept) = stood.steps in
     record {
-      wait = value p q (omega (arith, steps_then, count, one, more)) (omega (arith, steps_then, count, one)) (stood.wait ∙ ap wait_of (sym read)) ∙ ap wait_of (sym here);
+      wait = value p q (omega (arith, steps_then, count, one, more)) (omega (arith, steps_then, count, one)) (stood.wait ∙ ap wait_of_code (sym read)) ∙ ap wait_of_code (sym here);
       valid = subst IsWaitCode (sym here) valid;
       steps = let g : step ≡ count_steps m (take p s.kept) = omega (arith, steps_then, count, one, more) in now ∙ g;
     }
@@ -352,7 +352,7 @@ stood_before s m waits steps nwaits nsteps behind before had step read count one
 pub plain_more : (acts : List EventAccess) (act : EventAccess) (causes : List Cause) (i : ℕ) (cause : Cause) → i < length causes → cause ≡ get_or causes i cause → act.cause ≡ cause → causes_of_actions (actions_of_accesses acts) ≡ take i causes
     → causes_of_actions (actions_of_accesses (acts ++ act ∷ [])) ≡ take (i + 1) causes
 plain_more acts act causes i cause l is q h =
-    ap causes_of_actions (map-append action_of_access acts (act ∷ [])) ∙ map-append (λ (a : Action). a.cause) (actions_of_accesses acts) (action_of_access act ∷ []) ∙ ap₂ (λ (xs : List Cause) (x : Cause). xs ++ x ∷ []) h (q ∙ is) ∙ sym (take_more causes i cause l)
+    ap causes_of_actions (map-append action_of_access acts (act ∷ [])) ∙ map-append (λ (a : TraceAction). a.cause) (actions_of_accesses acts) (action_of_access act ∷ []) ∙ ap₂ (λ (xs : List Cause) (x : Cause). xs ++ x ∷ []) h (q ∙ is) ∙ sym (take_more causes i cause l)
 
 pub stood_from : (s : State) (place next : ℕ) (waits steps : List ℕ) → place ≡ next + 1 → AllStood s place waits steps → AllStood s (next + 1) waits steps
 stood_from s place next waits steps is stood = subst (λ (z : ℕ). AllStood s z waits steps) is stood

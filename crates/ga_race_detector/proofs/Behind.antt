@@ -5,7 +5,7 @@ use Rattle.std.specs.List.{slice_get}
 use Rattle.std.proofs.lemmas.Option.{same_Some}
 use Rattle.std.proofs.lemmas.Bool.{le-leb, leb-true, and_parts, eqb-true}
 use Rattle.std.proofs.Math.Dec.{leb}
-use Rattle.ga_node.specs.declared.kind.NotReady.{NotReady}
+use Rattle.ga_node.specs.declared.kind.EventRefusal.{EventRefusal}
 use Rattle.ga_node.specs.Record.{NodeRecord}
 use Rattle.ga_node.specs.Table.{t}
 use Rattle.ga_ports.specs.declared.side.Side.{Side}
@@ -18,11 +18,11 @@ use Rattle.ga_event.specs.declared.made.Made.{Made}
 use Rattle.ga_event.specs.declared.made.Made.TheVariants as made
 use Rattle.ga_event.specs.Touches.{touches}
 use Rattle.ga_event.specs.Apply.{EventOutcome, apply, after, some_if_allowed, refusal_of, cause_of, run, replay, AgreeOutsideMarks}
-use Rattle.ga_event.specs.Told.{count_steps, made_event_after, made_events_after, made_events_of, events_of_causes}
+use Rattle.ga_event.specs.Told.{count_steps, made_event_after, made_events_after, made_events_of_node, events_of_causes}
 use Rattle.ga_event.proofs.Locality.{AgreeOutsideMarks-sym}
 use Rattle.ga_causal.specs.Dependence.{cause_touches, rest, rest_or_all, position_of_step}
 use Rattle.ga_causal.proofs.Runs.{kept, causes, FirstOf, first_of_run, keeps_of, replay-cons}
-use Rattle.ga_lab.specs.Machine.{State, chip_of, causes_of, history_of, outcomes_of_run, earlier, state_after_rewind, has_step}
+use Rattle.ga_lab.specs.Machine.{State, chip_of, causes_of, history_of, outcomes_of_run, earlier_state, state_after_rewind, has_step}
 use Rattle.ga_lab.proofs.Called.{Runs, told_is, runs_some}
 use Rattle.ga_lab.proofs.Explaining.{step_has_position}
 use Rattle.ga_lab.proofs.Reasoned.{replayed}
@@ -43,7 +43,7 @@ IsWordOf c (made.Pass w i r j word) = word ≡ t (record_at c w.number)
 can_of : (c d : List NodeRecord) (e : Event) (t : EventOutcome) → apply c e ≡ Some (d, t) → IsEnabled c e
 can_of c d e t h = go (refusal_of c e) refl h
   where
-    go : (o : Option NotReady) → refusal_of c e ≡ o → some_if_allowed o (after c e) ≡ Some (d, t) → refusal_of c e ≡ None
+    go : (o : Option EventRefusal) → refusal_of c e ≡ o → some_if_allowed o (after c e) ≡ Some (d, t) → refusal_of c e ≡ None
     go None is k = is
     go (Some why) is k = absurd (cc)
 
@@ -184,7 +184,7 @@ pub record TakenBack (s : State) (n p : ℕ) : Type 0 where
   pub same : record_at mid n ≡ record_at (chip_of (state_after_rewind s n (suc p))) n
   pub place : ℕ
   pub count : count_steps n (take place s.kept) ≡ p
-  pub stood : record_at (chip_of (earlier s place)) n ≡ record_at mid n
+  pub stood : record_at (chip_of (earlier_state s place)) n ≡ record_at mid n
 
 pub taken_back : (s : State) → Runs s → (n p : ℕ) → p < count_steps n s.kept → TakenBack s n p
 taken_back s runs n p within = record {
@@ -193,7 +193,7 @@ taken_back s runs n p within = record {
   can = b.can;
   touch = b.touch;
   made = b.made;
-  told = ap (λ (z : List (Cause × EventOutcome)). slice_get (made_events_of z n) p) (told_is s runs) ∙ b.told;
+  told = ap (λ (z : List (Cause × EventOutcome)). slice_get (made_events_of_node z n) p) (told_is s runs) ∙ b.told;
   of = b.of;
   word = b.word;
   same = b.same ∙ sym (ap (λ z. record_at z n) (chip_at (replay s.load (state_after_rewind s n (suc p)).kept) b.now led));

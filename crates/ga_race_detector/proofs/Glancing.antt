@@ -13,19 +13,19 @@ use Rattle.std.proofs.lemmas.List.Elements.{All-weaker}
 use Rattle.ga_ports.specs.declared.side.Side.{Side}
 use Rattle.ga_node.specs.Record.{NodeRecord}
 use Rattle.ga_node.specs.Table.{refusal, looks}
-use Rattle.ga_node.specs.declared.kind.NotReady.{NotReady}
+use Rattle.ga_node.specs.declared.kind.EventRefusal.{EventRefusal}
 use Rattle.ga_grid.specs.Chip.{record_at}
 use Rattle.ga_grid.specs.declared.node_id.NodeId.{NodeId}
 use Rattle.ga_event.specs.declared.event.Event.TheVariants.{Own, Pass}
 use Rattle.ga_event.specs.Touches.{touches}
 use Rattle.ga_event.specs.Apply.{replay, cause_of}
 use Rattle.ga_causal.specs.Dependence.{cause_touches, event_at}
-use Rattle.ga_races.specs.HappensBefore.{Action, actions, are_neighbours}
+use Rattle.ga_races.specs.HappensBefore.{TraceAction, actions, are_neighbours}
 use Rattle.ga_races.specs.declared.racing_pairs.RacingPair.{RacingPair}
 use Rattle.ga_races.proofs.Independence.{touches_own, touches_writer, touches_reader}
 use Rattle.ga_races.proofs.Before.{actions_length}
-use Rattle.ga_lab.specs.Machine.{State, chip_of, causes_of, earlier, state_after_rewind}
-use Rattle.ga_race_detector.specs.Races.{looks_next}
+use Rattle.ga_lab.specs.Machine.{State, chip_of, causes_of, earlier_state, state_after_rewind}
+use Rattle.ga_race_detector.specs.Races.{is_next_event_look}
 use Rattle.ga_race_detector.specs.Readings.{IsRealizableLookRace}
 use Rattle.ga_race_detector.specs.inner.Glances.{IsMoment, AreMoments, first_part, last_part, no_moment, part_beside, IsGlance, IsGlanced, IsOtherWord, HasStep}
 use Rattle.ga_race_detector.specs.declared.moments.StepCounts.{StepCounts}
@@ -128,7 +128,7 @@ has_step s last near glance led g = (let one = go glance.is_look_first in record
 
 -- the look comes next if as many steps of its node are left as came before it
 pub looks_again : (s : State) (last : List NodeRecord) (near : RacingPair) (glance : LookChange) (b k : ℕ) → replay s.load s.kept ≡ Some last → IsGlance s near glance
-    → count_steps glance.node.number (state_after_rewind s b k).kept + 1 ≡ glance.step → looks_next (chip_of (state_after_rewind s b k)) glance.node.number ≡ true
+    → count_steps glance.node.number (state_after_rewind s b k).kept + 1 ≡ glance.step → is_next_event_look (chip_of (state_after_rewind s b k)) glance.node.number ≡ true
 looks_again s last near glance b k led g one =
     subst (λ (z : NodeRecord). (is_none (refusal z) && looks z) ≡ true) (sym (a.same ∙ stood_alike s last n a.place near.look led count)) here
   where
@@ -149,7 +149,7 @@ looks_again s last near glance b k led g one =
         omega (arith, one, x, y, z)
 
     before : List NodeRecord
-    before = chip_of (earlier s near.look)
+    before = chip_of (earlier_state s near.look)
 
     within : near.look < length s.kept
     within = (let l : near.look < length (causes_of s) = g.look in let long = causes_long s last led in omega (arith, l, long))
@@ -161,11 +161,11 @@ looks_again s last near glance b k led g one =
     look =
         let long : length (actions s.load s.kept) ≡ length s.kept = actions_length s.load s.kept in
         let there : event_at (causes_of s) near.look ≡ cause_of before (Own glance.node) =
-        ap (λ (z : List Cause). event_at z near.look) (sym (causes_are s last led)) ∙ cause_there (actions s.load s.kept) near.look (let l = within in omega (arith, l, long)) ∙ ap (λ (z : Action). z.cause) made.action in
+        ap (λ (z : List Cause). event_at z near.look) (sym (causes_are s last led)) ∙ cause_there (actions s.load s.kept) near.look (let l = within in omega (arith, l, long)) ∙ ap (λ (z : TraceAction). z.cause) made.action in
         ap (λ (z : Cause). z.look) (sym there ∙ g.looked)
 
     here : (is_none (refusal (record_at before n)) && looks (record_at before n)) ≡ true
-    here = ap (λ (z : Option NotReady). is_none z && looks (record_at before n)) made.can ∙ look
+    here = ap (λ (z : Option EventRefusal). is_none z && looks (record_at before n)) made.can ∙ look
 
 -- a look that reads another word is a reading
 pub otherwise : (s : State) (near : RacingPair) (glance : LookChange) (word : ℕ) → IsGlance s near glance → IsOtherWord s glance word → word ≢ glance.word

@@ -27,12 +27,12 @@ use Rattle.ga_races.specs.HappensBefore.{action_at, actions, AreRacing, are_neig
 use Rattle.ga_races.specs.Acts.{action_of_access, actions_of_accesses, is_own_event_of, IsRacingLook}
 use Rattle.ga_races.specs.inner.{AreAlike}
 use Rattle.ga_races.proofs.Conflicts.{alike-sym, near_alike, open_of, number_of, at_node, at_two}
-use Rattle.ga_lab.specs.Machine.{State, chip_of, causes_of, removed_count, rewind_answer, earlier, state_after_rewind, has_step}
+use Rattle.ga_lab.specs.Machine.{State, chip_of, causes_of, removed_count, rewind_answer, earlier_state, state_after_rewind, has_step}
 use Rattle.ga_lab.specs.declared.fault.LabFault.{LabFault}
 use Rattle.ga_lab.proofs.Called.{Runs, runs_of, causes_is, events_run}
 use Rattle.ga_lab.proofs.Explaining.{step_has_position}
 use Rattle.ga_lab.proofs.Reasoned.{replayed}
-use Rattle.ga_race_detector.specs.Races.{looks_next, has_look}
+use Rattle.ga_race_detector.specs.Races.{is_next_event_look, has_look_event}
 use Rattle.ga_race_detector.specs.Readings.{rollback_step_of, IsRealizableLookRace, IsNearLookRace, IsReportedLookRace}
 use Rattle.ga_race_detector.specs.inner.Glances.{part_beside, IsAtNear, IsGlance, AreGlanced, IsShownBy, AreRead}
 use Rattle.ga_race_detector.specs.declared.readings.LookRace.{LookRace}
@@ -193,7 +193,7 @@ back_is reading node step neighbour change is_look_first said =
 -- the removed step exists, and after its rollback the node looks again and reads the other word
 pub record IsReadAgain (s : State) (reading : LookRace) (back : NodeId × ℕ) (node : NodeId) (number : ℕ) : Type 0 where
   pub stands : has_step s back.0.number back.1 ≡ true
-  pub next : looks_next (chip_of (state_after_rewind s back.0.number back.1)) node.number ≡ true
+  pub next : is_next_event_look (chip_of (state_after_rewind s back.0.number back.1)) node.number ≡ true
   pub step : count_steps node.number (state_after_rewind s back.0.number back.1).kept + 1 ≡ number
   pub other : reading.other ≡ io_word (neighbour_states (chip_of (state_after_rewind s back.0.number back.1)) node.number)
 
@@ -208,11 +208,11 @@ read_again s near reading node step neighbour change is_look_first caused said o
 
 -- the word that it read
 pub word_there : (s : State) (near : RacingPair) (reading : LookRace) (node : NodeId) → node ≡ reading.node → IsRealizableLookRace s reading → IsAtNear s near reading
-    → io_word (neighbour_states (chip_of (earlier s near.look)) node.number) ≡ reading.word
+    → io_word (neighbour_states (chip_of (earlier_state s near.look)) node.number) ≡ reading.word
 word_there s near reading node is o a =
     let same : o.place ≡ near.look = one_place (causes_of s) reading.node.number reading.step o.place near.look o.stands a.looks in
-    ap (λ (z : NodeId). io_word (neighbour_states (chip_of (earlier s near.look)) z.number)) is
-    ∙ ap (λ (z : ℕ). io_word (neighbour_states (chip_of (earlier s z)) reading.node.number)) (sym same) ∙ sym o.read
+    ap (λ (z : NodeId). io_word (neighbour_states (chip_of (earlier_state s near.look)) z.number)) is
+    ∙ ap (λ (z : ℕ). io_word (neighbour_states (chip_of (earlier_state s z)) reading.node.number)) (sym same) ∙ sym o.read
 
 pub same_reading : (reading : LookRace) (node : NodeId) (step word : ℕ) (neighbour : NodeId) (change : ℕ) (is_look_first : Bool) (other : ℕ) → IsSaidOf reading node step neighbour change is_look_first
     → word ≡ reading.word → other ≡ reading.other
@@ -228,13 +228,13 @@ same_reading reading node step word neighbour change is_look_first other said w 
 
 -- ---- what is near in the list of acts
 
-look_found : (cs : List Cause) (p : ℕ) → p < length cs → (event_at cs p).look ≡ true → has_look cs ≡ true
-unfolding has_look
+look_found : (cs : List Cause) (p : ℕ) → p < length cs → (event_at cs p).look ≡ true → has_look_event cs ≡ true
+unfolding has_look_event
 look_found [] p l h = absurd (omega (arith, l))
-look_found (c ∷ cs) zero l h = or_left c.look (has_look cs) h
-look_found (c ∷ cs) (suc p) l h = or_right c.look (has_look cs) (look_found cs p (omega (arith, l)) h)
+look_found (c ∷ cs) zero l h = or_left c.look (has_look_event cs) h
+look_found (c ∷ cs) (suc p) l h = or_right c.look (has_look_event cs) (look_found cs p (omega (arith, l)) h)
 
-pub none_without_looks : (s : State) (reading : LookRace) → has_look (causes_of s) ≡ false → IsRealizableLookRace s reading → ⊥
+pub none_without_looks : (s : State) (reading : LookRace) → has_look_event (causes_of s) ≡ false → IsRealizableLookRace s reading → ⊥
 none_without_looks s reading none o =
     true≢false (sym (look_found (causes_of s) o.place o.stands.within (ap (λ (z : Cause). z.look) o.looked)) ∙ none)
 

@@ -10,8 +10,8 @@ use Rattle.ga_event.specs.Next.{next}
 use Rattle.ga_event.proofs.Nexts.{next_can}
 use Rattle.ga_lab.proofs.Forward.{made_is_next}
 use Rattle.ga_lab.specs.Machine.{acting_node, State, initial_state, chip_of, causes_of, outcomes_of_run, state_after_rewind}
-use Rattle.ga_lab.specs.Calls.{MachineCall, after_calls, IsReachableState}
-use Rattle.ga_races.specs.Orders.{AreReorderings, IsTerminal, HasNoRace, IsEnabled}
+use Rattle.ga_lab.specs.Calls.{MachineCall, state_after_machine_calls, IsReachableState}
+use Rattle.ga_races.specs.Orders.{AreReorderings, IsTerminalChip, HasNoRace, IsEnabled}
 use Rattle.ga_races.proofs.Orders.{beginning_quiet, end_quiet}
 use Rattle.ga_ports.specs.declared.side.Side.{Side}
 use Rattle.ga_node.specs.Table.{t}
@@ -41,27 +41,27 @@ record Stands (load : List NodeRecord) (s : State) : Type 0 where
 stands_of : (load : List NodeRecord) (s : State) → s.load ≡ load → IsSome (replay s.load s.kept) → Stands load s
 stands_of load s is some = record { same = is; led = subst (λ (z : List NodeRecord). replay z s.kept ≡ Some (chip_of s)) is (leads (replay s.load s.kept) some) }
 
-stands : (load : List NodeRecord) (limit : ℕ) (calls : List MachineCall) → Stands load (after_calls (initial_state load limit) calls)
-stands load limit calls = let r = Called.history_is_replayable load limit calls in stands_of load (after_calls (initial_state load limit) calls) r.0 r.1
+stands : (load : List NodeRecord) (limit : ℕ) (calls : List MachineCall) → Stands load (state_after_machine_calls (initial_state load limit) calls)
+stands load limit calls = let r = Called.history_is_replayable load limit calls in stands_of load (state_after_machine_calls (initial_state load limit) calls) r.0 r.1
 
 some_led : (load last : List NodeRecord) (es : List Event) → replay load es ≡ Some last → IsSome (replay load es)
 some_led load last es h = subst (λ (o : Option (List NodeRecord)). IsSome o) (sym h) refl
 
-pub on_the_way : (load : List NodeRecord) (limit bound : ℕ) (calls others : List MachineCall) → HasNoRace load (after_calls (initial_state load limit) calls).kept → IsTerminal (chip_of (after_calls (initial_state load limit) calls))
-    → (later : List Event) × AreReorderings load (after_calls (initial_state load limit) calls).kept ((after_calls (initial_state load bound) others).kept ++ later)
+pub on_the_way : (load : List NodeRecord) (limit bound : ℕ) (calls others : List MachineCall) → HasNoRace load (state_after_machine_calls (initial_state load limit) calls).kept → IsTerminalChip (chip_of (state_after_machine_calls (initial_state load limit) calls))
+    → (later : List Event) × AreReorderings load (state_after_machine_calls (initial_state load limit) calls).kept ((state_after_machine_calls (initial_state load bound) others).kept ++ later)
 on_the_way load limit bound calls others calm end =
-    let s = after_calls (initial_state load limit) calls in
-    let z = after_calls (initial_state load bound) others in
+    let s = state_after_machine_calls (initial_state load limit) calls in
+    let z = state_after_machine_calls (initial_state load bound) others in
     beginning_quiet load (chip_of s) s.kept z.kept (stands load limit calls).led calm end (some_led load (chip_of z) z.kept (stands load bound others).led)
 
-pub same_end : (load : List NodeRecord) (limit bound : ℕ) (calls others : List MachineCall) → HasNoRace load (after_calls (initial_state load limit) calls).kept → IsTerminal (chip_of (after_calls (initial_state load limit) calls))
-    → IsTerminal (chip_of (after_calls (initial_state load bound) others)) → chip_of (after_calls (initial_state load bound) others) ≡ chip_of (after_calls (initial_state load limit) calls)
+pub same_end : (load : List NodeRecord) (limit bound : ℕ) (calls others : List MachineCall) → HasNoRace load (state_after_machine_calls (initial_state load limit) calls).kept → IsTerminalChip (chip_of (state_after_machine_calls (initial_state load limit) calls))
+    → IsTerminalChip (chip_of (state_after_machine_calls (initial_state load bound) others)) → chip_of (state_after_machine_calls (initial_state load bound) others) ≡ chip_of (state_after_machine_calls (initial_state load limit) calls)
 same_end load limit bound calls others calm end stop =
-    let s = after_calls (initial_state load limit) calls in
-    let z = after_calls (initial_state load bound) others in
+    let s = state_after_machine_calls (initial_state load limit) calls in
+    let z = state_after_machine_calls (initial_state load bound) others in
     (end_quiet load (chip_of s) (chip_of z) s.kept z.kept (stands load limit calls).led calm end (stands load bound others).led stop).1
 
-pub no_next : (chip : List NodeRecord) → IsTerminal chip ↔ ((n : NodeId) (event : Event) → next chip n ≡ Ok event → ⊥)
+pub no_next : (chip : List NodeRecord) → IsTerminalChip chip ↔ ((n : NodeId) (event : Event) → next chip n ≡ Ok event → ⊥)
 no_next chip = (λ end n event h. end event (next_can chip n event h), λ none event can. none (acting_node event) event (made_is_next chip event can))
 
 -- an enabled pass is offered
@@ -81,9 +81,9 @@ abbrev pub NoneOffered : State → Type 0
 NoneOffered s = (r : NodeId) (k : ℕ) (side other : Side) → side ≢ other
     → IsSome (alternative_word (chip_of (state_after_rewind s r.number k)) r.number side) → IsSome (alternative_word (chip_of (state_after_rewind s r.number k)) r.number other) → ⊥
 
-pub no_race_kept : (s : State) → IsReachableState s → HasNoLooks (causes_of s) → IsTerminal (chip_of s) → NoneOffered s → HasNoRace s.load s.kept
+pub no_race_kept : (s : State) → IsReachableState s → HasNoLooks (causes_of s) → IsTerminalChip (chip_of s) → NoneOffered s → HasNoRace s.load s.kept
 no_race_kept s reached none end free =
-    none_races s.load r.last s.kept r.told r.run_is (subst (λ z. HasNoLooks z) told none) (end_blind r.last (subst (λ z. IsTerminal z) (chip_is s r) end)) shown_state
+    none_races s.load r.last s.kept r.told r.run_is (subst (λ z. HasNoLooks z) told none) (end_blind r.last (subst (λ z. IsTerminalChip z) (chip_is s r) end)) shown_state
   where
     r : Runs s
     r = runs_reached s reached

@@ -20,7 +20,7 @@ use Rattle.ga_event.specs.declared.event.Event.{Event}
 use Rattle.ga_event.specs.declared.event.Cause.{Cause}
 use Rattle.ga_event.specs.declared.made.Made.{Made}
 use Rattle.ga_event.specs.Touches.{touches}
-use Rattle.ga_event.specs.Apply.{EventOutcome, after, replay, waits_to_write_side, waits_to_read_side, shown_state}
+use Rattle.ga_event.specs.Apply.{EventOutcome, after, replay, waits_to_write_side, waits_to_read_side, shown_wait_state}
 use Rattle.ga_event.specs.Told.{count_steps}
 use Rattle.ga_causal.specs.Dependence.{events_after_rewind}
 use Rattle.ga_causal.specs.Steps.{count_touching_events}
@@ -28,7 +28,7 @@ use Rattle.ga_causal.proofs.Places.{touching_in}
 use Rattle.ga_races.specs.Orders.{IsEnabled}
 use Rattle.ga_races.proofs.Independence.{first_of, replay_more, stays}
 use Rattle.ga_races.proofs.Conflicts.{Open, open_of, back, number_of, wait_at, at_node, at_two, one_side, one_way}
-use Rattle.ga_lab.specs.Machine.{State, chip_of, causes_of, history_of, earlier, state_after_rewind}
+use Rattle.ga_lab.specs.Machine.{State, chip_of, causes_of, history_of, earlier_state, state_after_rewind}
 use Rattle.ga_lab.proofs.Called.{Runs}
 use Rattle.ga_race_detector.specs.Races.{neighbour_offer, alternative_word}
 use Rattle.ga_race_detector.specs.inner.Writers.{posted, word_between}
@@ -69,7 +69,7 @@ stood_before (e ∷ es) c last m (suc p) (suc q) h l same =
     ∙ sym (ap (λ (o : Option (List NodeRecord)). record_at (unwrap_or o []) m) (replay_more c e (take q es) f.can))
 
 pub stood_alike : (s : State) (last : List NodeRecord) (m p q : ℕ) → replay s.load s.kept ≡ Some last → count_steps m (take p s.kept) ≡ count_steps m (take q s.kept)
-    → record_at (chip_of (earlier s p)) m ≡ record_at (chip_of (earlier s q)) m
+    → record_at (chip_of (earlier_state s p)) m ≡ record_at (chip_of (earlier_state s q)) m
 stood_alike s last m p q h same = elim (cases_lt p q) [
   | inl l ↦ stood_before s.kept s.load last m p q h (omega (arith, l)) same
   | inr g ↦ sym (stood_before s.kept s.load last m q p h g (sym same))
@@ -148,7 +148,7 @@ none_within (x ∷ xs) (suc i) h = let l = none_within xs i h in omega (arith, l
 
 pub posted_told : (s : State) → Runs s → (o r : NodeId) (side : Side) (steps place : ℕ) (m : Made) → length (history_of s o.number) ≡ count_steps o.number s.kept → Some m ≡ slice_get (history_of s o.number) steps
     → neighbour_of r.number side ≡ Some o.number → count_steps o.number (take place s.kept) ≡ steps
-    → word_between o.number r.number m ≡ posted (record_at (chip_of (earlier s place)) o.number) side
+    → word_between o.number r.number m ≡ posted (record_at (chip_of (earlier_state s place)) o.number) side
 posted_told s runs o r side steps place m size told near count =
     let within : steps < count_steps o.number s.kept = (let l = some_within (history_of s o.number) steps m (sym told) in omega (arith, l, size)) in
     let b : TakenBack s o.number steps = taken_back s runs o.number steps within in
@@ -161,7 +161,7 @@ posted_told s runs o r side steps place m size told near count =
 
 -- after its last step it is in its current state
 pub last_stood : (s : State) (last : List NodeRecord) (o steps place : ℕ) (now : NodeRecord) → replay s.load s.kept ≡ Some last → length (history_of s o) ≡ count_steps o s.kept
-    → None ≡ slice_get (history_of s o) steps → now ≡ record_at (chip_of s) o → count_steps o (take place s.kept) ≡ steps → now ≡ record_at (chip_of (earlier s place)) o
+    → None ≡ slice_get (history_of s o) steps → now ≡ record_at (chip_of s) o → count_steps o (take place s.kept) ≡ steps → now ≡ record_at (chip_of (earlier_state s place)) o
 last_stood s last o steps place now h size none is count =
     let past = none_within (history_of s o) steps (sym none) in
     let most = steps_take o s.kept place in
@@ -172,7 +172,7 @@ last_stood s last o steps place now h size none is count =
 
 pub posted_last : (s : State) (last : List NodeRecord) (o : ℕ) (side : Side) (steps place : ℕ) (now : NodeRecord) → replay s.load s.kept ≡ Some last → length (history_of s o) ≡ count_steps o s.kept
     → None ≡ slice_get (history_of s o) steps → now ≡ record_at (chip_of s) o → count_steps o (take place s.kept) ≡ steps
-    → posted now side ≡ posted (record_at (chip_of (earlier s place)) o) side
+    → posted now side ≡ posted (record_at (chip_of (earlier_state s place)) o) side
 posted_last s last o side steps place now h size none is count = ap (λ (z : NodeRecord). posted z side) (last_stood s last o steps place now h size none is count)
 
 and_true : (a b : Bool) → b ≡ true → (a && b) ≡ a
@@ -180,7 +180,7 @@ and_true true b h = h
 and_true false b h = refl
 
 pub offered_left : (s : State) (n k m many : ℕ) (side : Side) (word : Option ℕ) → IsSome (replay s.load s.kept) → waits_to_read_side (record_at (chip_of (state_after_rewind s n k)) n).wait side ≡ true → neighbour_of n side ≡ Some m
-    → many ≡ count_touching_events m (events_after_rewind (causes_of s) n k) → ((place : ℕ) → count_steps m (take place s.kept) ≡ many → word ≡ posted (record_at (chip_of (earlier s place)) m) side)
+    → many ≡ count_touching_events m (events_after_rewind (causes_of s) n k) → ((place : ℕ) → count_steps m (take place s.kept) ≡ many → word ≡ posted (record_at (chip_of (earlier_state s place)) m) side)
     → word ≡ alternative_word (chip_of (state_after_rewind s n k)) n side
 offered_left s n k m many side word some reads near left is =
     let a = stands_somewhere s n k m some in
@@ -195,7 +195,7 @@ offered_left s n k m many side word some reads near left is =
 -- a node whose next step is its own waits for nothing
 pub own_shows : (s : State) → Runs s → (o : NodeId) (side : Side) (steps place : ℕ) (m : Made) (who : NodeId) (k : ℕ) (kind : OwnEventKind) → m ≡ made.Own who k kind → length (history_of s o.number) ≡ count_steps o.number s.kept
     → Some m ≡ slice_get (history_of s o.number) steps → count_steps o.number (take place s.kept) ≡ steps
-    → Idle ≡ shown_state (record_at (chip_of (earlier s place)) o.number).wait side
+    → Idle ≡ shown_wait_state (record_at (chip_of (earlier_state s place)) o.number).wait side
 own_shows s runs o side steps place m who k kind own_made size told count =
     let within : steps < count_steps o.number s.kept = (let l = some_within (history_of s o.number) steps m (sym told) in omega (arith, l, size)) in
     let b : TakenBack s o.number steps = taken_back s runs o.number steps within in
@@ -203,15 +203,15 @@ own_shows s runs o side steps place m who k kind own_made size told count =
     let of : IsOf (made.Own who k kind) b.event = subst (λ (z : Made). IsOf z b.event) (sym same) b.of in
     let own : IsEnabled b.mid (event.Own of.0) = subst (λ (z : Event). IsEnabled b.mid z) of.1 b.can in
     let here : of.0.number ≡ o.number = at_node of.0.number o.number (subst (λ (z : Event). touches z o.number ≡ true) of.1 b.touch) in
-    ap (λ (w : Wait). shown_state w side) (sym (wait_at b.mid of.0 own o.number here))
-    ∙ ap (λ (z : NodeRecord). shown_state z.wait side) (sym b.stood ∙ stood_alike s runs.last o.number b.place place led (b.count ∙ sym count))
+    ap (λ (w : Wait). shown_wait_state w side) (sym (wait_at b.mid of.0 own o.number here))
+    ∙ ap (λ (z : NodeRecord). shown_wait_state z.wait side) (sym b.stood ∙ stood_alike s runs.last o.number b.place place led (b.count ∙ sym count))
   where
     led : replay s.load s.kept ≡ Some runs.last
     led = ap (λ (o : Option (List NodeRecord × List (Cause × EventOutcome))). option_map (λ z. z.0) o) runs.run_is
 
 -- after a rollback it shows what it showed at the same number of steps
 pub rewound_shows : (s : State) (b k m many : ℕ) (side : Side) (is : NeighbourState) → IsSome (replay s.load s.kept) → many ≡ count_touching_events m (events_after_rewind (causes_of s) b k)
-    → ((place : ℕ) → count_steps m (take place s.kept) ≡ many → is ≡ shown_state (record_at (chip_of (earlier s place)) m).wait side) → is ≡ shown_state (record_at (chip_of (state_after_rewind s b k)) m).wait side
+    → ((place : ℕ) → count_steps m (take place s.kept) ≡ many → is ≡ shown_wait_state (record_at (chip_of (earlier_state s place)) m).wait side) → is ≡ shown_wait_state (record_at (chip_of (state_after_rewind s b k)) m).wait side
 rewound_shows s b k m many side is some left then =
     let a = stands_somewhere s b k m some in
-    then a.place (a.count ∙ sym (left ∙ touching_in m (events_after_rewind (causes_of s) b k))) ∙ ap (λ (z : NodeRecord). shown_state z.wait side) (sym a.same)
+    then a.place (a.count ∙ sym (left ∙ touching_in m (events_after_rewind (causes_of s) b k))) ∙ ap (λ (z : NodeRecord). shown_wait_state z.wait side) (sym a.same)

@@ -14,7 +14,7 @@ use Rattle.ga_event.specs.declared.event.Cause.{Cause}
 use Rattle.ga_event.specs.declared.made.Made.{Made}
 use Rattle.ga_ports.specs.declared.side.Side.{Side}
 use Rattle.ga_lab.specs.Machine.{State, chip_of, history_of, state_after_rewind}
-use Rattle.ga_race_detector.specs.Races.{alternative_word, race_with_offer, races_on_side, races_of_event, races_before, races_of, races_below, has_look, looks_next, has_next_look, first_ready_node}
+use Rattle.ga_race_detector.specs.Races.{alternative_word, race_with_offer, races_on_side, races_of_event, races_of_steps_before, races_of_node, races_of_nodes_below, has_look_event, is_next_event_look, has_next_look_event, first_ready_node}
 use Rattle.ga_race_detector.specs.declared.races.Race.{Race}
 use Rattle.ga_event.specs.Next.{next}
 use Rattle.ga_races.specs.Orders.{has_event}
@@ -49,45 +49,45 @@ own_side s r k w word side old is =
     sym (append-nil old) ∙ ap (λ (z : List Race). old ++ z) (sym (ap (λ (o : Option ℕ). race_with_offer r k w word o (alternative_word (chip_of (state_after_rewind s r.number k)) r.number side)) is
     ∙ none_from r k w word w.number (alternative_word (chip_of (state_after_rewind s r.number k)) r.number side) refl))
 
-pub one_more : (s : State) (node : NodeId) (p : ℕ) (m : Made) (old xs ys : List Race) → xs ≡ old ++ races_before s node p → Some m ≡ slice_get (history_of s node.number) p
-    → ys ≡ xs ++ races_of_event s node (p + 1) (Some m) → ys ≡ old ++ races_before s node (p + 1)
-unfolding races_before
+pub one_more : (s : State) (node : NodeId) (p : ℕ) (m : Made) (old xs ys : List Race) → xs ≡ old ++ races_of_steps_before s node p → Some m ≡ slice_get (history_of s node.number) p
+    → ys ≡ xs ++ races_of_event s node (p + 1) (Some m) → ys ≡ old ++ races_of_steps_before s node (p + 1)
+unfolding races_of_steps_before
 one_more s node p m old xs ys h is g =
-    g ∙ ap (λ (z : List Race). z ++ races_of_event s node (p + 1) (Some m)) h ∙ append_assoc old (races_before s node p) (races_of_event s node (p + 1) (Some m))
-    ∙ ap (λ (o : Option Made). old ++ (races_before s node p ++ races_of_event s node (p + 1) o)) is
-    ∙ ap (λ (z : ℕ). old ++ races_before s node z) (let q : suc p ≡ p + 1 = omega arith in q)
+    g ∙ ap (λ (z : List Race). z ++ races_of_event s node (p + 1) (Some m)) h ∙ append_assoc old (races_of_steps_before s node p) (races_of_event s node (p + 1) (Some m))
+    ∙ ap (λ (o : Option Made). old ++ (races_of_steps_before s node p ++ races_of_event s node (p + 1) o)) is
+    ∙ ap (λ (z : ℕ). old ++ races_of_steps_before s node z) (let q : suc p ≡ p + 1 = omega arith in q)
 
-pub none_before : (s : State) (node : NodeId) (old : List Race) → old ≡ old ++ races_before s node 0
-unfolding races_before
+pub none_before : (s : State) (node : NodeId) (old : List Race) → old ≡ old ++ races_of_steps_before s node 0
+unfolding races_of_steps_before
 none_before s node old = sym (append-nil old)
 
-pub node_more : (s : State) (n : ℕ) (node : NodeId) (old xs ys : List Race) → n < 144 → node.number ≡ n → xs ≡ old ++ races_below s n → ys ≡ xs ++ races_of s node → ys ≡ old ++ races_below s (n + 1)
-unfolding races_below
+pub node_more : (s : State) (n : ℕ) (node : NodeId) (old xs ys : List Race) → n < 144 → node.number ≡ n → xs ≡ old ++ races_of_nodes_below s n → ys ≡ xs ++ races_of_node s node → ys ≡ old ++ races_of_nodes_below s (n + 1)
+unfolding races_of_nodes_below
 node_more s n node old xs ys l e h g =
-    g ∙ ap (λ (z : List Race). z ++ races_of s node) h ∙ append_assoc old (races_below s n) (races_of s node)
-    ∙ ap (λ (z : NodeId). old ++ (races_below s n ++ races_of s z)) (sym (node_id-number node) ∙ ap node_id e)
-    ∙ ap (λ (z : ℕ). old ++ races_below s z) (let q : suc n ≡ n + 1 = omega arith in q)
+    g ∙ ap (λ (z : List Race). z ++ races_of_node s node) h ∙ append_assoc old (races_of_nodes_below s n) (races_of_node s node)
+    ∙ ap (λ (z : NodeId). old ++ (races_of_nodes_below s n ++ races_of_node s z)) (sym (node_id-number node) ∙ ap node_id e)
+    ∙ ap (λ (z : ℕ). old ++ races_of_nodes_below s z) (let q : suc n ≡ n + 1 = omega arith in q)
 
-pub none_below : (s : State) (old : List Race) → old ≡ old ++ races_below s 0
-unfolding races_below
+pub none_below : (s : State) (old : List Race) → old ≡ old ++ races_of_nodes_below s 0
+unfolding races_of_nodes_below
 none_below s old = sym (append-nil old)
 
 -- looks
-pub look_at : (cs : List Cause) (i : ℕ) (x : Cause) → i < length cs → x ≡ get_or cs i x → has_look (drop i cs) ≡ (x.look || has_look (drop (i + 1) cs))
-unfolding has_look
-look_at cs i x l is = ap has_look (drop_more cs i x l) ∙ ap (λ (z : Cause). z.look || has_look (drop (i + 1) cs)) (sym is)
+pub look_at : (cs : List Cause) (i : ℕ) (x : Cause) → i < length cs → x ≡ get_or cs i x → has_look_event (drop i cs) ≡ (x.look || has_look_event (drop (i + 1) cs))
+unfolding has_look_event
+look_at cs i x l is = ap has_look_event (drop_more cs i x l) ∙ ap (λ (z : Cause). z.look || has_look_event (drop (i + 1) cs)) (sym is)
 
-pub look_none : (cs : List Cause) (i : ℕ) → length cs ≤ i → has_look (drop i cs) ≡ false
-unfolding has_look
-look_none cs i l = ap has_look (drop_all i cs l)
+pub look_none : (cs : List Cause) (i : ℕ) → length cs ≤ i → has_look_event (drop i cs) ≡ false
+unfolding has_look_event
+look_none cs i l = ap has_look_event (drop_all i cs l)
 
-pub next_more : (chip : List NodeRecord) (n : ℕ) (looks here : Bool) → looks ≡ has_next_look chip n → here ≡ looks_next chip n → (here || looks) ≡ has_next_look chip (n + 1)
-unfolding has_next_look
+pub next_more : (chip : List NodeRecord) (n : ℕ) (looks here : Bool) → looks ≡ has_next_look_event chip n → here ≡ is_next_event_look chip n → (here || looks) ≡ has_next_look_event chip (n + 1)
+unfolding has_next_look_event
 next_more chip n looks here h g =
-    ap (λ (b : Bool). here || b) h ∙ ap (λ (b : Bool). b || has_next_look chip n) g ∙ ap (has_next_look chip) (let q : suc n ≡ n + 1 = omega arith in q)
+    ap (λ (b : Bool). here || b) h ∙ ap (λ (b : Bool). b || has_next_look_event chip n) g ∙ ap (has_next_look_event chip) (let q : suc n ≡ n + 1 = omega arith in q)
 
-pub next_none : (chip : List NodeRecord) → false ≡ has_next_look chip 0
-unfolding has_next_look
+pub next_none : (chip : List NodeRecord) → false ≡ has_next_look_event chip 0
+unfolding has_next_look_event
 next_none chip = refl
 
 pub told_there : (xs : List Made) (i : ℕ) → i < length xs → slice_get xs i ≡ None → ⊥

@@ -10,9 +10,9 @@ use Rattle.ga_event.specs.Apply.{waits_to_write_side, waits_to_read_side, replay
 use Rattle.ga_event.specs.declared.event.Event.{Event}
 use Rattle.std.proofs.lemmas.Bool.{cases_eq}
 use Rattle.ga_event.specs.Told.{count_steps}
-use Rattle.ga_lab.specs.Machine.{State, NodeAtStep, node_at_step, chip_of, earlier, state_after_rewind, has_step}
+use Rattle.ga_lab.specs.Machine.{State, NodeAtStep, node_at_step, chip_of, earlier_state, state_after_rewind, has_step}
 use Rattle.ga_race_detector.specs.Races.{neighbour_offer, alternative_word, race_with_offer, races_on_side}
-use Rattle.ga_node.specs.State.{wait_of}
+use Rattle.ga_node.specs.State.{wait_of_code}
 use Rattle.ga_grid.specs.declared.node_id.NodeId.{NodeId}
 use Rattle.ga_lab.proofs.Called.{Runs}
 use Rattle.ga_lab.proofs.Explaining.{stands_counted}
@@ -21,7 +21,7 @@ use Rattle.ga_race_detector.proofs.Behind.{TakenBack, taken_back, stands_many}
 
 -- it didn't wait to write after j of its steps
 abbrev pub IsSilentAt : State → ℕ → Side → ℕ → Type 0
-IsSilentAt s m side j = (place : ℕ) → count_steps m (take place s.kept) ≡ j → waits_to_write_side (record_at (chip_of (earlier s place)) m).wait side ≡ false
+IsSilentAt s m side j = (place : ℕ) → count_steps m (take place s.kept) ≡ j → waits_to_write_side (record_at (chip_of (earlier_state s place)) m).wait side ≡ false
 
 pub silent : (s : State) (m : ℕ) (side : Side) → IsSome (replay s.load s.kept) → ((j : ℕ) → IsSilentAt s m side j)
     → (n k : ℕ) → neighbour_of n side ≡ Some m → alternative_word (chip_of (state_after_rewind s n k)) n side ≡ None
@@ -46,14 +46,14 @@ unread chip n side free = go (neighbour_of n side)
     go (Some w) = both_none (waits_to_write_side (record_at chip w).wait side) (waits_to_read_side (record_at chip n).wait side) (Some (t (record_at chip w))) free
 
 -- what the node waits for after a rollback of its step is what it waited for before the step
-pub waited : (s : State) → Runs s → (n k code : ℕ) → has_step s n k ≡ true → ((place : ℕ) → count_steps n (take place s.kept) ≡ k - 1 → (record_at (chip_of (earlier s place)) n).wait ≡ wait_of code)
-    → (record_at (chip_of (state_after_rewind s n k)) n).wait ≡ wait_of code
+pub waited : (s : State) → Runs s → (n k code : ℕ) → has_step s n k ≡ true → ((place : ℕ) → count_steps n (take place s.kept) ≡ k - 1 → (record_at (chip_of (earlier_state s place)) n).wait ≡ wait_of_code code)
+    → (record_at (chip_of (state_after_rewind s n k)) n).wait ≡ wait_of_code code
 waited s runs n zero code on held = absurd (let q = stands_counted s n 0 on in omega (arith, q))
 waited s runs n (suc p) code on held =
     let b : TakenBack s n p = taken_back s runs n p (let q = stands_many s n (suc p) on in omega (arith, q)) in
     ap (λ (z : NodeRecord). z.wait) (sym b.same ∙ sym b.stood) ∙ held b.place (b.count ∙ (let q : p ≡ suc p - 1 = omega arith in q))
 
-pub stood_then : (s : State) → Runs s → (n k : ℕ) (then : NodeRecord) → has_step s n k ≡ true → ((place : ℕ) → count_steps n (take place s.kept) ≡ k - 1 → then ≡ record_at (chip_of (earlier s place)) n)
+pub stood_then : (s : State) → Runs s → (n k : ℕ) (then : NodeRecord) → has_step s n k ≡ true → ((place : ℕ) → count_steps n (take place s.kept) ≡ k - 1 → then ≡ record_at (chip_of (earlier_state s place)) n)
     → then ≡ record_at (chip_of (state_after_rewind s n k)) n
 stood_then s runs n zero then on held = absurd (let q = stands_counted s n 0 on in omega (arith, q))
 stood_then s runs n (suc p) then on held =
@@ -79,13 +79,13 @@ steps_take n (e ∷ es) (suc p) =
     omega (arith, x, y, z)
 
 pub at_walk : (w : NodeAtStep) (s : State) (node : NodeId) (held : NodeRecord) → w ≡ node_at_step s node w.step
-    → ((place : ℕ) → count_steps w.node.number (take place w.machine.kept) ≡ w.step → held ≡ record_at (chip_of (earlier w.machine place)) w.node.number)
-    → (place : ℕ) → count_steps node.number (take place s.kept) ≡ w.step → held ≡ record_at (chip_of (earlier s place)) node.number
+    → ((place : ℕ) → count_steps w.node.number (take place w.machine.kept) ≡ w.step → held ≡ record_at (chip_of (earlier_state w.machine place)) w.node.number)
+    → (place : ℕ) → count_steps node.number (take place s.kept) ≡ w.step → held ≡ record_at (chip_of (earlier_state s place)) node.number
 at_walk w s node held is h =
-    subst (λ (z : NodeAtStep). (place : ℕ) → count_steps z.node.number (take place z.machine.kept) ≡ w.step → held ≡ record_at (chip_of (earlier z.machine place)) z.node.number) is h
+    subst (λ (z : NodeAtStep). (place : ℕ) → count_steps z.node.number (take place z.machine.kept) ≡ w.step → held ≡ record_at (chip_of (earlier_state z.machine place)) z.node.number) is h
 
 pub silent_here : (s : State) (m : ℕ) (side : Side) (step : ℕ) (held : NodeRecord) (waits : Bool)
-    → ((place : ℕ) → count_steps m (take place s.kept) ≡ step → held ≡ record_at (chip_of (earlier s place)) m) → waits ≡ waits_to_write_side held.wait side → waits ≡ false → IsSilentAt s m side step
+    → ((place : ℕ) → count_steps m (take place s.kept) ≡ step → held ≡ record_at (chip_of (earlier_state s place)) m) → waits ≡ waits_to_write_side held.wait side → waits ≡ false → IsSilentAt s m side step
 silent_here s m side step held waits h w free place is = ap (λ (z : NodeRecord). waits_to_write_side z.wait side) (sym (h place is)) ∙ sym w ∙ free
 
 pub silent_last : (s : State) (m : ℕ) (side : Side) (step : ℕ) → step ≡ count_steps m s.kept → IsSilentAt s m side step → (j : ℕ) → step ≤ j → IsSilentAt s m side j

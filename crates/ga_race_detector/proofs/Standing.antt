@@ -15,7 +15,7 @@ use Rattle.ga_event.specs.Told.{count_steps, events_of_causes}
 use Rattle.ga_causal.specs.Dependence.{cause_touches, rest, position_of_step, rest_or_all}
 use Rattle.ga_causal.proofs.Runs.{kept, causes, FirstOf, first_of_run, keeps_of, AgreeOutsideMarks-marked_nodes, same_of, replay-cons}
 use Rattle.ga_races.proofs.Blind.{no_touch}
-use Rattle.ga_lab.specs.Machine.{State, chip_of, causes_of, outcomes_of_run, earlier, state_after_rewind}
+use Rattle.ga_lab.specs.Machine.{State, chip_of, causes_of, outcomes_of_run, earlier_state, state_after_rewind}
 use Rattle.ga_lab.proofs.Called.{Runs, runs_of}
 use Rattle.ga_lab.proofs.Reasoned.{replayed}
 
@@ -158,7 +158,7 @@ take_first (x ∷ xs) ys = ap (λ (z : List Event). x ∷ z) (take_first xs ys)
 pub record Stands (s : State) (n k m : ℕ) : Type 0 where
   pub place : ℕ
   pub count : count_steps m (take place s.kept) ≡ count_steps m (state_after_rewind s n k).kept
-  pub same : record_at (chip_of (state_after_rewind s n k)) m ≡ record_at (chip_of (earlier s place)) m
+  pub same : record_at (chip_of (state_after_rewind s n k)) m ≡ record_at (chip_of (earlier_state s place)) m
 
 chip_at : (o : Option (List NodeRecord)) (c : List NodeRecord) → o ≡ Some c → unwrap_or o [] ≡ c
 chip_at o c h = ap (λ (z : Option (List NodeRecord)). unwrap_or z []) h
@@ -193,17 +193,17 @@ stands_somewhere s n k m some = go (position_of_step (causes_of s) n k) refl
     go (Some i) is = stands_by s n k m (events_of_causes (rest (causes r.told) i)) (ap (λ (o : Option ℕ). events_of_causes (rest_or_all (causes_of s) o)) is ∙ ap (λ z. events_of_causes (rest z i)) told) (stand_rest s.kept i s.load r.last r.told m r.run_is)
 
 -- a machine whose beginnings can all be replayed can be replayed
-some_whole : (s : State) → ((place : ℕ) → replay s.load (take place s.kept) ≡ Some (chip_of (earlier s place))) → IsSome (replay s.load s.kept)
+some_whole : (s : State) → ((place : ℕ) → replay s.load (take place s.kept) ≡ Some (chip_of (earlier_state s place))) → IsSome (replay s.load s.kept)
 some_whole s all =
     let whole : take (length s.kept) s.kept ≡ s.kept = ap (λ (z : List Event). take (length s.kept) z) (sym (append-nil s.kept)) ∙ take_first s.kept [] in
-    let led : replay s.load s.kept ≡ Some (chip_of (earlier s (length s.kept))) = ap (λ (z : List Event). replay s.load z) (sym whole) ∙ all (length s.kept) in
+    let led : replay s.load s.kept ≡ Some (chip_of (earlier_state s (length s.kept))) = ap (λ (z : List Event). replay s.load z) (sym whole) ∙ all (length s.kept) in
     subst (λ (o : Option (List NodeRecord)). IsSome o) (sym led) refl
 
 -- the node is as it was before the last `gone` of its steps
 abbrev pub IsBehind : State → ℕ → ℕ → NodeRecord → Type 0
-IsBehind s gone m node = (place : ℕ) → count_steps m (take place s.kept) + gone ≡ count_steps m s.kept → node ≡ record_at (chip_of (earlier s place)) m
+IsBehind s gone m node = (place : ℕ) → count_steps m (take place s.kept) + gone ≡ count_steps m s.kept → node ≡ record_at (chip_of (earlier_state s place)) m
 
-pub is_rewound : (s : State) (n k m gone : ℕ) (node : NodeRecord) → ((place : ℕ) → replay s.load (take place s.kept) ≡ Some (chip_of (earlier s place)))
+pub is_rewound : (s : State) (n k m gone : ℕ) (node : NodeRecord) → ((place : ℕ) → replay s.load (take place s.kept) ≡ Some (chip_of (earlier_state s place)))
     → gone + count_steps m (state_after_rewind s n k).kept ≡ count_steps m s.kept → IsBehind s gone m node → node ≡ record_at (chip_of (state_after_rewind s n k)) m
 is_rewound s n k m gone node all sum behind =
     let a = stands_somewhere s n k m (some_whole s all) in

@@ -20,7 +20,7 @@ use Rattle.ga_event.specs.declared.event.Cause.{Cause}
 use Rattle.ga_event.specs.declared.made.Made.{Made}
 use Rattle.ga_event.specs.declared.made.Made.TheVariants as made
 use Rattle.ga_event.specs.Touches.{touches}
-use Rattle.ga_event.specs.Apply.{waits_to_write_side, waits_to_read_side, equals_some, unmatched_unless, replay}
+use Rattle.ga_event.specs.Apply.{waits_to_write_side, waits_to_read_side, equals_some, refusal_unless_matched, replay}
 use Rattle.ga_event.specs.Next.{next}
 use Rattle.ga_event.proofs.Nexts.{neighbour_of-within as neighbour_small}
 use Rattle.ga_lab.proofs.Forward.{made_is_next}
@@ -28,13 +28,13 @@ use Rattle.ga_event.specs.Told.{count_steps, events_of_causes}
 use Rattle.ga_causal.specs.Dependence.{events_after_rewind, HasNoLooks}
 use Rattle.ga_causal.proofs.Runs.{causes}
 use Rattle.ga_lab.specs.Machine.{State, initial_state, chip_of, causes_of, history_of, outcomes_of_run, state_after_rewind}
-use Rattle.ga_lab.specs.Calls.{MachineCall, after_calls}
+use Rattle.ga_lab.specs.Calls.{MachineCall, state_after_machine_calls}
 use Rattle.ga_lab.proofs.Called.{Runs, chip_is, runs_some, first_runs, calls_load}
-use Rattle.ga_races.specs.Orders.{IsEnabled, AreReorderings, IsTerminal, HasNoRace, has_event}
+use Rattle.ga_races.specs.Orders.{IsEnabled, AreReorderings, IsTerminalChip, HasNoRace, has_event}
 use Rattle.ga_races.proofs.Orders.{beginning_within}
 use Rattle.ga_races.proofs.Conflicts.{Open, open_of, one_side, one_way}
 use Rattle.ga_races.proofs.Blind.{IsBlind, NoneShowsWithin, none_races_within}
-use Rattle.ga_race_detector.specs.Races.{neighbour_offer, alternative_word, race_with_offer, races_on_side, races_of_pass, races_of_event, races_at, races_before, races_of, races_below, requested_races, has_look, looks_next, has_next_look, has_looks, first_ready_node, IsRealizableRace}
+use Rattle.ga_race_detector.specs.Races.{neighbour_offer, alternative_word, race_with_offer, races_on_side, races_of_pass, races_of_event, races_of_step_at, races_of_steps_before, races_of_node, races_of_nodes_below, requested_races, has_look_event, is_next_event_look, has_next_look_event, has_made_or_next_look, first_ready_node, IsRealizableRace}
 use Rattle.ga_races.proofs.Ready.{none_of}
 use Rattle.ga_race_detector.proofs.Offering.{on_the_way, same_end, no_next, is_offered}
 use Rattle.std.proofs.lemmas.List.Elements.{All-nil, All-append}
@@ -52,20 +52,20 @@ right_none : {A : Type 0} (xs ys : List A) → xs ++ ys ≡ [] → ys ≡ []
 right_none [] ys h = h
 right_none (x ∷ xs) ys h = absurd (cc)
 
-none_of_node : (s : State) (m n : ℕ) → races_below s m ≡ [] → n < m → races_of s (node_id n) ≡ []
-unfolding races_below
+none_of_node : (s : State) (m n : ℕ) → races_of_nodes_below s m ≡ [] → n < m → races_of_node s (node_id n) ≡ []
+unfolding races_of_nodes_below
 none_of_node s zero n h l = absurd (omega arith)
 none_of_node s (suc m) n h l = elim (cases_eq n m) [
-  | inl q ↦ ap (λ (z : ℕ). races_of s (node_id z)) q ∙ right_none (races_below s m) (races_of s (node_id m)) h
-  | inr ne ↦ none_of_node s m n (left_none (races_below s m) (races_of s (node_id m)) h) (omega (arith, l, ne))
+  | inl q ↦ ap (λ (z : ℕ). races_of_node s (node_id z)) q ∙ right_none (races_of_nodes_below s m) (races_of_node s (node_id m)) h
+  | inr ne ↦ none_of_node s m n (left_none (races_of_nodes_below s m) (races_of_node s (node_id m)) h) (omega (arith, l, ne))
 ]
 
-none_at : (s : State) (node : NodeId) (k p : ℕ) → races_before s node k ≡ [] → p < k → races_at s node p ≡ []
-unfolding races_before
+none_at : (s : State) (node : NodeId) (k p : ℕ) → races_of_steps_before s node k ≡ [] → p < k → races_of_step_at s node p ≡ []
+unfolding races_of_steps_before
 none_at s node zero p h l = absurd (omega arith)
 none_at s node (suc k) p h l = elim (cases_eq p k) [
-  | inl q ↦ ap (races_at s node) q ∙ right_none (races_before s node k) (races_at s node k) h
-  | inr ne ↦ none_at s node k p (left_none (races_before s node k) (races_at s node k) h) (omega (arith, l, ne))
+  | inl q ↦ ap (races_of_step_at s node) q ∙ right_none (races_of_steps_before s node k) (races_of_step_at s node k) h
+  | inr ne ↦ none_at s node k p (left_none (races_of_steps_before s node k) (races_of_step_at s node k) h) (omega (arith, l, ne))
 ]
 
 -- ---- a word that is offered
@@ -191,32 +191,32 @@ none_two s runs none r p side other within so si =
     b : TakenBack s r.number p
     b = taken_back s runs r.number p within
 
-    of_node : races_of s r ≡ []
-    of_node = subst (λ (z : NodeId). races_of s z ≡ []) (node_id-number r) (none_of_node s 144 r.number none r.in_range)
+    of_node : races_of_node s r ≡ []
+    of_node = subst (λ (z : NodeId). races_of_node s z ≡ []) (node_id-number r) (none_of_node s 144 r.number none r.in_range)
 
     told : races_of_event s r (suc p) (Some b.made) ≡ []
     told = ap (λ (z : ℕ). races_of_event s r z (Some b.made)) (let q : suc p ≡ p + 1 = omega arith in q) ∙ ap (races_of_event s r (p + 1)) (sym b.told) ∙ none_at s r (count_steps r.number s.kept) p of_node within
 
 -- ---- nothing looks
 
-none_look : (causes : List Cause) → has_look causes ≡ false → HasNoLooks causes
-unfolding has_look
+none_look : (causes : List Cause) → has_look_event causes ≡ false → HasNoLooks causes
+unfolding has_look_event
 none_look [] h = tt
-none_look (c ∷ cs) h = let p : (c.look ≡ false) × (has_look cs ≡ false) = or_parts c.look (has_look cs) h in (p.0, none_look cs p.1)
+none_look (c ∷ cs) h = let p : (c.look ≡ false) × (has_look_event cs ≡ false) = or_parts c.look (has_look_event cs) h in (p.0, none_look cs p.1)
 
-none_next : (chip : List NodeRecord) (m n : ℕ) → has_next_look chip m ≡ false → n < m → looks_next chip n ≡ false
-unfolding has_next_look
+none_next : (chip : List NodeRecord) (m n : ℕ) → has_next_look_event chip m ≡ false → n < m → is_next_event_look chip n ≡ false
+unfolding has_next_look_event
 none_next chip zero n h l = absurd (omega arith)
 none_next chip (suc m) n h l =
-    let p : (looks_next chip m ≡ false) × (has_next_look chip m ≡ false) = or_parts (looks_next chip m) (has_next_look chip m) h in
-    elim (cases_eq n m) [ inl q ↦ ap (looks_next chip) q ∙ p.0 | inr ne ↦ none_next chip m n p.1 (omega (arith, l, ne)) ]
+    let p : (is_next_event_look chip m ≡ false) × (has_next_look_event chip m ≡ false) = or_parts (is_next_event_look chip m) (has_next_look_event chip m) h in
+    elim (cases_eq n m) [ inl q ↦ ap (is_next_event_look chip) q ∙ p.0 | inr ne ↦ none_next chip m n p.1 (omega (arith, l, ne)) ]
 
-blind : (chip : List NodeRecord) → has_next_look chip 144 ≡ false → IsBlind chip
+blind : (chip : List NodeRecord) → has_next_look_event chip 144 ≡ false → IsBlind chip
 blind chip h (event.Own a) can =
     sym (ap (λ z. is_none z && looks (record_at chip a.number)) can) ∙ none_next chip 144 a.number h a.in_range
 blind chip h (event.Pass w r side) can = refl
 
-at_end : (chip : List NodeRecord) → first_ready_node chip ≡ None → IsTerminal chip
+at_end : (chip : List NodeRecord) → first_ready_node chip ≡ None → IsTerminalChip chip
 at_end chip h = (no_next chip).1 none
   where
     go : (n : NodeId) (e : Event) → next chip n ≡ Ok e → has_event chip n.number ≡ true
@@ -231,13 +231,13 @@ at_end chip h = (no_next chip).1 none
 -- ---- so it has no race
 
 -- what is reported of a session: no step, and that nothing looks
-pub no_race : (s : State) → Runs s → requested_races s None ≡ [] → has_looks (causes_of s) (chip_of s) ≡ false → HasNoRace s.load s.kept
+pub no_race : (s : State) → Runs s → requested_races s None ≡ [] → has_made_or_next_look (causes_of s) (chip_of s) ≡ false → HasNoRace s.load s.kept
 no_race s runs none calm =
     none_races_within s.load runs.last s.kept runs.told runs.run_is (subst (λ z. HasNoLooks z) told_all (none_look (causes_of s) p.0))
     (subst (λ z. IsBlind z) (chip_is s runs) (blind (chip_of s) p.1)) free
   where
-    p : (has_look (causes_of s) ≡ false) × (has_next_look (chip_of s) 144 ≡ false)
-    p = or_parts (has_look (causes_of s)) (has_next_look (chip_of s) 144) calm
+    p : (has_look_event (causes_of s) ≡ false) × (has_next_look_event (chip_of s) 144 ≡ false)
+    p = or_parts (has_look_event (causes_of s)) (has_next_look_event (chip_of s) 144) calm
 
     told_all : causes_of s ≡ causes runs.told
     told_all = ap (λ o. causes (outcomes_of_run o)) runs.run_is
@@ -251,36 +251,36 @@ no_race s runs none calm =
         (subst (λ z. IsSome (alternative_word z r.number side)) at (is_offered now w r side canp))
         (subst (λ z. IsSome (alternative_word z r.number other)) at (is_offered now x r other canq)))
 
-calm_session : (load : List NodeRecord) (limit : ℕ) (calls : List MachineCall) → requested_races (after_calls (initial_state load limit) calls) None ≡ []
-    → has_looks (causes_of (after_calls (initial_state load limit) calls)) (chip_of (after_calls (initial_state load limit) calls)) ≡ false → HasNoRace load (after_calls (initial_state load limit) calls).kept
+calm_session : (load : List NodeRecord) (limit : ℕ) (calls : List MachineCall) → requested_races (state_after_machine_calls (initial_state load limit) calls) None ≡ []
+    → has_made_or_next_look (causes_of (state_after_machine_calls (initial_state load limit) calls)) (chip_of (state_after_machine_calls (initial_state load limit) calls)) ≡ false → HasNoRace load (state_after_machine_calls (initial_state load limit) calls).kept
 calm_session load limit calls none calm =
-    let s = after_calls (initial_state load limit) calls in
+    let s = state_after_machine_calls (initial_state load limit) calls in
     subst (λ z. HasNoRace z s.kept) (calls_load (initial_state load limit) calls) (no_race s (first_runs load limit calls) none calm)
 
-pub every_way : (load : List NodeRecord) (limit bound : ℕ) (calls others : List MachineCall) → requested_races (after_calls (initial_state load limit) calls) None ≡ []
-    → has_looks (causes_of (after_calls (initial_state load limit) calls)) (chip_of (after_calls (initial_state load limit) calls)) ≡ false → first_ready_node (chip_of (after_calls (initial_state load limit) calls)) ≡ None
-    → (later : List Event) × AreReorderings load (after_calls (initial_state load limit) calls).kept ((after_calls (initial_state load bound) others).kept ++ later)
+pub every_way : (load : List NodeRecord) (limit bound : ℕ) (calls others : List MachineCall) → requested_races (state_after_machine_calls (initial_state load limit) calls) None ≡ []
+    → has_made_or_next_look (causes_of (state_after_machine_calls (initial_state load limit) calls)) (chip_of (state_after_machine_calls (initial_state load limit) calls)) ≡ false → first_ready_node (chip_of (state_after_machine_calls (initial_state load limit) calls)) ≡ None
+    → (later : List Event) × AreReorderings load (state_after_machine_calls (initial_state load limit) calls).kept ((state_after_machine_calls (initial_state load bound) others).kept ++ later)
 every_way load limit bound calls others none calm quiet =
-    on_the_way load limit bound calls others (calm_session load limit calls none calm) (at_end (chip_of (after_calls (initial_state load limit) calls)) quiet)
+    on_the_way load limit bound calls others (calm_session load limit calls none calm) (at_end (chip_of (state_after_machine_calls (initial_state load limit) calls)) quiet)
 
-pub every_end : (load : List NodeRecord) (limit bound : ℕ) (calls others : List MachineCall) → requested_races (after_calls (initial_state load limit) calls) None ≡ []
-    → has_looks (causes_of (after_calls (initial_state load limit) calls)) (chip_of (after_calls (initial_state load limit) calls)) ≡ false → first_ready_node (chip_of (after_calls (initial_state load limit) calls)) ≡ None
-    → first_ready_node (chip_of (after_calls (initial_state load bound) others)) ≡ None → chip_of (after_calls (initial_state load bound) others) ≡ chip_of (after_calls (initial_state load limit) calls)
+pub every_end : (load : List NodeRecord) (limit bound : ℕ) (calls others : List MachineCall) → requested_races (state_after_machine_calls (initial_state load limit) calls) None ≡ []
+    → has_made_or_next_look (causes_of (state_after_machine_calls (initial_state load limit) calls)) (chip_of (state_after_machine_calls (initial_state load limit) calls)) ≡ false → first_ready_node (chip_of (state_after_machine_calls (initial_state load limit) calls)) ≡ None
+    → first_ready_node (chip_of (state_after_machine_calls (initial_state load bound) others)) ≡ None → chip_of (state_after_machine_calls (initial_state load bound) others) ≡ chip_of (state_after_machine_calls (initial_state load limit) calls)
 every_end load limit bound calls others none calm quiet stop =
-    same_end load limit bound calls others (calm_session load limit calls none calm) (at_end (chip_of (after_calls (initial_state load limit) calls)) quiet) (at_end (chip_of (after_calls (initial_state load bound) others)) stop)
+    same_end load limit bound calls others (calm_session load limit calls none calm) (at_end (chip_of (state_after_machine_calls (initial_state load limit) calls)) quiet) (at_end (chip_of (state_after_machine_calls (initial_state load bound) others)) stop)
 
-pub no_other : (load : List NodeRecord) (limit bound : ℕ) (calls others : List MachineCall) → requested_races (after_calls (initial_state load limit) calls) None ≡ []
-    → has_looks (causes_of (after_calls (initial_state load limit) calls)) (chip_of (after_calls (initial_state load limit) calls)) ≡ false
-    → ((n : ℕ) → count_steps n (after_calls (initial_state load bound) others).kept ≤ count_steps n (after_calls (initial_state load limit) calls).kept)
-    → (later : List Event) × AreReorderings load (after_calls (initial_state load limit) calls).kept ((after_calls (initial_state load bound) others).kept ++ later)
+pub no_other : (load : List NodeRecord) (limit bound : ℕ) (calls others : List MachineCall) → requested_races (state_after_machine_calls (initial_state load limit) calls) None ≡ []
+    → has_made_or_next_look (causes_of (state_after_machine_calls (initial_state load limit) calls)) (chip_of (state_after_machine_calls (initial_state load limit) calls)) ≡ false
+    → ((n : ℕ) → count_steps n (state_after_machine_calls (initial_state load bound) others).kept ≤ count_steps n (state_after_machine_calls (initial_state load limit) calls).kept)
+    → (later : List Event) × AreReorderings load (state_after_machine_calls (initial_state load limit) calls).kept ((state_after_machine_calls (initial_state load bound) others).kept ++ later)
 no_other load limit bound calls others none calm few =
-    let s = after_calls (initial_state load limit) calls in
-    let z = after_calls (initial_state load bound) others in
+    let s = state_after_machine_calls (initial_state load limit) calls in
+    let z = state_after_machine_calls (initial_state load bound) others in
     beginning_within load s.kept z.kept (some_from load limit calls) (calm_session load limit calls none calm) (some_from load bound others) few
   where
-    some_from : (load : List NodeRecord) (limit : ℕ) (calls : List MachineCall) → IsSome (replay load (after_calls (initial_state load limit) calls).kept)
+    some_from : (load : List NodeRecord) (limit : ℕ) (calls : List MachineCall) → IsSome (replay load (state_after_machine_calls (initial_state load limit) calls).kept)
     some_from load limit calls =
-        subst (λ z. IsSome (replay z (after_calls (initial_state load limit) calls).kept)) (calls_load (initial_state load limit) calls) (runs_some (after_calls (initial_state load limit) calls) (first_runs load limit calls))
+        subst (λ z. IsSome (replay z (state_after_machine_calls (initial_state load limit) calls).kept)) (calls_load (initial_state load limit) calls) (runs_some (state_after_machine_calls (initial_state load limit) calls) (first_runs load limit calls))
 
 -- ---- each reported race is one
 
@@ -289,9 +289,9 @@ can_pass : (chip : List NodeRecord) (w r : NodeId) (side : Side) → neighbour_o
 can_pass chip w r side near writes reads =
     let there : neighbour_of w.number side ≡ Some r.number = neighbour_of-back r.number w.number side r.in_range near in
     let is : equals_some (neighbour_of w.number side) r.number ≡ true = ap (λ (o : Option ℕ). equals_some o r.number) there ∙ (let q : (r.number == r.number) ≡ true = grind (arith, eq-eqb) in q) in
-    ap (λ (b : Bool). unmatched_unless (b && waits_to_write_side (record_at chip w.number).wait side && waits_to_read_side (record_at chip r.number).wait side)) is
-    ∙ ap (λ (b : Bool). unmatched_unless (b && waits_to_read_side (record_at chip r.number).wait side)) writes
-    ∙ ap unmatched_unless reads
+    ap (λ (b : Bool). refusal_unless_matched (b && waits_to_write_side (record_at chip w.number).wait side && waits_to_read_side (record_at chip r.number).wait side)) is
+    ∙ ap (λ (b : Bool). refusal_unless_matched (b && waits_to_read_side (record_at chip r.number).wait side)) writes
+    ∙ ap refusal_unless_matched reads
 
 all_one : {X : Type 0} (P : X → Type 0) (x : X) → P x → All P (x ∷ [])
 all_one P x p zero d l = p
@@ -342,15 +342,15 @@ told_made s r k (Some (made.Pass w i x j word)) = go (x.number == r.number)
     go true = around_made s r k w word
     go false = All-nil (IsRealizableRace s)
 
-before_made : (s : State) (r : NodeId) (p : ℕ) → All (IsRealizableRace s) (races_before s r p)
-unfolding races_before
+before_made : (s : State) (r : NodeId) (p : ℕ) → All (IsRealizableRace s) (races_of_steps_before s r p)
+unfolding races_of_steps_before
 before_made s r zero = All-nil (IsRealizableRace s)
-before_made s r (suc p) = All-append (IsRealizableRace s) (races_before s r p) (races_at s r p) (before_made s r p) (told_made s r (p + 1) (slice_get (history_of s r.number) p))
+before_made s r (suc p) = All-append (IsRealizableRace s) (races_of_steps_before s r p) (races_of_step_at s r p) (before_made s r p) (told_made s r (p + 1) (slice_get (history_of s r.number) p))
 
-below_made : (s : State) (n : ℕ) → All (IsRealizableRace s) (races_below s n)
-unfolding races_below
+below_made : (s : State) (n : ℕ) → All (IsRealizableRace s) (races_of_nodes_below s n)
+unfolding races_of_nodes_below
 below_made s zero = All-nil (IsRealizableRace s)
-below_made s (suc n) = All-append (IsRealizableRace s) (races_below s n) (races_of s (node_id n)) (below_made s n) (before_made s (node_id n) (count_steps (node_id n).number s.kept))
+below_made s (suc n) = All-append (IsRealizableRace s) (races_of_nodes_below s n) (races_of_node s (node_id n)) (below_made s n) (before_made s (node_id n) (count_steps (node_id n).number s.kept))
 
 pub all_made : (s : State) (only : Option NodeId) → All (IsRealizableRace s) (requested_races s only)
 all_made s None = below_made s 144

@@ -63,45 +63,45 @@ races_of_event s node step None = []
 races_of_event s node step (Some (made.Own n k kind)) = []
 races_of_event s node step (Some (made.Pass writer i reader j word)) = if reader.number == node.number then races_of_pass s node step writer word else []
 
-abbrev pub races_at : State → NodeId → ℕ → List Race
-races_at s node place = races_of_event s node (place + 1) (slice_get (history_of s node.number) place)
+abbrev pub races_of_step_at : State → NodeId → ℕ → List Race
+races_of_step_at s node place = races_of_event s node (place + 1) (slice_get (history_of s node.number) place)
 
 -- the races of the first steps of a node
-unfoldable pub races_before : State → NodeId → ℕ → List Race
-races_before s node zero = []
-races_before s node (suc place) = races_before s node place ++ races_at s node place
+unfoldable pub races_of_steps_before : State → NodeId → ℕ → List Race
+races_of_steps_before s node zero = []
+races_of_steps_before s node (suc place) = races_of_steps_before s node place ++ races_of_step_at s node place
 
 -- the races of all steps of a node
-abbrev pub races_of : State → NodeId → List Race
-races_of s node = races_before s node (count_steps node.number s.kept)
+abbrev pub races_of_node : State → NodeId → List Race
+races_of_node s node = races_of_steps_before s node (count_steps node.number s.kept)
 
 -- the races of the nodes below a number
-unfoldable pub races_below : State → ℕ → List Race
-races_below s zero = []
-races_below s (suc number) = races_below s number ++ races_of s (node_id number)
+unfoldable pub races_of_nodes_below : State → ℕ → List Race
+races_of_nodes_below s zero = []
+races_of_nodes_below s (suc number) = races_of_nodes_below s number ++ races_of_node s (node_id number)
 
 -- the races of one node, or of all
 abbrev pub requested_races : State → Option NodeId → List Race
-requested_races s None = races_below s 144
-requested_races s (Some node) = races_of s node
+requested_races s None = races_of_nodes_below s 144
+requested_races s (Some node) = races_of_node s node
 
 -- one of the events looks
-unfoldable pub has_look : List Cause → Bool
-has_look [] = false
-has_look (cause ∷ causes) = cause.look || has_look causes
+unfoldable pub has_look_event : List Cause → Bool
+has_look_event [] = false
+has_look_event (cause ∷ causes) = cause.look || has_look_event causes
 
 -- the next event of the node is one of its own that looks
-abbrev pub looks_next : List NodeRecord → ℕ → Bool
-looks_next chip n = is_none (refusal (record_at chip n)) && looks (record_at chip n)
+abbrev pub is_next_event_look : List NodeRecord → ℕ → Bool
+is_next_event_look chip n = is_none (refusal (record_at chip n)) && looks (record_at chip n)
 
 -- the next event of one of the nodes below a number is one of its own that looks
-unfoldable pub has_next_look : List NodeRecord → ℕ → Bool
-has_next_look chip zero = false
-has_next_look chip (suc n) = looks_next chip n || has_next_look chip n
+unfoldable pub has_next_look_event : List NodeRecord → ℕ → Bool
+has_next_look_event chip zero = false
+has_next_look_event chip (suc n) = is_next_event_look chip n || has_next_look_event chip n
 
 -- an event of the history looks, or one that comes next
-abbrev pub has_looks : List Cause → List NodeRecord → Bool
-has_looks causes chip = has_look causes || has_next_look chip 144
+abbrev pub has_made_or_next_look : List Cause → List NodeRecord → Bool
+has_made_or_next_look causes chip = has_look_event causes || has_next_look_event chip 144
 
 -- the first node that has an event
 abbrev pub first_ready_node : List NodeRecord → Option NodeId

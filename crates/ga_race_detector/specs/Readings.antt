@@ -12,9 +12,9 @@ use Rattle.ga_event.specs.Told.{count_steps}
 use Rattle.ga_causal.specs.Dependence.{event_at}
 use Rattle.ga_causal.specs.Steps.{IsKthStep}
 use Rattle.ga_races.specs.HappensBefore.{actions, action_at, IsRacingPair}
-use Rattle.ga_lab.specs.Machine.{State, chip_of, causes_of, earlier, state_after_rewind}
+use Rattle.ga_lab.specs.Machine.{State, chip_of, causes_of, earlier_state, state_after_rewind}
 use Rattle.ga_race_detector.specs.declared.readings.LookRace.{LookRace}
-use Rattle.ga_race_detector.specs.Races.{looks_next}
+use Rattle.ga_race_detector.specs.Races.{is_next_event_look}
 
 -- the step that a rollback removes for the look to read the other word: its own, if the change came after it, else the change
 abbrev pub rollback_step_of : LookRace → NodeId × ℕ
@@ -29,8 +29,8 @@ pub record IsRealizableLookRace (s : State) (reading : LookRace) : Type 0 where
   pub place : ℕ
   pub stands : IsKthStep (causes_of s) reading.node.number reading.step place
   pub looked : event_at (causes_of s) place ≡ record { event = event.Own reading.node; look = true }
-  pub read : reading.word ≡ io_word (neighbour_states (chip_of (earlier s place)) reading.node.number)
-  pub next : looks_next (chip_of (machine_without_step s reading)) reading.node.number ≡ true
+  pub read : reading.word ≡ io_word (neighbour_states (chip_of (earlier_state s place)) reading.node.number)
+  pub next : is_next_event_look (chip_of (machine_without_step s reading)) reading.node.number ≡ true
   pub step : count_steps reading.node.number (machine_without_step s reading).kept + 1 ≡ reading.step
   pub other : reading.other ≡ io_word (neighbour_states (chip_of (machine_without_step s reading)) reading.node.number)
   pub differ : reading.other ≢ reading.word

@@ -2,16 +2,16 @@
 
 ghost use Rattle.std.specs.Prelude.{◌≡◌, ◌≢◌, ◌<◌, ◌+◌, ℕ, true, Some, take, slice_index, length, IfOk, IfErr};
 ghost use Rattle.ga_node.specs.Io.{io_word};
-ghost use Rattle.ga_node.specs.State.{wait_of, IsWaitCode};
+ghost use Rattle.ga_node.specs.State.{wait_of_code, IsWaitCode};
 ghost use Rattle.ga_grid.specs.Grid.{neighbour_of};
 ghost use Rattle.ga_ports.specs.declared.side.Side.{Side};
 ghost use Rattle.ga_grid.specs.Chip.{record_at};
-ghost use Rattle.ga_event.specs.Apply.{waits_to_write_side, shown_state, shown_neighbour_state, neighbour_states, replay};
+ghost use Rattle.ga_event.specs.Apply.{waits_to_write_side, shown_wait_state, shown_neighbour_state, neighbour_states, replay};
 ghost use Rattle.ga_event.specs.Told.{count_steps};
 ghost use Rattle.ga_races.specs.HappensBefore.{causes_of_actions, actions};
 ghost use Rattle.ga_races.specs.Acts.{actions_of_accesses};
 ghost use Rattle.ga_races.specs.inner.{shown_as, is_changed, changed_sides, AreAlike};
-ghost use Rattle.ga_lab.specs.Machine.{State, chip_of, causes_of, earlier};
+ghost use Rattle.ga_lab.specs.Machine.{State, chip_of, causes_of, earlier_state};
 ghost use Rattle.ga_race_detector.specs.inner.Glances.{StoodSo, AllStood, IsAt, IsActAt, IsMoment, AreMoments};
 
 use crate::adding::add;
@@ -20,7 +20,7 @@ use crate::writers::reads_by;
 use ga_event::{Cause, Event};
 use ga_grid::{NodeId, neighbour};
 use ga_lab::{Lab, LabFault};
-use ga_node::{NeighbourState, Place, Seen};
+use ga_node::{NeighbourState, Place, SeenNeighbours};
 use ga_ports::Side;
 use ga_races::{EventAccess, SideSet};
 use ga_word::Word18;
@@ -55,7 +55,7 @@ fn no_sides() -> SideSet {
 // Whether a node whose wait has this number waits to write the side.
 fn writes_by(wait: u32, side: Side) -> bool
     requires { IsWaitCode wait }
-    ensures { result ≡ waits_to_write_side (wait_of wait) side }
+    ensures { result ≡ waits_to_write_side (wait_of_code wait) side }
 {
     match side {
         Side::Right => wait == 56,
@@ -68,7 +68,7 @@ fn writes_by(wait: u32, side: Side) -> bool
 // What a node whose wait has this number shows on a side: 0 nothing, 1 that it waits to read there, 2 that it waits to write.
 fn shown(wait: u32, side: Side) -> u8
     requires { IsWaitCode wait }
-    ensures { result ≡ shown_as (shown_state (wait_of wait) side) }
+    ensures { result ≡ shown_as (shown_wait_state (wait_of_code wait) side) }
 {
     if reads_by(wait, side) {
         1
@@ -82,7 +82,7 @@ fn shown(wait: u32, side: Side) -> u8
 /// What a node whose wait has this number shows on a side.
 pub(crate) fn shown_by(code: u32, side: Side) -> NeighbourState
     requires { IsWaitCode code }
-    ensures { result ≡ shown_state (wait_of code) side }
+    ensures { result ≡ shown_wait_state (wait_of_code code) side }
 {
     if reads_by(code, side) {
         NeighbourState::Reading
@@ -97,7 +97,7 @@ pub(crate) fn shown_by(code: u32, side: Side) -> NeighbourState
 fn is_changed(before: u32, behind: u32, side: Side) -> bool
     requires before { IsWaitCode before }
     requires behind { IsWaitCode behind }
-    ensures { result ≡ is_changed (wait_of before) (wait_of behind) side }
+    ensures { result ≡ is_changed (wait_of_code before) (wait_of_code behind) side }
 {
     shown(before, side) != shown(behind, side)
 }
@@ -106,7 +106,7 @@ fn is_changed(before: u32, behind: u32, side: Side) -> bool
 fn differ(before: u32, behind: u32) -> SideSet
     requires before { IsWaitCode before }
     requires behind { IsWaitCode behind }
-    ensures { result ≡ changed_sides (wait_of before) (wait_of behind) }
+    ensures { result ≡ changed_sides (wait_of_code before) (wait_of_code behind) }
 {
     SideSet {
         right: is_changed(before, behind, Side::Right),
@@ -121,8 +121,8 @@ fn wait_before(lab: &Lab, node: NodeId, at: u32, behind: u32) -> u32
     requires { IsWaitCode behind }
     ensures valid { IsWaitCode result }
     ensures value { (p q : ℕ) → count_steps node.number (take p lab.now.kept) ≡ at → count_steps node.number (take q lab.now.kept) ≡ at + 1 →
-        (record_at (chip_of (earlier lab.now q)) node.number).wait ≡ wait_of behind →
-        (record_at (chip_of (earlier lab.now p)) node.number).wait ≡ wait_of result }
+        (record_at (chip_of (earlier_state lab.now q)) node.number).wait ≡ wait_of_code behind →
+        (record_at (chip_of (earlier_state lab.now p)) node.number).wait ≡ wait_of_code result }
 {
     match lab.overwritten_value(node, at, Place::Wait) {
         Some(before) => before,
@@ -132,7 +132,7 @@ fn wait_before(lab: &Lab, node: NodeId, at: u32, behind: u32) -> u32
 
 // The number of the current wait of a node.
 fn wait_now(lab: &Lab, node: NodeId) -> u32
-    ensures value { wait_of result ≡ (record_at (chip_of lab.now) node.number).wait }
+    ensures value { wait_of_code result ≡ (record_at (chip_of lab.now) node.number).wait }
     ensures valid { IsWaitCode result }
 {
     let at = lab.node(node);
@@ -187,7 +187,7 @@ impl Behind {
     fn beside(&self, node: NodeId, side: Side) -> NeighbourState
         requires { (m : ℕ) → m < 144 → IsWaitCode (slice_index self.now.waits m) }
         ensures { (s : State) (p : ℕ) → AllStood s p self.now.waits self.now.steps →
-            result ≡ shown_neighbour_state (chip_of (earlier s p)) side (neighbour_of node.number side) }
+            result ≡ shown_neighbour_state (chip_of (earlier_state s p)) side (neighbour_of node.number side) }
     {
         match neighbour(node, side) {
             Some(other) => shown_by(self.wait_at(other), side),
@@ -197,11 +197,11 @@ impl Behind {
 
     // The states of a node's neighbours on each side.
     #[tactic(auto, unfolding(ga_event::specs::Apply::neighbour_states))]
-    fn seen(&self, node: NodeId) -> Seen
+    fn seen(&self, node: NodeId) -> SeenNeighbours
         requires { (m : ℕ) → m < 144 → IsWaitCode (slice_index self.now.waits m) }
-        ensures { (s : State) (p : ℕ) → AllStood s p self.now.waits self.now.steps → result ≡ neighbour_states (chip_of (earlier s p)) node.number }
+        ensures { (s : State) (p : ℕ) → AllStood s p self.now.waits self.now.steps → result ≡ neighbour_states (chip_of (earlier_state s p)) node.number }
     {
-        Seen {
+        SeenNeighbours {
             right: self.beside(node, Side::Right),
             down: self.beside(node, Side::Down),
             left: self.beside(node, Side::Left),
@@ -213,7 +213,7 @@ impl Behind {
     fn word(&self, node: NodeId, look: bool) -> Word18
         requires { (m : ℕ) → m < 144 → IsWaitCode (slice_index self.now.waits m) }
         ensures { look ≡ true → (s : State) (p : ℕ) → AllStood s p self.now.waits self.now.steps →
-            result ≡ io_word (neighbour_states (chip_of (earlier s p)) node.number) }
+            result ≡ io_word (neighbour_states (chip_of (earlier_state s p)) node.number) }
     {
         if !look {
             return Word18::from_low_bits(0);
@@ -243,7 +243,7 @@ impl Behind {
             StoodSo lab.now node.number q (slice_index self.old.waits node.number) (slice_index self.old.steps node.number) →
             count_steps node.number (take q lab.now.kept) ≡ count_steps node.number (take p lab.now.kept) + 1 →
             StoodSo lab.now node.number p (slice_index self.new.waits node.number) (slice_index self.new.steps node.number) }
-        ensures sides { result ≡ changed_sides (wait_of (slice_index self.new.waits node.number)) (wait_of (slice_index self.old.waits node.number)) }
+        ensures sides { result ≡ changed_sides (wait_of_code (slice_index self.new.waits node.number)) (wait_of_code (slice_index self.old.waits node.number)) }
         ensures waits { (m : ℕ) → m ≢ node.number → slice_index self.new.waits m ≡ slice_index self.old.waits m }
         ensures others { (m : ℕ) → m ≢ node.number → slice_index self.new.steps m ≡ slice_index self.old.steps m }
     {

@@ -4,7 +4,7 @@ ghost use Rattle.std.specs.Prelude.{◌≡◌, ◌↔◌, ◌+◌, ◌<◌, ◌�
 ghost use Rattle.ga_node.specs.Record.{record_of};
 ghost use Rattle.ga_grid.specs.Chip.{record_at};
 ghost use Rattle.ga_event.specs.Told.{count_steps};
-ghost use Rattle.ga_lab.specs.Machine.{chip_of, causes_of, earlier, state_after_rewind, rewind_answer, has_step};
+ghost use Rattle.ga_lab.specs.Machine.{chip_of, causes_of, earlier_state, state_after_rewind, rewind_answer, has_step};
 ghost use Rattle.ga_grid.specs.Grid.{neighbour_of};
 ghost use Rattle.ga_event.specs.Apply.{replay, waits_to_read_side};
 ghost use Rattle.ga_causal.specs.Dependence.{events_after_rewind};
@@ -12,7 +12,7 @@ ghost use Rattle.ga_causal.specs.Steps.{count_touching_events};
 ghost use Rattle.ga_race_detector.specs.Races.{alternative_word, word_offered_to};
 ghost use Rattle.ga_race_detector.specs.inner.Writers.{posted, word_between};
 
-use ga_event::{is_reading, is_writing};
+use ga_event::{is_waiting_to_read, is_waiting_to_write};
 use ga_grid::{NodeId, neighbour};
 use ga_lab::{Lab, LabFault, Made};
 use ga_node::Node;
@@ -23,8 +23,8 @@ use ga_rollback::VisitedEntries;
 pub(crate) fn behind(lab: &Lab, steps: &VisitedEntries, node: NodeId) -> Node
     requires { slice_index steps.now node.number ≤ count_steps node.number lab.now.kept }
     ensures value { (place : ℕ) → count_steps node.number (take place lab.now.kept) + slice_index steps.now node.number ≡ count_steps node.number lab.now.kept →
-        record_of result ≡ record_at (chip_of (earlier lab.now place)) node.number }
-    ensures replays { (place : ℕ) → replay lab.now.load (take place lab.now.kept) ≡ Some (chip_of (earlier lab.now place)) }
+        record_of result ≡ record_at (chip_of (earlier_state lab.now place)) node.number }
+    ensures replays { (place : ℕ) → replay lab.now.load (take place lab.now.kept) ≡ Some (chip_of (earlier_state lab.now place)) }
 {
     let left = lab.steps(node) - steps.count(node);
     match lab.peek(node, left) {
@@ -38,7 +38,7 @@ fn word_offered_to(reader: &Node, writer: &Node, side: Side) -> Option<u32>
     ensures value { result ≡ word_offered_to (record_of reader.now) (record_of writer.now) side }
     ensures in_range { IfSome result (λ word. word < 2 ^ 18) }
 {
-    if is_writing(&writer.wait(), side) && is_reading(&reader.wait(), side) {
+    if is_waiting_to_write(&writer.wait(), side) && is_waiting_to_read(&reader.wait(), side) {
         Some(writer.d(0))
     } else {
         None
@@ -72,7 +72,7 @@ fn posted_now(node: &Node, side: Side) -> Option<u32>
     ensures value { result ≡ posted (record_of node.now) side }
     ensures in_range { IfSome result (λ word. word < 2 ^ 18) }
 {
-    if is_writing(&node.wait(), side) {
+    if is_waiting_to_write(&node.wait(), side) {
         Some(node.d(0))
     } else {
         None
@@ -84,7 +84,7 @@ fn posted_now(node: &Node, side: Side) -> Option<u32>
 fn posted(lab: &Lab, node: NodeId, steps: u32, side: Side, reader: NodeId) -> Option<u32>
     requires near { neighbour_of reader.number side ≡ Some node.number }
     ensures value { (place : ℕ) → count_steps node.number (take place lab.now.kept) ≡ steps →
-        result ≡ posted (record_at (chip_of (earlier lab.now place)) node.number) side }
+        result ≡ posted (record_at (chip_of (earlier_state lab.now place)) node.number) side }
     ensures in_range { IfSome result (λ word. word < 2 ^ 18) }
 {
     let now = lab.node(node);

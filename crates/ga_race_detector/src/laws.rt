@@ -9,10 +9,10 @@ ghost use Rattle.ga_event.specs.declared.event.Event.{Event};
 ghost use Rattle.ga_event.specs.Told.{count_steps};
 ghost use Rattle.ga_event.specs.Next.{next};
 ghost use Rattle.ga_causal.specs.Dependence.{HasNoLooks};
-ghost use Rattle.ga_races.specs.Orders.{AreReorderings, IsTerminal, HasNoRace};
+ghost use Rattle.ga_races.specs.Orders.{AreReorderings, IsTerminalChip, HasNoRace};
 ghost use Rattle.ga_lab.specs.Machine.{State, initial_state, chip_of, causes_of, state_after_rewind};
-ghost use Rattle.ga_lab.specs.Calls.{MachineCall, after_calls, IsReachableState};
-ghost use Rattle.ga_race_detector.specs.Races.{alternative_word, requested_races, has_looks, first_ready_node, IsRealizableRace};
+ghost use Rattle.ga_lab.specs.Calls.{MachineCall, state_after_machine_calls, IsReachableState};
+ghost use Rattle.ga_race_detector.specs.Races.{alternative_word, requested_races, has_made_or_next_look, first_ready_node, IsRealizableRace};
 
 /// If the history of one session has no race, and no node of its chip has an event, every other session from that load,
 /// whatever was stepped, undone or rewound in it, is on the way there: its history can be continued to that of the first in
@@ -20,26 +20,26 @@ ghost use Rattle.ga_race_detector.specs.Races.{alternative_word, requested_races
 #[tactic(auto, using(crate::proofs::Offering::on_the_way, crate::proofs::Offering::same_end))]
 pub fn race_free_session_covers_all()
     ensures way { (load : List NodeRecord) (limit bound : ℕ) (calls others : List MachineCall) →
-        let s = after_calls (initial_state load limit) calls in
-        let z = after_calls (initial_state load bound) others in
-        HasNoRace load s.kept → IsTerminal (chip_of s) →
+        let s = state_after_machine_calls (initial_state load limit) calls in
+        let z = state_after_machine_calls (initial_state load bound) others in
+        HasNoRace load s.kept → IsTerminalChip (chip_of s) →
         (later : List Event) × AreReorderings load s.kept (z.kept ++ later) }
     ensures chip { (load : List NodeRecord) (limit bound : ℕ) (calls others : List MachineCall) →
-        let s = after_calls (initial_state load limit) calls in
-        let z = after_calls (initial_state load bound) others in
-        HasNoRace load s.kept → IsTerminal (chip_of s) → IsTerminal (chip_of z) → chip_of z ≡ chip_of s }
+        let s = state_after_machine_calls (initial_state load limit) calls in
+        let z = state_after_machine_calls (initial_state load bound) others in
+        HasNoRace load s.kept → IsTerminalChip (chip_of s) → IsTerminalChip (chip_of z) → chip_of z ≡ chip_of s }
 {}
 
 /// No event is enabled exactly if no node has a next one: if each `step` is refused.
 pub fn terminal_iff_no_next_event()
     ensures { (chip : List NodeRecord) →
-        (IsTerminal chip ↔ ((n : NodeId) (event : Event) → next chip n ≡ Ok event → ⊥)) }
+        (IsTerminalChip chip ↔ ((n : NodeId) (event : Event) → next chip n ≡ Ok event → ⊥)) }
 {}
 
 /// The history of a session has no race if no event of it looks, no node has an event, and no rollback of a node's step leaves
 /// two words offered to the node (`alternative_word`): then every other session is on the way to the same chip (`race_free_session_covers_all`).
 pub fn no_alternative_no_race()
-    ensures { (s : State) → IsReachableState s → HasNoLooks (causes_of s) → IsTerminal (chip_of s) →
+    ensures { (s : State) → IsReachableState s → HasNoLooks (causes_of s) → IsTerminalChip (chip_of s) →
         ((r : NodeId) (k : ℕ) (side other : Side) → side ≢ other →
         IsSome (alternative_word (chip_of (state_after_rewind s r.number k)) r.number side) →
         IsSome (alternative_word (chip_of (state_after_rewind s r.number k)) r.number other) → ⊥) →
@@ -53,14 +53,14 @@ pub fn no_alternative_no_race()
 #[tactic(auto, using(crate::proofs::Untold::every_way, crate::proofs::Untold::every_end))]
 pub fn reported_race_free_end_is_unique()
     ensures way { (load : List NodeRecord) (limit bound : ℕ) (calls others : List MachineCall) →
-        let s = after_calls (initial_state load limit) calls in
-        let z = after_calls (initial_state load bound) others in
-        requested_races s None ≡ [] → has_looks (causes_of s) (chip_of s) ≡ false → first_ready_node (chip_of s) ≡ None →
+        let s = state_after_machine_calls (initial_state load limit) calls in
+        let z = state_after_machine_calls (initial_state load bound) others in
+        requested_races s None ≡ [] → has_made_or_next_look (causes_of s) (chip_of s) ≡ false → first_ready_node (chip_of s) ≡ None →
         (later : List Event) × AreReorderings load s.kept (z.kept ++ later) }
     ensures chip { (load : List NodeRecord) (limit bound : ℕ) (calls others : List MachineCall) →
-        let s = after_calls (initial_state load limit) calls in
-        let z = after_calls (initial_state load bound) others in
-        requested_races s None ≡ [] → has_looks (causes_of s) (chip_of s) ≡ false → first_ready_node (chip_of s) ≡ None →
+        let s = state_after_machine_calls (initial_state load limit) calls in
+        let z = state_after_machine_calls (initial_state load bound) others in
+        requested_races s None ≡ [] → has_made_or_next_look (causes_of s) (chip_of s) ≡ false → first_ready_node (chip_of s) ≡ None →
         first_ready_node (chip_of z) ≡ None → chip_of z ≡ chip_of s }
 {}
 
@@ -69,9 +69,9 @@ pub fn reported_race_free_end_is_unique()
 #[tactic(auto, using(crate::proofs::Untold::no_other))]
 pub fn race_free_within_steps()
     ensures { (load : List NodeRecord) (limit bound : ℕ) (calls others : List MachineCall) →
-        let s = after_calls (initial_state load limit) calls in
-        let z = after_calls (initial_state load bound) others in
-        requested_races s None ≡ [] → has_looks (causes_of s) (chip_of s) ≡ false →
+        let s = state_after_machine_calls (initial_state load limit) calls in
+        let z = state_after_machine_calls (initial_state load bound) others in
+        requested_races s None ≡ [] → has_made_or_next_look (causes_of s) (chip_of s) ≡ false →
         ((n : ℕ) → count_steps n z.kept ≤ count_steps n s.kept) →
         (later : List Event) × AreReorderings load s.kept (z.kept ++ later) }
 {}

@@ -6,7 +6,7 @@ ghost use Rattle.ga_lab.specs.Machine.{State, chip_of, causes_of, has_step};
 ghost use Rattle.std.specs.List.{All};
 ghost use Rattle.ga_race_detector.specs.Readings.{IsReportedLookRace, HasAllNearLookRaces};
 ghost use Rattle.ga_race_detector.specs.inner.Writers.{IsBeside};
-ghost use Rattle.ga_race_detector.specs.Races.{race_with_offer, races_on_side, races_of_pass, races_of_event, races_of, races_below, requested_races, has_look, looks_next, has_next_look, has_looks, first_ready_node};
+ghost use Rattle.ga_race_detector.specs.Races.{race_with_offer, races_on_side, races_of_pass, races_of_event, races_of_node, races_of_nodes_below, requested_races, has_look_event, is_next_event_look, has_next_look_event, has_made_or_next_look, first_ready_node};
 
 use crate::adding::add;
 use crate::alternatives::{alternative_word, offered_behind};
@@ -207,7 +207,7 @@ fn takes(made: &Made, node: NodeId) -> bool
 
 // Whether the node took a word by some step.
 fn takes_some(lab: &Lab, node: NodeId) -> bool
-    ensures { result ≡ false → races_of lab.now node ≡ [] }
+    ensures { result ≡ false → races_of_node lab.now node ≡ [] }
 {
     let steps = lab.steps(node);
     'steps: for place in 0..steps {
@@ -245,7 +245,7 @@ fn add_node(
 ) -> Result<(), LabFault>
     requires all { causes.now ≡ causes_of lab.old }
     requires few { length causes.now < 2 ^ 32 }
-    ensures ok { OnOk result (list.new.items ≡ list.old.items ++ races_of lab.old node) }
+    ensures ok { OnOk result (list.new.items ≡ list.old.items ++ races_of_node lab.old node) }
     ensures err { IfErr result (λ why. why ≡ LabFault.Memory) }
     ensures same { lab.new ≡ lab.old }
 {
@@ -272,7 +272,7 @@ fn add_nodes(
 ) -> Result<(), LabFault>
     requires all { causes.now ≡ causes_of lab.old }
     requires few { length causes.now < 2 ^ 32 }
-    ensures ok { OnOk result (list.new.items ≡ list.old.items ++ races_below lab.old 144) }
+    ensures ok { OnOk result (list.new.items ≡ list.old.items ++ races_of_nodes_below lab.old 144) }
     ensures err { IfErr result (λ why. why ≡ LabFault.Memory) }
     ensures same { lab.new ≡ lab.old }
 {
@@ -283,8 +283,8 @@ fn add_nodes(
 }
 
 // Whether one of the events looks.
-fn has_look(causes: &[Cause]) -> bool
-    ensures { result ≡ has_look causes.now }
+fn has_look_event(causes: &[Cause]) -> bool
+    ensures { result ≡ has_look_event causes.now }
 {
     'causes: for cause in causes {
         if cause.look {
@@ -295,20 +295,20 @@ fn has_look(causes: &[Cause]) -> bool
 }
 
 // Whether the next event of the node is one of its own that looks.
-fn looks_next(chip: &Chip, node: NodeId) -> bool
-    ensures { result ≡ looks_next (records_of chip.now) node.number }
+fn is_next_event_look(chip: &Chip, node: NodeId) -> bool
+    ensures { result ≡ is_next_event_look (records_of chip.now) node.number }
 {
     let at = chip.node(node);
     at.not_ready().is_none() && at.looks()
 }
 
 // Whether some node has a next event that is one of its own and looks.
-fn has_next_look(chip: &Chip) -> bool
-    ensures { result ≡ has_next_look (records_of chip.now) 144 }
+fn has_next_look_event(chip: &Chip) -> bool
+    ensures { result ≡ has_next_look_event (records_of chip.now) 144 }
 {
     let mut looks = false;
     'nodes: for number in 0..144u8 {
-        looks = looks_next(chip, NodeId::new(number)) || looks;
+        looks = is_next_event_look(chip, NodeId::new(number)) || looks;
     }
     looks
 }
@@ -372,19 +372,19 @@ pub fn find_races(alloc: Global, lab: &mut Lab, only: Option<NodeId>) -> Result<
     ensures list { IfOk result (λ races. races.list.items ≡ requested_races lab.old only) }
     ensures readings { IfOk result (λ races. All (IsReportedLookRace lab.old only) races.readings.items) }
     ensures none_missed { IfOk result (λ races. HasAllNearLookRaces lab.old only races.readings.items) }
-    ensures looks { IfOk result (λ races. races.looks ≡ has_looks (causes_of lab.old) (chip_of lab.old)) }
+    ensures looks { IfOk result (λ races. races.looks ≡ has_made_or_next_look (causes_of lab.old) (chip_of lab.old)) }
     ensures quiet { IfOk result (λ races. races.quiet ≡ is_none (first_ready_node (chip_of lab.old))) }
     ensures err { IfErr result (λ why. why ≡ LabFault.Memory) }
     ensures same { lab.new ≡ lab.old }
 {
     let causes = kept_causes(lab)?;
     let list = find_taken(alloc, lab, causes.as_slice(), only)?;
-    let looks = has_look(causes.as_slice());
+    let looks = has_look_event(causes.as_slice());
     let readings = find_look_races(alloc, lab, causes.as_slice(), looks, only)?;
     Ok(Races {
         list,
         readings,
-        looks: looks || has_next_look(lab.chip()),
+        looks: looks || has_next_look_event(lab.chip()),
         quiet: is_quiet(lab.chip()),
     })
 }

@@ -4,13 +4,13 @@ ghost use Rattle.std.specs.Prelude.{◌≡◌, ◌<◌, ◌+◌, ◌^◌, ℕ, L
 ghost use Rattle.std.specs.List.{All};
 ghost use Rattle.ga_grid.specs.Grid.{neighbour_of};
 ghost use Rattle.ga_grid.specs.Chip.{record_at};
-ghost use Rattle.ga_event.specs.Apply.{shown_state, shown_neighbour_state, neighbour_states};
+ghost use Rattle.ga_event.specs.Apply.{shown_wait_state, shown_neighbour_state, neighbour_states};
 ghost use Rattle.ga_event.specs.Told.{count_steps};
 ghost use Rattle.ga_event.specs.declared.event.Cause.{Cause};
 ghost use Rattle.ga_races.specs.declared.racing_pairs.RacingPair.{RacingPair};
-ghost use Rattle.ga_lab.specs.Machine.{chip_of, causes_of, earlier, state_after_rewind};
+ghost use Rattle.ga_lab.specs.Machine.{chip_of, causes_of, earlier_state, state_after_rewind};
 ghost use Rattle.ga_race_detector.specs.declared.look_changes.LookChange.{LookChange};
-ghost use Rattle.ga_race_detector.specs.Races.{has_look};
+ghost use Rattle.ga_race_detector.specs.Races.{has_look_event};
 ghost use Rattle.ga_race_detector.specs.Readings.{IsRealizableLookRace, IsReportedLookRace, HasAllNearLookRaces};
 ghost use Rattle.ga_race_detector.specs.inner.Glances.{IsAtNear, IsAround, AreAround, taken_of, IsGlance, IsGlanced, IsAroundOf, HasStep, AreKnown, IsOtherWord, AreRead};
 
@@ -18,10 +18,10 @@ use crate::acts::{kept_accesses, shown_by};
 use crate::adding::add;
 use crate::around::{Around, StepsLeftNearby};
 use crate::look_changes::{LookChange, glance_at, glances_of};
-use ga_event::{Cause, is_reading, is_writing};
+use ga_event::{Cause, is_waiting_to_read, is_waiting_to_write};
 use ga_grid::{NodeId, neighbour};
 use ga_lab::{Lab, LabFault, Made};
-use ga_node::{NeighbourState, Place, Seen, Wait};
+use ga_node::{NeighbourState, Place, SeenNeighbours, Wait};
 use ga_ports::Side;
 use ga_races::find_racing_pairs;
 use ga_word::Word18;
@@ -48,12 +48,12 @@ pub struct LookRace {
 }
 
 // What a node that waits so shows on a side.
-fn shown_state(wait: &Wait, side: Side) -> NeighbourState
-    ensures { result ≡ shown_state wait.now side }
+fn shown_wait_state(wait: &Wait, side: Side) -> NeighbourState
+    ensures { result ≡ shown_wait_state wait.now side }
 {
-    if is_reading(wait, side) {
+    if is_waiting_to_read(wait, side) {
         NeighbourState::Reading
-    } else if is_writing(wait, side) {
+    } else if is_waiting_to_write(wait, side) {
         NeighbourState::Writing
     } else {
         NeighbourState::Idle
@@ -64,14 +64,14 @@ fn shown_state(wait: &Wait, side: Side) -> NeighbourState
 #[tactic(auto, using(crate::proofs::Silent::steps_take))]
 fn shown_before(lab: &Lab, node: NodeId, steps: u32, side: Side) -> NeighbourState
     ensures { (place : ℕ) → count_steps node.number (take place lab.now.kept) ≡ steps →
-        result ≡ shown_state (record_at (chip_of (earlier lab.now place)) node.number).wait side }
+        result ≡ shown_wait_state (record_at (chip_of (earlier_state lab.now place)) node.number).wait side }
 {
     let now = lab.node(node);
     match lab.overwritten_value(node, steps, Place::Wait) {
         Some(code) => shown_by(code, side),
         None => match lab.peek(node, steps) {
-            Some(then) => shown_state(&then.wait(), side),
-            None => shown_state(&now.wait(), side),
+            Some(then) => shown_wait_state(&then.wait(), side),
+            None => shown_wait_state(&now.wait(), side),
         },
     }
 }
@@ -79,14 +79,14 @@ fn shown_before(lab: &Lab, node: NodeId, steps: u32, side: Side) -> NeighbourSta
 // What a node showed on a side after `steps` of its steps: if its next step is its own, it waits for nothing.
 fn shown_at(lab: &Lab, node: NodeId, steps: u32, side: Side) -> NeighbourState
     ensures { (place : ℕ) → count_steps node.number (take place lab.now.kept) ≡ steps →
-        result ≡ shown_state (record_at (chip_of (earlier lab.now place)) node.number).wait side }
+        result ≡ shown_wait_state (record_at (chip_of (earlier_state lab.now place)) node.number).wait side }
 {
     let now = lab.node(node);
     let _many = lab.steps(node);
     match lab.made_event_of_step(node, steps) {
         Some(Made::Own { .. }) => NeighbourState::Idle,
         Some(Made::Pass { .. }) => shown_before(lab, node, steps, side),
-        None => shown_state(&now.wait(), side),
+        None => shown_wait_state(&now.wait(), side),
     }
 }
 
@@ -104,11 +104,11 @@ fn beside_behind(lab: &Lab, around: &Around, node: NodeId, side: Side) -> Neighb
 
 // The states of the neighbours on each side of the node, if these steps of each neighbour were left.
 #[tactic(auto, unfolding(ga_event::specs::Apply::neighbour_states))]
-fn seen_behind(lab: &Lab, around: &Around, node: NodeId) -> Seen
+fn seen_behind(lab: &Lab, around: &Around, node: NodeId) -> SeenNeighbours
     ensures { (b k : ℕ) → IsAround (causes_of lab.now) b k node.number around.now →
         result ≡ neighbour_states (chip_of (state_after_rewind lab.now b k)) node.number }
 {
-    Seen {
+    SeenNeighbours {
         right: beside_behind(lab, around, node, Side::Right),
         down: beside_behind(lab, around, node, Side::Down),
         left: beside_behind(lab, around, node, Side::Left),
@@ -292,7 +292,7 @@ pub(crate) fn find_look_races(
 ) -> Result<Vec<LookRace>, LabFault>
     requires all { causes.now ≡ causes_of lab.now }
     requires few { length causes.now < 2 ^ 32 }
-    requires looks { looks ≡ has_look causes.now }
+    requires looks { looks ≡ has_look_event causes.now }
     ensures told { IfOk result (λ list. All (IsReportedLookRace lab.now only) list.items) }
     ensures found { IfOk result (λ list. HasAllNearLookRaces lab.now only list.items) }
     ensures err { IfErr result (λ why. why ≡ LabFault.Memory) }

@@ -1,7 +1,7 @@
 //! Which neighbours of a node ever waited to write to it: no other can give it a word after any rollback.
 
 ghost use Rattle.std.specs.Prelude.{◌≡◌, ◌+◌, ◌<◌, ℕ, true, false, Some, None};
-ghost use Rattle.ga_node.specs.State.{wait_of, IsWaitCode};
+ghost use Rattle.ga_node.specs.State.{wait_of_code, IsWaitCode};
 ghost use Rattle.ga_event.specs.Apply.{waits_to_read_side};
 ghost use Rattle.ga_grid.specs.Chip.{record_at};
 ghost use Rattle.ga_event.specs.Told.{count_steps};
@@ -10,7 +10,7 @@ ghost use Rattle.ga_lab.specs.Machine.{chip_of, state_after_rewind, has_step};
 ghost use Rattle.ga_race_detector.specs.Races.{alternative_word};
 ghost use Rattle.ga_race_detector.specs.inner.Writers.{at_side, NeverOffers, AreSilent};
 
-use ga_event::{is_reading, is_writing};
+use ga_event::{is_waiting_to_read, is_waiting_to_write};
 use ga_grid::{NodeId, neighbour};
 use ga_lab::Lab;
 use ga_node::Place;
@@ -52,10 +52,10 @@ fn has_written(lab: &Lab, node: NodeId, side: Side) -> bool
 {
     let _stands = lab.node(node);
     let mut walk = lab.walk(node, lab.steps(node));
-    let mut waits = is_writing(&walk.node().wait(), side);
+    let mut waits = is_waiting_to_write(&walk.node().wait(), side);
     'back: while !waits && walk.step() > 0 {
         walk.back();
-        waits = is_writing(&walk.node().wait(), side);
+        waits = is_waiting_to_write(&walk.node().wait(), side);
     }
     waits
 }
@@ -87,7 +87,7 @@ pub(crate) fn writers_of(lab: &Lab, node: NodeId) -> Writers
 /// Whether a node whose wait has this number waits to read a set that has the side.
 pub(crate) fn reads_by(code: u32, side: Side) -> bool
     requires { IsWaitCode code }
-    ensures { result ≡ waits_to_read_side (wait_of code) side }
+    ensures { result ≡ waits_to_read_side (wait_of_code code) side }
 {
     if code == 0 || code >= 48 {
         return false;
@@ -103,7 +103,7 @@ fn read_then(lab: &Lab, node: NodeId, step: u32, side: Side) -> bool
 {
     let _stands = lab.node(node);
     match lab.peek(node, step - 1) {
-        Some(then) => is_reading(&then.wait(), side),
+        Some(then) => is_waiting_to_read(&then.wait(), side),
         None => false,
     }
 }

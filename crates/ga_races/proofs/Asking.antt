@@ -14,8 +14,8 @@ use Rattle.ga_event.specs.Apply.{equals_some}
 use Rattle.ga_races.specs.declared.act.EventAccess.{EventAccess}
 use Rattle.ga_races.specs.declared.act.SideSet.{SideSet}
 use Rattle.ga_races.specs.declared.racing_pairs.RacingPair.{RacingPair}
-use Rattle.ga_races.specs.HappensBefore.{Action, action_at, is_look_changed_by, are_dependent, directly, AreRacing}
-use Rattle.ga_races.specs.Acts.{has_side_to, changes_shown_to, action_of_access, actions_of_accesses, is_own_event_of, is_look_of, IsRacingLook}
+use Rattle.ga_races.specs.HappensBefore.{TraceAction, action_at, is_look_changed_by, are_dependent, directly, AreRacing}
+use Rattle.ga_races.specs.Acts.{has_side_to, changes_shown_to, action_of_access, actions_of_accesses, is_own_event_of, is_look_of_node, IsRacingLook}
 use Rattle.ga_races.specs.inner.{has_looked, IsMore, OfPair, OfLook, OfChange, OverSide, OverSides, AtPlace, BelowPlace, LooksAreMarked}
 use Rattle.ga_races.proofs.Reaching.{or4_cases, and_both, bound_by_node, bound_by_look, bound_by_change}
 
@@ -51,31 +51,31 @@ own_same : (e : Event) (n m : ℕ) → is_own_event_of e n ≡ true → is_own_e
 own_same (Own k) n m a b = sym (eqb-true k.number n a) ∙ eqb-true k.number m b
 own_same (Pass w r side) n m a b = absurd (both_ways false refl a)
 
-look_same : (a : Action) (n m : ℕ) → is_look_of a n ≡ true → is_look_of a m ≡ true → n ≡ m
+look_same : (a : TraceAction) (n m : ℕ) → is_look_of_node a n ≡ true → is_look_of_node a m ≡ true → n ≡ m
 look_same a n m h k = own_same a.cause.event n m (and_parts a.cause.look (is_own_event_of a.cause.event n) h).1 (and_parts a.cause.look (is_own_event_of a.cause.event m) k).1
 
-shown_to : (a b : Action) (n : ℕ) → is_look_of a n ≡ true → b.changes n ≡ true → is_look_changed_by a b ≡ true
+shown_to : (a b : TraceAction) (n : ℕ) → is_look_of_node a n ≡ true → b.changes n ≡ true → is_look_changed_by a b ≡ true
 shown_to a b n h k =
     let p = and_parts a.cause.look (is_own_event_of a.cause.event n) h in
     and_both a.cause.look (list_any b.changes (event_nodes a.cause.event)) p.0 (own_any a.cause.event n b.changes p.1 k)
 
-both_touch : (a b : Action) (n : ℕ) → is_look_of a n ≡ true → is_look_of b n ≡ true → list_any (touches a.cause.event) (event_nodes b.cause.event) ≡ true
+both_touch : (a b : TraceAction) (n : ℕ) → is_look_of_node a n ≡ true → is_look_of_node b n ≡ true → list_any (touches a.cause.event) (event_nodes b.cause.event) ≡ true
 both_touch a b n h k =
     own_any b.cause.event n (touches a.cause.event) (and_parts b.cause.look (is_own_event_of b.cause.event n) k).1
     (own_touches a.cause.event n (and_parts a.cause.look (is_own_event_of a.cause.event n) h).1)
 
 -- a look and a change are no racing pair if an action between them is dependent with both
-parted : (xs : List Action) (first middle later : ℕ) → first < middle → middle < later → are_dependent (action_at xs first) (action_at xs middle) ≡ true → are_dependent (action_at xs middle) (action_at xs later) ≡ true
+parted : (xs : List TraceAction) (first middle later : ℕ) → first < middle → middle < later → are_dependent (action_at xs first) (action_at xs middle) ≡ true → are_dependent (action_at xs middle) (action_at xs later) ≡ true
     → AreRacing xs first later → ⊥
 parted xs first middle later l k a b near =
     let within : later < length xs = near.bound.within in
     near.none middle (directly (record { before = l; within = omega (arith, k, within); bound = a })) (directly (record { before = k; within = within; bound = b }))
 
-first_near : (xs : List Action) (i j : ℕ) → i < j → AreRacing xs i j ⊎ AreRacing xs j i → AreRacing xs i j
+first_near : (xs : List TraceAction) (i j : ℕ) → i < j → AreRacing xs i j ⊎ AreRacing xs j i → AreRacing xs i j
 first_near xs i j l (inl n) = n
 first_near xs i j l (inr n) = absurd (let k : j < i = n.bound.before in omega (arith, l, k))
 
-second_near : (xs : List Action) (i j : ℕ) → j < i → AreRacing xs i j ⊎ AreRacing xs j i → AreRacing xs j i
+second_near : (xs : List TraceAction) (i j : ℕ) → j < i → AreRacing xs i j ⊎ AreRacing xs j i → AreRacing xs j i
 second_near xs i j l (inl n) = absurd (let k : i < j = n.bound.before in omega (arith, l, k))
 second_near xs i j l (inr n) = n
 
@@ -99,14 +99,14 @@ pub changes_end : (acts : List EventAccess) (look place : ℕ) (a b : List Racin
 changes_end acts look place a b l m = weaker acts (OfLook look place) (OfLook look 0) a b m (λ z r f. (r.0, r.1, omega (arith, l)))
 
 -- the last look before it was shown what came before that
-pub changes_stop : (acts : List EventAccess) (look place n : ℕ) (a b : List RacingPair) → place < look → is_look_of (action_at (actions_of_accesses acts) place) n ≡ true → is_look_of (action_at (actions_of_accesses acts) look) n ≡ true
+pub changes_stop : (acts : List EventAccess) (look place n : ℕ) (a b : List RacingPair) → place < look → is_look_of_node (action_at (actions_of_accesses acts) place) n ≡ true → is_look_of_node (action_at (actions_of_accesses acts) look) n ≡ true
     → IsMore acts (OfLook look place) a b → IsMore acts (OfLook look 0) a b
 changes_stop acts look place n a b l first second m = weaker acts (OfLook look place) (OfLook look 0) a b m asks
   where
     asks : (z : RacingPair) → OfLook look 0 z → IsRacingLook acts z → OfLook look place z
     asks z r f = elim (cases_lt z.change place) [
       | inr more ↦ (r.0, r.1, more)
-      | inl less ↦ (let same_node : n ≡ f.node = look_same (action_at (actions_of_accesses acts) look) n f.node second (subst (λ (k : ℕ). is_look_of (action_at (actions_of_accesses acts) k) f.node ≡ true) r.0 f.look) in
+      | inl less ↦ (let same_node : n ≡ f.node = look_same (action_at (actions_of_accesses acts) look) n f.node second (subst (λ (k : ℕ). is_look_of_node (action_at (actions_of_accesses acts) k) f.node ≡ true) r.0 f.look) in
           let near : AreRacing (actions_of_accesses acts) z.change look =
           second_near (actions_of_accesses acts) look z.change r.1 (subst (λ (k : ℕ). AreRacing (actions_of_accesses acts) k z.change ⊎ AreRacing (actions_of_accesses acts) z.change k) r.0 f.order) in
           absurd (parted (actions_of_accesses acts) z.change place look less l
@@ -119,14 +119,14 @@ changes_stop acts look place n a b l first second m = weaker acts (OfLook look p
 -- ---- the last look before a change
 
 module _ (acts : List EventAccess) (change place n : ℕ) (l : place < change) (changes : (action_at (actions_of_accesses acts) change).changes n ≡ true)
-    (none : (q : ℕ) → place < q → q < change → is_look_of (action_at (actions_of_accesses acts) q) n ≡ false) where
+    (none : (q : ℕ) → place < q → q < change → is_look_of_node (action_at (actions_of_accesses acts) q) n ≡ false) where
   near_of : (z : RacingPair) → OfChange acts change n z → IsRacingLook acts z → AreRacing (actions_of_accesses acts) z.look change
   near_of z r f = first_near (actions_of_accesses acts) z.look change r.1 (subst (λ (k : ℕ). AreRacing (actions_of_accesses acts) z.look k ⊎ AreRacing (actions_of_accesses acts) k z.look) r.0 f.order)
 
   later_none : (z : RacingPair) → OfChange acts change n z → place < z.look → ⊥
-  later_none z r k = both_ways (is_look_of (action_at (actions_of_accesses acts) z.look) n) (none z.look k r.1) r.2
+  later_none z r k = both_ways (is_look_of_node (action_at (actions_of_accesses acts) z.look) n) (none z.look k r.1) r.2
 
-  pub look_found : (a b : List RacingPair) → is_look_of (action_at (actions_of_accesses acts) place) n ≡ true → IsMore acts (OfPair place change) a b → IsMore acts (OfChange acts change n) a b
+  pub look_found : (a b : List RacingPair) → is_look_of_node (action_at (actions_of_accesses acts) place) n ≡ true → IsMore acts (OfPair place change) a b → IsMore acts (OfChange acts change n) a b
   look_found a b look m = weaker acts (OfPair place change) (OfChange acts change n) a b m asks
     where
       asks : (z : RacingPair) → OfChange acts change n z → IsRacingLook acts z → OfPair place change z
@@ -139,7 +139,7 @@ module _ (acts : List EventAccess) (change place n : ℕ) (l : place < change) (
             (near_of z r f))
       ]
 
-  pub look_hidden : (a : List RacingPair) → is_look_of (action_at (actions_of_accesses acts) place) n ≡ false
+  pub look_hidden : (a : List RacingPair) → is_look_of_node (action_at (actions_of_accesses acts) place) n ≡ false
       → ((action_at (actions_of_accesses acts) place).changes n && list_any (touches (action_at (actions_of_accesses acts) place).cause.event) (event_nodes (action_at (actions_of_accesses acts) change).cause.event)) ≡ true
       → IsMore acts (OfChange acts change n) a a
   look_hidden a out hides = nothing acts (OfChange acts change n) a asks
@@ -148,7 +148,7 @@ module _ (acts : List EventAccess) (change place n : ℕ) (l : place < change) (
       asks z r f =
           let p = and_parts ((action_at (actions_of_accesses acts) place).changes n) (list_any (touches (action_at (actions_of_accesses acts) place).cause.event) (event_nodes (action_at (actions_of_accesses acts) change).cause.event)) hides in
           elim (cases_order z.look place) [
-            | inl same ↦ both_ways (is_look_of (action_at (actions_of_accesses acts) place) n) out (subst (λ (k : ℕ). is_look_of (action_at (actions_of_accesses acts) k) n ≡ true) same r.2)
+            | inl same ↦ both_ways (is_look_of_node (action_at (actions_of_accesses acts) place) n) out (subst (λ (k : ℕ). is_look_of_node (action_at (actions_of_accesses acts) k) n ≡ true) same r.2)
             | inr (inr more) ↦ later_none z r more
             | inr (inl less) ↦ parted (actions_of_accesses acts) z.look place change less l
                 (bound_by_look (action_at (actions_of_accesses acts) z.look) (action_at (actions_of_accesses acts) place) (shown_to (action_at (actions_of_accesses acts) z.look) (action_at (actions_of_accesses acts) place) n r.2 p.0))
@@ -156,9 +156,9 @@ module _ (acts : List EventAccess) (change place n : ℕ) (l : place < change) (
                 (near_of z r f)
           ]
 
-pub look_none : (acts : List EventAccess) (change place n : ℕ) (a : List RacingPair) → place ≤ 0 → ((q : ℕ) → place ≤ q → q < change → is_look_of (action_at (actions_of_accesses acts) q) n ≡ false) → IsMore acts (OfChange acts change n) a a
+pub look_none : (acts : List EventAccess) (change place n : ℕ) (a : List RacingPair) → place ≤ 0 → ((q : ℕ) → place ≤ q → q < change → is_look_of_node (action_at (actions_of_accesses acts) q) n ≡ false) → IsMore acts (OfChange acts change n) a a
 look_none acts change place n a l none =
-    nothing acts (OfChange acts change n) a (λ z r f. both_ways (is_look_of (action_at (actions_of_accesses acts) z.look) n) (none z.look (omega (arith, l)) r.1) r.2)
+    nothing acts (OfChange acts change n) a (λ z r f. both_ways (is_look_of_node (action_at (actions_of_accesses acts) z.look) n) (none z.look (omega (arith, l)) r.1) r.2)
 
 -- ---- the looks that a change is shown to
 
@@ -185,21 +185,21 @@ four_sides acts change m sides a b c d e r w l u =
 -- ---- what is near to a place
 
 change_here : (acts : List EventAccess) (place : ℕ) (act : EventAccess) (z : RacingPair) (f : IsRacingLook acts z) → action_of_access act ≡ action_at (actions_of_accesses acts) place → z.change ≡ place → changes_shown_to act.cause.event act.first act.second f.node ≡ true
-change_here acts place act z f is at = ap (λ (a : Action). a.changes f.node) is ∙ subst (λ (k : ℕ). (action_at (actions_of_accesses acts) k).changes f.node ≡ true) at f.change
+change_here acts place act z f is at = ap (λ (a : TraceAction). a.changes f.node) is ∙ subst (λ (k : ℕ). (action_at (actions_of_accesses acts) k).changes f.node ≡ true) at f.change
 
 pub changes_own : (acts : List EventAccess) (place : ℕ) (act : EventAccess) (node : NodeId) → action_of_access act ≡ action_at (actions_of_accesses acts) place → act.cause.event ≡ Own node
     → (n : ℕ) → has_side_to act.first node.number n ≡ true → (action_at (actions_of_accesses acts) place).changes n ≡ true
-changes_own acts place act node is own n h = sym (ap (λ (a : Action). a.changes n) is) ∙ ap (λ (e : Event). changes_shown_to e act.first act.second n) own ∙ h
+changes_own acts place act node is own n h = sym (ap (λ (a : TraceAction). a.changes n) is) ∙ ap (λ (e : Event). changes_shown_to e act.first act.second n) own ∙ h
 
 pub changes_writer : (acts : List EventAccess) (place : ℕ) (act : EventAccess) (w r : NodeId) (side : Side) → action_of_access act ≡ action_at (actions_of_accesses acts) place → act.cause.event ≡ Pass w r side
     → (n : ℕ) → has_side_to act.first w.number n ≡ true → (action_at (actions_of_accesses acts) place).changes n ≡ true
 changes_writer acts place act w r side is pass n h =
-    sym (ap (λ (a : Action). a.changes n) is) ∙ ap (λ (e : Event). changes_shown_to e act.first act.second n) pass ∙ or_left (has_side_to act.first w.number n) (has_side_to act.second r.number n) h
+    sym (ap (λ (a : TraceAction). a.changes n) is) ∙ ap (λ (e : Event). changes_shown_to e act.first act.second n) pass ∙ or_left (has_side_to act.first w.number n) (has_side_to act.second r.number n) h
 
 pub changes_reader : (acts : List EventAccess) (place : ℕ) (act : EventAccess) (w r : NodeId) (side : Side) → action_of_access act ≡ action_at (actions_of_accesses acts) place → act.cause.event ≡ Pass w r side
     → (n : ℕ) → has_side_to act.second r.number n ≡ true → (action_at (actions_of_accesses acts) place).changes n ≡ true
 changes_reader acts place act w r side is pass n h =
-    sym (ap (λ (a : Action). a.changes n) is) ∙ ap (λ (e : Event). changes_shown_to e act.first act.second n) pass ∙ or_right (has_side_to act.first w.number n) (has_side_to act.second r.number n) h
+    sym (ap (λ (a : TraceAction). a.changes n) is) ∙ ap (λ (e : Event). changes_shown_to e act.first act.second n) pass ∙ or_right (has_side_to act.first w.number n) (has_side_to act.second r.number n) h
 
 pub own_at : (acts : List EventAccess) (place : ℕ) (act : EventAccess) (node : NodeId) (a b c : List RacingPair) → action_of_access act ≡ action_at (actions_of_accesses acts) place → act.cause.event ≡ Own node
     → IsMore acts (OfLook place 0) a b → IsMore acts (OverSides acts place node.number act.first) b c → IsMore acts (AtPlace place) a c
@@ -215,7 +215,7 @@ pass_at acts place act w r side a b c is pass m n = chained acts (OverSides acts
   where
     no_look : (z : RacingPair) → z.look ≡ place → IsRacingLook acts z → ⊥
     no_look z at f =
-        let k : is_look_of (action_of_access act) f.node ≡ true = ap (λ (x : Action). is_look_of x f.node) is ∙ subst (λ (k : ℕ). is_look_of (action_at (actions_of_accesses acts) k) f.node ≡ true) at f.look in
+        let k : is_look_of_node (action_of_access act) f.node ≡ true = ap (λ (x : TraceAction). is_look_of_node x f.node) is ∙ subst (λ (k : ℕ). is_look_of_node (action_at (actions_of_accesses acts) k) f.node ≡ true) at f.look in
         both_ways (is_own_event_of act.cause.event f.node) (ap (λ (e : Event). is_own_event_of e f.node) pass) (and_parts act.cause.look (is_own_event_of act.cause.event f.node) k).1
 
     asks : (z : RacingPair) → AtPlace place z → IsRacingLook acts z → OverSides acts place w.number act.first z ⊎ OverSides acts place r.number act.second z
@@ -257,7 +257,7 @@ pub marks_next : (acts : List EventAccess) (place : ℕ) (act : EventAccess) (ol
 marks_next acts place act old new is more marked_nodes q n l look = elim (cases_lt q place) [
   | inl k ↦ more n ∙ or_left (old n) (has_looked (action_of_access act) n) (marked_nodes q n k look)
   | inr k ↦ (let at : q ≡ place = omega (arith, l, k) in
-      let here : is_look_of (action_of_access act) n ≡ true = ap (λ (x : Action). is_look_of x n) is ∙ subst (λ (z : ℕ). is_look_of (action_at (actions_of_accesses acts) z) n ≡ true) at look in
+      let here : is_look_of_node (action_of_access act) n ≡ true = ap (λ (x : TraceAction). is_look_of_node x n) is ∙ subst (λ (z : ℕ). is_look_of_node (action_at (actions_of_accesses acts) z) n ≡ true) at look in
       let p = and_parts act.cause.look (is_own_event_of act.cause.event n) here in
       more n ∙ or_right (old n) (has_looked (action_of_access act) n) (and_both act.cause.look (touches act.cause.event n) p.0 (own_touches act.cause.event n p.1)))
 ]

@@ -11,7 +11,7 @@ use Rattle.ga_causal.proofs.Equivalences.{touched_of}
 use Rattle.ga_causal.proofs.Runs.{causes, first_of_run}
 use Rattle.ga_causal.proofs.Words.{after_is}
 use Rattle.ga_races.specs.Orders.{IsEnabled, AreIndependentOn, AreReorderings, same, swapped, later, joined}
-use Rattle.ga_races.specs.HappensBefore.{Action, action_of, actions, causes_of_actions, action_at, are_dependent, IsDirectlyBefore, HappensBefore, directly, through, IsStepOf, IsEarlierIn}
+use Rattle.ga_races.specs.HappensBefore.{TraceAction, action_of, actions, causes_of_actions, action_at, are_dependent, IsDirectlyBefore, HappensBefore, directly, through, IsStepOfNode, IsEarlierInReordering}
 use Rattle.ga_races.proofs.Independence.{replay_more, first_of, still_enabled, independent_on_chip, apart-sym}
 use Rattle.ga_races.proofs.Orders.{some_of}
 use Rattle.ga_races.proofs.Exact.{replay_into}
@@ -20,16 +20,16 @@ use Rattle.ga_races.proofs.Moves.{Moves, flip, lifted, moves_same, moves_behind,
 
 -- ---- one pass over the list: whether an action depends directly on one of those that are reached
 
-abbrev pub meets_some : List Action → Action → Bool
+abbrev pub meets_some : List TraceAction → TraceAction → Bool
 meets_some held a = list_any (λ b. are_dependent b a) held
 
-abbrev pub reached : List Action → List Action → ℕ → Bool
+abbrev pub reached : List TraceAction → List TraceAction → ℕ → Bool
 reached held [] j = false
 reached held (a ∷ xs) zero = meets_some held a
 reached held (a ∷ xs) (suc j) = cond (meets_some held a) (reached (held ++ a ∷ []) xs j) (reached held xs j)
 
 -- whether the one at the second place is reached from the one at the first
-abbrev pub reached_from : List Action → ℕ → ℕ → Bool
+abbrev pub reached_from : List TraceAction → ℕ → ℕ → Bool
 reached_from [] i j = false
 reached_from (a ∷ xs) i zero = false
 reached_from (a ∷ xs) zero (suc j) = reached (a ∷ []) xs j
@@ -38,27 +38,27 @@ reached_from (a ∷ xs) (suc i) (suc j) = reached_from xs i j
 -- ---- what is reached happens later
 
 -- an action before a place, which is the one at the first place or happens after it
-record IsHeld (all : List Action) (first place : ℕ) (a : Action) : Type 0 where
+record IsHeld (all : List TraceAction) (first place : ℕ) (a : TraceAction) : Type 0 where
   at : ℕ
   before : at < place
   is : action_at all at ≡ a
   from : (first ≡ at) ⊎ HappensBefore all first at
 
-abbrev AreHeld : List Action → ℕ → ℕ → List Action → Type 0
+abbrev AreHeld : List TraceAction → ℕ → ℕ → List TraceAction → Type 0
 AreHeld all first place [] = Unit {0}
 AreHeld all first place (a ∷ held) = IsHeld all first place a × AreHeld all first place held
 
-held_on : (all : List Action) (first place : ℕ) (held : List Action) → AreHeld all first place held → AreHeld all first (suc place) held
+held_on : (all : List TraceAction) (first place : ℕ) (held : List TraceAction) → AreHeld all first place held → AreHeld all first (suc place) held
 held_on all first place [] h = tt
 held_on all first place (a ∷ held) h =
     let l : h.0.at < place = h.0.before in
     (record { at = h.0.at; before = omega (arith, l); is = h.0.is; from = h.0.from }, held_on all first place held h.1)
 
-held_more : (all : List Action) (first place : ℕ) (held : List Action) (a : Action) → AreHeld all first place held → IsHeld all first place a → AreHeld all first place (held ++ a ∷ [])
+held_more : (all : List TraceAction) (first place : ℕ) (held : List TraceAction) (a : TraceAction) → AreHeld all first place held → IsHeld all first place a → AreHeld all first place (held ++ a ∷ [])
 held_more all first place [] a h k = (k, tt)
 held_more all first place (b ∷ held) a h k = (h.0, held_more all first place held a h.1 k)
 
-bound_held : (all : List Action) (first place : ℕ) (held : List Action) (a : Action) → AreHeld all first place held → action_at all place ≡ a → place < length all → meets_some held a ≡ true → HappensBefore all first place
+bound_held : (all : List TraceAction) (first place : ℕ) (held : List TraceAction) (a : TraceAction) → AreHeld all first place held → action_at all place ≡ a → place < length all → meets_some held a ≡ true → HappensBefore all first place
 bound_held all first place [] a h is l t = absurd (both_ways false refl t)
 bound_held all first place (b ∷ held) a h is l t = elim (or_cases (are_dependent b a) (meets_some held a) t) [
   | inl q ↦ go h.0.from (record { before = h.0.before; within = l; bound = ap₂ are_dependent h.0.is is ∙ q })
@@ -70,23 +70,23 @@ bound_held all first place (b ∷ held) a h is l t = elim (or_cases (are_depende
     go (inr k) d = through k d
 
 -- the list from a place on
-record IsFrom (all : List Action) (place : ℕ) (xs : List Action) : Type 0 where
+record IsFrom (all : List TraceAction) (place : ℕ) (xs : List TraceAction) : Type 0 where
   at : (q : ℕ) → action_at all (place + q) ≡ action_at xs q
   size : place + length xs ≡ length all
 
-from_next : (all : List Action) (place : ℕ) (a : Action) (xs : List Action) → IsFrom all place (a ∷ xs) → IsFrom all (suc place) xs
+from_next : (all : List TraceAction) (place : ℕ) (a : TraceAction) (xs : List TraceAction) → IsFrom all place (a ∷ xs) → IsFrom all (suc place) xs
 from_next all place a xs f = record {
   at = λ q. ap (action_at all) (let e : suc place + q ≡ place + suc q = omega arith in e) ∙ f.at (suc q);
   size = let s : place + suc (length xs) ≡ length all = f.size in omega (arith, s);
 }
 
-from_within : (all : List Action) (place : ℕ) (a : Action) (xs : List Action) → IsFrom all place (a ∷ xs) → place < length all
+from_within : (all : List TraceAction) (place : ℕ) (a : TraceAction) (xs : List TraceAction) → IsFrom all place (a ∷ xs) → place < length all
 from_within all place a xs f = let s : place + suc (length xs) ≡ length all = f.size in omega (arith, s)
 
-from_first : (all : List Action) (place : ℕ) (a : Action) (xs : List Action) → IsFrom all place (a ∷ xs) → action_at all place ≡ a
+from_first : (all : List TraceAction) (place : ℕ) (a : TraceAction) (xs : List TraceAction) → IsFrom all place (a ∷ xs) → action_at all place ≡ a
 from_first all place a xs f = ap (action_at all) (let e : place ≡ place + 0 = omega arith in e) ∙ f.at 0
 
-reached_later : (xs : List Action) (all : List Action) (first place : ℕ) (held : List Action) (j : ℕ) → IsFrom all place xs → AreHeld all first place held → reached held xs j ≡ true → HappensBefore all first (place + j)
+reached_later : (xs : List TraceAction) (all : List TraceAction) (first place : ℕ) (held : List TraceAction) (j : ℕ) → IsFrom all place xs → AreHeld all first place held → reached held xs j ≡ true → HappensBefore all first (place + j)
 reached_later [] all first place held j f h t = absurd (both_ways false refl t)
 reached_later (a ∷ xs) all first place held zero f h t =
     subst (HappensBefore all first) (let e : place ≡ place + 0 = omega arith in e)
@@ -103,7 +103,7 @@ reached_later (a ∷ xs) all first place held (suc j) f h t =
     reached_next true x y m k found otherwise = found m k
     reached_next false x y m k found otherwise = otherwise k
 
-reached_before : (xs : List Action) (all : List Action) (place i j : ℕ) → IsFrom all place xs → reached_from xs i j ≡ true → HappensBefore all (place + i) (place + j)
+reached_before : (xs : List TraceAction) (all : List TraceAction) (place i j : ℕ) → IsFrom all place xs → reached_from xs i j ≡ true → HappensBefore all (place + i) (place + j)
 reached_before [] all place i j f t = absurd (both_ways false refl t)
 reached_before (a ∷ xs) all place zero zero f t = absurd (both_ways false refl t)
 reached_before (a ∷ xs) all place (suc i) zero f t = absurd (both_ways false refl t)
@@ -120,7 +120,7 @@ reached_before (a ∷ xs) all place (suc i) (suc j) f t =
 
 pub actions_into : (fs ys : List Event) (c d : List NodeRecord) → replay c fs ≡ Some d → actions c (fs ++ ys) ≡ actions c fs ++ actions d ys
 actions_into [] ys c d h = ap (λ z. actions z ys) (same_Some c d h)
-actions_into (f ∷ fs) ys c d h = let p = first_of c f fs d h in ap (λ (z : List Action). action_of c f ∷ z) (actions_into fs ys (after c f).0 d p.then)
+actions_into (f ∷ fs) ys c d h = let p = first_of c f fs d h in ap (λ (z : List TraceAction). action_of c f ∷ z) (actions_into fs ys (after c f).0 d p.then)
 
 pub record IsOver (c d : List NodeRecord) (fs : List Event) (y : Event) (zs : List Event) : Type 0 where
   pub can : IsEnabled c y
@@ -152,7 +152,7 @@ over_more : (c d : List NodeRecord) (f : Event) (fs : List Event) (y : Event) (z
 over_more c d f fs y zs canf o none = record {
   can = cany;
   still = sym (action_still c f y canf cany free.apart free.second) ∙ o.still;
-  kept = ap₂ (λ (a : Action) (z : List NodeRecord). a ∷ actions z fs) (action_still c y f cany canf back free.first) (sym (independent_on_chip c f y canf cany free)) ∙ ap (λ (z : List Action). action_of c f ∷ z) o.kept;
+  kept = ap₂ (λ (a : TraceAction) (z : List NodeRecord). a ∷ actions z fs) (action_still c y f cany canf back free.first) (sym (independent_on_chip c f y canf cany free)) ∙ ap (λ (z : List TraceAction). action_of c f ∷ z) o.kept;
   led = replay_more (after c y).0 f fs (still_enabled c f y free.apart cany canf) ∙ ap (λ z. replay z fs) (sym (independent_on_chip c f y canf cany free)) ∙ o.led;
   order = joined (later canf o.order) (swapped canf cany free);
   to = λ i. flip (lifted o.to i);
@@ -234,10 +234,10 @@ pulled_next c d fs y es p j h can l true is none held spared =
     subst₂ (λ (z : List Event) (q : ℕ). IsTurned c z p q) (append_assoc fs (y ∷ []) es)
     (ap (λ (z : ℕ). z + j) (longer_by fs y) ∙ (let e : suc (length fs) + j ≡ length fs + suc j = omega arith in e))
     (held (replay_into fs (y ∷ []) c d h ∙ replay_more d y [] can) (longer_by fs y)
-    (ap (λ (z : List Action). reached z (actions (after d y).0 es) j) (actions_into fs (y ∷ []) c d h) ∙ none))
+    (ap (λ (z : List TraceAction). reached z (actions (after d y).0 es) j) (actions_into fs (y ∷ []) c d h) ∙ none))
 pulled_next c d fs y es p j h can l false is none held spared =
     let o : IsOver c d fs y es = over fs c d y es h can is in
-    turned_over c d fs y es p j o l (spared (after c y).0 o.led (ap (λ (z : List Action). reached z (actions (after d y).0 es) j) o.kept ∙ none))
+    turned_over c d fs y es p j o l (spared (after c y).0 o.led (ap (λ (z : List TraceAction). reached z (actions (after d y).0 es) j) o.kept ∙ none))
 
 pulled : (es : List Event) (c d last : List NodeRecord) (fs : List Event) (p j : ℕ) → replay c fs ≡ Some d → replay d es ≡ Some last → p < length fs → j < length es → reached (actions c fs) (actions d es) j ≡ false → IsTurned c (fs ++ es) p (length fs + j)
 pulled [] c d last fs p j h k l m none = absurd (omega (arith, m))
@@ -270,14 +270,14 @@ turned_at (e ∷ es) c last (suc i) (suc j) h l m none =
 
 -- ---- as the law states it
 
-pub every_order : (c : List NodeRecord) (es fs : List Event) (i j : ℕ) → HappensBefore (actions c es) i j → AreReorderings c es fs → IsEarlierIn c es fs i j
+pub every_order : (c : List NodeRecord) (es fs : List Event) (i j : ℕ) → HappensBefore (actions c es) i j → AreReorderings c es fs → IsEarlierInReordering c es fs i j
 every_order c es fs i j h order n k m l p q a b x y =
     let t = moves_of c es fs order in
     let r : t.0 i ≡ p = tallied_one (actions c fs) n k (t.0 i) p (tallied_moved (actions c es) (actions c fs) t.0 n k i t.1 (tallied_of (actions c es) n k i a)) (tallied_of (actions c fs) n k p x) in
     let s : t.0 j ≡ q = tallied_one (actions c fs) m l (t.0 j) q (tallied_moved (actions c es) (actions c fs) t.0 m l j t.1 (tallied_of (actions c es) m l j b)) (tallied_of (actions c fs) m l q y) in
     subst₂ (λ (u v : ℕ). u < v) r s (before_moved (actions c es) (actions c fs) t.0 i j t.1 h)
 
-some_order : (c : List NodeRecord) (es : List Event) (i j : ℕ) → IsTurned c es i j → (others : List Event) × AreReorderings c es others × IsEarlierIn c es others j i
+some_order : (c : List NodeRecord) (es : List Event) (i j : ℕ) → IsTurned c es i j → (others : List Event) × AreReorderings c es others × IsEarlierInReordering c es others j i
 some_order c es i j t = (
   t.others,
   t.order,
@@ -287,15 +287,15 @@ some_order c es i j t = (
       subst₂ (λ (u v : ℕ). u < v) r s t.turned,
 )
 
-from_all : (xs : List Action) → IsFrom xs 0 xs
+from_all : (xs : List TraceAction) → IsFrom xs 0 xs
 from_all xs = record { at = λ q. ap (action_at xs) (let e : 0 + q ≡ q = omega arith in e); size = omega arith }
 
-pub before_of : (xs : List Action) (i j : ℕ) → reached_from xs i j ≡ true → HappensBefore xs i j
+pub before_of : (xs : List TraceAction) (i j : ℕ) → reached_from xs i j ≡ true → HappensBefore xs i j
 before_of xs i j t = subst₂ (HappensBefore xs) (let e : 0 + i ≡ i = omega arith in e) (let e : 0 + j ≡ j = omega arith in e) (reached_before xs xs 0 i j (from_all xs) t)
 
 -- an event that doesn't happen before a later one comes after it in some order
 pub other_order : (c : List NodeRecord) (es : List Event) (i j : ℕ) → IsSome (replay c es) → i < j → j < length es → (HappensBefore (actions c es) i j → ⊥)
-    → (others : List Event) × AreReorderings c es others × IsEarlierIn c es others j i
+    → (others : List Event) × AreReorderings c es others × IsEarlierInReordering c es others j i
 other_order c es i j h l m never =
     let a = some_of (replay c es) h in
     some_order c es i j (turned_at es c a.0 i j a.1 l m (false_from_ne_true (reached_from (actions c es) i j) (λ t. never (before_of (actions c es) i j t))))
@@ -318,7 +318,7 @@ named_of c es i l =
     let size : length (actions c es) ≡ length es = actions_length c es in
     record { node = t.node; number = suc (tally t.node (actions c es) i); tallied = record { within = omega (arith, l, size); touched = t.is; before = refl } }
 
-not_both : (c : List NodeRecord) (es : List Event) (i j : ℕ) → i < length es → j < length es → IsTurned c es i j → ((others : List Event) → AreReorderings c es others → IsEarlierIn c es others i j) → ⊥
+not_both : (c : List NodeRecord) (es : List Event) (i j : ℕ) → i < length es → j < length es → IsTurned c es i j → ((others : List Event) → AreReorderings c es others → IsEarlierInReordering c es others i j) → ⊥
 not_both c es i j l m t every =
     let a = named_of c es i l in
     let b = named_of c es j m in
@@ -330,7 +330,7 @@ not_both c es i j l m t every =
     omega (arith, p, q)
 
 pub no_race_if_confluent : (c : List NodeRecord) (es : List Event) (i j : ℕ) → IsSome (replay c es) → i < j → j < length es
-    → HappensBefore (actions c es) i j ↔ ((others : List Event) → AreReorderings c es others → IsEarlierIn c es others i j)
+    → HappensBefore (actions c es) i j ↔ ((others : List Event) → AreReorderings c es others → IsEarlierInReordering c es others i j)
 no_race_if_confluent c es i j h l m = (
   λ b others order. every_order c es others i j b order,
   λ every. elim (cases_Bool (reached_from (actions c es) i j)) [
@@ -340,7 +340,7 @@ no_race_if_confluent c es i j h l m = (
 )
 
 -- each step exists in each order
-pub stands : (c : List NodeRecord) (es fs : List Event) (n k i : ℕ) → AreReorderings c es fs → IsStepOf c es n k i → (p : ℕ) × IsStepOf c fs n k p
+pub stands : (c : List NodeRecord) (es fs : List Event) (n k i : ℕ) → AreReorderings c es fs → IsStepOfNode c es n k i → (p : ℕ) × IsStepOfNode c fs n k p
 stands c es fs n k i h s =
     let t = moves_of c es fs h in
     (t.0 i, step_of (actions c fs) n k (t.0 i) (tallied_moved (actions c es) (actions c fs) t.0 n k i t.1 (tallied_of (actions c es) n k i s)))
@@ -355,5 +355,5 @@ causes_of_run (e ∷ es) c last ts h =
     ∙ ap (λ (z : List (Cause × EventOutcome)). causes z) (sym m.all)
 
 -- each event is a step
-pub step_named : (c : List NodeRecord) (es : List Event) (i : ℕ) → i < length es → (n : ℕ) × (k : ℕ) × IsStepOf c es n k i
+pub step_named : (c : List NodeRecord) (es : List Event) (i : ℕ) → i < length es → (n : ℕ) × (k : ℕ) × IsStepOfNode c es n k i
 step_named c es i l = let a = named_of c es i l in (a.node, a.number, step_of (actions c es) a.node a.number i a.tallied)

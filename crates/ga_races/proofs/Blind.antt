@@ -29,7 +29,7 @@ use Rattle.ga_causal.proofs.Places.{place_split, touching_in}
 use Rattle.ga_causal.proofs.Moved.{rolled_back}
 use Rattle.ga_causal.proofs.Runs.{causes, kept, keeps_of, run_more, run_kept, first_of_run, replay_equivalent}
 use Rattle.ga_causal.proofs.Words.{after_is, ran}
-use Rattle.ga_races.specs.Orders.{IsEnabled, IsTerminal, AreIndependentOn, AreReorderings, same, swapped, later, joined, IsRace, HasNoRace, AreConflicting}
+use Rattle.ga_races.specs.Orders.{IsEnabled, IsTerminalChip, AreIndependentOn, AreReorderings, same, swapped, later, joined, IsRace, HasNoRace, AreConflictingPasses}
 use Rattle.ga_races.proofs.Independence.{apply_is, first_of, stays, touches_own, touches_writer, touches_reader, still_enabled, any_at, any_of, independent_of, apart-sym, independent_on_chip}
 use Rattle.ga_races.proofs.Orders.{order_replay, order_read, steps_read, is_some_of, enabled_after, no_race-order, no_race-tail, completed_quiet, brought, IsFirst, IsSpared}
 use Rattle.ga_races.proofs.Conflicts.{actor, one_event, one_side, open_of, common_node}
@@ -133,14 +133,14 @@ reader_of (Own a) = a.number
 reader_of (Pass w r side) = r.number
 
 -- two rivals are for the same reader, and both touch it
-same_reader : (p q g : Event) → AreConflicting p q → AreConflicting g q → reader_of g ≡ reader_of p
+same_reader : (p q g : Event) → AreConflictingPasses p q → AreConflictingPasses g q → reader_of g ≡ reader_of p
 same_reader p q g a b =
     ap reader_of b.one ∙ ap reader_of (sym b.two) ∙ ap reader_of a.two ∙ ap reader_of (sym a.one)
 
-touches_reader_of : (p q : Event) → AreConflicting p q → touches p (reader_of p) ≡ true
+touches_reader_of : (p q : Event) → AreConflictingPasses p q → touches p (reader_of p) ≡ true
 touches_reader_of p q a = subst (λ (z : Event). touches z (reader_of z) ≡ true) (sym a.one) (touches_reader a.first a.reader a.side)
 
-touches_reader_too : (p q : Event) → AreConflicting p q → touches q (reader_of p) ≡ true
+touches_reader_too : (p q : Event) → AreConflictingPasses p q → touches q (reader_of p) ≡ true
 touches_reader_too p q a =
     subst (λ (z : ℕ). touches q z ≡ true) (sym (ap reader_of a.one))
     (subst (λ (z : Event). touches z a.reader.number ≡ true) (sym a.two) (touches_reader a.second a.reader a.other))
@@ -150,17 +150,17 @@ pub no_touch : (marks : ℕ → Bool) (e : Cause) (n : ℕ) → has_common_node 
 no_touch marks e n free m = false_from_ne_true (touches e.event n) (λ u. both_ways (list_any marks (event_nodes e.event)) (touched_free marks e free) (any_at marks (event_nodes e.event) n u m))
 
 -- an event that touches no node of a pass leaves its rival open too
-rival_spared : (c : List NodeRecord) (p q e : Event) → AreConflicting p q → IsEnabled c q → IsEnabled c e → ((n : ℕ) → touches p n ≡ true → touches e n ≡ false) → (n : ℕ) → touches q n ≡ true → touches e n ≡ false
+rival_spared : (c : List NodeRecord) (p q e : Event) → AreConflictingPasses p q → IsEnabled c q → IsEnabled c e → ((n : ℕ) → touches p n ≡ true → touches e n ≡ false) → (n : ℕ) → touches q n ≡ true → touches e n ≡ false
 rival_spared c p q e a canq cane apart n t = false_from_ne_true (touches e n) (λ u. elim (cases_eq (actor e) (actor q)) [
   | inl eq ↦ not_reader (subst (λ (z : Event). touches z (reader_of p) ≡ true) (sym (one_event c e q cane canq eq)) (touches_reader_too p q a))
-  | inr ne ↦ (let b : AreConflicting e q = common_node c e q n cane canq (λ w. ne (ap actor w)) u t in
+  | inr ne ↦ (let b : AreConflictingPasses e q = common_node c e q n cane canq (λ w. ne (ap actor w)) u t in
       not_reader (subst (λ (z : ℕ). touches e z ≡ true) (same_reader p q e a b) (touches_reader_of e q b)))
 ])
   where
     not_reader : touches e (reader_of p) ≡ true → ⊥
     not_reader k = both_ways (touches e (reader_of p)) (apart (reader_of p) (touches_reader_of p q a)) k
 
-stays_open : (es : List Cause) (marks : ℕ → Bool) (c last : List NodeRecord) (p q : Event) → AreConflicting p q → ((n : ℕ) → touches p n ≡ true → marks n ≡ true) → IsEnabled c p → IsEnabled c q
+stays_open : (es : List Cause) (marks : ℕ → Bool) (c last : List NodeRecord) (p q : Event) → AreConflictingPasses p q → ((n : ℕ) → touches p n ≡ true → marks n ≡ true) → IsEnabled c p → IsEnabled c q
     → replay c (events_of_causes (kept marks es)) ≡ Some last → IsEnabled last p × IsEnabled last q
 stays_open [] marks c last p q a m canp canq h = (subst (λ z. IsEnabled z p) (same_Some c last h) canp, subst (λ z. IsEnabled z q) (same_Some c last h) canq)
 stays_open (e ∷ es) marks c last p q a m canp canq h =
@@ -185,7 +185,7 @@ ShowsWithin c es events p q =
     (k : ℕ) × (0 < k) × (k ≤ count_steps (reader_of p) events) × (now : List NodeRecord)
     × (replay c (events_of_causes (events_after_rewind es (reader_of p) k)) ≡ Some now) × IsEnabled now p × IsEnabled now q
 
-module _ (c last : List NodeRecord) (es : List Event) (ts : List (Cause × EventOutcome)) (is : run c es ≡ Some (last, ts)) (none : HasNoLooks (causes ts)) (step other : Event) (r : IsRace c es step other) (a : AreConflicting step other) where
+module _ (c last : List NodeRecord) (es : List Event) (ts : List (Cause × EventOutcome)) (is : run c es ≡ Some (last, ts)) (none : HasNoLooks (causes ts)) (step other : Event) (r : IsRace c es step other) (a : AreConflictingPasses step other) where
   whole : List Event
   whole = r.before ++ step ∷ r.later
 
@@ -233,7 +233,7 @@ module _ (c last : List NodeRecord) (es : List Event) (ts : List (Cause × Event
       let number : count_touching_events n (causes p.one) ≡ count_steps n r.before = touching_in n (causes p.one) ∙ ap (count_steps n) before in
       (k, omega arith, omega (arith, number, many), runs.0, here, open_.0, open_.1)
 
-pub race_shows : (c last : List NodeRecord) (es : List Event) (ts : List (Cause × EventOutcome)) → run c es ≡ Some (last, ts) → HasNoLooks (causes ts) → (step other : Event) → IsRace c es step other → AreConflicting step other → Shows c (causes ts) step other
+pub race_shows : (c last : List NodeRecord) (es : List Event) (ts : List (Cause × EventOutcome)) → run c es ≡ Some (last, ts) → HasNoLooks (causes ts) → (step other : Event) → IsRace c es step other → AreConflictingPasses step other → Shows c (causes ts) step other
 race_shows c last es ts is none step other r a = let w = shown_state c last es ts is none step other r a in (w.0, w.3, w.4, w.5, w.6)
 
 -- ---- where all ends, or nothing that comes next looks
@@ -242,7 +242,7 @@ race_shows c last es ts is none step other r a = let w = shown_state c last es t
 abbrev pub IsBlind : List NodeRecord → Type 0
 IsBlind c = (e : Event) → IsEnabled c e → is_look c e ≡ false
 
-pub end_blind : (c : List NodeRecord) → IsTerminal c → IsBlind c
+pub end_blind : (c : List NodeRecord) → IsTerminalChip c → IsBlind c
 end_blind c end e can = absurd (end e can)
 
 blind_later : (es : List Event) (c last : List NodeRecord) (e : Event) → LookFree c es → replay c es ≡ Some last → IsBlind last → IsEnabled c e → is_look c e ≡ false
@@ -265,7 +265,7 @@ look_free_into [] ys c now h free = subst (λ d. LookFree d ys) (same_Some c now
 look_free_into (e ∷ fs) ys c now h free = let p = first_of c e fs now h in look_free_into fs ys (after c e).0 now p.then free.1
 
 -- so its races are of passes
-pub race_rivals : (c last : List NodeRecord) (es : List Event) (ts : List (Cause × EventOutcome)) → run c es ≡ Some (last, ts) → HasNoLooks (causes ts) → IsBlind last → (step other : Event) → IsRace c es step other → AreConflicting step other
+pub race_rivals : (c last : List NodeRecord) (es : List Event) (ts : List (Cause × EventOutcome)) → run c es ≡ Some (last, ts) → HasNoLooks (causes ts) → IsBlind last → (step other : Event) → IsRace c es step other → AreConflictingPasses step other
 race_rivals c last es ts is none end step other r = elim (cases_Bool (list_any (touches step) (event_nodes other))) [
   | inl t ↦ (let k = any_of (touches step) (event_nodes other) t in common_node r.now step other k.node can r.can r.differ k.marked_nodes k.listed)
   | inr no_node ↦ (let apart = independent_of step other no_node in
@@ -319,7 +319,7 @@ race_behind (e ∷ fs) ys es c now led h calm =
     let p = first_of c e fs now led in
     race_behind fs ys (fs ++ ys) (after c e).0 now p.then same (no_race-tail c e (fs ++ ys) p.can (no_race-order c es (e ∷ fs ++ ys) h calm))
 
-pub none_shows : (c last : List NodeRecord) (es : List Event) (ts : List (Cause × EventOutcome)) → run c es ≡ Some (last, ts) → HasNoLooks (causes ts) → IsTerminal last → HasNoRace c es → NoneShows c (causes ts)
+pub none_shows : (c last : List NodeRecord) (es : List Event) (ts : List (Cause × EventOutcome)) → run c es ≡ Some (last, ts) → HasNoLooks (causes ts) → IsTerminalChip last → HasNoRace c es → NoneShows c (causes ts)
 none_shows c last es ts is none end calm k now w x r side other led canp canq ne =
     let h : replay c es ≡ Some last = ap (λ (o : Option (List NodeRecord × List (Cause × EventOutcome))). option_map (λ z. z.0) o) is in
     let xs : List Event = events_of_causes (events_after_rewind (causes ts) r.number k) in
@@ -340,5 +340,5 @@ none_shows c last es ts is none end calm k now w x r side other led canp canq ne
         quiet (Pass w r side) (Pass x r other)
         (record { before = []; later = b.others; now = now; order = b.order; led = refl; can = canq; differ = λ e. other_writer (ap actor e); bound = not_free })
 
-pub decided : (c last : List NodeRecord) (es : List Event) (ts : List (Cause × EventOutcome)) → run c es ≡ Some (last, ts) → HasNoLooks (causes ts) → IsTerminal last → HasNoRace c es ↔ NoneShows c (causes ts)
+pub decided : (c last : List NodeRecord) (es : List Event) (ts : List (Cause × EventOutcome)) → run c es ≡ Some (last, ts) → HasNoLooks (causes ts) → IsTerminalChip last → HasNoRace c es ↔ NoneShows c (causes ts)
 decided c last es ts is none end = (λ calm. none_shows c last es ts is none end calm, λ h. none_races c last es ts is none (end_blind last end) h)

@@ -6,19 +6,19 @@ use Rattle.std.proofs.lemmas.Bool.{cases_Bool, cases_eq, both_ways, or_parts, or
 use Rattle.std.proofs.lemmas.Option.{same_Some}
 use Rattle.ga_ports.specs.declared.side.Side.{Side}
 use Rattle.ga_ports.specs.declared.side.Side.TheVariants.{Right, Down, Left, Up}
-use Rattle.ga_node.specs.Io.{shown, io_word}
+use Rattle.ga_node.specs.Io.{side_io_bits, io_word}
 use Rattle.ga_node.specs.Record.{NodeRecord}
 use Rattle.ga_node.specs.Table.{looks}
 use Rattle.ga_grid.specs.Grid.{neighbour_of}
 use Rattle.ga_grid.specs.Chip.{record_at}
-use Rattle.ga_event.specs.Apply.{AgreeOutsideMarks, shown_state, shown_neighbour_state, neighbour_states, after, is_look}
+use Rattle.ga_event.specs.Apply.{AgreeOutsideMarks, shown_wait_state, shown_neighbour_state, neighbour_states, after, is_look}
 use Rattle.ga_event.specs.declared.event.Event.{Event}
 use Rattle.ga_event.specs.declared.event.Event.TheVariants.{Own, Pass}
 use Rattle.ga_event.specs.Touches.{event_nodes, touches}
 use Rattle.ga_causal.specs.Words.{received_word}
 use Rattle.ga_causal.proofs.Words.{same_node}
 use Rattle.ga_races.specs.Orders.{IsEnabled, AreIndependentOn}
-use Rattle.ga_races.specs.HappensBefore.{Action, action_of, is_look_changed_by, are_dependent}
+use Rattle.ga_races.specs.HappensBefore.{TraceAction, action_of, is_look_changed_by, are_dependent}
 use Rattle.ga_races.proofs.Independence.{replay_more, stays, still_enabled, can_back, any_of, independent_of, apart-sym}
 use Rattle.ga_races.proofs.Blind.{look_still, word_still}
 
@@ -36,10 +36,10 @@ module _ (one other : ℕ → Bool) (apart : (n : ℕ) → one n ≡ true → ot
   straight a b x y p q = omega (arith, p, q)
 
   side_sum : (side : Side) (o : Option ℕ) (first second : ℕ)
-      → shown (shown_neighbour_state c side o) first second + shown (shown_neighbour_state v side o) first second ≡ shown (shown_neighbour_state d side o) first second + shown (shown_neighbour_state u side o) first second
+      → side_io_bits (shown_neighbour_state c side o) first second + side_io_bits (shown_neighbour_state v side o) first second ≡ side_io_bits (shown_neighbour_state d side o) first second + side_io_bits (shown_neighbour_state u side o) first second
   side_sum side None first second = refl
   side_sum side (Some m) first second =
-      let word : NodeRecord → ℕ = λ z. shown (shown_state z.wait side) first second in
+      let word : NodeRecord → ℕ = λ z. side_io_bits (shown_wait_state z.wait side) first second in
       elim (cases_Bool (one m)) [
         | inl t ↦ straight (word (record_at c m)) (word (record_at d m)) (word (record_at u m)) (word (record_at v m)) (ap word (cd.same m (apart m t))) (ap word (uv.same m (apart m t)))
         | inr out ↦ crossed (word (record_at c m)) (word (record_at d m)) (word (record_at u m)) (word (record_at v m)) (ap word (cu.same m out)) (ap word (dv.same m out))
@@ -80,7 +80,7 @@ pub action_still : (c : List NodeRecord) (e f : Event) → IsEnabled c e → IsE
 action_still c e f cane canf apart word =
     let back = apart-sym e f apart in
     let then : IsEnabled (after c e).0 f = still_enabled c f e back cane canf in
-    ap₂ (λ (look : Bool) (changes : ℕ → Bool). let made : Action = record { cause = record { event = f; look = look }; changes = changes } in made)
+    ap₂ (λ (look : Bool) (changes : ℕ → Bool). let made : TraceAction = record { cause = record { event = f; look = look }; changes = changes } in made)
     (look_still c f e cane back)
     (fun_ext (λ n. ap not (changes_alike (touches e) (touches f) apart c (after c f).0 (after c e).0 (after (after c e).0 f).0
     (stays c f canf) (stays (after c e).0 f then) (stays c e cane) (agree_behind c e f cane canf apart word) n)))
@@ -106,7 +106,7 @@ unshown c (Own a) f canf apart word =
     (ap (λ (b : Bool). cond {A = Option ℕ} b (Some (io_word (neighbour_states (after c f).0 a.number))) None) (sym (look_still c (Own a) f canf apart)) ∙ word)
 unshown c (Pass w r side) f canf apart word = refl
 
-word_same : (c : List NodeRecord) (e f : Event) (a : Action) → IsEnabled c f → Apart e f → a.cause.event ≡ e → a.cause.look ≡ is_look c e → is_look_changed_by a (action_of c f) ≡ false → received_word (after c f).0 e ≡ received_word c e
+word_same : (c : List NodeRecord) (e f : Event) (a : TraceAction) → IsEnabled c f → Apart e f → a.cause.event ≡ e → a.cause.look ≡ is_look c e → is_look_changed_by a (action_of c f) ≡ false → received_word (after c f).0 e ≡ received_word c e
 word_same c e f a canf apart is look none = by_event e apart
     (subst (λ (b : Bool). (b && list_any (action_of c f).changes (event_nodes e)) ≡ false) look
     (subst (λ (z : Event). (a.cause.look && list_any (action_of c f).changes (event_nodes z)) ≡ false) is none))
@@ -139,11 +139,11 @@ free_of c e f cane then none =
     let canf : IsEnabled c f = can_back c f e back cane then in
     let second : received_word d f ≡ received_word c f = word_same c f e (action_of d f) cane back refl (look_still c f e cane back) q.1 in
     let first : received_word (after c f).0 e ≡ received_word c e =
-    word_same c e f (action_of c e) canf apart refl refl (subst (λ (a : Action). is_look_changed_by (action_of c e) a ≡ false) (action_still c e f cane canf apart second) q.0) in
+    word_same c e f (action_of c e) canf apart refl refl (subst (λ (a : TraceAction). is_look_changed_by (action_of c e) a ≡ false) (action_still c e f cane canf apart second) q.0) in
     (canf, record { apart = apart; first = first; second = second })
 
 -- actions that are not dependent touch no common node
-pub unbound_apart : (a b : Action) → are_dependent a b ≡ false → (n : ℕ) → touches a.cause.event n ≡ true → touches b.cause.event n ≡ false
+pub unbound_apart : (a b : TraceAction) → are_dependent a b ≡ false → (n : ℕ) → touches a.cause.event n ≡ true → touches b.cause.event n ≡ false
 unbound_apart a b none = independent_of a.cause.event b.cause.event ((or_parts (list_any (touches a.cause.event) (event_nodes b.cause.event)) (is_look_changed_by a b || is_look_changed_by b a) none).0)
 
 -- which are all cases of neighbours in a list

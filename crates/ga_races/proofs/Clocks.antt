@@ -6,26 +6,26 @@ use Rattle.std.proofs.Math.Nat.{le-max_left, le-max_right}
 use Rattle.std.proofs.lemmas.Bool.{cases_lt, cases_order, both_ways, or_left}
 use Rattle.ga_event.specs.Touches.{event_nodes, touches}
 use Rattle.ga_causal.specs.Steps.{count_touching_events, IsKthStep}
-use Rattle.ga_races.specs.HappensBefore.{Action, causes_of_actions, action_at, is_look_changed_by, are_dependent, IsDirectlyBefore, HappensBefore, directly, through, IsClock, joined, merged_clock}
+use Rattle.ga_races.specs.HappensBefore.{TraceAction, causes_of_actions, action_at, is_look_changed_by, are_dependent, IsDirectlyBefore, HappensBefore, directly, through, IsVectorClock, joined_clock, clock_at_place}
 use Rattle.ga_races.proofs.Independence.{any_at}
 use Rattle.ga_races.proofs.Moves.{tally, tally_is, tally_grows, before_within, IsTallied, tallied_of}
 use Rattle.ga_races.proofs.Tallies.{tally_up}
 
-happens_trans : (xs : List Action) (i j k : ℕ) → HappensBefore xs i j → HappensBefore xs j k → HappensBefore xs i k
+happens_trans : (xs : List TraceAction) (i j k : ℕ) → HappensBefore xs i j → HappensBefore xs j k → HappensBefore xs i k
 happens_trans xs i j k h (directly d) = through h d
 happens_trans xs i j k h (through {middle} g d) = through (happens_trans xs i j middle h g) d
 
 -- the last link of what happens before
-last_of : (xs : List Action) (i j : ℕ) → HappensBefore xs i j → (m : ℕ) × ((i ≡ m) ⊎ HappensBefore xs i m) × IsDirectlyBefore xs m j
+last_of : (xs : List TraceAction) (i j : ℕ) → HappensBefore xs i j → (m : ℕ) × ((i ≡ m) ⊎ HappensBefore xs i m) × IsDirectlyBefore xs m j
 last_of xs i j (directly d) = (i, inl refl, d)
 last_of xs i j (through {middle} h d) = (middle, inr h, d)
 
-most : (known : List (ℕ × (ℕ → ℕ))) (n k : ℕ) (d : ℕ × (ℕ → ℕ)) → k < length known → (slice_index_or known k d).1 n ≤ joined known n
+most : (known : List (ℕ × (ℕ → ℕ))) (n k : ℕ) (d : ℕ × (ℕ → ℕ)) → k < length known → (slice_index_or known k d).1 n ≤ joined_clock known n
 most [] n k d l = absurd (omega (arith, l))
-most (p ∷ known) n zero d l = le-max_left (p.1 n) (joined known n)
+most (p ∷ known) n zero d l = le-max_left (p.1 n) (joined_clock known n)
 most (p ∷ known) n (suc k) d l =
-    let a : (slice_index_or known k d).1 n ≤ joined known n = most known n k d (omega (arith, l)) in
-    let b : joined known n ≤ max (p.1 n) (joined known n) = le-max_right (p.1 n) (joined known n) in
+    let a : (slice_index_or known k d).1 n ≤ joined_clock known n = most known n k d (omega (arith, l)) in
+    let b : joined_clock known n ≤ max (p.1 n) (joined_clock known n) = le-max_right (p.1 n) (joined_clock known n) in
     omega (arith, a, b)
 
 -- one of them has as much
@@ -34,10 +34,10 @@ record IsOne (known : List (ℕ × (ℕ → ℕ))) (n k : ℕ) : Type 0 where
   within : at < length known
   is : (d : ℕ × (ℕ → ℕ)) → k ≤ (slice_index_or known at d).1 n
 
-one_of : (known : List (ℕ × (ℕ → ℕ))) (n k : ℕ) → 0 < k → k ≤ joined known n → IsOne known n k
+one_of : (known : List (ℕ × (ℕ → ℕ))) (n k : ℕ) → 0 < k → k ≤ joined_clock known n → IsOne known n k
 one_of [] n k p l = absurd (omega (arith, p, l))
 one_of (c ∷ known) n k p l = elim (cases_lt (c.1 n) k) [
-  | inl less ↦ (let r = one_of known n k p (rest (c.1 n) (joined known n) less l) in
+  | inl less ↦ (let r = one_of known n k p (rest (c.1 n) (joined_clock known n) less l) in
       record { at = suc r.at; within = let m : r.at < length known = r.within in omega (arith, m); is = r.is })
   | inr enough ↦ record { at = 0; within = omega arith; is = λ d. enough }
 ]
@@ -48,20 +48,20 @@ one_of (c ∷ known) n k p l = elim (cases_lt (c.1 n) k) [
       | inr z ↦ z
     ]
 
-common : (a b : Action) (n : ℕ) → touches a.cause.event n ≡ true → touches b.cause.event n ≡ true → are_dependent a b ≡ true
+common : (a b : TraceAction) (n : ℕ) → touches a.cause.event n ≡ true → touches b.cause.event n ≡ true → are_dependent a b ≡ true
 common a b n t u = or_left (list_any (touches a.cause.event) (event_nodes b.cause.event)) (is_look_changed_by a b || is_look_changed_by b a) (any_at (touches a.cause.event) (event_nodes b.cause.event) n u t)
 
-pub in_order : (xs : List Action) (i j n : ℕ) → i < j → j < length xs → touches (action_at xs i).cause.event n ≡ true → touches (action_at xs j).cause.event n ≡ true → HappensBefore xs i j
+pub in_order : (xs : List TraceAction) (i j n : ℕ) → i < j → j < length xs → touches (action_at xs i).cause.event n ≡ true → touches (action_at xs j).cause.event n ≡ true → HappensBefore xs i j
 in_order xs i j n l m t u = directly (record { before = l; within = m; bound = common (action_at xs i) (action_at xs j) n t u })
 
-tally_next : (n : ℕ) (xs : List Action) (i : ℕ) → i < length xs → touches (action_at xs i).cause.event n ≡ true → tally n xs (i + 1) ≡ suc (tally n xs i)
+tally_next : (n : ℕ) (xs : List TraceAction) (i : ℕ) → i < length xs → touches (action_at xs i).cause.event n ≡ true → tally n xs (i + 1) ≡ suc (tally n xs i)
 tally_next n xs i l t = subst (λ (z : ℕ). tally n xs z ≡ suc (tally n xs i)) (let e : suc i ≡ i + 1 = omega arith in e) (go xs i l t)
   where
-    first : (ys : List Action) → tally n ys 0 ≡ 0
+    first : (ys : List TraceAction) → tally n ys 0 ≡ 0
     first [] = refl
     first (y ∷ ys) = refl
 
-    go : (ys : List Action) (j : ℕ) → j < length ys → touches (action_at ys j).cause.event n ≡ true → tally n ys (suc j) ≡ suc (tally n ys j)
+    go : (ys : List TraceAction) (j : ℕ) → j < length ys → touches (action_at ys j).cause.event n ≡ true → tally n ys (suc j) ≡ suc (tally n ys j)
     go [] j k u = absurd (omega (arith, k))
     go (y ∷ ys) zero k u = ap (λ (b : Bool). cond b 1 0 + tally n ys 0) u ∙ (let z : tally n ys 0 ≡ 0 = first ys in let g : 1 + tally n ys 0 ≡ 1 = omega (arith, z) in g)
     go (y ∷ ys) (suc j) k u = more (cond (touches y.cause.event n) 1 0) (tally n ys (suc j)) (tally n ys j) (go ys j (omega (arith, k)) u)
@@ -69,8 +69,8 @@ tally_next n xs i l t = subst (λ (z : ℕ). tally n xs z ≡ suc (tally n xs i)
         more : (x a b : ℕ) → a ≡ suc b → x + a ≡ suc (x + b)
         more x a b h = omega (arith, h)
 
-module _ (xs : List Action) (place : ℕ) (known : List (ℕ × (ℕ → ℕ))) (inside : place < length xs)
-    (clocks : All (λ (p : ℕ × (ℕ → ℕ)). IsDirectlyBefore xs p.0 place × IsClock xs p.0 p.1) known)
+module _ (xs : List TraceAction) (place : ℕ) (known : List (ℕ × (ℕ → ℕ))) (inside : place < length xs)
+    (clocks : All (λ (p : ℕ × (ℕ → ℕ)). IsDirectlyBefore xs p.0 place × IsVectorClock xs p.0 p.1) known)
     (covered : (m : ℕ) → IsDirectlyBefore xs m place → (p : ℕ × (ℕ → ℕ)) × Contains known p × ((m ≡ p.0) ⊎ HappensBefore xs m p.0)) where
   -- its own steps are counted
   own : (n k step : ℕ) → touches (action_at xs place).cause.event n ≡ true → IsTallied xs n k step → (k ≤ count_touching_events n (take (place + 1) (causes_of_actions xs))) ↔ ((step ≡ place) ⊎ HappensBefore xs step place)
@@ -99,13 +99,13 @@ module _ (xs : List Action) (place : ℕ) (known : List (ℕ × (ℕ → ℕ))) 
           at_most (inr z) = let b : step < place = (before_within xs step place z).0 in omega (arith, b)
 
   -- and those of other nodes are those of an earlier clock
-  of_others : (n k step : ℕ) → touches (action_at xs place).cause.event n ≡ false → IsKthStep (causes_of_actions xs) n k step → (k ≤ joined known n) ↔ ((step ≡ place) ⊎ HappensBefore xs step place)
+  of_others : (n k step : ℕ) → touches (action_at xs place).cause.event n ≡ false → IsKthStep (causes_of_actions xs) n k step → (k ≤ joined_clock known n) ↔ ((step ≡ place) ⊎ HappensBefore xs step place)
   of_others n k step f s = (forth, back)
     where
       tallied : IsTallied xs n k step
       tallied = tallied_of xs n k step s
 
-      forth : k ≤ joined known n → (step ≡ place) ⊎ HappensBefore xs step place
+      forth : k ≤ joined_clock known n → (step ≡ place) ⊎ HappensBefore xs step place
       forth l =
           let e : suc (tally n xs step) ≡ k = tallied.before in
           let r = one_of known n k (omega (arith, e)) l in
@@ -117,14 +117,14 @@ module _ (xs : List Action) (place : ℕ) (known : List (ℕ × (ℕ → ℕ))) 
           on {m} b (inl q) = directly (subst (λ (z : ℕ). IsDirectlyBefore xs z place) (sym q) b)
           on {m} b (inr h) = through h b
 
-      back : (step ≡ place) ⊎ HappensBefore xs step place → k ≤ joined known n
+      back : (step ≡ place) ⊎ HappensBefore xs step place → k ≤ joined_clock known n
       back (inl q) = absurd (both_ways (touches (action_at xs place).cause.event n) f (subst (λ (z : ℕ). touches (action_at xs z).cause.event n ≡ true) q tallied.touched))
       back (inr h) =
           let m = last_of xs step place h in
           let c = covered m.0 m.2 in
           let p = clocks c.1.0 c.0 c.1.1 in
-          let a : c.0.1 n ≤ joined known n = subst (λ (z : ℕ × (ℕ → ℕ)). z.1 n ≤ joined known n) c.1.2 (most known n c.1.0 c.0 c.1.1) in
-          let b : k ≤ c.0.1 n = (subst (λ (z : ℕ × (ℕ → ℕ)). IsClock xs z.0 z.1) c.1.2 p.1 n k step s).1 (chain m.1 c.2) in
+          let a : c.0.1 n ≤ joined_clock known n = subst (λ (z : ℕ × (ℕ → ℕ)). z.1 n ≤ joined_clock known n) c.1.2 (most known n c.1.0 c.0 c.1.1) in
+          let b : k ≤ c.0.1 n = (subst (λ (z : ℕ × (ℕ → ℕ)). IsVectorClock xs z.0 z.1) c.1.2 p.1 n k step s).1 (chain m.1 c.2) in
           omega (arith, a, b)
         where
           chain : {m q : ℕ} → (step ≡ m) ⊎ HappensBefore xs step m → (m ≡ q) ⊎ HappensBefore xs m q → (step ≡ q) ⊎ HappensBefore xs step q
@@ -133,9 +133,9 @@ module _ (xs : List Action) (place : ℕ) (known : List (ℕ × (ℕ → ℕ))) 
           chain {m} {q} (inr e) (inl g) = inr (subst (HappensBefore xs step) g e)
           chain {m} {q} (inr e) (inr g) = inr (happens_trans xs step m q e g)
 
-  pub clock_of : IsClock xs place (merged_clock xs place known)
+  pub clock_of : IsVectorClock xs place (clock_at_place xs place known)
   clock_of n k step s = go (touches (action_at xs place).cause.event n) refl
     where
-      go : (b : Bool) → touches (action_at xs place).cause.event n ≡ b → (k ≤ cond b (count_touching_events n (take (place + 1) (causes_of_actions xs))) (joined known n)) ↔ ((step ≡ place) ⊎ HappensBefore xs step place)
+      go : (b : Bool) → touches (action_at xs place).cause.event n ≡ b → (k ≤ cond b (count_touching_events n (take (place + 1) (causes_of_actions xs))) (joined_clock known n)) ↔ ((step ≡ place) ⊎ HappensBefore xs step place)
       go true t = own n k step t (tallied_of xs n k step s)
       go false f = of_others n k step f s

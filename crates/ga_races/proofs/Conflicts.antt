@@ -5,7 +5,7 @@ use Rattle.ga_event.specs.declared.event.Event.{Event}
 use Rattle.ga_event.specs.declared.event.Event.TheVariants.{Own, Pass}
 use Rattle.ga_event.specs.declared.event.Cause.{Cause}
 use Rattle.ga_event.specs.Touches.{event_nodes, touches}
-use Rattle.ga_races.specs.HappensBefore.{Action, action_at, is_look_changed_by, are_dependent, IsDirectlyBefore, HappensBefore, directly, through, AreRacing}
+use Rattle.ga_races.specs.HappensBefore.{TraceAction, action_at, is_look_changed_by, are_dependent, IsDirectlyBefore, HappensBefore, directly, through, AreRacing}
 use Rattle.ga_races.specs.inner.{AreAlike}
 use Rattle.std.proofs.lemmas.Bool.{or_cases, both_ways, and_parts, eqb-true}
 use Rattle.std.proofs.lemmas.Option.{same_Some}
@@ -20,8 +20,8 @@ use Rattle.ga_grid.specs.declared.node_id.NodeId.{NodeId}
 use Rattle.ga_grid.specs.Grid.{neighbour_of}
 use Rattle.ga_grid.specs.Chip.{record_at}
 use Rattle.ga_grid.proofs.NodeIds.{NodeId-same, neighbour_of-back}
-use Rattle.ga_event.specs.Apply.{waits_to_write_side, waits_to_read_side, equals_some, unmatched_unless}
-use Rattle.ga_races.specs.Orders.{IsEnabled, AreConflicting}
+use Rattle.ga_event.specs.Apply.{waits_to_write_side, waits_to_read_side, equals_some, refusal_unless_matched}
+use Rattle.ga_races.specs.Orders.{IsEnabled, AreConflictingPasses}
 
 -- ---- what is near in a list is near in one whose causes are the same and change what is shown to the same nodes
 
@@ -29,23 +29,23 @@ any_alike : (e : Event) (f g : ℕ → Bool) → ((n : ℕ) → n < 144 → f n 
 any_alike (Own m) f g h = ap (λ (b : Bool). b || list_any g []) (h m.number m.in_range)
 any_alike (Pass w r side) f g h = ap₂ (λ (a b : Bool). a || (b || list_any g [])) (h w.number w.in_range) (h r.number r.in_range)
 
-shown_alike : (a b x y : Action) → a.cause ≡ x.cause → ((n : ℕ) → n < 144 → b.changes n ≡ y.changes n) → is_look_changed_by a b ≡ is_look_changed_by x y
+shown_alike : (a b x y : TraceAction) → a.cause ≡ x.cause → ((n : ℕ) → n < 144 → b.changes n ≡ y.changes n) → is_look_changed_by a b ≡ is_look_changed_by x y
 shown_alike a b x y is same =
     ap (λ (z : Bool). a.cause.look && z) (any_alike a.cause.event b.changes y.changes same) ∙ ap (λ (z : Cause). z.look && list_any y.changes (event_nodes z.event)) is
 
-bound_alike : (a b x y : Action) → a.cause ≡ x.cause → b.cause ≡ y.cause → ((n : ℕ) → n < 144 → a.changes n ≡ x.changes n) → ((n : ℕ) → n < 144 → b.changes n ≡ y.changes n) → are_dependent a b ≡ are_dependent x y
+bound_alike : (a b x y : TraceAction) → a.cause ≡ x.cause → b.cause ≡ y.cause → ((n : ℕ) → n < 144 → a.changes n ≡ x.changes n) → ((n : ℕ) → n < 144 → b.changes n ≡ y.changes n) → are_dependent a b ≡ are_dependent x y
 bound_alike a b x y p q f g =
     ap₂ (λ (i j : Bool). i || j) (ap₂ (λ (i j : Cause). list_any (touches i.event) (event_nodes j.event)) p q)
     (ap₂ (λ (i j : Bool). i || j) (shown_alike a b x y p g) (shown_alike b a y x q f))
 
-pub alike-sym : (xs ys : List Action) → AreAlike xs ys → AreAlike ys xs
+pub alike-sym : (xs ys : List TraceAction) → AreAlike xs ys → AreAlike ys xs
 alike-sym xs ys a = record {
   size = sym a.size;
   cause = λ i l. let s : length xs ≡ length ys = a.size in sym (a.cause i (omega (arith, l, s)));
   changes = λ i n l k. let s : length xs ≡ length ys = a.size in sym (a.changes i n (omega (arith, l, s)) k);
 }
 
-bound_of : (xs ys : List Action) (i j : ℕ) → AreAlike xs ys → IsDirectlyBefore xs i j → IsDirectlyBefore ys i j
+bound_of : (xs ys : List TraceAction) (i j : ℕ) → AreAlike xs ys → IsDirectlyBefore xs i j → IsDirectlyBefore ys i j
 bound_of xs ys i j a b =
     let k : i < j = b.before in
     let l : j < length xs = b.within in
@@ -57,11 +57,11 @@ bound_of xs ys i j a b =
       bound = sym (bound_alike (action_at xs i) (action_at xs j) (action_at ys i) (action_at ys j) (a.cause i m) (a.cause j l) (λ n. a.changes i n m) (λ n. a.changes j n l)) ∙ b.bound;
     }
 
-pub happens_alike : (xs ys : List Action) (i j : ℕ) → AreAlike xs ys → HappensBefore xs i j → HappensBefore ys i j
+pub happens_alike : (xs ys : List TraceAction) (i j : ℕ) → AreAlike xs ys → HappensBefore xs i j → HappensBefore ys i j
 happens_alike xs ys i j a (directly d) = directly (bound_of xs ys i j a d)
 happens_alike xs ys i j a (through {middle} h d) = through (happens_alike xs ys i middle a h) (bound_of xs ys middle j a d)
 
-pub near_alike : (xs ys : List Action) (i j : ℕ) → AreAlike xs ys → AreRacing xs i j → AreRacing ys i j
+pub near_alike : (xs ys : List TraceAction) (i j : ℕ) → AreAlike xs ys → AreRacing xs i j → AreRacing ys i j
 near_alike xs ys i j a near =
     let k : i < j = near.bound.before in
     let l : j < length xs = near.bound.within in
@@ -83,7 +83,7 @@ runs_of (Fetch sides) stop h = absurd (cc)
 runs_of (Read sides) stop h = absurd (cc)
 runs_of (Write side) stop h = absurd (cc)
 
-pub matched_of : (b : Bool) → unmatched_unless b ≡ None → b ≡ true
+pub matched_of : (b : Bool) → refusal_unless_matched b ≡ None → b ≡ true
 matched_of true h = refl
 matched_of false h = absurd (cc)
 
@@ -180,7 +180,7 @@ number_of (Some m) n h = ap Some (eqb-true m n h)
 pub back : (c : List NodeRecord) (w r : NodeId) (side : Side) → Open c w r side → neighbour_of r.number side ≡ Some w.number
 back c w r side p = neighbour_of-back w.number r.number side w.in_range (number_of (neighbour_of w.number side) r.number p.near)
 
-rivals : (c : List NodeRecord) (w r x y : NodeId) (s t : Side) → Open c w r s → Open c x y t → Pass w r s ≢ Pass x y t → r.number ≡ y.number → AreConflicting (Pass w r s) (Pass x y t)
+rivals : (c : List NodeRecord) (w r x y : NodeId) (s t : Side) → Open c w r s → Open c x y t → Pass w r s ≢ Pass x y t → r.number ≡ y.number → AreConflictingPasses (Pass w r s) (Pass x y t)
 rivals c w r x y s t p q differ e =
     let same : r ≡ y = NodeId-same r y e in
     let apart : w.number ≢ x.number = λ k. differ (one_pass c w r x y s t p q k) in
@@ -200,7 +200,7 @@ crossed : (c : List NodeRecord) (w r x y : NodeId) (s t : Side) (n : ℕ) → Op
 crossed c w r x y s t n p q e k = one_way (record_at c w.number).wait s t p.writes (subst (λ (z : ℕ). waits_to_read_side (record_at c z).wait t ≡ true) (k ∙ sym e) q.reads)
 
 -- two enabled events that touch a common node are two passes to one reader
-pub common_node : (c : List NodeRecord) (e f : Event) (n : ℕ) → IsEnabled c e → IsEnabled c f → e ≢ f → touches e n ≡ true → touches f n ≡ true → AreConflicting e f
+pub common_node : (c : List NodeRecord) (e f : Event) (n : ℕ) → IsEnabled c e → IsEnabled c f → e ≢ f → touches e n ≡ true → touches f n ≡ true → AreConflictingPasses e f
 common_node c (Own a) (Own b) n can canf differ t u = absurd (differ (ap Own (NodeId-same a b (at_node a.number n t ∙ sym (at_node b.number n u)))))
 common_node c (Own a) (Pass w r s) n can canf differ t u = absurd (alone c a w r s n can (open_of c w r s canf) (at_node a.number n t) (at_two w.number r.number n u))
 common_node c (Pass w r s) (Own a) n can canf differ t u = absurd (alone c a w r s n canf (open_of c w r s can) (at_node a.number n u) (at_two w.number r.number n t))
@@ -212,7 +212,7 @@ common_node c (Pass w r s) (Pass x y z) n can canf differ t u = go (at_two w.num
     q : Open c x y z
     q = open_of c x y z canf
 
-    go : (w.number ≡ n) ⊎ (r.number ≡ n) → (x.number ≡ n) ⊎ (y.number ≡ n) → AreConflicting (Pass w r s) (Pass x y z)
+    go : (w.number ≡ n) ⊎ (r.number ≡ n) → (x.number ≡ n) ⊎ (y.number ≡ n) → AreConflictingPasses (Pass w r s) (Pass x y z)
     go (inl e) (inl k) = absurd (differ (one_pass c w r x y s z p q (e ∙ sym k)))
     go (inl e) (inr k) = absurd (crossed c w r x y s z n p q e k)
     go (inr e) (inl k) = absurd (crossed c x y w r z s n q p k e)

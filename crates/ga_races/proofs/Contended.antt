@@ -12,8 +12,8 @@ use Rattle.ga_event.specs.declared.event.Event.{Event}
 use Rattle.ga_event.specs.declared.event.Event.TheVariants.{Own, Pass}
 use Rattle.ga_event.specs.Touches.{event_nodes, touches}
 use Rattle.ga_event.specs.Apply.{waits_to_write_side, waits_to_read_side, after, replay}
-use Rattle.ga_races.specs.Orders.{IsEnabled, IsTerminal, AreReorderings, same, swapped, later, joined, HasNoRace, IsRace, AreConflicting}
-use Rattle.ga_races.specs.HappensBefore.{Action, actions, action_at, is_look_changed_by, are_dependent, HappensBefore, chip_at, event_at_place, IsRacingPair, IsContendedPass}
+use Rattle.ga_races.specs.Orders.{IsEnabled, IsTerminalChip, AreReorderings, same, swapped, later, joined, HasNoRace, IsRace, AreConflictingPasses}
+use Rattle.ga_races.specs.HappensBefore.{TraceAction, actions, action_at, is_look_changed_by, are_dependent, HappensBefore, chip_at, event_at_place, IsRacingPair, IsContendedPass}
 use Rattle.ga_races.proofs.Independence.{first_of, touches_reader, any_at, free-sym}
 use Rattle.ga_races.proofs.Orders.{order_replay, order_read, steps_read}
 use Rattle.ga_races.proofs.Conflicts.{one_side, one_way, no_writer, wait_at, at_node, at_two, Open, open_of, number_of}
@@ -94,7 +94,7 @@ module _ (c last : List NodeRecord) (xs ys : List Event) (h : replay c xs ≡ So
   ]
     where
       at_there : touches (action_at (actions c ys) (f q)).cause.event x ≡ true
-      at_there = ap (λ (z : Action). touches z.cause.event x) (sym (m.alike q l)) ∙ t
+      at_there = ap (λ (z : TraceAction). touches z.cause.event x) (sym (m.alike q l)) ∙ t
 
       count : tally x (actions c ys) (f q) ≡ a
       count = sym (m.steps x q l t) ∙ is
@@ -133,7 +133,7 @@ module _ (c last : List NodeRecord) (xs ys : List Event) (h : replay c xs ≡ So
 
   contended_of : IsContendedPass c xs (b p) other
   contended_of =
-      let made : event_at_place c xs (b p) ≡ event_at_place c ys p = ap (λ (z : Action). z.cause.event) (sym (w.alike p stands)) in
+      let made : event_at_place c xs (b p) ≡ event_at_place c ys p = ap (λ (z : TraceAction). z.cause.event) (sym (w.alike p stands)) in
       let inside : b p < length (actions c xs) = w.within p stands in
       let most : place.0 ≤ length (actions c xs) = place.2 in
       let here : p < length ys = r.stands in
@@ -173,26 +173,26 @@ module _ (c last : List NodeRecord) (xs ys : List Event) (h : replay c xs ≡ So
 -- ---- as the law states it
 
 -- each race of two passes is contended
-pub rivals_contended : (c last : List NodeRecord) (es : List Event) (step other : Event) → replay c es ≡ Some last → IsRace c es step other → AreConflicting step other
+pub rivals_contended : (c last : List NodeRecord) (es : List Event) (step other : Event) → replay c es ≡ Some last → IsRace c es step other → AreConflictingPasses step other
     → (i : ℕ) × (event_at_place c es i ≡ step) × IsContendedPass c es i other
 rivals_contended c last es step other h r rivals =
     let ys : List Event = r.before ++ step ∷ r.later in
-    let at : event_at_place c ys (length r.before) ≡ step = ap (λ (a : Action). a.cause.event) (action_there r.before c r.now step r.later r.led) in
+    let at : event_at_place c ys (length r.before) ≡ step = ap (λ (a : TraceAction). a.cause.event) (action_there r.before c r.now step r.later r.led) in
     let size : length ys ≡ length r.before + suc (length r.later) = length-append r.before (step ∷ r.later) in
     let all : length (actions c ys) ≡ length ys = actions_length c ys in
     let f = moves_of c es ys r.order in
     let b = moves_of c ys es (order-sym c es ys r.order) in
     let told : IsRivalled c ys (length r.before) other = record {
       stands = omega (arith, size);
-      rivals = subst (λ (z : Event). AreConflicting z other) (sym at) rivals;
+      rivals = subst (λ (z : Event). AreConflictingPasses z other) (sym at) rivals;
       can = subst (λ (z : List NodeRecord). IsEnabled z other) (sym (chip_there r.before c r.now (step ∷ r.later) r.led)) r.can;
     } in (
       b.0 (length r.before),
-      ap (λ (a : Action). a.cause.event) (sym (b.1.alike (length r.before) (omega (arith, size, all)))) ∙ at,
+      ap (λ (a : TraceAction). a.cause.event) (sym (b.1.alike (length r.before) (omega (arith, size, all)))) ∙ at,
       contended_of c last es ys h r.order f.0 b.0 f.1 b.1 (length r.before) other told,
     )
 
-pub none_told : (c last : List NodeRecord) (es : List Event) → replay c es ≡ Some last → IsTerminal last → ((i j : ℕ) → IsRacingPair c es i j → ⊥) → ((i : ℕ) (other : Event) → IsContendedPass c es i other → ⊥) → HasNoRace c es
+pub none_told : (c last : List NodeRecord) (es : List Event) → replay c es ≡ Some last → IsTerminalChip last → ((i j : ℕ) → IsRacingPair c es i j → ⊥) → ((i : ℕ) (other : Event) → IsContendedPass c es i other → ⊥) → HasNoRace c es
 none_told c last es h end out calm step other r = go (told_behind r.before (step ∷ r.later) c r.now r.led (told_head r.now last step r.later other there end r.can r.differ r.bound))
   where
     ys : List Event
@@ -211,7 +211,7 @@ none_told c last es h end out calm step other r = go (told_behind r.before (step
         let b = moves_of c (r.before ++ step ∷ r.later) es (order-sym c es (r.before ++ step ∷ r.later) r.order) in
         calm (b.0 i) rival (contended_of c last es (r.before ++ step ∷ r.later) h r.order f.0 b.0 f.1 b.1 i rival n)
 
-pub decided_by : (c last : List NodeRecord) (es : List Event) → replay c es ≡ Some last → IsTerminal last
+pub decided_by : (c last : List NodeRecord) (es : List Event) → replay c es ≡ Some last → IsTerminalChip last
     → HasNoRace c es ↔ (((i j : ℕ) → IsRacingPair c es i j → ⊥) × ((i : ℕ) (other : Event) → IsContendedPass c es i other → ⊥))
 decided_by c last es h end = (
   λ calm. (λ i j n. calm (event_at_place c es i) (event_at_place c es j) (near_races es c last i j h n), λ i other n. calm (event_at_place c es i) other (contended_races c last es i other h n)),

@@ -7,7 +7,7 @@ use Rattle.ga_ports.specs.declared.side.Side.{Side}
 use Rattle.ga_ports.specs.declared.side.Side.TheVariants.{Right, Down, Left, Up}
 use Rattle.ga_node.specs.Record.{NodeRecord}
 use Rattle.ga_node.specs.Table.{refusal}
-use Rattle.ga_node.specs.declared.kind.NotReady.{NotReady}
+use Rattle.ga_node.specs.declared.kind.EventRefusal.{EventRefusal}
 use Rattle.ga_grid.specs.Grid.{neighbour_of}
 use Rattle.ga_grid.specs.Chip.{record_at}
 use Rattle.ga_event.specs.Apply.{waits_to_write_side, waits_to_read_side}
@@ -114,7 +114,7 @@ met chip marks n m side h a near =
     neither (marks m) (waits_to_write_side (record_at chip n).wait side && waits_to_read_side (record_at chip m).wait side)
     (subst (λ (o : Option ℕ). frees chip marks (record_at chip n).wait side o ≡ false) near none)
 
-refused : (o : Option NotReady) → is_some o ≡ true → o ≢ None
+refused : (o : Option EventRefusal) → is_some o ≡ true → o ≢ None
 refused o h e = true≢false (sym h ∙ ap is_some e)
 
 pub are_stuck : (chip : List NodeRecord) (halted flags : List Bool) → length flags ≡ 144 → MarksHalted chip (is_marked halted) → IsSubset (is_marked flags) (is_marked halted) → IsSettled chip (is_marked flags) → AreDeadlocked chip (is_marked flags)
@@ -127,7 +127,7 @@ are_stuck chip halted flags size at_first within settled = record {
 }
 
 -- each node of a stuck set waits or is stopped
-some_reason : (o : Option NotReady) → o ≢ None → is_some o ≡ true
+some_reason : (o : Option EventRefusal) → o ≢ None → is_some o ≡ true
 some_reason None h = absurd (h refl)
 some_reason (Some why) h = refl
 

@@ -7,13 +7,13 @@ use Rattle.std.proofs.lemmas.Option.{same_Some}
 use Rattle.ga_ports.specs.declared.side.Side.{Side}
 use Rattle.ga_node.specs.Record.{NodeRecord}
 use Rattle.ga_node.specs.Table.{refusal}
-use Rattle.ga_node.specs.declared.kind.NotReady.{NotReady}
+use Rattle.ga_node.specs.declared.kind.EventRefusal.{EventRefusal}
 use Rattle.ga_grid.specs.declared.node_id.NodeId.{NodeId}
 use Rattle.ga_grid.specs.Chip.{record_at}
 use Rattle.ga_event.specs.declared.event.Event.{Event}
 use Rattle.ga_event.specs.declared.event.Event.TheVariants.{Own, Pass}
 use Rattle.ga_event.specs.Touches.{event_nodes, touches}
-use Rattle.ga_event.specs.Apply.{EventOutcome, refusal_of, unmatched_unless, is_transfer_ready, some_if_allowed, after, apply, replay, AgreeOutsideMarks}
+use Rattle.ga_event.specs.Apply.{EventOutcome, refusal_of, refusal_unless_matched, is_transfer_ready, some_if_allowed, after, apply, replay, AgreeOutsideMarks}
 use Rattle.ga_causal.specs.Words.{received_word, with_received_words, local_history_with_reads}
 use Rattle.ga_causal.proofs.Runs.{keeps_of, replay-cons}
 use Rattle.ga_causal.proofs.Consistent.{swap_filter}
@@ -23,7 +23,7 @@ use Rattle.ga_races.specs.Orders.{IsEnabled, AreIndependentOn}
 -- ---- lists that can be made
 
 pub apply_is : (c : List NodeRecord) (e : Event) → IsEnabled c e → apply c e ≡ Some (after c e)
-apply_is c e can = ap (λ (o : Option NotReady). some_if_allowed o (after c e)) can
+apply_is c e can = ap (λ (o : Option EventRefusal). some_if_allowed o (after c e)) can
 
 pub replay_more : (c : List NodeRecord) (e : Event) (es : List Event) → IsEnabled c e → replay c (e ∷ es) ≡ replay (after c e).0 es
 replay_more c e es can = replay-cons c e es ∙ ap (λ (o : Option (List NodeRecord × EventOutcome)). option_and_then (λ first. replay first.0 es) o) (apply_is c e can)
@@ -35,7 +35,7 @@ pub record FirstOf (c : List NodeRecord) (e : Event) (es : List Event) (last : L
 pub first_of : (c : List NodeRecord) (e : Event) (es : List Event) (last : List NodeRecord) → replay c (e ∷ es) ≡ Some last → FirstOf c e es last
 first_of c e es last h = go (refusal_of c e) refl (sym (replay-cons c e es) ∙ h)
   where
-    go : (o : Option NotReady) → refusal_of c e ≡ o → option_and_then (λ (first : List NodeRecord × EventOutcome). replay first.0 es) (some_if_allowed o (after c e)) ≡ Some last → FirstOf c e es last
+    go : (o : Option EventRefusal) → refusal_of c e ≡ o → option_and_then (λ (first : List NodeRecord × EventOutcome). replay first.0 es) (some_if_allowed o (after c e)) ≡ Some last → FirstOf c e es last
     go None is k = record { can = is; then = k }
     go (Some why) is k = absurd (cc)
 
@@ -61,8 +61,8 @@ still_enabled c (Pass w r side) f apart canf can =
     let k = stays c f canf in
     let one : record_at c w.number ≡ record_at (after c f).0 w.number = k.same w.number (apart w.number (touches_writer w r side)) in
     let two : record_at c r.number ≡ record_at (after c f).0 r.number = k.same r.number (apart r.number (touches_reader w r side)) in
-    ap (λ (z : NodeRecord). unmatched_unless (is_transfer_ready w.number r.number side z.wait (record_at (after c f).0 r.number).wait)) (sym one)
-    ∙ ap (λ (z : NodeRecord). unmatched_unless (is_transfer_ready w.number r.number side (record_at c w.number).wait z.wait)) (sym two)
+    ap (λ (z : NodeRecord). refusal_unless_matched (is_transfer_ready w.number r.number side z.wait (record_at (after c f).0 r.number).wait)) (sym one)
+    ∙ ap (λ (z : NodeRecord). refusal_unless_matched (is_transfer_ready w.number r.number side (record_at c w.number).wait z.wait)) (sym two)
     ∙ can
 
 -- and before it
@@ -72,8 +72,8 @@ can_back c (Pass w r side) f apart canf can =
     let k = stays c f canf in
     let one : record_at c w.number ≡ record_at (after c f).0 w.number = k.same w.number (apart w.number (touches_writer w r side)) in
     let two : record_at c r.number ≡ record_at (after c f).0 r.number = k.same r.number (apart r.number (touches_reader w r side)) in
-    ap (λ (z : NodeRecord). unmatched_unless (is_transfer_ready w.number r.number side z.wait (record_at c r.number).wait)) one
-    ∙ ap (λ (z : NodeRecord). unmatched_unless (is_transfer_ready w.number r.number side (record_at (after c f).0 w.number).wait z.wait)) two
+    ap (λ (z : NodeRecord). refusal_unless_matched (is_transfer_ready w.number r.number side z.wait (record_at c r.number).wait)) one
+    ∙ ap (λ (z : NodeRecord). refusal_unless_matched (is_transfer_ready w.number r.number side (record_at (after c f).0 w.number).wait z.wait)) two
     ∙ can
 
 -- ---- whether two events are free

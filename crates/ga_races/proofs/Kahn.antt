@@ -15,7 +15,7 @@ use Rattle.ga_causal.specs.Dependence.{HasNoLooks}
 use Rattle.ga_causal.specs.Words.{received_word, local_history_with_reads}
 use Rattle.ga_causal.proofs.Runs.{causes}
 use Rattle.ga_causal.proofs.Words.{same_node}
-use Rattle.ga_races.specs.Orders.{IsEnabled, IsTerminal, IsRace, HasNoRace}
+use Rattle.ga_races.specs.Orders.{IsEnabled, IsTerminalChip, IsRace, HasNoRace}
 use Rattle.ga_races.specs.Kahn.{HasOneWriter}
 use Rattle.ga_races.proofs.Independence.{replay_more, first_of, touches_reader}
 use Rattle.ga_races.proofs.Orders.{order_read}
@@ -139,7 +139,7 @@ module _ (c last : List NodeRecord) (es : List Event) (led : replay c es ≡ Som
       k.is d.1 (number_of (neighbour_of x.number t) y.number ends.near)
       (ap (λ (z : NodeRecord). waits_to_write_side z.wait t) at_writer ∙ ends.writes)
 
-pub one_writer : (c last : List NodeRecord) (es : List Event) (ts : List (Cause × EventOutcome)) → run c es ≡ Some (last, ts) → HasNoLooks (causes ts) → IsTerminal last → HasOneWriter c es → HasNoRace c es
-one_writer c last es ts is none end one step other r =
+pub one_writer_means_no_race : (c last : List NodeRecord) (es : List Event) (ts : List (Cause × EventOutcome)) → run c es ≡ Some (last, ts) → HasNoLooks (causes ts) → IsTerminalChip last → HasOneWriter c es → HasNoRace c es
+one_writer_means_no_race c last es ts is none end one step other r =
     let a = race_rivals c last es ts is none (end_blind last end) step other r in
     a.sides (sym (sides_same c last es (ap (λ (o : Option (List NodeRecord × List (Cause × EventOutcome))). option_map (λ z. z.0) o) is) one step other r a.first a.second a.reader a.side a.other a.one a.two))

@@ -11,17 +11,17 @@ use Rattle.ga_causal.specs.Dependence.{event_at}
 use Rattle.ga_causal.specs.Steps.{count_touching_events, IsKthStep}
 use Rattle.ga_causal.proofs.Places.{count_touching_events-cons}
 use Rattle.ga_races.specs.Orders.{IsEnabled, AreIndependentOn, AreReorderings, same, swapped, later, joined}
-use Rattle.ga_races.specs.HappensBefore.{Action, action_of, actions, causes_of_actions, action_at, are_dependent, HappensBefore, directly, through}
+use Rattle.ga_races.specs.HappensBefore.{TraceAction, action_of, actions, causes_of_actions, action_at, are_dependent, HappensBefore, directly, through}
 use Rattle.ga_races.proofs.Independence.{independent_on_chip, free-sym, apart-sym}
 use Rattle.ga_races.proofs.Bound.{action_still, unbound_of, unbound_apart}
 
 -- how many of the first actions touch the node
-abbrev pub tally : ℕ → List Action → ℕ → ℕ
+abbrev pub tally : ℕ → List TraceAction → ℕ → ℕ
 tally n [] i = 0
 tally n (a ∷ xs) zero = 0
 tally n (a ∷ xs) (suc i) = cond (touches a.cause.event n) 1 0 + tally n xs i
 
-pub record Moves (to : ℕ → ℕ) (xs ys : List Action) : Type 0 where
+pub record Moves (to : ℕ → ℕ) (xs ys : List TraceAction) : Type 0 where
   pub within : (i : ℕ) → i < length xs → to i < length ys
   pub alike : (i : ℕ) → i < length xs → action_at xs i ≡ action_at ys (to i)
   pub order : (i j : ℕ) → i < j → j < length xs → are_dependent (action_at xs i) (action_at xs j) ≡ true → to i < to j
@@ -36,10 +36,10 @@ abbrev pub lifted : (ℕ → ℕ) → ℕ → ℕ
 lifted f zero = zero
 lifted f (suc i) = suc (f i)
 
-pub moves_same : (xs : List Action) → Moves (λ i. i) xs xs
+pub moves_same : (xs : List TraceAction) → Moves (λ i. i) xs xs
 moves_same xs = record { within = λ i l. l; alike = λ i l. refl; order = λ i j l k r. l; steps = λ n i l t. refl }
 
-pub moves_flipped : (a b : Action) (zs : List Action) → are_dependent a b ≡ false → Moves flip (a ∷ b ∷ zs) (b ∷ a ∷ zs)
+pub moves_flipped : (a b : TraceAction) (zs : List TraceAction) → are_dependent a b ≡ false → Moves flip (a ∷ b ∷ zs) (b ∷ a ∷ zs)
 moves_flipped a b zs none = record { within = within; alike = alike; order = order; steps = steps }
   where
     within : (i : ℕ) → i < length (a ∷ b ∷ zs) → flip i < length (b ∷ a ∷ zs)
@@ -74,7 +74,7 @@ moves_flipped a b zs none = record { within = within; alike = alike; order = ord
     steps n (suc zero) l t = sym (no_step (touches a.cause.event n) (apart-sym a.cause.event b.cause.event (unbound_apart a b none) n t))
     steps n (suc (suc i)) l t = added (cond (touches a.cause.event n) 1 0) (cond (touches b.cause.event n) 1 0) (tally n zs i)
 
-pub moves_behind : (a : Action) (us vs : List Action) (to : ℕ → ℕ) → Moves to us vs → Moves (lifted to) (a ∷ us) (a ∷ vs)
+pub moves_behind : (a : TraceAction) (us vs : List TraceAction) (to : ℕ → ℕ) → Moves to us vs → Moves (lifted to) (a ∷ us) (a ∷ vs)
 moves_behind a us vs to m = record { within = within; alike = alike; order = order; steps = steps }
   where
     within : (i : ℕ) → i < length (a ∷ us) → lifted to i < length (a ∷ vs)
@@ -95,20 +95,20 @@ moves_behind a us vs to m = record { within = within; alike = alike; order = ord
     steps n zero l t = refl
     steps n (suc i) l t = ap (λ (z : ℕ). cond (touches a.cause.event n) 1 0 + z) (m.steps n i (omega (arith, l)) t)
 
-pub moves_chained : (xs ys zs : List Action) (f g : ℕ → ℕ) → Moves f xs ys → Moves g ys zs → Moves (λ i. g (f i)) xs zs
+pub moves_chained : (xs ys zs : List TraceAction) (f g : ℕ → ℕ) → Moves f xs ys → Moves g ys zs → Moves (λ i. g (f i)) xs zs
 moves_chained xs ys zs f g p q = record {
   within = λ i l. q.within (f i) (p.within i l);
   alike = λ i l. p.alike i l ∙ q.alike (f i) (p.within i l);
   order = λ i j l k r. q.order (f i) (f j) (p.order i j l k r) (p.within j k)
       (ap₂ are_dependent (sym (p.alike i (let w : i < length xs = omega (arith, l, k) in w))) (sym (p.alike j k)) ∙ r);
-  steps = λ n i l t. p.steps n i l t ∙ q.steps n (f i) (p.within i l) (ap (λ (a : Action). touches a.cause.event n) (sym (p.alike i l)) ∙ t);
+  steps = λ n i l t. p.steps n i l t ∙ q.steps n (f i) (p.within i l) (ap (λ (a : TraceAction). touches a.cause.event n) (sym (p.alike i l)) ∙ t);
 }
 
 -- the actions of two independent neighbours, in either order
 pub actions_first : (c : List NodeRecord) (e f : Event) (zs : List Event) → IsEnabled c e → IsEnabled c f → AreIndependentOn c e f
     → actions c (e ∷ f ∷ zs) ≡ action_of c e ∷ action_of c f ∷ actions (after (after c e).0 f).0 zs
 actions_first c e f zs cane canf free =
-    ap (λ (a : Action). action_of c e ∷ a ∷ actions (after (after c e).0 f).0 zs) (action_still c e f cane canf free.apart free.second)
+    ap (λ (a : TraceAction). action_of c e ∷ a ∷ actions (after (after c e).0 f).0 zs) (action_still c e f cane canf free.apart free.second)
 
 pub actions_second : (c : List NodeRecord) (e f : Event) (zs : List Event) → IsEnabled c e → IsEnabled c f → AreIndependentOn c e f
     → actions c (f ∷ e ∷ zs) ≡ action_of c f ∷ action_of c e ∷ actions (after (after c e).0 f).0 zs
@@ -136,7 +136,7 @@ moves_of c xs ys (joined {ys = zs} h k) =
     (λ i. n.0 (m.0 i), moves_chained (actions c xs) (actions c zs) (actions c ys) m.0 n.0 m.1 n.1)
 
 -- what happens before another keeps its place before it
-pub before_within : (xs : List Action) (i j : ℕ) → HappensBefore xs i j → (i < j) × (j < length xs)
+pub before_within : (xs : List TraceAction) (i j : ℕ) → HappensBefore xs i j → (i < j) × (j < length xs)
 before_within xs i j (directly d) = (d.before, d.within)
 before_within xs i j (through {middle} h d) =
     let p = before_within xs i middle h in
@@ -144,7 +144,7 @@ before_within xs i j (through {middle} h d) =
     let l : middle < j = d.before in
     (omega (arith, k, l), d.within)
 
-pub before_moved : (xs ys : List Action) (to : ℕ → ℕ) (i j : ℕ) → Moves to xs ys → HappensBefore xs i j → to i < to j
+pub before_moved : (xs ys : List TraceAction) (to : ℕ → ℕ) (i j : ℕ) → Moves to xs ys → HappensBefore xs i j → to i < to j
 before_moved xs ys to i j m (directly d) = m.order i j d.before d.within d.bound
 before_moved xs ys to i j m (through {middle} h d) =
     let k : to i < to middle = before_moved xs ys to i middle m h in
@@ -153,28 +153,28 @@ before_moved xs ys to i j m (through {middle} h d) =
 
 -- ---- steps
 
-causes_length : (xs : List Action) → length (causes_of_actions xs) ≡ length xs
+causes_length : (xs : List TraceAction) → length (causes_of_actions xs) ≡ length xs
 causes_length [] = refl
 causes_length (a ∷ xs) = ap suc (causes_length xs)
 
-cause_at : (xs : List Action) (i : ℕ) → event_at (causes_of_actions xs) i ≡ (action_at xs i).cause
+cause_at : (xs : List TraceAction) (i : ℕ) → event_at (causes_of_actions xs) i ≡ (action_at xs i).cause
 cause_at [] i = refl
 cause_at (a ∷ xs) zero = refl
 cause_at (a ∷ xs) (suc i) = cause_at xs i
 
-pub tally_is : (n : ℕ) (xs : List Action) (i : ℕ) → count_touching_events n (take i (causes_of_actions xs)) ≡ tally n xs i
+pub tally_is : (n : ℕ) (xs : List TraceAction) (i : ℕ) → count_touching_events n (take i (causes_of_actions xs)) ≡ tally n xs i
 tally_is n [] zero = refl
 tally_is n [] (suc i) = refl
 tally_is n (a ∷ xs) zero = refl
 tally_is n (a ∷ xs) (suc i) = count_touching_events-cons n a.cause (take i (causes_of_actions xs)) ∙ ap (λ (z : ℕ). cond (touches a.cause.event n) 1 0 + z) (tally_is n xs i)
 
 -- the action at the place is the k-th that touches the node
-pub record IsTallied (xs : List Action) (n k i : ℕ) : Type 0 where
+pub record IsTallied (xs : List TraceAction) (n k i : ℕ) : Type 0 where
   pub within : i < length xs
   pub touched : touches (action_at xs i).cause.event n ≡ true
   pub before : suc (tally n xs i) ≡ k
 
-pub tallied_of : (xs : List Action) (n k i : ℕ) → IsKthStep (causes_of_actions xs) n k i → IsTallied xs n k i
+pub tallied_of : (xs : List TraceAction) (n k i : ℕ) → IsKthStep (causes_of_actions xs) n k i → IsTallied xs n k i
 tallied_of xs n k i s =
     let size : length (causes_of_actions xs) ≡ length xs = causes_length xs in
     let l : i < length (causes_of_actions xs) = s.within in
@@ -182,7 +182,7 @@ tallied_of xs n k i s =
     let b : count_touching_events n (take i (causes_of_actions xs)) + 1 ≡ k = s.before in
     record { within = omega (arith, l, size); touched = ap (λ (z : Cause). touches z.event n) (sym (cause_at xs i)) ∙ s.touched; before = omega (arith, t, b) }
 
-pub step_of : (xs : List Action) (n k i : ℕ) → IsTallied xs n k i → IsKthStep (causes_of_actions xs) n k i
+pub step_of : (xs : List TraceAction) (n k i : ℕ) → IsTallied xs n k i → IsKthStep (causes_of_actions xs) n k i
 step_of xs n k i s =
     let size : length (causes_of_actions xs) ≡ length xs = causes_length xs in
     let l : i < length xs = s.within in
@@ -190,15 +190,15 @@ step_of xs n k i s =
     let b : suc (tally n xs i) ≡ k = s.before in
     record { within = omega (arith, l, size); touched = ap (λ (z : Cause). touches z.event n) (cause_at xs i) ∙ s.touched; before = omega (arith, t, b) }
 
-pub tallied_moved : (xs ys : List Action) (to : ℕ → ℕ) (n k i : ℕ) → Moves to xs ys → IsTallied xs n k i → IsTallied ys n k (to i)
+pub tallied_moved : (xs ys : List TraceAction) (to : ℕ → ℕ) (n k i : ℕ) → Moves to xs ys → IsTallied xs n k i → IsTallied ys n k (to i)
 tallied_moved xs ys to n k i m s = record {
   within = m.within i s.within;
-  touched = ap (λ (a : Action). touches a.cause.event n) (sym (m.alike i s.within)) ∙ s.touched;
+  touched = ap (λ (a : TraceAction). touches a.cause.event n) (sym (m.alike i s.within)) ∙ s.touched;
   before = ap suc (sym (m.steps n i s.within s.touched)) ∙ s.before;
 }
 
 -- a later place has more
-pub tally_grows : (n : ℕ) (xs : List Action) (i j : ℕ) → i < j → i < length xs → touches (action_at xs i).cause.event n ≡ true → tally n xs i < tally n xs j
+pub tally_grows : (n : ℕ) (xs : List TraceAction) (i j : ℕ) → i < j → i < length xs → touches (action_at xs i).cause.event n ≡ true → tally n xs i < tally n xs j
 tally_grows n [] i j l k t = absurd (omega (arith, k))
 tally_grows n (a ∷ xs) i zero l k t = absurd (omega (arith, l))
 tally_grows n (a ∷ xs) zero (suc j) l k t = subst (λ (b : Bool). 0 < cond b 1 0 + tally n xs j) (sym t) (omega arith)
@@ -210,7 +210,7 @@ tally_grows n (a ∷ xs) (suc i) (suc j) l k t =
     more x y z h = omega (arith, h)
 
 -- each step is at one place
-pub tallied_one : (xs : List Action) (n k i j : ℕ) → IsTallied xs n k i → IsTallied xs n k j → i ≡ j
+pub tallied_one : (xs : List TraceAction) (n k i j : ℕ) → IsTallied xs n k i → IsTallied xs n k j → i ≡ j
 tallied_one xs n k i j s u = elim (cases_order i j) [
   | inl q ↦ q
   | inr (inl l) ↦ absurd (no_more (tally n xs i) (tally n xs j) s.before u.before (tally_grows n xs i j l s.within s.touched))

@@ -8,8 +8,8 @@ use Rattle.ga_node.specs.Record.{NodeRecord}
 use Rattle.ga_event.specs.declared.event.Event.{Event}
 use Rattle.ga_event.specs.Touches.{event_nodes, touches}
 use Rattle.ga_event.specs.Apply.{after, replay}
-use Rattle.ga_races.specs.Orders.{IsEnabled, IsTerminal, AreIndependentOn, AreConflicting}
-use Rattle.ga_races.specs.HappensBefore.{Action, action_of, actions, action_at, are_dependent, IsDirectlyBefore, HappensBefore, directly, through, chip_at, event_at_place, IsRacingPair}
+use Rattle.ga_races.specs.Orders.{IsEnabled, IsTerminalChip, AreIndependentOn, AreConflictingPasses}
+use Rattle.ga_races.specs.HappensBefore.{TraceAction, action_of, actions, action_at, are_dependent, IsDirectlyBefore, HappensBefore, directly, through, chip_at, event_at_place, IsRacingPair}
 use Rattle.ga_races.proofs.Independence.{replay_more, first_of, still_enabled, any_of, independent_of, apart-sym}
 use Rattle.ga_races.proofs.Conflicts.{actor, one_event, common_node}
 use Rattle.ga_races.proofs.Bound.{Apart, action_still, free_of}
@@ -21,7 +21,7 @@ use Rattle.ga_causal.proofs.Equivalences.{touched_of}
 -- another writer waits to write to the reader of a pass when it is made
 pub record IsRivalled (c : List NodeRecord) (es : List Event) (i : ℕ) (other : Event) : Type 0 where
   pub stands : i < length es
-  pub rivals : AreConflicting (event_at_place c es i) other
+  pub rivals : AreConflictingPasses (event_at_place c es i) other
   pub can : IsEnabled (chip_at c es i) other
 
 pub data IsTold (c : List NodeRecord) (es : List Event) : Type 0 where
@@ -104,7 +104,7 @@ last_of c d f mid e canf can h apart all bound =
 
 -- ---- which is near
 
-last_link : (xs : List Action) (i j : ℕ) → HappensBefore xs i j → (m : ℕ) × (i ≤ m) × IsDirectlyBefore xs m j
+last_link : (xs : List TraceAction) (i j : ℕ) → HappensBefore xs i j → (m : ℕ) × (i ≤ m) × IsDirectlyBefore xs m j
 last_link xs i j (directly d) = (i, omega arith, d)
 last_link xs i j (through {middle} h d) = (middle, let l : i < middle = (before_within xs i middle h).0 in omega (arith, l), d)
 
@@ -121,8 +121,8 @@ near_of c d fs e post l h apart =
     let before : (q : ℕ) → q < length fs → action_at (actions c (fs ++ e ∷ post)) q ≡ action_at (actions c fs) q = action_before fs c (e ∷ post) in
     record {
       bound = record { before = l.within; within = omega (arith, size, more); bound = ap₂ are_dependent (before l.at l.within) there ∙ l.bound };
-      apart = λ n t. ap (λ (a : Action). touches a.cause.event n) there
-          ∙ apart_at fs c e l.at apart l.within n (ap (λ (a : Action). touches a.cause.event n) (sym (before l.at l.within)) ∙ t);
+      apart = λ n t. ap (λ (a : TraceAction). touches a.cause.event n) there
+          ∙ apart_at fs c e l.at apart l.within n (ap (λ (a : TraceAction). touches a.cause.event n) (sym (before l.at l.within)) ∙ t);
       none = λ middle a b.
           let m = last_link (actions c (fs ++ e ∷ post)) middle (length fs) b in
           let k : l.at < middle = (before_within (actions c (fs ++ e ∷ post)) l.at middle a).0 in
@@ -146,7 +146,7 @@ record IsMet (c : List NodeRecord) (es : List Event) (e : Event) : Type 0 where
   one : touches step node ≡ true
   two : touches e node ≡ true
 
-met : (es : List Event) (c last : List NodeRecord) (e : Event) → replay c es ≡ Some last → IsEnabled c e → IsTerminal last → IsMet c es e
+met : (es : List Event) (c last : List NodeRecord) (e : Event) → replay c es ≡ Some last → IsEnabled c e → IsTerminalChip last → IsMet c es e
 met [] c last e h can end = absurd (end e (subst (λ z. IsEnabled z e) (same_Some c last h) can))
 met (g ∷ es) c last e h can end =
     let p = first_of c g es last h in
@@ -173,7 +173,7 @@ met (g ∷ es) c last e h can end =
 
 -- ---- if another event is enabled in place of the first, the list shows a race
 
-pub told_head : (c last : List NodeRecord) (f : Event) (es : List Event) (e : Event) → replay c (f ∷ es) ≡ Some last → IsTerminal last → IsEnabled c e → f ≢ e → (AreIndependentOn c f e → ⊥) → IsTold c (f ∷ es)
+pub told_head : (c last : List NodeRecord) (f : Event) (es : List Event) (e : Event) → replay c (f ∷ es) ≡ Some last → IsTerminalChip last → IsEnabled c e → f ≢ e → (AreIndependentOn c f e → ⊥) → IsTold c (f ∷ es)
 told_head c last f es e h end can differ bound =
     let p = first_of c f es last h in
     elim (cases_Bool (list_any (touches f) (event_nodes e))) [
@@ -191,25 +191,25 @@ told_head c last f es e h end can differ bound =
           let l = last_of c there f mid e canf can led apart all bound in
           subst (λ (z : Event). IsTold c (f ∷ (mid ++ z ∷ post))) (sym same_event)
           (near {i = l.at} {j = suc (length mid)} (near_of c there (f ∷ mid) e post l (replay_more c f mid canf ∙ led) (apart, all))))
-      | inr ne ↦ (let at : event_at_place c (f ∷ (mid ++ step ∷ post)) (suc (length mid)) ≡ step = ap (λ (a : Action). a.cause.event) (action_there mid (after c f).0 there step post led) in
+      | inr ne ↦ (let at : event_at_place c (f ∷ (mid ++ step ∷ post)) (suc (length mid)) ≡ step = ap (λ (a : TraceAction). a.cause.event) (action_there mid (after c f).0 there step post led) in
           let size : length (mid ++ step ∷ post) ≡ length mid + suc (length post) = length-append mid (step ∷ post) in
           rivalled {i = suc (length mid)} {other = e} (record {
             stands = omega (arith, size);
-            rivals = subst (λ (z : Event). AreConflicting z e) (sym at) (common_node there step e n made still (λ q. ne (ap actor q)) t u);
+            rivals = subst (λ (z : Event). AreConflictingPasses z e) (sym at) (common_node there step e n made still (λ q. ne (ap actor q)) t u);
             can = subst (λ (z : List NodeRecord). IsEnabled z e) (sym (chip_there mid (after c f).0 there (step ∷ post) led)) still;
           }))
     ]
 
 -- ---- what the end of a list shows, the list shows
 
-bound_earlier : (a : Action) (xs : List Action) (i m : ℕ) → IsDirectlyBefore (a ∷ xs) (suc i) m → (k : ℕ) × (m ≡ suc k) × IsDirectlyBefore xs i k
+bound_earlier : (a : TraceAction) (xs : List TraceAction) (i m : ℕ) → IsDirectlyBefore (a ∷ xs) (suc i) m → (k : ℕ) × (m ≡ suc k) × IsDirectlyBefore xs i k
 bound_earlier a xs i zero d = let l : suc i < 0 = d.before in absurd (omega (arith, l))
 bound_earlier a xs i (suc k) d =
     let l : suc i < suc k = d.before in
     let m : suc k < suc (length xs) = d.within in
     (k, refl, record { before = omega (arith, l); within = omega (arith, m); bound = d.bound })
 
-happens_earlier : (a : Action) (xs : List Action) (i m : ℕ) → HappensBefore (a ∷ xs) (suc i) m → (k : ℕ) × (m ≡ suc k) × HappensBefore xs i k
+happens_earlier : (a : TraceAction) (xs : List TraceAction) (i m : ℕ) → HappensBefore (a ∷ xs) (suc i) m → (k : ℕ) × (m ≡ suc k) × HappensBefore xs i k
 happens_earlier a xs i m (directly d) = let b = bound_earlier a xs i m d in (b.0, b.1, directly b.2)
 happens_earlier a xs i m (through {middle} h d) =
     let r = happens_earlier a xs i middle h in
@@ -239,14 +239,14 @@ told_behind (f ∷ fs) ys c now h t = told_more c f (fs ++ ys) (told_behind fs y
 
 -- ---- and what an order of the list shows, the list shows
 
-pub round_trip : (xs ys : List Action) (f b : ℕ → ℕ) → Moves f xs ys → Moves b ys xs → (i : ℕ) → i < length ys → f (b i) ≡ i
+pub round_trip : (xs ys : List TraceAction) (f b : ℕ → ℕ) → Moves f xs ys → Moves b ys xs → (i : ℕ) → i < length ys → f (b i) ≡ i
 round_trip xs ys f b m w i l =
     let t = touched_of (action_at ys i).cause.event in
     let s : IsTallied ys t.node (suc (tally t.node ys i)) i = record { within = l; touched = t.is; before = refl } in
     tallied_one ys t.node (suc (tally t.node ys i)) (f (b i)) i
     (tallied_moved xs ys f t.node (suc (tally t.node ys i)) (b i) m (tallied_moved ys xs b t.node (suc (tally t.node ys i)) i w s)) s
 
-bound_moved : (xs ys : List Action) (f : ℕ → ℕ) (i j : ℕ) → Moves f xs ys → IsDirectlyBefore xs i j → IsDirectlyBefore ys (f i) (f j)
+bound_moved : (xs ys : List TraceAction) (f : ℕ → ℕ) (i j : ℕ) → Moves f xs ys → IsDirectlyBefore xs i j → IsDirectlyBefore ys (f i) (f j)
 bound_moved xs ys f i j m d =
     let l : i < j = d.before in
     let k : j < length xs = d.within in
@@ -256,7 +256,7 @@ bound_moved xs ys f i j m d =
       bound = ap₂ are_dependent (sym (m.alike i (let g : i < length xs = omega (arith, l, k) in g))) (sym (m.alike j k)) ∙ d.bound;
     }
 
-pub happens_moved : (xs ys : List Action) (f : ℕ → ℕ) (i j : ℕ) → Moves f xs ys → HappensBefore xs i j → HappensBefore ys (f i) (f j)
+pub happens_moved : (xs ys : List TraceAction) (f : ℕ → ℕ) (i j : ℕ) → Moves f xs ys → HappensBefore xs i j → HappensBefore ys (f i) (f j)
 happens_moved xs ys f i j m (directly d) = directly (bound_moved xs ys f i j m d)
 happens_moved xs ys f i j m (through {middle} h d) = through (happens_moved xs ys f i middle m h) (bound_moved xs ys f middle j m d)
 
@@ -267,7 +267,7 @@ near_moved c xs ys f b m w i j n =
     let k' : i < length (actions c ys) = omega (arith, k, l) in
     record {
       bound = bound_moved (actions c ys) (actions c xs) b i j w n.bound;
-      apart = λ n' t. ap (λ (a : Action). touches a.cause.event n') (sym (w.alike j k)) ∙ n.apart n' (ap (λ (a : Action). touches a.cause.event n') (w.alike i k') ∙ t);
+      apart = λ n' t. ap (λ (a : TraceAction). touches a.cause.event n') (sym (w.alike j k)) ∙ n.apart n' (ap (λ (a : TraceAction). touches a.cause.event n') (w.alike i k') ∙ t);
       none = λ middle p q. n.none (f middle)
           (subst (λ (z : ℕ). HappensBefore (actions c ys) z (f middle)) (round_trip (actions c xs) (actions c ys) f b m w i k') (happens_moved (actions c xs) (actions c ys) f (b i) middle m p))
           (subst (HappensBefore (actions c ys) (f middle)) (round_trip (actions c xs) (actions c ys) f b m w j k) (happens_moved (actions c xs) (actions c ys) f middle (b j) m q));

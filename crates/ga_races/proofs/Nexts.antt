@@ -9,7 +9,7 @@ use Rattle.ga_ports.specs.declared.side.Side.TheVariants.{Right, Down, Left, Up}
 use Rattle.ga_ports.specs.Address.{has_side}
 use Rattle.ga_node.specs.Record.{NodeRecord}
 use Rattle.ga_node.specs.Table.{wait_refusal, refusal}
-use Rattle.ga_node.specs.declared.kind.NotReady.TheVariants.{Stopped}
+use Rattle.ga_node.specs.declared.kind.EventRefusal.TheVariants.{Stopped}
 use Rattle.ga_node.specs.declared.wait.Wait.{Wait}
 use Rattle.ga_node.specs.declared.wait.Wait.TheVariants.{Nothing, Fetch, Read, Write}
 use Rattle.ga_grid.specs.declared.node_id.NodeId.{NodeId}
@@ -22,7 +22,7 @@ use Rattle.ga_event.specs.Apply.{EventOutcome, waits_to_write_side, waits_to_rea
 use Rattle.ga_event.specs.Next.{neighbour_on_side, writer_pass, reader_pass, reader_pass_over, or_else, first_pass_over, ok_or_waiting, next_event_by_wait, next}
 use Rattle.ga_event.specs.Touches.{touches}
 use Rattle.ga_event.proofs.Locality.{apply_keeps}
-use Rattle.ga_races.specs.HappensBefore.{IsMarkedOrBeside}
+use Rattle.ga_races.specs.HappensBefore.{IsMarkedOrNeighbour}
 use Rattle.ga_event.proofs.Nexts.{neighbour_of-within as neighbour_within}
 
 abbrev wait_at : List NodeRecord → ℕ → Wait
@@ -70,7 +70,7 @@ next_same c d n s =
 -- A neighbour is marked, or waits for the same on both.
 
 marked_beside : (marks : ℕ → Bool) (c d : List NodeRecord) (n : NodeId) (side : Side) (o : Option ℕ) → AgreeOutsideMarks marks c d → neighbour_of n.number side ≡ o
-    → IsMarkedOrBeside marks n.number ⊎ ((m : NodeId) → option_map node_id o ≡ Some m → wait_at c m.number ≡ wait_at d m.number)
+    → IsMarkedOrNeighbour marks n.number ⊎ ((m : NodeId) → option_map node_id o ≡ Some m → wait_at c m.number ≡ wait_at d m.number)
 marked_beside marks c d n side None a is = inr (λ m h. absurd (cc))
 marked_beside marks c d n side (Some k) a is = ⊎_elim
     (λ t. inl (k, t, inr (side, neighbour_of-back n.number k side n.in_range is)))
@@ -78,14 +78,14 @@ marked_beside marks c d n side (Some k) a is = ⊎_elim
     (a.same m.number (ap marks (sym (ap (λ (z : NodeId). z.number) (same_Some (node_id k) m h)) ∙ mod-eq_of_lt (neighbour_within n.number k side n.in_range is)) ∙ f))))
     (cases_Bool (marks k))
 
-pub near_or_same : (marks : ℕ → Bool) (c d : List NodeRecord) (n : NodeId) → AgreeOutsideMarks marks c d → IsMarkedOrBeside marks n.number ⊎ (next c n ≡ next d n)
+pub near_or_same : (marks : ℕ → Bool) (c d : List NodeRecord) (n : NodeId) → AgreeOutsideMarks marks c d → IsMarkedOrNeighbour marks n.number ⊎ (next c n ≡ next d n)
 near_or_same marks c d n a = ⊎_elim
     (λ t. inl (n.number, t, inl refl))
     (λ f. ⊎_elim inl (λ right. ⊎_elim inl (λ down. ⊎_elim inl (λ left. ⊎_elim inl (λ up. inr (next_same c d n (around f right down left up)))
     (side_of Up)) (side_of Left)) (side_of Down)) (side_of Right))
     (cases_Bool (marks n.number))
   where
-    side_of : (side : Side) → IsMarkedOrBeside marks n.number ⊎ SameBeside c d n side
+    side_of : (side : Side) → IsMarkedOrNeighbour marks n.number ⊎ SameBeside c d n side
     side_of side = marked_beside marks c d n side (neighbour_of n.number side) a refl
 
     by_side : SameBeside c d n Right → SameBeside c d n Down → SameBeside c d n Left → SameBeside c d n Up → (side : Side) → SameBeside c d n side
@@ -101,10 +101,10 @@ near_or_same marks c d n a = ⊎_elim
       near = by_side right down left up;
     }
 
-pub changes_near : (c : List NodeRecord) (e : Event) → IfSome (apply c e) (λ done. (n : NodeId) → IsMarkedOrBeside (touches e) n.number ⊎ (next c n ≡ next done.0 n))
+pub changes_near : (c : List NodeRecord) (e : Event) → IfSome (apply c e) (λ done. (n : NodeId) → IsMarkedOrNeighbour (touches e) n.number ⊎ (next c n ≡ next done.0 n))
 changes_near c e = go (apply c e) (apply_keeps c e)
   where
-    go : (o : Option (List NodeRecord × EventOutcome)) → IfSome o (λ done. AgreeOutsideMarks (touches e) c done.0) → IfSome o (λ done. (n : NodeId) → IsMarkedOrBeside (touches e) n.number ⊎ (next c n ≡ next done.0 n))
+    go : (o : Option (List NodeRecord × EventOutcome)) → IfSome o (λ done. AgreeOutsideMarks (touches e) c done.0) → IfSome o (λ done. (n : NodeId) → IsMarkedOrNeighbour (touches e) n.number ⊎ (next c n ≡ next done.0 n))
     go None h = tt
     go (Some done) h = λ n. near_or_same (touches e) c done.0 n h
 

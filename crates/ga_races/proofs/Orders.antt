@@ -10,7 +10,7 @@ use Rattle.ga_event.specs.Apply.{after, replay}
 use Rattle.ga_event.specs.Told.{count_steps}
 use Rattle.ga_causal.specs.Words.{received_word, local_history_with_reads}
 use Rattle.ga_causal.proofs.Equivalences.{touched_of}
-use Rattle.ga_races.specs.Orders.{IsEnabled, IsTerminal, AreIndependentOn, AreReorderings, same, swapped, later, joined, HasNoRace}
+use Rattle.ga_races.specs.Orders.{IsEnabled, IsTerminalChip, AreIndependentOn, AreReorderings, same, swapped, later, joined, HasNoRace}
 use Rattle.ga_races.proofs.Independence.{replay_more, first_of, still_enabled, free_or_bound, independent_on_chip, free_replay, read_swapped, replay_two}
 use Rattle.ga_races.proofs.Conflicts.{actor, one_event}
 
@@ -146,7 +146,7 @@ completed_within (e ∷ fs) es c last now k h calm w =
           (completed_within fs b.others (after c e).0 there.0 now p.then q.then (no_race-tail c e b.others p.can (no_race-order c es (e ∷ b.others) b.order calm)) (within-tail c es e b.others fs b.order w)))
     ]
 
-pub completed_quiet : (fs es : List Event) (c last now : List NodeRecord) → replay c fs ≡ Some now → replay c es ≡ Some last → HasNoRace c es → IsTerminal last → Completed c es fs
+pub completed_quiet : (fs es : List Event) (c last now : List NodeRecord) → replay c fs ≡ Some now → replay c es ≡ Some last → HasNoRace c es → IsTerminalChip last → Completed c es fs
 completed_quiet [] es c last now k h calm end = (es, same)
 completed_quiet (e ∷ fs) es c last now k h calm end =
     let p = first_of c e fs now k in
@@ -170,7 +170,7 @@ enabled_after (f ∷ fs) c now e others k some =
     let p = first_of c f fs now k in
     enabled_after fs (after c f).0 now e others p.then (subst (λ (o : Option (List NodeRecord)). IsSome o) (replay_more c f (fs ++ e ∷ others) p.can) some)
 
-pub race_free_end_is_unique : (c last now : List NodeRecord) (es fs : List Event) → replay c es ≡ Some last → HasNoRace c es → IsTerminal last → replay c fs ≡ Some now → IsTerminal now → AreReorderings c es fs
+pub race_free_end_is_unique : (c last now : List NodeRecord) (es fs : List Event) → replay c es ≡ Some last → HasNoRace c es → IsTerminalChip last → replay c fs ≡ Some now → IsTerminalChip now → AreReorderings c es fs
 race_free_end_is_unique c last now es fs h calm end k stop = go (completed_quiet fs es c last now k h calm end)
   where
     go : Completed c es fs → AreReorderings c es fs
@@ -218,13 +218,13 @@ beginning_within c es fs h calm k w =
     let b = some_of (replay c fs) k in
     completed_within fs es c a.0 b.0 b.1 a.1 calm (within_steps c es fs w)
 
-pub beginning_quiet : (c last : List NodeRecord) (es fs : List Event) → replay c es ≡ Some last → HasNoRace c es → IsTerminal last → IsSome (replay c fs) → Completed c es fs
+pub beginning_quiet : (c last : List NodeRecord) (es fs : List Event) → replay c es ≡ Some last → HasNoRace c es → IsTerminalChip last → IsSome (replay c fs) → Completed c es fs
 beginning_quiet c last es fs h calm end k = let b = some_of (replay c fs) k in completed_quiet fs es c last b.0 b.1 h calm end
 
-pub steps_quiet : (c last : List NodeRecord) (es fs : List Event) (n : ℕ) → replay c es ≡ Some last → HasNoRace c es → IsTerminal last → IsSome (replay c fs) → count_steps n fs ≤ count_steps n es
+pub steps_quiet : (c last : List NodeRecord) (es fs : List Event) (n : ℕ) → replay c es ≡ Some last → HasNoRace c es → IsTerminalChip last → IsSome (replay c fs) → count_steps n fs ≤ count_steps n es
 steps_quiet c last es fs n h calm end k = no_more c es fs n (beginning_quiet c last es fs h calm end k)
 
-pub end_quiet : (c last now : List NodeRecord) (es fs : List Event) → replay c es ≡ Some last → HasNoRace c es → IsTerminal last → replay c fs ≡ Some now → IsTerminal now → AreReorderings c es fs × (now ≡ last)
+pub end_quiet : (c last now : List NodeRecord) (es fs : List Event) → replay c es ≡ Some last → HasNoRace c es → IsTerminalChip last → replay c fs ≡ Some now → IsTerminalChip now → AreReorderings c es fs × (now ≡ last)
 end_quiet c last now es fs h calm end k stop =
     let a = race_free_end_is_unique c last now es fs h calm end k stop in
     (a, same_Some now last (sym k ∙ sym (order_replay c es fs a) ∙ h))

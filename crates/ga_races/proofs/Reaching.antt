@@ -12,7 +12,7 @@ use Rattle.ga_event.specs.Apply.{equals_some}
 use Rattle.ga_causal.specs.inner.{any_of}
 use Rattle.ga_races.specs.declared.act.EventAccess.{EventAccess}
 use Rattle.ga_races.specs.declared.act.SideSet.{SideSet}
-use Rattle.ga_races.specs.HappensBefore.{Action, no_action, action_at, is_look_changed_by, are_dependent, IsDirectlyBefore, HappensBefore, directly, through}
+use Rattle.ga_races.specs.HappensBefore.{TraceAction, default_action, action_at, is_look_changed_by, are_dependent, IsDirectlyBefore, HappensBefore, directly, through}
 use Rattle.ga_races.specs.Acts.{has_side_to, changes_shown_to, action_of_access, actions_of_accesses}
 use Rattle.ga_races.specs.inner.{shows_marked, has_touched, has_shown, has_looked, is_shown_to, is_met, IsOnward, AreMarked, AreReached}
 use Rattle.ga_races.proofs.Independence.{any_at}
@@ -87,25 +87,25 @@ shown_all marks (Pass w r side) f s n h mark = elim (or_cases (has_side_to f w.n
 
 -- ---- the three kinds of bonds
 
-shares : Action → Action → Bool
+shares : TraceAction → TraceAction → Bool
 shares a b = list_any (touches a.cause.event) (event_nodes b.cause.event)
 
-pub bound_by_node : (a b : Action) → list_any (touches a.cause.event) (event_nodes b.cause.event) ≡ true → are_dependent a b ≡ true
+pub bound_by_node : (a b : TraceAction) → list_any (touches a.cause.event) (event_nodes b.cause.event) ≡ true → are_dependent a b ≡ true
 bound_by_node a b h = or_left (list_any (touches a.cause.event) (event_nodes b.cause.event)) (is_look_changed_by a b || is_look_changed_by b a) h
 
-pub bound_by_look : (a b : Action) → is_look_changed_by a b ≡ true → are_dependent a b ≡ true
+pub bound_by_look : (a b : TraceAction) → is_look_changed_by a b ≡ true → are_dependent a b ≡ true
 bound_by_look a b h = or_right (list_any (touches a.cause.event) (event_nodes b.cause.event)) (is_look_changed_by a b || is_look_changed_by b a) (or_left (is_look_changed_by a b) (is_look_changed_by b a) h)
 
-pub bound_by_change : (a b : Action) → is_look_changed_by b a ≡ true → are_dependent a b ≡ true
+pub bound_by_change : (a b : TraceAction) → is_look_changed_by b a ≡ true → are_dependent a b ≡ true
 bound_by_change a b h = or_right (list_any (touches a.cause.event) (event_nodes b.cause.event)) (is_look_changed_by a b || is_look_changed_by b a) (or_right (is_look_changed_by a b) (is_look_changed_by b a) h)
 
-bound_cases : (a b : Action) → are_dependent a b ≡ true → (list_any (touches a.cause.event) (event_nodes b.cause.event) ≡ true) ⊎ ((is_look_changed_by a b ≡ true) ⊎ (is_look_changed_by b a ≡ true))
+bound_cases : (a b : TraceAction) → are_dependent a b ≡ true → (list_any (touches a.cause.event) (event_nodes b.cause.event) ≡ true) ⊎ ((is_look_changed_by a b ≡ true) ⊎ (is_look_changed_by b a ≡ true))
 bound_cases a b h = elim (or_cases (list_any (touches a.cause.event) (event_nodes b.cause.event)) (is_look_changed_by a b || is_look_changed_by b a) h) [
   | inl p ↦ inl p
   | inr p ↦ inr (or_cases (is_look_changed_by a b) (is_look_changed_by b a) p)
 ]
 
-module _ (xs : List Action) (first place : ℕ) (touched shown looked : ℕ → Bool) (act : EventAccess) (before : first < place) (within : place < length xs) (is : action_at xs place ≡ action_of_access act)
+module _ (xs : List TraceAction) (first place : ℕ) (touched shown looked : ℕ → Bool) (act : EventAccess) (before : first < place) (within : place < length xs) (is : action_at xs place ≡ action_of_access act)
     (t : AreMarked xs first place has_touched touched) (s : AreMarked xs first place has_shown shown) (l : AreMarked xs first place has_looked looked) where
   on : (m : ℕ) → m < place → IsOnward xs first m → are_dependent (action_at xs m) (action_of_access act) ≡ true → HappensBefore xs first place
   on m k r b = go r (record { before = k; within = within; bound = ap (are_dependent (action_at xs m)) is ∙ b })
@@ -156,14 +156,14 @@ module _ (xs : List Action) (first place : ℕ) (touched shown looked : ℕ → 
 
 -- ---- the marks
 
-pub mark_first : (xs : List Action) (first : ℕ) (has : Action → ℕ → Bool) (marks : ℕ → Bool) → ((n : ℕ) → marks n ≡ has (action_at xs first) n) → AreMarked xs first (first + 1) has marks
+pub mark_first : (xs : List TraceAction) (first : ℕ) (has : TraceAction → ℕ → Bool) (marks : ℕ → Bool) → ((n : ℕ) → marks n ≡ has (action_at xs first) n) → AreMarked xs first (first + 1) has marks
 mark_first xs first has marks e = record { some = λ n h. (first, omega arith, inl refl, sym (e n) ∙ h); all = all }
   where
     all : (m n : ℕ) → m < first + 1 → IsOnward xs first m → has (action_at xs m) n ≡ true → marks n ≡ true
     all m n l (inl q) h = e n ∙ ap (λ (z : ℕ). has (action_at xs z) n) q ∙ h
     all m n l (inr b) h = absurd (let k : first < m = (before_within xs first m b).0 in omega (arith, k, l))
 
-pub mark_next : (xs : List Action) (first place : ℕ) (has : Action → ℕ → Bool) (marks new : ℕ → Bool) (met : Bool) → first < place → AreMarked xs first place has marks
+pub mark_next : (xs : List TraceAction) (first place : ℕ) (has : TraceAction → ℕ → Bool) (marks new : ℕ → Bool) (met : Bool) → first < place → AreMarked xs first place has marks
     → (met ≡ true → HappensBefore xs first place) → (HappensBefore xs first place → met ≡ true) → ((n : ℕ) → new n ≡ (marks n || (met && has (action_at xs place) n)))
     → AreMarked xs first (place + 1) has new
 mark_next xs first place has marks new met before a sound complete e = record { some = some; all = all }
@@ -186,7 +186,7 @@ mark_next xs first place has marks new met before a sound complete e = record { 
 
 -- if what happens after the first action and before the later one isn't dependent with the later one, nothing happens between
 -- them
-pub none_between : (xs : List Action) (first later : ℕ) → ((m : ℕ) → m < later → HappensBefore xs first m → are_dependent (action_at xs m) (action_at xs later) ≡ false)
+pub none_between : (xs : List TraceAction) (first later : ℕ) → ((m : ℕ) → m < later → HappensBefore xs first m → are_dependent (action_at xs m) (action_at xs later) ≡ false)
     → (m : ℕ) → HappensBefore xs first m → HappensBefore xs m later → (false ≡ true)
 none_between xs first later none m h (directly d) = sym (none m d.before h) ∙ d.bound
 none_between xs first later none m h (through {middle} k d) = sym (none middle d.before (chain h k)) ∙ d.bound
@@ -198,19 +198,19 @@ none_between xs first later none m h (through {middle} k d) = sym (none middle d
 -- ---- the pass
 
 act_at : (acts : List EventAccess) (i : ℕ) (x : EventAccess) → i < length acts → x ≡ get_or acts i x → action_at (actions_of_accesses acts) i ≡ action_of_access x
-act_at acts i x l is = get_or-map action_of_access acts i x no_action l ∙ ap action_of_access (sym is)
+act_at acts i x l is = get_or-map action_of_access acts i x default_action l ∙ ap action_of_access (sym is)
 
 pub first_reached : (acts : List EventAccess) (first later : ℕ) (t s l : ℕ → Bool) (act : EventAccess) → first < later → later < length acts → act ≡ get_or acts first act
     → ((n : ℕ) → t n ≡ has_touched (action_of_access act) n) → ((n : ℕ) → s n ≡ has_shown (action_of_access act) n) → ((n : ℕ) → l n ≡ has_looked (action_of_access act) n)
     → AreReached (actions_of_accesses acts) first later (first + 1) t s l
 first_reached acts first later t s l act before within is a b c = record {
-  touched = mark_first xs first has_touched t (λ n. a n ∙ ap (λ (z : Action). has_touched z n) (sym here));
-  shown = mark_first xs first has_shown s (λ n. b n ∙ ap (λ (z : Action). has_shown z n) (sym here));
-  looked = mark_first xs first has_looked l (λ n. c n ∙ ap (λ (z : Action). has_looked z n) (sym here));
+  touched = mark_first xs first has_touched t (λ n. a n ∙ ap (λ (z : TraceAction). has_touched z n) (sym here));
+  shown = mark_first xs first has_shown s (λ n. b n ∙ ap (λ (z : TraceAction). has_shown z n) (sym here));
+  looked = mark_first xs first has_looked l (λ n. c n ∙ ap (λ (z : TraceAction). has_looked z n) (sym here));
   none = λ m k h. absurd (let g : first < m = (before_within xs first m h).0 in omega (arith, g, k));
 }
   where
-    xs : List Action
+    xs : List TraceAction
     xs = actions_of_accesses acts
 
     here : action_at xs first ≡ action_of_access act
@@ -219,7 +219,7 @@ first_reached acts first later t s l act before within is a b c = record {
 module _ (acts : List EventAccess) (first later place : ℕ) (t s l : ℕ → Bool) (act end : EventAccess) (met bound : Bool) (before : first < place) (order : place < later) (inside : later < length acts)
     (act_is : act ≡ get_or acts place act) (end_is : end ≡ get_or acts later end) (inv : AreReached (actions_of_accesses acts) first later place t s l)
     (answer : met ≡ is_met t s l act) (bound_is : bound ≡ are_dependent (action_of_access act) (action_of_access end)) where
-  abbrev xs : List Action
+  abbrev xs : List TraceAction
   xs = actions_of_accesses acts
 
   size : length xs ≡ length acts
@@ -248,9 +248,9 @@ module _ (acts : List EventAccess) (first later place : ℕ) (t s l : ℕ → Bo
   pub next_reached : (t' s' l' : ℕ → Bool) → (met && bound) ≡ false → ((n : ℕ) → t' n ≡ (t n || (met && has_touched (action_of_access act) n))) → ((n : ℕ) → s' n ≡ (s n || (met && has_shown (action_of_access act) n)))
       → ((n : ℕ) → l' n ≡ (l n || (met && has_looked (action_of_access act) n))) → AreReached xs first later (place + 1) t' s' l'
   next_reached t' s' l' out a b c = record {
-    touched = mark_next xs first place has_touched t t' met before inv.touched sound complete (λ n. a n ∙ ap (λ (z : Action). t n || (met && has_touched z n)) (sym here));
-    shown = mark_next xs first place has_shown s s' met before inv.shown sound complete (λ n. b n ∙ ap (λ (z : Action). s n || (met && has_shown z n)) (sym here));
-    looked = mark_next xs first place has_looked l l' met before inv.looked sound complete (λ n. c n ∙ ap (λ (z : Action). l n || (met && has_looked z n)) (sym here));
+    touched = mark_next xs first place has_touched t t' met before inv.touched sound complete (λ n. a n ∙ ap (λ (z : TraceAction). t n || (met && has_touched z n)) (sym here));
+    shown = mark_next xs first place has_shown s s' met before inv.shown sound complete (λ n. b n ∙ ap (λ (z : TraceAction). s n || (met && has_shown z n)) (sym here));
+    looked = mark_next xs first place has_looked l l' met before inv.looked sound complete (λ n. c n ∙ ap (λ (z : TraceAction). l n || (met && has_looked z n)) (sym here));
     none = none;
   }
     where

@@ -13,15 +13,15 @@ use Rattle.ga_node.specs.Table.{t, own, refusal, wait_refusal, sent, taken}
 use Rattle.ga_node.specs.declared.wait.Wait.{Wait}
 use Rattle.ga_node.specs.declared.wait.Wait.TheVariants.{Nothing, Fetch, Read, Write}
 use Rattle.ga_grid.specs.Grid.{neighbour_of}
-use Rattle.ga_grid.specs.Chip.{nowhere, record_at}
+use Rattle.ga_grid.specs.Chip.{default_node, record_at}
 use Rattle.ga_grid.specs.declared.node_id.NodeId.{NodeId}
 use Rattle.ga_event.specs.declared.event.Event.{Event}
 use Rattle.ga_event.specs.declared.event.Event.TheVariants.{Own, Pass}
 use Rattle.ga_event.specs.Touches.{touches}
-use Rattle.ga_event.specs.Apply.{shown_state, shown_neighbour_state, neighbour_states, is_transfer_ready, unmatched_unless, after, replay}
+use Rattle.ga_event.specs.Apply.{shown_wait_state, shown_neighbour_state, neighbour_states, is_transfer_ready, refusal_unless_matched, after, replay}
 use Rattle.ga_event.specs.Told.{count_steps}
 use Rattle.ga_races.specs.Orders.{IsEnabled}
-use Rattle.ga_races.specs.Rounds.{IsNoTransferWith, events_without, IsPollingRound, HasNoPollingRound}
+use Rattle.ga_races.specs.Rounds.{IsNoTransferWithNode, events_without_node, IsPollingRound, HasNoPollingRound}
 use Rattle.ga_races.proofs.Exact.{replay_into}
 use Rattle.ga_races.proofs.Independence.{first_of, replay_more, stays}
 
@@ -35,13 +35,13 @@ record AreBut (n : ℕ) (c b : List NodeRecord) : Type 0 where
 but-set : (n : ℕ) (c b : List NodeRecord) (k : ℕ) (x : NodeRecord) → AreBut n c b → AreBut n (set c k x) (set b k x)
 but-set n c b k x a = record {
   size = length-set c k x ∙ a.size ∙ sym (length-set b k x);
-  same = λ m ne. elim (cases_eq m k) [ inl e ↦ here m e ne | inr other ↦ get_or-set_other c k m x (record_of nowhere) other ∙ a.same m ne ∙ sym (get_or-set_other b k m x (record_of nowhere) other) ];
+  same = λ m ne. elim (cases_eq m k) [ inl e ↦ here m e ne | inr other ↦ get_or-set_other c k m x (record_of default_node) other ∙ a.same m ne ∙ sym (get_or-set_other b k m x (record_of default_node) other) ];
 }
   where
     within : (m : ℕ) → m ≡ k → k < length c → record_at (set c k x) m ≡ record_at (set b k x) m
     within m e h =
         let l : k < length b = omega (arith, a.size, h) in
-        subst (λ z. record_at (set c k x) z ≡ record_at (set b k x) z) (sym e) (get_or-set_same c k x (record_of nowhere) h ∙ sym (get_or-set_same b k x (record_of nowhere) l))
+        subst (λ z. record_at (set c k x) z ≡ record_at (set b k x) z) (sym e) (get_or-set_same c k x (record_of default_node) h ∙ sym (get_or-set_same b k x (record_of default_node) l))
 
     past : (m : ℕ) → (m ≡ n → ⊥) → length c ≤ k → record_at (set c k x) m ≡ record_at (set b k x) m
     past m ne h =
@@ -70,7 +70,7 @@ same_waits n c b a w m = elim (cases_eq m n) [
 
 beside_same : (c b : List NodeRecord) → ((m : ℕ) → (record_at c m).wait ≡ (record_at b m).wait) → (side : Side) (o : Option ℕ) → shown_neighbour_state c side o ≡ shown_neighbour_state b side o
 beside_same c b w side None = refl
-beside_same c b w side (Some m) = ap (λ (z : Wait). shown_state z side) (w m)
+beside_same c b w side (Some m) = ap (λ (z : Wait). shown_wait_state z side) (w m)
 
 seen_same : (c b : List NodeRecord) → ((m : ℕ) → (record_at c m).wait ≡ (record_at b m).wait) → (m : ℕ) → neighbour_states c m ≡ neighbour_states b m
 unfolding neighbour_states
@@ -101,8 +101,8 @@ also n c b (Pass w r side) alike shown f can =
     let y = record_at c r.number in
     record {
       can =
-          ap (λ (z : NodeRecord). unmatched_unless (is_transfer_ready w.number r.number side z.wait (record_at b r.number).wait)) (sym from)
-          ∙ ap (λ (z : NodeRecord). unmatched_unless (is_transfer_ready w.number r.number side (record_at c w.number).wait z.wait)) (sym to)
+          ap (λ (z : NodeRecord). refusal_unless_matched (is_transfer_ready w.number r.number side z.wait (record_at b r.number).wait)) (sym from)
+          ∙ ap (λ (z : NodeRecord). refusal_unless_matched (is_transfer_ready w.number r.number side (record_at c w.number).wait z.wait)) (sym to)
           ∙ can;
       alike =
           subst (λ z. AreBut n (set (set c w.number (sent x)) r.number (taken (t x) y)) (set (set b w.number (sent z)) r.number (taken (t z) (record_at b r.number)))) from
@@ -121,30 +121,30 @@ runs_of (Write side) stop h = absurd (cc)
 some_touches : ℕ → List Event → Bool
 some_touches n es = list_any (λ e. touches e n) es
 
-own_alone : (n : ℕ) (e : Event) → IsNoTransferWith n e → touches e n ≡ true → (m : ℕ) → (m ≡ n → ⊥) → touches e m ≡ false
+own_alone : (n : ℕ) (e : Event) → IsNoTransferWithNode n e → touches e n ≡ true → (m : ℕ) → (m ≡ n → ⊥) → touches e m ≡ false
 own_alone n (Own a) own h m ne = elim (or_cases (a.number == n) false h) [
   | inl q ↦ or_from (a.number == m) false (ne_eqb a.number m (λ e. ne (sym e ∙ eqb-true a.number n q))) refl
   | inr q ↦ absurd (both_ways false refl q)
 ]
 own_alone n (Pass w r side) own h m ne = absurd (both_ways (touches (Pass w r side) n) own h)
 
-own_runs : (n : ℕ) (c : List NodeRecord) (e : Event) → IsNoTransferWith n e → touches e n ≡ true → IsEnabled c e → (record_at c n).wait ≡ Nothing
+own_runs : (n : ℕ) (c : List NodeRecord) (e : Event) → IsNoTransferWithNode n e → touches e n ≡ true → IsEnabled c e → (record_at c n).wait ≡ Nothing
 own_runs n c (Own a) own h can = elim (or_cases (a.number == n) false h) [
   | inl q ↦ subst (λ z. (record_at c z).wait ≡ Nothing) (eqb-true a.number n q) (runs_of (record_at c a.number).wait (record_at c a.number).stop can)
   | inr q ↦ absurd (both_ways false refl q)
 ]
 own_runs n c (Pass w r side) own h can = absurd (both_ways (touches (Pass w r side) n) own h)
 
-running : (n : ℕ) (es : List Event) (c last : List NodeRecord) → replay c es ≡ Some last → All (IsNoTransferWith n) es → some_touches n es ≡ true → (record_at c n).wait ≡ Nothing
+running : (n : ℕ) (es : List Event) (c last : List NodeRecord) → replay c es ≡ Some last → All (IsNoTransferWithNode n) es → some_touches n es ≡ true → (record_at c n).wait ≡ Nothing
 unfolding some_touches
 running n [] c last led own some = absurd (both_ways false refl some)
 running n (e ∷ es) c last led own some =
     let p = first_of c e es last led in
     elim (cases_Bool (touches e n)) [
-      | inl h ↦ own_runs n c e (All-head (IsNoTransferWith n) e es own) h p.can
+      | inl h ↦ own_runs n c e (All-head (IsNoTransferWithNode n) e es own) h p.can
       | inr f ↦ elim (or_cases (touches e n) (some_touches n es) some) [
         | inl h ↦ absurd (both_ways (touches e n) f h)
-        | inr more ↦ ap (λ (z : NodeRecord). z.wait) ((stays c e p.can).same n f) ∙ running n es (after c e).0 last p.then (All-tail (IsNoTransferWith n) e es own) more
+        | inr more ↦ ap (λ (z : NodeRecord). z.wait) ((stays c e p.can).same n f) ∙ running n es (after c e).0 last p.then (All-tail (IsNoTransferWithNode n) e es own) more
       ]
     ]
 
@@ -158,20 +158,20 @@ untouched n (e ∷ es) c last led none =
     let q = or_parts (touches e n) (some_touches n es) none in
     untouched n es (after c e).0 last p.then q.1 ∙ sym ((stays c e p.can).same n q.0)
 
-all_kept : (n : ℕ) (es : List Event) → some_touches n es ≡ false → events_without n es ≡ es
+all_kept : (n : ℕ) (es : List Event) → some_touches n es ≡ false → events_without_node n es ≡ es
 unfolding some_touches
 all_kept n [] none = refl
 all_kept n (e ∷ es) none =
     let q = or_parts (touches e n) (some_touches n es) none in
-    ap (λ (b : Bool). cond (not b) (e ∷ events_without n es) (events_without n es)) q.0 ∙ ap (λ (z : List Event). e ∷ z) (all_kept n es q.1)
+    ap (λ (b : Bool). cond (not b) (e ∷ events_without_node n es) (events_without_node n es)) q.0 ∙ ap (λ (z : List Event). e ∷ z) (all_kept n es q.1)
 
 one_chip : (n : ℕ) (c b : List NodeRecord) → AreBut n c b → record_at c n ≡ record_at b n → c ≡ b
-one_chip n c b a same = ext_get_or (record_of nowhere) c b a.size (λ m l. elim (cases_eq m n) [
+one_chip n c b a same = ext_get_or (record_of default_node) c b a.size (λ m l. elim (cases_eq m n) [
   | inl e ↦ subst (λ z. record_at c z ≡ record_at b z) (sym e) same
   | inr ne ↦ a.same m ne
 ])
 
-left_idle : (n : ℕ) (es : List Event) (c b last : List NodeRecord) → replay c es ≡ Some last → some_touches n es ≡ false → AreBut n c b → record_at last n ≡ record_at b n → replay b (events_without n es) ≡ Some last
+left_idle : (n : ℕ) (es : List Event) (c b last : List NodeRecord) → replay c es ≡ Some last → some_touches n es ≡ false → AreBut n c b → record_at last n ≡ record_at b n → replay b (events_without_node n es) ≡ Some last
 left_idle n es c b last led none a back =
     let same : c ≡ b = one_chip n c b a (sym (untouched n es c last led none) ∙ back) in
     ap (λ (z : List Event). replay b z) (all_kept n es none) ∙ subst (λ z. replay z es ≡ Some last) same led
@@ -179,30 +179,30 @@ left_idle n es c b last led none a back =
 -- ---- the list without the node's events
 
 abbrev IsLeft : ℕ → List Event → List NodeRecord → List NodeRecord → Type 0
-IsLeft n es b last = replay b (events_without n es) ≡ Some last
+IsLeft n es b last = replay b (events_without_node n es) ≡ Some last
 
 dropped : (n : ℕ) (e : Event) (es : List Event) (b last : List NodeRecord) → touches e n ≡ true → IsLeft n es b last → IsLeft n (e ∷ es) b last
-dropped n e es b last h k = ap (λ (z : Bool). replay b (cond (not z) (e ∷ events_without n es) (events_without n es))) h ∙ k
+dropped n e es b last h k = ap (λ (z : Bool). replay b (cond (not z) (e ∷ events_without_node n es) (events_without_node n es))) h ∙ k
 
 kept : (n : ℕ) (e : Event) (es : List Event) (b last : List NodeRecord) → touches e n ≡ false → IsEnabled b e → IsLeft n es (after b e).0 last → IsLeft n (e ∷ es) b last
 kept n e es b last f can k =
-    ap (λ (z : Bool). replay b (cond (not z) (e ∷ events_without n es) (events_without n es))) f
-    ∙ replay_more b e (events_without n es) can
+    ap (λ (z : Bool). replay b (cond (not z) (e ∷ events_without_node n es) (events_without_node n es))) f
+    ∙ replay_more b e (events_without_node n es) can
     ∙ k
 
 still_waits : (n : ℕ) (b : List NodeRecord) (e : Event) → touches e n ≡ false → IsEnabled b e → (record_at b n).wait ≡ Nothing → (record_at (after b e).0 n).wait ≡ Nothing
 still_waits n b e f can w = ap (λ (z : NodeRecord). z.wait) (sym ((stays b e can).same n f)) ∙ w
 
-left : (n : ℕ) (es : List Event) (c b last : List NodeRecord) → replay c es ≡ Some last → All (IsNoTransferWith n) es → AreBut n c b → record_at last n ≡ record_at b n
+left : (n : ℕ) (es : List Event) (c b last : List NodeRecord) → replay c es ≡ Some last → All (IsNoTransferWithNode n) es → AreBut n c b → record_at last n ≡ record_at b n
     → (some_touches n es ≡ true → (record_at b n).wait ≡ Nothing) → IsLeft n es b last
 unfolding some_touches
 left n [] c b last led own a back runs = left_idle n [] c b last led refl a back
 left n (e ∷ es) c b last led own a back runs =
     let p = first_of c e es last led in
-    let others : All (IsNoTransferWith n) es = All-tail (IsNoTransferWith n) e es own in
+    let others : All (IsNoTransferWithNode n) es = All-tail (IsNoTransferWithNode n) e es own in
     elim (cases_Bool (touches e n)) [
       | inl h ↦ dropped n e es b last h
-          (left n es (after c e).0 b last p.then others (but-own n c b e (own_alone n e (All-head (IsNoTransferWith n) e es own) h) p.can a) back (λ _. runs (or_left (touches e n) (some_touches n es) h)))
+          (left n es (after c e).0 b last p.then others (but-own n c b e (own_alone n e (All-head (IsNoTransferWithNode n) e es own) h) p.can a) back (λ _. runs (or_left (touches e n) (some_touches n es) h)))
       | inr f ↦ elim (cases_Bool (some_touches n es)) [
         | inl more ↦ (let there : (record_at b n).wait ≡ Nothing = runs (or_right (touches e n) (some_touches n es) more) in
             let here : (record_at c n).wait ≡ Nothing = running n (e ∷ es) c last led own (or_right (touches e n) (some_touches n es) more) in
@@ -215,32 +215,32 @@ left n (e ∷ es) c b last led own a back runs =
 
 -- ---- as the law states it
 
-taken_out : (n : ℕ) (c : List NodeRecord) (es : List Event) → (r : IsPollingRound c n es) → replay c (events_without n es) ≡ Some r.last
+taken_out : (n : ℕ) (c : List NodeRecord) (es : List Event) → (r : IsPollingRound c n es) → replay c (events_without_node n es) ≡ Some r.last
 taken_out n c es r = left n es c c r.last r.led r.own (record { size = refl; same = λ m ne. refl }) r.back (λ some. running n es c r.last r.led r.own some)
 
-pub round_alone : (c : List NodeRecord) (n : ℕ) (es : List Event) → IsPollingRound c n es → events_without n es ≡ [] → replay c es ≡ Some c
+pub round_alone : (c : List NodeRecord) (n : ℕ) (es : List Event) → IsPollingRound c n es → events_without_node n es ≡ [] → replay c es ≡ Some c
 round_alone c n es r none = r.led ∙ sym (taken_out n c es r) ∙ ap (λ (z : List Event). replay c z) none
 
 pub round_left : (c now : List NodeRecord) (before round later : List Event) (n : ℕ) → replay c before ≡ Some now → IsPollingRound now n round
-    → replay c (before ++ round ++ later) ≡ replay c (before ++ events_without n round ++ later)
+    → replay c (before ++ round ++ later) ≡ replay c (before ++ events_without_node n round ++ later)
 round_left c now before round later n led r =
     replay_into (before ++ round) later c r.last (replay_into before round c now led ∙ r.led)
-    ∙ sym (replay_into (before ++ events_without n round) later c r.last (replay_into before (events_without n round) c now led ∙ taken_out n now round r))
+    ∙ sym (replay_into (before ++ events_without_node n round) later c r.last (replay_into before (events_without_node n round) c now led ∙ taken_out n now round r))
 
-pub shorter : (n : ℕ) (es : List Event) → length (events_without n es) + count_steps n es ≡ length es
+pub shorter : (n : ℕ) (es : List Event) → length (events_without_node n es) + count_steps n es ≡ length es
 shorter n [] = refl
 shorter n (e ∷ es) =
-    ap (λ z. length (cond (not (touches e n)) (e ∷ events_without n es) (events_without n es)) + z) (sum_by-cons (λ (x : Event). cond (touches x n) 1 0) e es)
+    ap (λ z. length (cond (not (touches e n)) (e ∷ events_without_node n es) (events_without_node n es)) + z) (sum_by-cons (λ (x : Event). cond (touches x n) 1 0) e es)
     ∙ go (touches e n) (shorter n es)
   where
-    go : (b : Bool) → length (events_without n es) + count_steps n es ≡ length es
-        → length (cond (not b) (e ∷ events_without n es) (events_without n es)) + (cond b 1 0 + count_steps n es) ≡ length (e ∷ es)
+    go : (b : Bool) → length (events_without_node n es) + count_steps n es ≡ length es
+        → length (cond (not b) (e ∷ events_without_node n es) (events_without_node n es)) + (cond b 1 0 + count_steps n es) ≡ length (e ∷ es)
     go true h = omega (arith, h)
     go false h = omega (arith, h)
 
 pub shortest_has_none : (c last : List NodeRecord) (es : List Event) → replay c es ≡ Some last → ((others : List Event) → replay c others ≡ Some last → length es ≤ length others) → HasNoPollingRound c es
 shortest_has_none c last es led short before round later now n is first r =
-    let few : length es ≤ length (before ++ events_without n round ++ later) =
-    short (before ++ events_without n round ++ later) (sym (round_left c now before round later n first r) ∙ ap (λ (z : List Event). replay c z) (sym is) ∙ led) in
+    let few : length es ≤ length (before ++ events_without_node n round ++ later) =
+    short (before ++ events_without_node n round ++ later) (sym (round_left c now before round later n first r) ∙ ap (λ (z : List Event). replay c z) (sym is) ∙ led) in
     let all : length es ≡ length (before ++ round ++ later) = ap (λ (z : List Event). length z) is in
-    omega (arith, few, all, shorter n round, length-append (before ++ round) later, length-append before round, length-append (before ++ events_without n round) later, length-append before (events_without n round))
+    omega (arith, few, all, shorter n round, length-append (before ++ round) later, length-append before round, length-append (before ++ events_without_node n round) later, length-append before (events_without_node n round))

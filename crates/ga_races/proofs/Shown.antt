@@ -5,8 +5,8 @@ use Rattle.ga_ports.specs.declared.side.Side.{Side}
 use Rattle.ga_ports.specs.declared.side.Side.TheVariants.{Right, Down, Left, Up}
 use Rattle.ga_node.specs.declared.seen.NeighbourState.{NeighbourState}
 use Rattle.ga_node.specs.declared.seen.NeighbourState.TheVariants.{Nobody, Idle, Reading, Writing}
-use Rattle.ga_node.specs.declared.seen.Seen.{Seen}
-use Rattle.ga_node.specs.Io.{shown, io_word}
+use Rattle.ga_node.specs.declared.seen.SeenNeighbours.{SeenNeighbours}
+use Rattle.ga_node.specs.Io.{side_io_bits, io_word}
 use Rattle.ga_node.specs.Record.{NodeRecord}
 use Rattle.ga_grid.specs.Grid.{neighbour_of}
 use Rattle.ga_grid.specs.Chip.{record_at}
@@ -14,7 +14,7 @@ use Rattle.ga_grid.specs.declared.node_id.NodeId.{NodeId}
 use Rattle.ga_grid.proofs.NodeIds.{neighbour_of-back}
 use Rattle.ga_event.specs.declared.event.Event.{Event}
 use Rattle.ga_event.specs.declared.event.Event.TheVariants.{Own, Pass}
-use Rattle.ga_event.specs.Apply.{shown_state, shown_neighbour_state, neighbour_states, equals_some, after}
+use Rattle.ga_event.specs.Apply.{shown_wait_state, shown_neighbour_state, neighbour_states, equals_some, after}
 use Rattle.ga_races.specs.declared.act.EventAccess.{EventAccess}
 use Rattle.ga_races.specs.declared.act.SideSet.{SideSet}
 use Rattle.ga_races.specs.Orders.{IsEnabled}
@@ -52,28 +52,28 @@ bits_few Idle = omega arith
 bits_few Reading = omega arith
 bits_few Writing = omega arith
 
-right_is : (b : NeighbourState) → shown b 16 15 ≡ 32768 * bits (shown_as b)
+right_is : (b : NeighbourState) → side_io_bits b 16 15 ≡ 32768 * bits (shown_as b)
 unfolding bits
 right_is Nobody = refl
 right_is Idle = refl
 right_is Reading = refl
 right_is Writing = refl
 
-down_is : (b : NeighbourState) → shown b 14 13 ≡ 8192 * bits (shown_as b)
+down_is : (b : NeighbourState) → side_io_bits b 14 13 ≡ 8192 * bits (shown_as b)
 unfolding bits
 down_is Nobody = refl
 down_is Idle = refl
 down_is Reading = refl
 down_is Writing = refl
 
-left_is : (b : NeighbourState) → shown b 12 11 ≡ 2048 * bits (shown_as b)
+left_is : (b : NeighbourState) → side_io_bits b 12 11 ≡ 2048 * bits (shown_as b)
 unfolding bits
 left_is Nobody = refl
 left_is Idle = refl
 left_is Reading = refl
 left_is Writing = refl
 
-up_is : (b : NeighbourState) → shown b 10 9 ≡ 512 * bits (shown_as b)
+up_is : (b : NeighbourState) → side_io_bits b 10 9 ≡ 512 * bits (shown_as b)
 unfolding bits
 up_is Nobody = refl
 up_is Idle = refl
@@ -86,7 +86,7 @@ word_of_bits r d l u = 0x155 + 32768 * r + 8192 * d + 2048 * l + 512 * u
 sums : (r d l u x y z w : ℕ) → r ≡ x → d ≡ y → l ≡ z → u ≡ w → 0x155 + r + d + l + u ≡ 0x155 + x + y + z + w
 sums r d l u x y z w p q s t = omega (arith, p, q, s, t)
 
-word_is : (seen : Seen) → io_word seen ≡ word_of_bits (bits (shown_as seen.right)) (bits (shown_as seen.down)) (bits (shown_as seen.left)) (bits (shown_as seen.up))
+word_is : (seen : SeenNeighbours) → io_word seen ≡ word_of_bits (bits (shown_as seen.right)) (bits (shown_as seen.down)) (bits (shown_as seen.left)) (bits (shown_as seen.up))
 unfolding io_word word_of_bits
 word_is seen = sums _ _ _ _ _ _ _ _ (right_is seen.right) (down_is seen.down) (left_is seen.left) (up_is seen.up)
 
@@ -117,14 +117,14 @@ not_false false h = absurd (both_ways false refl (sym h))
 bits_at : (c d : List NodeRecord) (side : Side) (o : Option ℕ) → changed_at c d side o ≡ false → bits (shown_as (shown_neighbour_state d side o)) ≡ bits (shown_as (shown_neighbour_state c side o))
 bits_at c d side None h = refl
 bits_at c d side (Some k) h =
-    ap bits (sym (eqb-true (shown_as (shown_state (record_at c k).wait side)) (shown_as (shown_state (record_at d k).wait side))
-    (not_false (shown_as (shown_state (record_at c k).wait side) == shown_as (shown_state (record_at d k).wait side)) h)))
+    ap bits (sym (eqb-true (shown_as (shown_wait_state (record_at c k).wait side)) (shown_as (shown_wait_state (record_at d k).wait side))
+    (not_false (shown_as (shown_wait_state (record_at c k).wait side) == shown_as (shown_wait_state (record_at d k).wait side)) h)))
 
 unchanged_at : (c d : List NodeRecord) (side : Side) (o : Option ℕ) → bits (shown_as (shown_neighbour_state d side o)) ≡ bits (shown_as (shown_neighbour_state c side o)) → changed_at c d side o ≡ false
 unchanged_at c d side None h = refl
 unchanged_at c d side (Some k) h =
-    ap not (eq-eqb (shown_as (shown_state (record_at c k).wait side)) (shown_as (shown_state (record_at d k).wait side))
-    (sym (unbits_back (shown_state (record_at c k).wait side)) ∙ ap unbits (sym h) ∙ unbits_back (shown_state (record_at d k).wait side)))
+    ap not (eq-eqb (shown_as (shown_wait_state (record_at c k).wait side)) (shown_as (shown_wait_state (record_at d k).wait side))
+    (sym (unbits_back (shown_wait_state (record_at c k).wait side)) ∙ ap unbits (sym h) ∙ unbits_back (shown_wait_state (record_at d k).wait side)))
 
 changed_some : List NodeRecord → List NodeRecord → ℕ → Bool
 changed_some c d n =
@@ -195,7 +195,7 @@ of_node c d m n side = is_changed (record_at c m).wait (record_at d m).wait side
 
 unchanged : (c d : List NodeRecord) (k : ℕ) (side : Side) → record_at c k ≡ record_at d k → is_changed (record_at c k).wait (record_at d k).wait side ≡ false
 unchanged c d k side same =
-    ap (λ (z : NodeRecord). is_changed (record_at c k).wait z.wait side) (sym same) ∙ ap not (eq-eqb (shown_as (shown_state (record_at c k).wait side)) (shown_as (shown_state (record_at c k).wait side)) refl)
+    ap (λ (z : NodeRecord). is_changed (record_at c k).wait z.wait side) (sym same) ∙ ap not (eq-eqb (shown_as (shown_wait_state (record_at c k).wait side)) (shown_as (shown_wait_state (record_at c k).wait side)) refl)
 
 -- which gives the side of the other all that changes there, where no other node has changed
 node_to : (c d : List NodeRecord) (m n : ℕ) (side : Side) → m < 144 → n < 144 → of_node c d m n side ≡ true → changed_at c d side (neighbour_of n side) ≡ true

@@ -5,7 +5,7 @@ use Rattle.std.proofs.lemmas.Bool.{or_left, or_right, and_parts, ne_eqb, or_from
 use Rattle.ga_ports.specs.declared.side.Side.{Side}
 use Rattle.ga_node.specs.Record.{NodeRecord}
 use Rattle.ga_node.specs.Table.{refusal}
-use Rattle.ga_node.specs.declared.kind.NotReady.{NotReady}
+use Rattle.ga_node.specs.declared.kind.EventRefusal.{EventRefusal}
 use Rattle.ga_grid.specs.declared.node_id.NodeId.{NodeId}
 use Rattle.ga_grid.specs.Grid.{neighbour_of}
 use Rattle.ga_grid.specs.Chip.{record_at}
@@ -84,7 +84,7 @@ stays c (e ∷ es) marks s = go (refusal_of c e) refl
     more first None on h = tt
     more first (Some rest) on h = λ n m. on n m ∙ h n m
 
-    go : (o : Option NotReady) → refusal_of c e ≡ o
+    go : (o : Option EventRefusal) → refusal_of c e ≡ o
         → (refusal_of c e ≡ None → IfSome (replay (after c e).0 es) (λ later. Stand (after c e).0 later marks))
         → IfSome (option_map {U = List NodeRecord} (λ done. done.0) (option_and_then (λ first. option_map {U = List NodeRecord × List (Cause × EventOutcome)} (λ rest. (rest.0, (cause_of c e, first.1) ∷ rest.1)) (run first.0 es)) (some_if_allowed o (after c e)))) (λ later. Stand c later marks)
     go None is later = more (after c e) (run (after c e).0 es) (stand_after c marks e s is) (later is)

@@ -12,10 +12,10 @@ use Rattle.ga_grid.proofs.NodeIds.{neighbour_of-other}
 use Rattle.ga_event.specs.declared.event.Event.{Event}
 use Rattle.ga_event.specs.declared.event.Event.TheVariants.{Pass}
 use Rattle.ga_event.specs.Touches.{touches}
-use Rattle.ga_event.specs.Apply.{waits_to_write_side, waits_to_read_side, equals_some, unmatched_unless, after, replay}
+use Rattle.ga_event.specs.Apply.{waits_to_write_side, waits_to_read_side, equals_some, refusal_unless_matched, after, replay}
 use Rattle.ga_causal.proofs.Equivalences.{touched_of}
-use Rattle.ga_races.specs.Orders.{IsEnabled, AreReorderings, same, later, joined, IsRace, AreConflicting}
-use Rattle.ga_races.specs.HappensBefore.{Action, action_of, actions, action_at, are_dependent, IsDirectlyBefore, HappensBefore, directly, through, chip_at, event_at_place, IsRacingPair, IsContendedPass}
+use Rattle.ga_races.specs.Orders.{IsEnabled, AreReorderings, same, later, joined, IsRace, AreConflictingPasses}
+use Rattle.ga_races.specs.HappensBefore.{TraceAction, action_of, actions, action_at, are_dependent, IsDirectlyBefore, HappensBefore, directly, through, chip_at, event_at_place, IsRacingPair, IsContendedPass}
 use Rattle.ga_races.proofs.Independence.{replay_more, first_of, can_back, stays, apart-sym, touches_reader}
 use Rattle.ga_races.proofs.Orders.{is_some_of, enabled_after}
 use Rattle.ga_races.proofs.Exact.{replay_into}
@@ -26,27 +26,27 @@ use Rattle.ga_races.proofs.Before.{meets_some, reached, before_of, actions_into,
 
 -- ---- lists of actions
 
-any-append : (q : Action → Bool) (xs ys : List Action) → list_any q xs ≡ false → list_any q ys ≡ false → list_any q (xs ++ ys) ≡ false
+any-append : (q : TraceAction → Bool) (xs ys : List TraceAction) → list_any q xs ≡ false → list_any q ys ≡ false → list_any q (xs ++ ys) ≡ false
 any-append q [] ys a b = b
 any-append q (x ∷ xs) ys a b = let p = or_parts (q x) (list_any q xs) a in or_from (q x) (list_any q (xs ++ ys)) p.0 (any-append q xs ys p.1 b)
 
-first_action : List Action → Action → Action
+first_action : List TraceAction → TraceAction → TraceAction
 first_action [] a = a
 first_action (x ∷ xs) a = x
 
-other_actions : List Action → List Action
+other_actions : List TraceAction → List TraceAction
 other_actions [] = []
 other_actions (x ∷ xs) = xs
 
-first_same : (x y : Action) (xs ys : List Action) → x ∷ xs ≡ y ∷ ys → x ≡ y
+first_same : (x y : TraceAction) (xs ys : List TraceAction) → x ∷ xs ≡ y ∷ ys → x ≡ y
 unfolding first_action
-first_same x y xs ys h = ap (λ (z : List Action). first_action z x) h
+first_same x y xs ys h = ap (λ (z : List TraceAction). first_action z x) h
 
-others_same : (x y : Action) (xs ys : List Action) → x ∷ xs ≡ y ∷ ys → xs ≡ ys
+others_same : (x y : TraceAction) (xs ys : List TraceAction) → x ∷ xs ≡ y ∷ ys → xs ≡ ys
 unfolding other_actions
 others_same x y xs ys h = ap other_actions h
 
-reached-append : (xs ys held : List Action) (j : ℕ) → j < length xs → reached held (xs ++ ys) j ≡ reached held xs j
+reached-append : (xs ys held : List TraceAction) (j : ℕ) → j < length xs → reached held (xs ++ ys) j ≡ reached held xs j
 reached-append [] ys held j l = absurd (omega (arith, l))
 reached-append (x ∷ xs) ys held zero l = refl
 reached-append (x ∷ xs) ys held (suc j) l =
@@ -64,7 +64,7 @@ action_before (f ∷ fs) c ys (suc j) l = action_before fs (after c f).0 ys j (o
 -- ---- the sweep
 
 -- `e` comes as late as it can among the first events `xs`, without `post`: no action after it is of the kind `q`
-record IsSwept (c d : List NodeRecord) (e : Event) (xs post : List Event) (q : Action → Bool) : Type 0 where
+record IsSwept (c d : List NodeRecord) (e : Event) (xs post : List Event) (q : TraceAction → Bool) : Type 0 where
   before : List Event
   behind : List Event
   now : List NodeRecord
@@ -76,7 +76,7 @@ record IsSwept (c d : List NodeRecord) (e : Event) (xs post : List Event) (q : A
   kept : (n : ℕ) → touches e n ≡ true → record_at now n ≡ record_at c n
   order : AreReorderings c xs (before ++ e ∷ (behind ++ post))
 
-swept_over : (c d last : List NodeRecord) (e : Event) (fs : List Event) (y : Event) (zs post : List Event) (q : Action → Bool) → IsOver c d (e ∷ fs) y zs → Apart e y
+swept_over : (c d last : List NodeRecord) (e : Event) (fs : List Event) (y : Event) (zs post : List Event) (q : TraceAction → Bool) → IsOver c d (e ∷ fs) y zs → Apart e y
     → IsSwept (after c y).0 last e (e ∷ (fs ++ zs)) post q → IsSwept c last e (e ∷ (fs ++ y ∷ zs)) post q
 swept_over c d last e fs y zs post q o apart s = record {
   before = y ∷ s.before;
@@ -91,7 +91,7 @@ swept_over c d last e fs y zs post q o apart s = record {
   order = joined o.order (later o.can s.order);
 }
 
-swept_next : (c d last : List NodeRecord) (e : Event) (fs : List Event) (y : Event) (mid post : List Event) (q : Action → Bool) → IsEnabled c e → replay (after c e).0 fs ≡ Some d → IsEnabled d y
+swept_next : (c d last : List NodeRecord) (e : Event) (fs : List Event) (y : Event) (mid post : List Event) (q : TraceAction → Bool) → IsEnabled c e → replay (after c e).0 fs ≡ Some d → IsEnabled d y
     → list_any q (actions (after c e).0 fs) ≡ false
     → (b : Bool) → meets_some (actions c (e ∷ fs)) (action_of d y) ≡ b → (meets_some (actions c (e ∷ fs)) (action_of d y) ≡ true → q (action_of d y) ≡ false)
     → (replay (after c e).0 (fs ++ y ∷ []) ≡ Some (after d y).0 → list_any q (actions (after c e).0 (fs ++ y ∷ [])) ≡ false → meets_some (actions c (e ∷ fs)) (action_of d y) ≡ true
@@ -104,7 +104,7 @@ swept_next c d last e fs y mid post q can h cany none true is kind held spared =
     subst (λ (z : List Event). IsSwept c last e (e ∷ z) post q) (append_assoc fs (y ∷ []) (mid ++ post))
     (held (replay_into fs (y ∷ []) (after c e).0 d h ∙ replay_more d y [] cany)
     (ap (list_any q) all ∙ any-append q (actions (after c e).0 fs) (action_of d y ∷ []) none (or_from (q (action_of d y)) false (kind is) refl))
-    is (ap (λ (z : List Action). action_of c e ∷ z) all))
+    is (ap (λ (z : List TraceAction). action_of c e ∷ z) all))
 swept_next c d last e fs y mid post q can h cany none false is kind held spared =
     let o : IsOver c d (e ∷ fs) y (mid ++ post) = over (e ∷ fs) c d y (mid ++ post) (replay_more c e fs can ∙ h) cany is in
     let p = first_of (after c y).0 e fs (after d y).0 o.led in
@@ -113,7 +113,7 @@ swept_next c d last e fs y mid post q can h cany none false is kind held spared 
     (spared (after c y).0 p.can p.then
     (ap (list_any q) (others_same (action_of (after c y).0 e) (action_of c e) (actions (after (after c y).0 e).0 fs) (actions (after c e).0 fs) o.kept) ∙ none) is o.kept)
 
-swept : (mid : List Event) (c d last : List NodeRecord) (e : Event) (fs post : List Event) (q : Action → Bool) → IsEnabled c e → replay (after c e).0 fs ≡ Some d → replay d mid ≡ Some last
+swept : (mid : List Event) (c d last : List NodeRecord) (e : Event) (fs post : List Event) (q : TraceAction → Bool) → IsEnabled c e → replay (after c e).0 fs ≡ Some d → replay d mid ≡ Some last
     → list_any q (actions (after c e).0 fs) ≡ false
     → ((j : ℕ) → j < length mid → reached (actions c (e ∷ fs)) (actions d mid) j ≡ true → q (action_at (actions d mid) j) ≡ false)
     → IsSwept c last e (e ∷ (fs ++ (mid ++ post))) post q
@@ -135,9 +135,9 @@ swept (y ∷ mid) c d last e fs post q can h k none kind =
     let out_at : ℕ → Bool = λ j. reached (actions c (e ∷ fs)) (actions (after d y).0 mid) j in
     swept_next c d last e fs y mid post q can h p.can none (meets_some (actions c (e ∷ fs)) (action_of d y)) refl (kind 0 (omega arith))
     (λ more left is all. swept mid c (after d y).0 last e (fs ++ y ∷ []) post q can more p.then left
-    (λ j l t. kind (suc j) (omega (arith, l)) (ap (λ (b : Bool). cond b (yes_at j) (out_at j)) is ∙ sym (ap (λ (z : List Action). reached z (actions (after d y).0 mid) j) all) ∙ t)))
+    (λ j l t. kind (suc j) (omega (arith, l)) (ap (λ (b : Bool). cond b (yes_at j) (out_at j)) is ∙ sym (ap (λ (z : List TraceAction). reached z (actions (after d y).0 mid) j) all) ∙ t)))
     (λ now cane led left is all. swept mid now (after d y).0 last e fs post q cane led p.then left
-    (λ j l t. kind (suc j) (omega (arith, l)) (ap (λ (b : Bool). cond b (yes_at j) (out_at j)) is ∙ sym (ap (λ (z : List Action). reached z (actions (after d y).0 mid) j) all) ∙ t)))
+    (λ j l t. kind (suc j) (omega (arith, l)) (ap (λ (b : Bool). cond b (yes_at j) (out_at j)) is ∙ sym (ap (λ (z : List TraceAction). reached z (actions (after d y).0 mid) j) all) ∙ t)))
 
 -- what is reached from the first event happens after it
 reached_first : (c : List NodeRecord) (e : Event) (mid ys : List Event) (d : List NodeRecord) (j : ℕ) → replay (after c e).0 mid ≡ Some d → j < length mid → reached (actions c (e ∷ [])) (actions (after c e).0 mid) j ≡ true
@@ -145,7 +145,7 @@ reached_first : (c : List NodeRecord) (e : Event) (mid ys : List Event) (d : Lis
 reached_first c e mid ys d j h l t =
     let size : length (actions (after c e).0 mid) ≡ length mid = actions_length (after c e).0 mid in
     before_of (actions c (e ∷ (mid ++ ys))) 0 (suc j)
-    (ap (λ (z : List Action). reached (action_of c e ∷ []) z j) (actions_into mid ys (after c e).0 d h)
+    (ap (λ (z : List TraceAction). reached (action_of c e ∷ []) z j) (actions_into mid ys (after c e).0 d h)
     ∙ reached-append (actions (after c e).0 mid) (actions d ys) (action_of c e ∷ []) j (omega (arith, l, size)) ∙ t)
 
 -- ---- a list cut at a place
@@ -177,10 +177,10 @@ race_later c e es step other can r = record {
   bound = r.bound;
 }
 
-pub happens_later : (a : Action) (xs : List Action) (i j : ℕ) → HappensBefore xs i j → HappensBefore (a ∷ xs) (suc i) (suc j)
+pub happens_later : (a : TraceAction) (xs : List TraceAction) (i j : ℕ) → HappensBefore xs i j → HappensBefore (a ∷ xs) (suc i) (suc j)
 happens_later a xs i j (directly d) = directly (bound_later a xs i j d)
   where
-    bound_later : (a : Action) (xs : List Action) (i j : ℕ) → IsDirectlyBefore xs i j → IsDirectlyBefore (a ∷ xs) (suc i) (suc j)
+    bound_later : (a : TraceAction) (xs : List TraceAction) (i j : ℕ) → IsDirectlyBefore xs i j → IsDirectlyBefore (a ∷ xs) (suc i) (suc j)
     bound_later a xs i j d = let l : i < j = d.before in let m : j < length xs = d.within in record { before = omega (arith, l); within = omega (arith, m); bound = d.bound }
 happens_later a xs i j (through {middle} h d) =
     let l : middle < j = d.before in
@@ -216,7 +216,7 @@ near_first c last e mid y post h n =
     let b = begins mid (y ∷ post) (after c e).0 last p.then in
     let cany : IsEnabled b.0 y = enabled_after mid (after c e).0 b.0 y post b.1 (is_some_of (replay (after c e).0 (mid ++ y ∷ post)) last p.then) in
     let there : action_at (actions (after c e).0 (mid ++ y ∷ post)) (length mid) ≡ action_of b.0 y = action_there mid (after c e).0 b.0 y post b.1 in
-    near_split mid c b.0 last e y post p.can b.1 cany (λ k t. ap (λ (a : Action). touches a.cause.event k) (sym there) ∙ n.apart k t) (ap (are_dependent (action_of c e)) (sym there) ∙ n.bound.bound)
+    near_split mid c b.0 last e y post p.can b.1 cany (λ k t. ap (λ (a : TraceAction). touches a.cause.event k) (sym there) ∙ n.apart k t) (ap (are_dependent (action_of c e)) (sym there) ∙ n.bound.bound)
     (λ j l t. false_from_ne_true (are_dependent (action_at (actions (after c e).0 mid) j) (action_of b.0 y))
     (λ u. n.none (suc j) (reached_first c e mid (y ∷ post) b.0 j b.1 l t)
     (directly (record {
@@ -242,7 +242,7 @@ near_at_first c last e es j h n =
         near_first c last e mid y post (subst (λ (z : List Event). replay c (e ∷ z) ≡ Some last) is h)
         (subst₂ (λ (z : List Event) (k : ℕ). IsRacingPair c (e ∷ z) 0 (suc k)) is (sym size) n) in
         let b = begins mid (y ∷ post) (after c e).0 last ((first_of c e (mid ++ y ∷ post) last (subst (λ (z : List Event). replay c (e ∷ z) ≡ Some last) is h)).then) in
-        let there : event_at_place c (e ∷ (mid ++ y ∷ post)) (suc (length mid)) ≡ y = ap (λ (a : Action). a.cause.event) (action_there mid (after c e).0 b.0 y post b.1) in
+        let there : event_at_place c (e ∷ (mid ++ y ∷ post)) (suc (length mid)) ≡ y = ap (λ (a : TraceAction). a.cause.event) (action_there mid (after c e).0 b.0 y post b.1) in
         subst₂ (λ (z : List Event) (k : ℕ). IsRace c (e ∷ z) e (event_at_place c (e ∷ z) (suc k))) (sym is) size
         (subst (IsRace c (e ∷ (mid ++ y ∷ post)) e) (sym there) found)
 
@@ -269,15 +269,15 @@ near_races (e ∷ es) c last (suc i) (suc j) h n =
 can_pass : (c : List NodeRecord) (w r : NodeId) (side : Side) → neighbour_of w.number side ≡ Some r.number → waits_to_write_side (record_at c w.number).wait side ≡ true → waits_to_read_side (record_at c r.number).wait side ≡ true → IsEnabled c (Pass w r side)
 can_pass c w r side near writes reads =
     let neighbour_on_side : equals_some (neighbour_of w.number side) r.number ≡ true = ap (λ o. equals_some o r.number) near ∙ eq-eqb r.number r.number refl in
-    ap unmatched_unless (and_from (equals_some (neighbour_of w.number side) r.number && waits_to_write_side (record_at c w.number).wait side) (waits_to_read_side (record_at c r.number).wait side)
+    ap refusal_unless_matched (and_from (equals_some (neighbour_of w.number side) r.number && waits_to_write_side (record_at c w.number).wait side) (waits_to_read_side (record_at c r.number).wait side)
     (and_from (equals_some (neighbour_of w.number side) r.number) (waits_to_write_side (record_at c w.number).wait side) neighbour_on_side writes) reads)
 
 -- a node that no event of a list touches
-untouched_run : (fs : List Event) (c d : List NodeRecord) (n : ℕ) → replay c fs ≡ Some d → list_any (λ (a : Action). touches a.cause.event n) (actions c fs) ≡ false → record_at c n ≡ record_at d n
+untouched_run : (fs : List Event) (c d : List NodeRecord) (n : ℕ) → replay c fs ≡ Some d → list_any (λ (a : TraceAction). touches a.cause.event n) (actions c fs) ≡ false → record_at c n ≡ record_at d n
 untouched_run [] c d n h none = ap (λ z. record_at z n) (same_Some c d h)
 untouched_run (f ∷ fs) c d n h none =
     let p = first_of c f fs d h in
-    let q = or_parts (touches f n) (list_any (λ (a : Action). touches a.cause.event n) (actions (after c f).0 fs)) none in
+    let q = or_parts (touches f n) (list_any (λ (a : TraceAction). touches a.cause.event n) (actions (after c f).0 fs)) none in
     (stays c f p.can).same n q.0 ∙ untouched_run fs (after c f).0 d n p.then q.1
 
 pub writer_apart : (w r x : NodeId) (side other : Side) → w.number ≢ x.number → neighbour_of x.number other ≡ Some r.number → touches (Pass w r side) x.number ≡ false
@@ -285,7 +285,7 @@ writer_apart w r x side other ne near =
     or_from (w.number == x.number) ((r.number == x.number) || false) (ne_eqb w.number x.number ne)
     (or_from (r.number == x.number) false (ne_eqb r.number x.number (neighbour_of-other x.number r.number other near)) refl)
 
-contended_split : (mid : List Event) (c d last : List NodeRecord) (e other : Event) (post : List Event) (rivals : AreConflicting e other) → IsEnabled c e → replay (after c e).0 mid ≡ Some d
+contended_split : (mid : List Event) (c d last : List NodeRecord) (e other : Event) (post : List Event) (rivals : AreConflictingPasses e other) → IsEnabled c e → replay (after c e).0 mid ≡ Some d
     → neighbour_of rivals.second.number rivals.other ≡ Some rivals.reader.number → waits_to_read_side (record_at c rivals.reader.number).wait rivals.other ≡ true → waits_to_write_side (record_at d rivals.second.number).wait rivals.other ≡ true
     → ((j : ℕ) → j < length mid → reached (actions c (e ∷ [])) (actions (after c e).0 mid) j ≡ true → touches (action_at (actions (after c e).0 mid) j).cause.event rivals.second.number ≡ false)
     → IsRace c (e ∷ (mid ++ post)) e other
@@ -321,7 +321,7 @@ abbrev IsPosted : List NodeRecord → Event → ℕ → Side → List Event → 
 IsPosted c e x side es k = (waits_to_write_side (record_at (chip_at c (e ∷ es) k) x).wait side ≡ true)
     × ((step : ℕ) → step < k → touches (event_at_place c (e ∷ es) step) x ≡ true → HappensBefore (actions c (e ∷ es)) 0 step → ⊥)
 
-contended_mid : (c last : List NodeRecord) (e : Event) (mid post : List Event) (other : Event) (rivals : AreConflicting e other) → replay c (e ∷ (mid ++ post)) ≡ Some last
+contended_mid : (c last : List NodeRecord) (e : Event) (mid post : List Event) (other : Event) (rivals : AreConflictingPasses e other) → replay c (e ∷ (mid ++ post)) ≡ Some last
     → neighbour_of rivals.second.number rivals.other ≡ Some rivals.reader.number → waits_to_read_side (record_at c rivals.reader.number).wait rivals.other ≡ true
     → IsPosted c e rivals.second.number rivals.other (mid ++ post) (suc (length mid)) → IsRace c (e ∷ (mid ++ post)) e other
 contended_mid c last e mid post other rivals h near reads posted =
@@ -330,10 +330,10 @@ contended_mid c last e mid post other rivals h near reads posted =
     contended_split mid c b.0 last e other post rivals p.can b.1 near reads
     (ap (λ (z : List NodeRecord). waits_to_write_side (record_at z rivals.second.number).wait rivals.other) (sym (chip_there mid (after c e).0 b.0 post b.1)) ∙ posted.0)
     (λ j l t. false_from_ne_true (touches (action_at (actions (after c e).0 mid) j).cause.event rivals.second.number)
-    (λ u. posted.1 (suc j) (omega (arith, l)) (ap (λ (a : Action). touches a.cause.event rivals.second.number) (action_before mid (after c e).0 post j l) ∙ u)
+    (λ u. posted.1 (suc j) (omega (arith, l)) (ap (λ (a : TraceAction). touches a.cause.event rivals.second.number) (action_before mid (after c e).0 post j l) ∙ u)
     (reached_first c e mid post b.0 j b.1 l t)))
 
-contended_now : (c : List NodeRecord) (e : Event) (es : List Event) (other : Event) (rivals : AreConflicting e other)
+contended_now : (c : List NodeRecord) (e : Event) (es : List Event) (other : Event) (rivals : AreConflictingPasses e other)
     → neighbour_of rivals.second.number rivals.other ≡ Some rivals.reader.number → waits_to_read_side (record_at c rivals.reader.number).wait rivals.other ≡ true
     → waits_to_write_side (record_at c rivals.second.number).wait rivals.other ≡ true → IsRace c (e ∷ es) e other
 contended_now c e es other rivals near reads writes =
@@ -350,7 +350,7 @@ contended_now c e es other rivals near reads writes =
           (ap (λ (z : Event). touches z r) rivals.two ∙ touches_reader rivals.second rivals.reader rivals.other);
     }
 
-contended_first : (c last : List NodeRecord) (e : Event) (es : List Event) (other : Event) (rivals : AreConflicting e other) (k : ℕ) → replay c (e ∷ es) ≡ Some last → k ≤ length (e ∷ es)
+contended_first : (c last : List NodeRecord) (e : Event) (es : List Event) (other : Event) (rivals : AreConflictingPasses e other) (k : ℕ) → replay c (e ∷ es) ≡ Some last → k ≤ length (e ∷ es)
     → neighbour_of rivals.second.number rivals.other ≡ Some rivals.reader.number → waits_to_read_side (record_at c rivals.reader.number).wait rivals.other ≡ true
     → IsPosted c e rivals.second.number rivals.other es k → IsRace c (e ∷ es) e other
 contended_first c last e es other rivals zero h l near reads posted = contended_now c e es other rivals near reads posted.0
@@ -360,7 +360,7 @@ contended_first c last e es other rivals (suc k) h l near reads posted =
     (contended_mid c last e s.mid s.post other rivals (subst (λ (z : List Event). replay c (e ∷ z) ≡ Some last) s.is h) near reads
     (subst₂ (λ (z : List Event) (n : ℕ). IsPosted c e rivals.second.number rivals.other z (suc n)) s.is (sym s.size) posted))
 
-contended_at : (es : List Event) (c last : List NodeRecord) (i k : ℕ) (other : Event) (rivals : AreConflicting (event_at_place c es i) other) → replay c es ≡ Some last → i < length es → i ≤ k → k ≤ length es
+contended_at : (es : List Event) (c last : List NodeRecord) (i k : ℕ) (other : Event) (rivals : AreConflictingPasses (event_at_place c es i) other) → replay c es ≡ Some last → i < length es → i ≤ k → k ≤ length es
     → neighbour_of rivals.second.number rivals.other ≡ Some rivals.reader.number → waits_to_read_side (record_at (chip_at c es i) rivals.reader.number).wait rivals.other ≡ true
     → waits_to_write_side (record_at (chip_at c es k) rivals.second.number).wait rivals.other ≡ true
     → ((step : ℕ) → step < k → touches (event_at_place c es step) rivals.second.number ≡ true → HappensBefore (actions c es) i step → ⊥)

@@ -10,7 +10,7 @@ use Rattle.ga_event.specs.Told.{count_steps}
 use Rattle.ga_causal.specs.Words.{local_history_with_reads}
 use Rattle.ga_causal.proofs.Words.{same_node}
 use Rattle.ga_races.specs.Orders.{AreReorderings}
-use Rattle.ga_races.specs.HappensBefore.{Action, actions, action_at, chip_at}
+use Rattle.ga_races.specs.HappensBefore.{TraceAction, actions, action_at, chip_at}
 use Rattle.ga_races.proofs.Orders.{order_replay, order_read, steps_read}
 use Rattle.ga_races.proofs.Exact.{read_into, Entry}
 use Rattle.ga_races.proofs.Moves.{tally}
@@ -31,7 +31,7 @@ pub tally_total : (n : ℕ) (fs : List Event) (c : List NodeRecord) → tally n 
 tally_total n [] c = refl
 tally_total n (f ∷ fs) c = ap (λ (z : ℕ). cond (touches f n) 1 0 + z) (tally_total n fs (after c f).0) ∙ sym (sum_by-cons (λ (x : Event). cond (touches x n) 1 0) f fs)
 
-tally_zero : (n : ℕ) (xs : List Action) → tally n xs 0 ≡ 0
+tally_zero : (n : ℕ) (xs : List TraceAction) → tally n xs 0 ≡ 0
 tally_zero n [] = refl
 tally_zero n (a ∷ xs) = refl
 
@@ -64,7 +64,7 @@ record_same c last xs ys n i p h order l m same_count =
 
 -- ---- the places of a node's steps
 
-pub tally_up : (n : ℕ) (xs : List Action) (i j : ℕ) → i ≤ j → tally n xs i ≤ tally n xs j
+pub tally_up : (n : ℕ) (xs : List TraceAction) (i j : ℕ) → i ≤ j → tally n xs i ≤ tally n xs j
 tally_up n [] i j l = omega arith
 tally_up n (a ∷ xs) zero j l = let z : tally n (a ∷ xs) 0 ≡ 0 = refl in omega arith
 tally_up n (a ∷ xs) (suc i) zero l = absurd (omega (arith, l))
@@ -74,7 +74,7 @@ tally_up n (a ∷ xs) (suc i) (suc j) l = more (cond (touches a.cause.event n) 1
     more x y z h = omega (arith, h)
 
 -- a place after exactly `a` steps of the node
-pub between : (n : ℕ) (xs : List Action) (i a : ℕ) → i ≤ length xs → tally n xs i ≤ a → a ≤ tally n xs (length xs) → (k : ℕ) × (i ≤ k) × (k ≤ length xs) × (tally n xs k ≡ a)
+pub between : (n : ℕ) (xs : List TraceAction) (i a : ℕ) → i ≤ length xs → tally n xs i ≤ a → a ≤ tally n xs (length xs) → (k : ℕ) × (i ≤ k) × (k ≤ length xs) × (tally n xs k ≡ a)
 between n [] i a l low high = (i, omega arith, l, omega (arith, low, high))
 between n (x ∷ xs) zero a l low high = go a (touches x.cause.event n) refl low high (between n xs 0)
   where
@@ -108,14 +108,14 @@ between n (x ∷ xs) (suc i) a l low high = go a (touches x.cause.event n) refl 
         (suc r.0, omega (arith, j), omega (arith, m), ap (λ (b : Bool). cond b 1 0 + tally n xs r.0) is ∙ (let e : tally n xs r.0 ≡ a = r.3 in let g : 0 + tally n xs r.0 ≡ a = omega (arith, e) in g))
 
 -- the step of the node after exactly `a` of its steps
-pub record IsBelow (n : ℕ) (xs : List Action) (i a : ℕ) : Type 0 where
+pub record IsBelow (n : ℕ) (xs : List TraceAction) (i a : ℕ) : Type 0 where
   pub at : ℕ
   pub before : at < i
   pub within : at < length xs
   pub touched : touches (action_at xs at).cause.event n ≡ true
   pub is : tally n xs at ≡ a
 
-pub below : (n : ℕ) (xs : List Action) (i a : ℕ) → a < tally n xs i → IsBelow n xs i a
+pub below : (n : ℕ) (xs : List TraceAction) (i a : ℕ) → a < tally n xs i → IsBelow n xs i a
 below n [] i a l = absurd (omega (arith, l))
 below n (x ∷ xs) zero a l = absurd (omega (arith, l))
 below n (x ∷ xs) (suc i) a l = go a (touches x.cause.event n) refl l (below n xs i)

@@ -14,7 +14,7 @@ use Rattle.ga_event.specs.declared.event.Event.TheVariants.{Own, Pass}
 use Rattle.ga_races.specs.declared.act.EventAccess.{EventAccess}
 use Rattle.ga_races.specs.declared.act.SideSet.{SideSet}
 use Rattle.ga_races.specs.declared.racing_pairs.RacingPair.{RacingPair}
-use Rattle.ga_races.specs.HappensBefore.{Action, action_at, AreRacing}
+use Rattle.ga_races.specs.HappensBefore.{TraceAction, action_at, AreRacing}
 
 -- ---- sets of nodes of the chip, one within another
 
@@ -49,10 +49,10 @@ abbrev pub changes_shown_to : Event → SideSet → SideSet → ℕ → Bool
 changes_shown_to (Own m) first second n = has_side_to first m.number n
 changes_shown_to (Pass w r side) first second n = has_side_to first w.number n || has_side_to second r.number n
 
-abbrev pub action_of_access : EventAccess → Action
+abbrev pub action_of_access : EventAccess → TraceAction
 action_of_access act = record { cause = act.cause; changes = λ n. changes_shown_to act.cause.event act.first act.second n }
 
-abbrev pub actions_of_accesses : List EventAccess → List Action
+abbrev pub actions_of_accesses : List EventAccess → List TraceAction
 actions_of_accesses acts = map action_of_access acts
 
 abbrev pub is_own_event_of : Event → ℕ → Bool
@@ -60,12 +60,12 @@ is_own_event_of (Own m) n = m.number == n
 is_own_event_of (Pass w r side) n = false
 
 -- the action is a look of the node
-abbrev pub is_look_of : Action → ℕ → Bool
-is_look_of action n = action.cause.look && is_own_event_of action.cause.event n
+abbrev pub is_look_of_node : TraceAction → ℕ → Bool
+is_look_of_node action n = action.cause.look && is_own_event_of action.cause.event n
 
 -- At the two places are a look of a node and a change of what is shown to it, and they are a racing pair, in whichever order.
 pub record IsRacingLook (acts : List EventAccess) (near : RacingPair) : Type 0 where
   pub node : ℕ
-  pub look : is_look_of (action_at (actions_of_accesses acts) near.look) node ≡ true
+  pub look : is_look_of_node (action_at (actions_of_accesses acts) near.look) node ≡ true
   pub change : (action_at (actions_of_accesses acts) near.change).changes node ≡ true
   pub order : AreRacing (actions_of_accesses acts) near.look near.change ⊎ AreRacing (actions_of_accesses acts) near.change near.look

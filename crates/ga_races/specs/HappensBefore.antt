@@ -17,15 +17,15 @@ use Rattle.ga_event.specs.declared.event.Cause.{Cause}
 use Rattle.ga_event.specs.Touches.{touches}
 use Rattle.ga_causal.specs.Dependence.{touched_nodes, cause_touches, default_cause}
 use Rattle.ga_causal.specs.Steps.{count_touching_events, IsKthStep}
-use Rattle.ga_races.specs.Orders.{AreConflicting}
+use Rattle.ga_races.specs.Orders.{AreConflictingPasses}
 
 -- ---- nodes at which an event can change what the next event is: those that it touches and their neighbours (F18A Technology
 -- Reference DB001, ports; G144A12 Chip Reference DB002, links). A node's next event depends on its own wait and stop and on the
 -- waits of its neighbours.
 
 -- whether the node of this number is marked or has a marked neighbour
-abbrev pub IsMarkedOrBeside : (ℕ → Bool) → ℕ → Type 0
-IsMarkedOrBeside marks n = (t : ℕ) × (marks t ≡ true) × ((n ≡ t) ⊎ ((side : Side) × (neighbour_of t side ≡ Some n)))
+abbrev pub IsMarkedOrNeighbour : (ℕ → Bool) → ℕ → Type 0
+IsMarkedOrNeighbour marks n = (t : ℕ) × (marks t ≡ true) × ((n ≡ t) ⊎ ((side : Side) × (neighbour_of t side ≡ Some n)))
 
 -- the nodes of these numbers are neighbours
 abbrev pub are_neighbours : ℕ → ℕ → Bool
@@ -34,62 +34,62 @@ are_neighbours n m =
 
 -- an event as it was made (a symbol of a trace's alphabet): with whether it looked, and the nodes to which it changed what
 -- their neighbours show
-pub record Action : Type 0 where
+pub record TraceAction : Type 0 where
   pub cause : Cause
   pub changes : ℕ → Bool
 
 -- the event, with whether it looks, and the nodes that would read another word in `io` after it than before it
-abbrev pub action_of : List NodeRecord → Event → Action
+abbrev pub action_of : List NodeRecord → Event → TraceAction
 action_of chip event = record {
   cause = cause_of chip event;
   changes = λ n. not (io_word (neighbour_states (after chip event).0 n) == io_word (neighbour_states chip n));
 }
 
 -- the events of a list that can be made, each as it is made
-abbrev pub actions : List NodeRecord → List Event → List Action
+abbrev pub actions : List NodeRecord → List Event → List TraceAction
 actions chip [] = []
 actions chip (event ∷ events) = action_of chip event ∷ actions (after chip event).0 events
 
-abbrev pub causes_of_actions : List Action → List Cause
-causes_of_actions actions = map (λ (action : Action). action.cause) actions
+abbrev pub causes_of_actions : List TraceAction → List Cause
+causes_of_actions actions = map (λ (action : TraceAction). action.cause) actions
 
 -- the action that is read past the end of a list
-abbrev pub no_action : Action
-no_action = record { cause = default_cause; changes = λ n. false }
+abbrev pub default_action : TraceAction
+default_action = record { cause = default_cause; changes = λ n. false }
 
-abbrev pub action_at : List Action → ℕ → Action
-action_at actions place = slice_index_or actions place no_action
+abbrev pub action_at : List TraceAction → ℕ → TraceAction
+action_at actions place = slice_index_or actions place default_action
 
 -- the first action is a look, and the second changes what is shown to it
-abbrev pub is_look_changed_by : Action → Action → Bool
+abbrev pub is_look_changed_by : TraceAction → TraceAction → Bool
 is_look_changed_by look change = look.cause.look && list_any change.changes (touched_nodes look.cause)
 
 -- Whether two actions touch a common node, or one is a look and the other changes what is shown to it, in whichever order: the
 -- dependence of a trace's symbols. Neighbours in a list are so exactly if they are not independent (law `happens_before`).
-abbrev pub are_dependent : Action → Action → Bool
+abbrev pub are_dependent : TraceAction → TraceAction → Bool
 are_dependent first second =
     list_any (cause_touches first.cause) (touched_nodes second.cause) || (is_look_changed_by first second || is_look_changed_by second first)
 
 -- whether the action at the place `later` depends directly on the one at the place `earlier`
-pub record IsDirectlyBefore (actions : List Action) (earlier later : ℕ) : Type 0 where
+pub record IsDirectlyBefore (actions : List TraceAction) (earlier later : ℕ) : Type 0 where
   pub before : earlier < later
   pub within : later < length actions
   pub bound : are_dependent (action_at actions earlier) (action_at actions later) ≡ true
 
 -- the action at one place happens before that at another: the least transitive relation that contains `IsDirectlyBefore`
-pub data HappensBefore (actions : List Action) (first : ℕ) : ℕ → Type 0 where
+pub data HappensBefore (actions : List TraceAction) (first : ℕ) : ℕ → Type 0 where
   directly : {later : ℕ} → IsDirectlyBefore actions first later → HappensBefore actions first later
   through : {middle later : ℕ} → HappensBefore actions first middle → IsDirectlyBefore actions middle later → HappensBefore actions first later
 
 -- the action at the place is the k-th that touches the node: the node's step k
-abbrev pub IsStepOf : List NodeRecord → List Event → ℕ → ℕ → ℕ → Type 0
-IsStepOf chip events n k place = IsKthStep (causes_of_actions (actions chip events)) n k place
+abbrev pub IsStepOfNode : List NodeRecord → List Event → ℕ → ℕ → ℕ → Type 0
+IsStepOfNode chip events n k place = IsKthStep (causes_of_actions (actions chip events)) n k place
 
 -- whether, in another order of a list, the event at the place `first` comes before the one at the place `later`: each is a step
 -- there of the same number of each of its nodes
-abbrev pub IsEarlierIn : List NodeRecord → List Event → List Event → ℕ → ℕ → Type 0
-IsEarlierIn chip events others first later = (n k m l p q : ℕ) → IsStepOf chip events n k first → IsStepOf chip events m l later
-    → IsStepOf chip others n k p → IsStepOf chip others m l q → p < q
+abbrev pub IsEarlierInReordering : List NodeRecord → List Event → List Event → ℕ → ℕ → Type 0
+IsEarlierInReordering chip events others first later = (n k m l p q : ℕ) → IsStepOfNode chip events n k first → IsStepOfNode chip events m l later
+    → IsStepOfNode chip others n k p → IsStepOfNode chip others m l q → p < q
 
 -- the chip after `place` of the events
 abbrev pub chip_at : List NodeRecord → List Event → ℕ → List NodeRecord
@@ -101,7 +101,7 @@ abbrev pub event_at_place : List NodeRecord → List Event → ℕ → Event
 event_at_place chip events place = (action_at (actions chip events) place).cause.event
 
 -- Two dependent actions that touch no common node, and between which nothing happens.
-pub record AreRacing (actions : List Action) (first later : ℕ) : Type 0 where
+pub record AreRacing (actions : List TraceAction) (first later : ℕ) : Type 0 where
   pub bound : IsDirectlyBefore actions first later
   pub apart : (n : ℕ) → touches (action_at actions first).cause.event n ≡ true → touches (action_at actions later).cause.event n ≡ false
   pub none : (middle : ℕ) → HappensBefore actions first middle → HappensBefore actions middle later → ⊥
@@ -113,7 +113,7 @@ IsRacingPair chip events first later = AreRacing (actions chip events) first lat
 -- The event at the place is a pass, and another writer could have been there first: the reader waits for it too, and after
 -- `posted` events, none of which is a step of this writer that happens after the pass, it waits to write to the reader.
 pub record IsContendedPass (chip : List NodeRecord) (events : List Event) (place : ℕ) (other : Event) : Type 0 where
-  pub rivals : AreConflicting (event_at_place chip events place) other
+  pub rivals : AreConflictingPasses (event_at_place chip events place) other
   pub stands : place < length events
   pub posted : ℕ
   pub before : place ≤ posted
@@ -127,16 +127,16 @@ pub record IsContendedPass (chip : List NodeRecord) (events : List Event) (place
 -- The clock of the place has of each node how many of its steps happen before the action there or are it (the vector clocks of Fidge,
 -- "Timestamps in message-passing systems that preserve the partial ordering", 1988, and Mattern, "Virtual time and global states of
 -- distributed systems", 1989).
-abbrev pub IsClock : List Action → ℕ → (ℕ → ℕ) → Type 0
-IsClock actions place clock = (n k step : ℕ) → IsKthStep (causes_of_actions actions) n k step
+abbrev pub IsVectorClock : List TraceAction → ℕ → (ℕ → ℕ) → Type 0
+IsVectorClock actions place clock = (n k step : ℕ) → IsKthStep (causes_of_actions actions) n k step
     → (k ≤ clock n ↔ ((step ≡ place) ⊎ HappensBefore actions step place))
 
 -- the greatest number that one of some clocks has for a node; each clock is paired with its place
-abbrev pub joined : List (ℕ × (ℕ → ℕ)) → ℕ → ℕ
-joined [] n = 0
-joined (known ∷ others) n = max (known.1 n) (joined others n)
+abbrev pub joined_clock : List (ℕ × (ℕ → ℕ)) → ℕ → ℕ
+joined_clock [] n = 0
+joined_clock (known ∷ others) n = max (known.1 n) (joined_clock others n)
 
 -- the clock of a place made of clocks of earlier ones: of a node that the action touches its own step there
-abbrev pub merged_clock : List Action → ℕ → List (ℕ × (ℕ → ℕ)) → ℕ → ℕ
-merged_clock actions place known n =
-    if cause_touches (action_at actions place).cause n then count_touching_events n (take (place + 1) (causes_of_actions actions)) else joined known n
+abbrev pub clock_at_place : List TraceAction → ℕ → List (ℕ × (ℕ → ℕ)) → ℕ → ℕ
+clock_at_place actions place known n =
+    if cause_touches (action_at actions place).cause n then count_touching_events n (take (place + 1) (causes_of_actions actions)) else joined_clock known n

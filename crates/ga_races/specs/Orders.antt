@@ -29,8 +29,8 @@ abbrev pub IsEnabled : List NodeRecord → Event → Type 0
 IsEnabled chip event = refusal_of chip event ≡ None
 
 -- whether no event is enabled on the chip
-abbrev pub IsTerminal : List NodeRecord → Type 0
-IsTerminal chip = (event : Event) → IsEnabled chip event → ⊥
+abbrev pub IsTerminalChip : List NodeRecord → Type 0
+IsTerminalChip chip = (event : Event) → IsEnabled chip event → ⊥
 
 -- Two events touch no common node, and to each comes the same word from outside (in a pass, in `io`) where the other is made first.
 pub record AreIndependentOn (chip : List NodeRecord) (e f : Event) : Type 0 where
@@ -65,7 +65,7 @@ abbrev pub HasNoRace : List NodeRecord → List Event → Type 0
 HasNoRace chip events = (step other : Event) → IsRace chip events step other → ⊥
 
 -- two passes to one reader, from two writers, over two sides
-pub record AreConflicting (e f : Event) : Type 0 where
+pub record AreConflictingPasses (e f : Event) : Type 0 where
   pub first : NodeId
   pub second : NodeId
   pub reader : NodeId

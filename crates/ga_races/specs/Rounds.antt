@@ -12,20 +12,20 @@ use Rattle.ga_event.specs.Apply.{replay}
 use Rattle.ga_event.specs.Told.{count_steps}
 
 -- whether the event transfers no word to or from the node
-abbrev pub IsNoTransferWith : ℕ → Event → Type 0
-IsNoTransferWith n (Own a) = Unit {0}
-IsNoTransferWith n (Pass w r side) = touches (Pass w r side) n ≡ false
+abbrev pub IsNoTransferWithNode : ℕ → Event → Type 0
+IsNoTransferWithNode n (Own a) = Unit {0}
+IsNoTransferWithNode n (Pass w r side) = touches (Pass w r side) n ≡ false
 
 -- the events that don't touch the node
-abbrev pub events_without : ℕ → List Event → List Event
-events_without n events = filter (λ e. not (touches e n)) events
+abbrev pub events_without_node : ℕ → List Event → List Event
+events_without_node n events = filter (λ e. not (touches e n)) events
 
 -- On the chip, the node's events in the list are its own, and lead back to its record before them. Events of other nodes may be
 -- in between.
 pub record IsPollingRound (chip : List NodeRecord) (n : ℕ) (events : List Event) : Type 0 where
   pub last : List NodeRecord
   pub led : replay chip events ≡ Some last
-  pub own : All (IsNoTransferWith n) events
+  pub own : All (IsNoTransferWithNode n) events
   pub back : record_at last n ≡ record_at chip n
 
 -- no node makes a round in the list

@@ -2,12 +2,12 @@
 use Rattle.std.specs.Prelude.{◌≡◌, ◌<◌, ◌≤◌, ◌⊎◌, ◌&&◌, ℕ, Bool, true, List, Contains, ◌==◌, not, length, false, ◌||◌, Option, Some, None, is_some}
 use Rattle.ga_ports.specs.declared.side.Side.{Side}
 use Rattle.ga_grid.specs.Grid.{neighbour_of}
-use Rattle.ga_event.specs.Apply.{equals_some, shown_state, waits_to_write_side, waits_to_read_side}
+use Rattle.ga_event.specs.Apply.{equals_some, shown_wait_state, waits_to_write_side, waits_to_read_side}
 use Rattle.ga_races.specs.declared.act.EventAccess.{EventAccess}
 use Rattle.ga_races.specs.declared.act.SideSet.{SideSet}
 use Rattle.ga_races.specs.declared.racing_pairs.RacingPair.{RacingPair}
-use Rattle.ga_races.specs.HappensBefore.{action_at, Action, are_dependent, HappensBefore}
-use Rattle.ga_races.specs.Acts.{has_side_to, actions_of_accesses, is_look_of, IsRacingLook, awaits}
+use Rattle.ga_races.specs.HappensBefore.{action_at, TraceAction, are_dependent, HappensBefore}
+use Rattle.ga_races.specs.Acts.{has_side_to, actions_of_accesses, is_look_of_node, IsRacingLook, awaits}
 use Rattle.ga_ports.specs.declared.side.Side.TheVariants.{Right, Down, Left, Up}
 use Rattle.ga_node.specs.declared.seen.NeighbourState.{NeighbourState}
 use Rattle.ga_node.specs.declared.seen.NeighbourState.TheVariants.{Nobody, Idle, Reading, Writing}
@@ -41,7 +41,7 @@ OfLook look from near = (near.look ≡ look) × (near.change < look) × (from �
 -- whether the change is at this place, and before it a look of the node
 abbrev pub OfChange : List EventAccess → ℕ → ℕ → RacingPair → Type 0
 OfChange acts change n near =
-    (near.change ≡ change) × (near.look < change) × (is_look_of (action_at (actions_of_accesses acts) near.look) n ≡ true)
+    (near.change ≡ change) × (near.look < change) × (is_look_of_node (action_at (actions_of_accesses acts) near.look) n ≡ true)
 
 -- whether the change is at this place, and before it a look of the neighbour on a side of a node, if `has` is true
 abbrev pub OverSide : List EventAccess → ℕ → ℕ → Side → Bool → RacingPair → Type 0
@@ -61,7 +61,7 @@ BelowPlace place near = (near.look < place) × (near.change < place)
 
 -- each node that looks before the place is marked
 abbrev pub LooksAreMarked : List EventAccess → ℕ → (ℕ → Bool) → Type 0
-LooksAreMarked acts place marks = (q n : ℕ) → q < place → is_look_of (action_at (actions_of_accesses acts) q) n ≡ true → marks n ≡ true
+LooksAreMarked acts place marks = (q n : ℕ) → q < place → is_look_of_node (action_at (actions_of_accesses acts) q) n ≡ true → marks n ≡ true
 
 -- ---- on which sides of a node what it shows there changes
 
@@ -74,7 +74,7 @@ shown_as Writing = 2
 
 -- a node that waited so, and then so, shows something else on the side
 abbrev pub is_changed : Wait → Wait → Side → Bool
-is_changed before behind side = not (shown_as (shown_state before side) == shown_as (shown_state behind side))
+is_changed before behind side = not (shown_as (shown_wait_state before side) == shown_as (shown_wait_state behind side))
 
 abbrev pub changed_sides : Wait → Wait → SideSet
 changed_sides before behind = record {
@@ -92,7 +92,7 @@ HasChangedSides c d act (Pass w r side) =
     × (act.second ≡ changed_sides (record_at c r.number).wait (record_at d r.number).wait)
 
 -- two lists have the same causes, which change what is shown to the same nodes of the chip
-pub record AreAlike (xs ys : List Action) : Type 0 where
+pub record AreAlike (xs ys : List TraceAction) : Type 0 where
   pub size : length xs ≡ length ys
   pub cause : (i : ℕ) → i < length xs → (action_at xs i).cause ≡ (action_at ys i).cause
   pub changes : (i n : ℕ) → i < length xs → n < 144 → (action_at xs i).changes n ≡ (action_at ys i).changes n
@@ -133,13 +133,13 @@ shows_marked marks sides m =
 -- ---- what one pass over a list finds of what happens after one of its actions
 
 -- the action touches the node; in `has_shown` it changes what is shown to the node, in `has_looked` it is a look that touches the node
-abbrev pub has_touched : Action → ℕ → Bool
+abbrev pub has_touched : TraceAction → ℕ → Bool
 has_touched action n = touches action.cause.event n
 
-abbrev pub has_shown : Action → ℕ → Bool
+abbrev pub has_shown : TraceAction → ℕ → Bool
 has_shown action n = action.changes n
 
-abbrev pub has_looked : Action → ℕ → Bool
+abbrev pub has_looked : TraceAction → ℕ → Bool
 has_looked action n = action.cause.look && touches action.cause.event n
 
 -- an event whose nodes change on these sides what they show, shows something else to a marked node
@@ -154,17 +154,17 @@ is_met touched shown looked act =
     || ((act.cause.look && list_any shown (touched_nodes act.cause)) || is_shown_to looked act.cause.event act.first act.second)
 
 -- the action at the place is the first, or that happens before it
-abbrev pub IsOnward : List Action → ℕ → ℕ → Type 0
+abbrev pub IsOnward : List TraceAction → ℕ → ℕ → Type 0
 IsOnward actions first place = (first ≡ place) ⊎ HappensBefore actions first place
 
 -- the marked nodes are those that the reached actions before a place have
-pub record AreMarked (actions : List Action) (first place : ℕ) (has : Action → ℕ → Bool) (marks : ℕ → Bool) : Type 0 where
+pub record AreMarked (actions : List TraceAction) (first place : ℕ) (has : TraceAction → ℕ → Bool) (marks : ℕ → Bool) : Type 0 where
   pub some : (n : ℕ) → marks n ≡ true → (m : ℕ) × (m < place) × IsOnward actions first m × (has (action_at actions m) n ≡ true)
   pub all : (m n : ℕ) → m < place → IsOnward actions first m → has (action_at actions m) n ≡ true → marks n ≡ true
 
 -- the three sets have the nodes that the reached actions before a place touch, change what is shown to, and look in; of these
 -- actions only the first can be dependent with the one at the place `later`
-pub record AreReached (actions : List Action) (first later place : ℕ) (one two three : ℕ → Bool) : Type 0 where
+pub record AreReached (actions : List TraceAction) (first later place : ℕ) (one two three : ℕ → Bool) : Type 0 where
   pub touched : AreMarked actions first place has_touched one
   pub shown : AreMarked actions first place has_shown two
   pub looked : AreMarked actions first place has_looked three

@@ -6,7 +6,7 @@ ghost use Rattle.ga_causal.specs.Dependence.{is_marked};
 ghost use Rattle.ga_races.specs.Acts.{AreDeadlocked, awaits, IsSubset};
 ghost use Rattle.ga_races.specs.inner.{is_freed_on, is_freed, MarksHalted, IsSettled};
 
-use ga_event::{is_reading, is_writing};
+use ga_event::{is_waiting_to_read, is_waiting_to_write};
 use ga_grid::{Chip, NodeId, neighbour};
 use ga_node::Wait;
 use ga_ports::Side;
@@ -15,8 +15,8 @@ use ga_ports::Side;
 pub fn awaits(wait: &Wait, side: Side) -> bool
     ensures { result ≡ awaits wait.now side }
 {
-    let writes = is_writing(wait, side);
-    let reads = is_reading(wait, side);
+    let writes = is_waiting_to_write(wait, side);
+    let reads = is_waiting_to_read(wait, side);
     writes || reads
 }
 
@@ -25,15 +25,15 @@ fn is_freed_on(chip: &Chip, marks: &[bool; 144], node: NodeId, side: Side) -> bo
     ensures { result ≡ is_freed_on (records_of chip.now) (is_marked marks.now) node.number side }
 {
     let wait = chip.node(node).wait();
-    let writes = is_writing(&wait, side);
-    let reads = is_reading(&wait, side);
+    let writes = is_waiting_to_write(&wait, side);
+    let reads = is_waiting_to_read(&wait, side);
     if !writes && !reads {
         return false;
     }
     match neighbour(node, side) {
         None => false,
         Some(other) => {
-            !marks[other.index()] || (writes && is_reading(&chip.node(other).wait(), side))
+            !marks[other.index()] || (writes && is_waiting_to_read(&chip.node(other).wait(), side))
         }
     }
 }

@@ -13,10 +13,10 @@ ghost use Rattle.ga_event.specs.Told.{count_steps, events_of_causes};
 ghost use Rattle.ga_causal.specs.Dependence.{events_after_rewind, HasNoLooks};
 ghost use Rattle.ga_causal.specs.Equivalence.{AreEquivalent};
 ghost use Rattle.ga_causal.specs.Words.{local_history_with_reads};
-ghost use Rattle.ga_races.specs.Orders.{IsEnabled, IsTerminal, AreReorderings, AreIndependentOn, IsRace, HasNoRace, AreConflicting};
-ghost use Rattle.ga_races.specs.HappensBefore.{Action, action_at, IsDirectlyBefore, IsClock, merged_clock, action_of, actions, causes_of_actions, are_dependent, HappensBefore, IsStepOf, IsEarlierIn, event_at_place, IsRacingPair, IsContendedPass, IsMarkedOrBeside};
+ghost use Rattle.ga_races.specs.Orders.{IsEnabled, IsTerminalChip, AreReorderings, AreIndependentOn, IsRace, HasNoRace, AreConflictingPasses};
+ghost use Rattle.ga_races.specs.HappensBefore.{TraceAction, action_at, IsDirectlyBefore, IsVectorClock, clock_at_place, action_of, actions, causes_of_actions, are_dependent, HappensBefore, IsStepOfNode, IsEarlierInReordering, event_at_place, IsRacingPair, IsContendedPass, IsMarkedOrNeighbour};
 ghost use Rattle.ga_races.specs.Kahn.{HasOneWriter};
-ghost use Rattle.ga_races.specs.Rounds.{events_without, IsPollingRound, HasNoPollingRound};
+ghost use Rattle.ga_races.specs.Rounds.{events_without_node, IsPollingRound, HasNoPollingRound};
 ghost use Rattle.ga_grid.specs.Chip.{record_at};
 ghost use Rattle.ga_event.specs.Next.{next};
 ghost use Rattle.ga_races.specs.Acts.{AreDeadlocked};
@@ -24,11 +24,11 @@ ghost use Rattle.ga_races.specs.Acts.{AreDeadlocked};
 /// Two different events that are enabled on a chip can both be made, in both orders and with the same chip, if they are
 /// independent. If they touch a common node they are passes to one reader from two writers, over two sides: a word can only be
 /// lost to another word where a reader waits on several sides.
-pub fn diamond()
+pub fn diamond_property()
     ensures order { (chip : List NodeRecord) (e f : Event) → IsEnabled chip e → IsEnabled chip f → AreIndependentOn chip e f →
         IsSome (replay chip (e ∷ f ∷ [])) × (replay chip (e ∷ f ∷ []) ≡ replay chip (f ∷ e ∷ [])) }
     ensures rivals { (chip : List NodeRecord) (e f : Event) (n : ℕ) → IsEnabled chip e → IsEnabled chip f → e ≢ f →
-        touches e n ≡ true → touches f n ≡ true → AreConflicting e f }
+        touches e n ≡ true → touches f n ≡ true → AreConflictingPasses e f }
 {}
 
 /// If a list has no race, any other list that can be made from the same chip, in which no node makes more steps, is a prefix of
@@ -52,13 +52,13 @@ pub fn no_race_if_confluent()
 /// continued is the list in another order: it ends on the same chip. No node makes more steps in any.
 pub fn race_free_end_is_unique()
     ensures beginning { (chip last : List NodeRecord) (events others : List Event) → replay chip events ≡ Some last → HasNoRace chip events →
-        IsTerminal last → IsSome (replay chip others) →
+        IsTerminalChip last → IsSome (replay chip others) →
         (later : List Event) × AreReorderings chip events (others ++ later) }
     ensures steps { (chip last : List NodeRecord) (events others : List Event) (n : ℕ) → replay chip events ≡ Some last →
-        HasNoRace chip events → IsTerminal last → IsSome (replay chip others) →
+        HasNoRace chip events → IsTerminalChip last → IsSome (replay chip others) →
         count_steps n others ≤ count_steps n events }
     ensures chip { (chip last now : List NodeRecord) (events others : List Event) → replay chip events ≡ Some last →
-        HasNoRace chip events → IsTerminal last → replay chip others ≡ Some now → IsTerminal now →
+        HasNoRace chip events → IsTerminalChip last → replay chip others ≡ Some now → IsTerminalChip now →
         AreReorderings chip events others × (now ≡ last) }
 {}
 
@@ -68,12 +68,12 @@ pub fn race_free_end_is_unique()
 pub fn rollbacks_reveal_races()
     ensures shown_state { (chip last : List NodeRecord) (events : List Event) (steps : List (Cause × EventOutcome)) (w x r : NodeId) (side other : Side) →
         run chip events ≡ Some (last, steps) → let causes = map (λ (s : Cause × EventOutcome). s.0) steps in
-        HasNoLooks causes → IsRace chip events (Pass w r side) (Pass x r other) → AreConflicting (Pass w r side) (Pass x r other) →
+        HasNoLooks causes → IsRace chip events (Pass w r side) (Pass x r other) → AreConflictingPasses (Pass w r side) (Pass x r other) →
         (k : ℕ) × (now : List NodeRecord) × (replay chip (events_of_causes (events_after_rewind causes r.number k)) ≡ Some now)
         × IsEnabled now (Pass w r side) × IsEnabled now (Pass x r other) }
     ensures decided { (chip last : List NodeRecord) (events : List Event) (steps : List (Cause × EventOutcome)) →
         run chip events ≡ Some (last, steps) → let causes = map (λ (s : Cause × EventOutcome). s.0) steps in
-        HasNoLooks causes → IsTerminal last →
+        HasNoLooks causes → IsTerminalChip last →
         (HasNoRace chip events ↔
         ((k : ℕ) (now : List NodeRecord) (w x r : NodeId) (side other : Side) →
         replay chip (events_of_causes (events_after_rewind causes r.number k)) ≡ Some now →
@@ -82,9 +82,9 @@ pub fn rollbacks_reveal_races()
 
 /// A list has no race where no event of it looks, it ends without a next event, and whenever a node takes a word, of the neighbours on
 /// the sides on which it waits only one ever writes to it in the list (after Kahn). So every order of steps ends alike (`race_free_end_is_unique`).
-pub fn one_writer()
+pub fn one_writer_means_no_race()
     ensures { (chip last : List NodeRecord) (events : List Event) (steps : List (Cause × EventOutcome)) →
-        run chip events ≡ Some (last, steps) → HasNoLooks (map (λ (s : Cause × EventOutcome). s.0) steps) → IsTerminal last →
+        run chip events ≡ Some (last, steps) → HasNoLooks (map (λ (s : Cause × EventOutcome). s.0) steps) → IsTerminalChip last →
         HasOneWriter chip events → HasNoRace chip events }
 {}
 
@@ -110,18 +110,18 @@ pub fn happens_before()
     ensures causes { (chip last : List NodeRecord) (events : List Event) (steps : List (Cause × EventOutcome)) → run chip events ≡ Some (last, steps) →
         causes_of_actions (actions chip events) ≡ map (λ (s : Cause × EventOutcome). s.0) steps }
     ensures named { (chip : List NodeRecord) (events : List Event) (place : ℕ) → place < length events →
-        (n : ℕ) × (k : ℕ) × IsStepOf chip events n k place }
+        (n : ℕ) × (k : ℕ) × IsStepOfNode chip events n k place }
     ensures stands { (chip : List NodeRecord) (events others : List Event) (n k place : ℕ) → AreReorderings chip events others →
-        IsStepOf chip events n k place → (there : ℕ) × IsStepOf chip others n k there }
+        IsStepOfNode chip events n k place → (there : ℕ) × IsStepOfNode chip others n k there }
     ensures every { (chip : List NodeRecord) (events others : List Event) (first later : ℕ) → HappensBefore (actions chip events) first later →
-        AreReorderings chip events others → IsEarlierIn chip events others first later }
+        AreReorderings chip events others → IsEarlierInReordering chip events others first later }
     ensures some { (chip : List NodeRecord) (events : List Event) (first later : ℕ) → IsSome (replay chip events) →
         first < later → later < length events → ¬ HappensBefore (actions chip events) first later →
-        (others : List Event) × AreReorderings chip events others × IsEarlierIn chip events others later first }
+        (others : List Event) × AreReorderings chip events others × IsEarlierInReordering chip events others later first }
     ensures exact { (chip : List NodeRecord) (events : List Event) (first later : ℕ) → IsSome (replay chip events) →
         first < later → later < length events →
         (HappensBefore (actions chip events) first later
-        ↔ ((others : List Event) → AreReorderings chip events others → IsEarlierIn chip events others first later)) }
+        ↔ ((others : List Event) → AreReorderings chip events others → IsEarlierInReordering chip events others first later)) }
 {}
 
 /// Which events of a list race can be read from the list alone, by happens-before (after Netzer and Miller). A look and a
@@ -135,9 +135,9 @@ pub fn races_read_from_list()
     ensures passes { (chip last : List NodeRecord) (events : List Event) (place : ℕ) (other : Event) → replay chip events ≡ Some last →
         IsContendedPass chip events place other → IsRace chip events (event_at_place chip events place) other }
     ensures rivals { (chip last : List NodeRecord) (events : List Event) (step other : Event) → replay chip events ≡ Some last →
-        IsRace chip events step other → AreConflicting step other →
+        IsRace chip events step other → AreConflictingPasses step other →
         (place : ℕ) × (event_at_place chip events place ≡ step) × IsContendedPass chip events place other }
-    ensures decided { (chip last : List NodeRecord) (events : List Event) → replay chip events ≡ Some last → IsTerminal last →
+    ensures decided { (chip last : List NodeRecord) (events : List Event) → replay chip events ≡ Some last → IsTerminalChip last →
         (HasNoRace chip events
         ↔ (((first later : ℕ) → ¬ IsRacingPair chip events first later) × ((place : ℕ) (other : Event) → ¬ IsContendedPass chip events place other))) }
 {}
@@ -147,21 +147,21 @@ pub fn races_read_from_list()
 /// them or happens before one of them. It is therefore enough to take the last action of each node that is touched; for a look
 /// also the last change by each neighbour; and for a change also the last look of each node to which it shows.
 pub fn vector_clocks_exact()
-    ensures node { (actions : List Action) (first later n : ℕ) → first < later → later < length actions →
+    ensures node { (actions : List TraceAction) (first later n : ℕ) → first < later → later < length actions →
         touches (action_at actions first).cause.event n ≡ true → touches (action_at actions later).cause.event n ≡ true →
         HappensBefore actions first later }
-    ensures made { (actions : List Action) (place : ℕ) (known : List (ℕ × (ℕ → ℕ))) → place < length actions →
-        All (λ (clock : ℕ × (ℕ → ℕ)). IsDirectlyBefore actions clock.0 place × IsClock actions clock.0 clock.1) known →
+    ensures made { (actions : List TraceAction) (place : ℕ) (known : List (ℕ × (ℕ → ℕ))) → place < length actions →
+        All (λ (clock : ℕ × (ℕ → ℕ)). IsDirectlyBefore actions clock.0 place × IsVectorClock actions clock.0 clock.1) known →
         ((earlier : ℕ) → IsDirectlyBefore actions earlier place →
         (clock : ℕ × (ℕ → ℕ)) × Contains known clock × ((earlier ≡ clock.0) ⊎ HappensBefore actions earlier clock.0)) →
-        IsClock actions place (merged_clock actions place known) }
+        IsVectorClock actions place (clock_at_place actions place known) }
 {}
 
 /// An event changes what the next event of a node is at the nodes that it touches and at their neighbours alone.
 #[tactic(auto, using(crate::proofs::Nexts::changes_near))]
 pub fn next_event_changes_locally()
     ensures { (chip : List NodeRecord) (event : Event) →
-        IfSome (apply chip event) (λ done. (node : NodeId) → IsMarkedOrBeside (touches event) node.number ⊎ (next chip node ≡ next done.0 node)) }
+        IfSome (apply chip event) (λ done. (node : NodeId) → IsMarkedOrNeighbour (touches event) node.number ⊎ (next chip node ≡ next done.0 node)) }
 {}
 
 /// Whatever further events are made, each of some nodes that are stuck stays as it is.
@@ -176,10 +176,10 @@ pub fn deadlock_is_permanent()
 /// shows them nothing: a list without a round leads to the same chip, whatever the looks of the round read. A shortest list to
 /// a chip has no round, so the lists without one reach each chip that any list reaches.
 pub fn polling_rounds_removable()
-    ensures alone { (chip : List NodeRecord) (n : ℕ) (round : List Event) → IsPollingRound chip n round → events_without n round ≡ [] →
+    ensures alone { (chip : List NodeRecord) (n : ℕ) (round : List Event) → IsPollingRound chip n round → events_without_node n round ≡ [] →
         replay chip round ≡ Some chip }
     ensures left { (chip now : List NodeRecord) (before round later : List Event) (n : ℕ) → replay chip before ≡ Some now →
-        IsPollingRound now n round → replay chip (before ++ round ++ later) ≡ replay chip (before ++ events_without n round ++ later) }
+        IsPollingRound now n round → replay chip (before ++ round ++ later) ≡ replay chip (before ++ events_without_node n round ++ later) }
     ensures shortest { (chip last : List NodeRecord) (events : List Event) → replay chip events ≡ Some last →
         ((others : List Event) → replay chip others ≡ Some last → length events ≤ length others) → HasNoPollingRound chip events }
 {}

@@ -7,7 +7,7 @@ ghost use Rattle.ga_causal.specs.Dependence.{cause_touches, touched_nodes, is_ma
 ghost use Rattle.ga_event.specs.Apply.{equals_some};
 ghost use Rattle.ga_races.specs.declared.racing_pairs.RacingPair.{RacingPair};
 ghost use Rattle.ga_races.specs.HappensBefore.{action_at, AreRacing};
-ghost use Rattle.ga_races.specs.Acts.{has_side_to, action_of_access, actions_of_accesses, is_own_event_of, is_look_of, IsRacingLook};
+ghost use Rattle.ga_races.specs.Acts.{has_side_to, action_of_access, actions_of_accesses, is_own_event_of, is_look_of_node, IsRacingLook};
 ghost use Rattle.ga_races.specs.inner.{IsMore, OfPair, OfLook, OfChange, OverSide, OverSides, AtPlace, LooksAreMarked};
 
 use crate::act::{EventAccess, SideSet};
@@ -66,9 +66,9 @@ fn are_near(acts: &[EventAccess], one: usize, other: usize) -> bool
 }
 
 // Whether the action at a place is a look of the node.
-fn is_look_of(acts: &[EventAccess], place: usize, node: NodeId) -> bool
+fn is_look_of_node(acts: &[EventAccess], place: usize, node: NodeId) -> bool
     requires { place < length acts.now }
-    ensures { result ≡ is_look_of (action_at (actions_of_accesses acts.now) place) node.number }
+    ensures { result ≡ is_look_of_node (action_at (actions_of_accesses acts.now) place) node.number }
 {
     let act = act_at(acts, place);
     match act.cause.event {
@@ -110,7 +110,7 @@ fn add_near(
     requires change { change < length acts.now }
     requires apart { look ≢ change }
     requires few { length acts.now < 2 ^ 32 }
-    requires looks { is_look_of (action_at (actions_of_accesses acts.now) look) node.number ≡ true }
+    requires looks { is_look_of_node (action_at (actions_of_accesses acts.now) look) node.number ≡ true }
     requires changes { (action_at (actions_of_accesses acts.now) change).changes node.number ≡ true }
     ensures { OnOk result (IsMore acts.now (OfPair look change) list.old.items list.new.items) }
 {
@@ -131,7 +131,7 @@ fn add_change(
     requires order { change < look }
     requires within { look < length acts.now }
     requires few { length acts.now < 2 ^ 32 }
-    requires looks { is_look_of (action_at (actions_of_accesses acts.now) look) node.number ≡ true }
+    requires looks { is_look_of_node (action_at (actions_of_accesses acts.now) look) node.number ≡ true }
     ensures { OnOk result (IsMore acts.now (OfPair look change) list.old.items list.new.items) }
 {
     if !changes(acts, change, node) {
@@ -153,14 +153,14 @@ fn add_changes(
     requires own { is_own_event_of (action_at (actions_of_accesses acts.now) look).cause.event node.number ≡ true }
     ensures { OnOk result (IsMore acts.now (OfLook look 0) list.old.items list.new.items) }
 {
-    if !is_look_of(acts, look, node) {
+    if !is_look_of_node(acts, look, node) {
         return Ok(());
     }
     let mut place = look;
     'back: while place > 0 {
         place -= 1;
         add_change(list, acts, look, place, node)?;
-        if is_look_of(acts, place, node) {
+        if is_look_of_node(acts, place, node) {
             return Ok(());
         }
     }
@@ -195,7 +195,7 @@ fn add_look(
     let mut place = change;
     'back: while place > 0 {
         place -= 1;
-        if is_look_of(acts, place, node) {
+        if is_look_of_node(acts, place, node) {
             return add_near(list, acts, place, change, node);
         }
         if hides(acts, place, change, node) {

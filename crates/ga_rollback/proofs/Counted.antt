@@ -8,7 +8,7 @@ use Rattle.std.specs.Prelude.{option_map, slice_get}
 use Rattle.ga_event.specs.declared.event.Event.{Event}
 use Rattle.ga_event.specs.declared.event.Effect.{Effect}
 use Rattle.ga_event.specs.Undo.{IsEffectOfEvent}
-use Rattle.ga_journal.specs.declared.entry.Act.TheVariants.{Own, Sent, Took}
+use Rattle.ga_journal.specs.declared.entry.EntryAct.TheVariants.{Own, Sent, Took}
 use Rattle.ga_journal.specs.Histories.{EntryRecord, past, own_outcome, history, no_histories, with_entry, histories_with_event}
 use Rattle.ga_journal.specs.Logs.{StampedEvent, histories_of_log, IsStampedLog}
 use Rattle.ga_journal.specs.Marks.{counts_event}

@@ -9,12 +9,12 @@ use Rattle.ga_journal.specs.Events.{kept_outcomes, journal_causes, journal_event
 use Rattle.ga_event.specs.Told.{count_steps, events_of_causes}
 use Rattle.ga_journal.specs.Logs.{StampedEvent, histories_of_log, IsStampedLog, AreConsistentHistories}
 use Rattle.ga_journal.specs.inner.Histories.{older_causes}
-use Rattle.ga_journal.specs.Marks.{HasValidMarks, mark_of, entries_to_remove, is_pending, counts_event_at, with_raised_mark, IsOutsideRollback}
+use Rattle.ga_journal.specs.Marks.{HasValidMarks, mark_of, entries_to_remove, is_node_pending, counts_event_at, with_raised_mark, IsOutsideRollback}
 use Rattle.ga_journal.specs.inner.Marks.{to_go}
 use Rattle.ga_journal.proofs.Logs.{steps_log, length-built}
 use Rattle.ga_causal.specs.Dependence.{events_after_rewind}
 use Rattle.ga_causal.proofs.Places.{touching_in}
-use Rattle.ga_rollback.specs.Rolled.{without_dropped}
+use Rattle.ga_rollback.specs.Rolled.{without_dropped_events}
 use Rattle.ga_rollback.specs.Rewound.{IsRollbackForecast}
 use Rattle.ga_rollback.specs.inner.{staying, IsMarked, IsUnseen, counted_in, counted_of, counted_staying, one_counted, IsRaising, AreCounted}
 use Rattle.ga_rollback.proofs.Counted.{sum_none, counted_next, counted_fewer, counted_log}
@@ -94,9 +94,9 @@ pub counted_all : (old : JournalState) → AreConsistentHistories old.histories 
 counted_all old whole = ap counted_of whole.records.histories ∙ counted_log whole.log old.made whole.records.order ∙ sym (number_log whole.log old whole.records)
 
 -- those that stay are counted by the entries that stay
-counted_left : (log : List StampedEvent) (old mid : JournalState) (n j : ℕ) → IsStampedLog log old.made → HasValidMarks mid → IsCut log mid n j → counted_staying mid ≡ length (without_dropped log (gone (mark_of mid) log))
+counted_left : (log : List StampedEvent) (old mid : JournalState) (n j : ℕ) → IsStampedLog log old.made → HasValidMarks mid → IsCut log mid n j → counted_staying mid ≡ length (without_dropped_events log (gone (mark_of mid) log))
 counted_left log old mid n j order sound cut =
-    let stay : List StampedEvent = without_dropped log (gone (mark_of mid) log) in
+    let stay : List StampedEvent = without_dropped_events log (gone (mark_of mid) log) in
     let same : staying mid.histories mid.going ≡ histories_of_log stay =
     ext_get_or [] (staying mid.histories mid.going) (histories_of_log stay) (length-staying mid.histories mid.going ∙ sound.size ∙ sym (length-built stay))
     (λ m l. staying_at mid.histories mid.going m (sound.size ∙ sym sound.going_size)
@@ -111,7 +111,7 @@ would_go old mid new n k events steps whole some there same marked_nodes saw rai
     let log : List StampedEvent = whole.log in
     let order : IsStampedLog log old.made = whole.records.order in
     let cut : IsCut log mid n (k - 1) = is_cut old n (k - 1) mid log whole.records (omega (arith, some, there)) same marked_nodes saw in
-    let stay : List StampedEvent = without_dropped log (gone (mark_of mid) log) in
+    let stay : List StampedEvent = without_dropped_events log (gone (mark_of mid) log) in
     let step : suc (k - 1) ≡ k = omega (arith, some) in
     let list : events_after_rewind (journal_causes old) n k ≡ older_causes stay =
     ap (λ z. events_after_rewind z n k) (causes_log log old whole.records) ∙ ap (events_after_rewind (older_causes log) n) (sym step) ∙ sym cut.events in
@@ -137,7 +137,7 @@ would_go old mid new n k events steps whole some there same marked_nodes saw rai
     }
 
 -- the journal is as before, but for its ticks
-pub as_before : (old mid new : JournalState) (events : ℕ) → HasValidMarks old → IsOutsideRollback old → HasValidMarks mid → mid ≡ record old { going = mid.going; waiting = mid.waiting; ticks = mid.ticks } → ((m : ℕ) → is_pending mid m ≡ false)
+pub as_before : (old mid new : JournalState) (events : ℕ) → HasValidMarks old → IsOutsideRollback old → HasValidMarks mid → mid ≡ record old { going = mid.going; waiting = mid.waiting; ticks = mid.ticks } → ((m : ℕ) → is_node_pending mid m ≡ false)
     → IsRaising mid new events → ((m : ℕ) → entries_to_remove new m ≡ 0) → new ≡ record old { ticks = new.ticks }
 as_before old mid new events sound rest marks same idle raising none =
     let going : new.going ≡ old.going = ext_get_or 0 new.going old.going (raising.sized ∙ sym sound.going_size) (λ m l. none m ∙ sym (rest.settled m)) in

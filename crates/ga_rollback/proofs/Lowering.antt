@@ -6,10 +6,10 @@ use Rattle.std.proofs.lemmas.Bool.{cases_eq, cases_lt, cases_order, both_ways}
 use Rattle.std.proofs.lemmas.Option.{some_pair_parts, none-some, same_Some}
 use Rattle.std.proofs.lemmas.List.{get_or_past, take_all}
 use Rattle.std.proofs.lemmas.List.Sums.{sum_by-set, sum_by-cons}
-use Rattle.ga_journal.specs.declared.entry.Act.{Act}
-use Rattle.ga_journal.specs.declared.entry.Act.TheVariants.{Own, Sent, Took}
+use Rattle.ga_journal.specs.declared.entry.EntryAct.{EntryAct}
+use Rattle.ga_journal.specs.declared.entry.EntryAct.TheVariants.{Own, Sent, Took}
 use Rattle.ga_journal.specs.Histories.{RollbackWork, EntryRecord, JournalState, history}
-use Rattle.ga_journal.specs.Marks.{partner_of, entry_at, mark_of, entries_to_remove, is_pending, with_lowered_mark, HasValidMarks}
+use Rattle.ga_journal.specs.Marks.{pass_partner_of, entry_at, mark_of, entries_to_remove, is_node_pending, with_lowered_mark, HasValidMarks}
 use Rattle.ga_journal.specs.inner.Marks.{to_go, in_line}
 use Rattle.ga_journal.specs.Events.{act_has_looked}
 use Rattle.ga_journal.specs.Looks.{HasNoLookToRemove, HasLook}
@@ -137,13 +137,13 @@ pub node_within : (hs : List (List EntryRecord)) (n k : ℕ) → k < length (his
 node_within hs n k l = ⊎_elim (λ q. q) (λ q. absurd (let j : length (history hs n) ≡ 0 = ap length (get_or_past hs n [] q) in omega arith)) (cases_lt n (length hs))
 
 -- a mark lowered
-pub lowered_same : (book : JournalState) (j q : ℕ) → HasValidMarks book → q < mark_of book j → (entries_to_remove (with_lowered_mark book j q) j ≡ length (history book.histories j) - q) × (mark_of (with_lowered_mark book j q) j ≡ q) × (is_pending (with_lowered_mark book j q) j ≡ true)
+pub lowered_same : (book : JournalState) (j q : ℕ) → HasValidMarks book → q < mark_of book j → (entries_to_remove (with_lowered_mark book j q) j ≡ length (history book.histories j) - q) × (mark_of (with_lowered_mark book j q) j ≡ q) × (is_node_pending (with_lowered_mark book j q) j ≡ true)
 lowered_same book j q sound l =
     let in_book : j < length book.histories = node_within book.histories j q (omega arith) in
     let g : get_or (set book.going j (length (history book.histories j) - q)) j 0 ≡ length (history book.histories j) - q = get_or-set_same book.going j (length (history book.histories j) - q) 0 (let a = sound.size in let b = sound.going_size in omega arith) in
     (g, omega arith, get_or-set_same book.waiting j true false (let a = sound.size in let b = sound.waiting_size in omega arith))
 
-pub lowered_other : (book : JournalState) (j q m : ℕ) → m ≢ j → (entries_to_remove (with_lowered_mark book j q) m ≡ entries_to_remove book m) × (mark_of (with_lowered_mark book j q) m ≡ mark_of book m) × (is_pending (with_lowered_mark book j q) m ≡ is_pending book m)
+pub lowered_other : (book : JournalState) (j q m : ℕ) → m ≢ j → (entries_to_remove (with_lowered_mark book j q) m ≡ entries_to_remove book m) × (mark_of (with_lowered_mark book j q) m ≡ mark_of book m) × (is_node_pending (with_lowered_mark book j q) m ≡ is_node_pending book m)
 lowered_other book j q m ne =
     let g : get_or (set book.going j (length (history book.histories j) - q)) m 0 ≡ get_or book.going m 0 = get_or-set_other book.going j m (length (history book.histories j) - q) 0 ne in
     (g, ap (λ z. length (history book.histories m) - z) g, get_or-set_other book.waiting j m true false ne)
@@ -173,13 +173,13 @@ due_lowered book j q s m p e sound l (Other i r names h) = Other i r names (let 
 due_lowered book j q s m p e sound l (Saw i r side f looked beside there h before) = Saw i r side f looked beside there (let k = lowered_falls book j q i sound l in omega arith) before
 
 -- a look names no other entry
-look_alone : (act : Act) (x : ℕ × ℕ) → act_has_looked act ≡ true → partner_of act ≡ Some x → ⊥
+look_alone : (act : EntryAct) (x : ℕ × ℕ) → act_has_looked act ≡ true → pass_partner_of act ≡ Some x → ⊥
 look_alone (Own deed) x looked names = none-some _ names
 look_alone (Sent to side at word) x looked names = both_ways false refl looked
 look_alone (Took from side at word) x looked names = both_ways false refl looked
 
 -- the other entry of a pass is due as the one is
-pub due_partner : (book : JournalState) (s m p j q : ℕ) (e f : EntryRecord) → HasValidMarks book → q < mark_of book j → entry_at book.histories m p ≡ Some e → partner_of e.act ≡ Some (j, q) → entry_at book.histories j q ≡ Some f → IsDue book s m p e → IsDue (with_lowered_mark book j q) s j q f
+pub due_partner : (book : JournalState) (s m p j q : ℕ) (e f : EntryRecord) → HasValidMarks book → q < mark_of book j → entry_at book.histories m p ≡ Some e → pass_partner_of e.act ≡ Some (j, q) → entry_at book.histories j q ≡ Some f → IsDue book s m p e → IsDue (with_lowered_mark book j q) s j q f
 due_partner book s m p j q e f sound l found names there (Start h) = Start (sym (sound.matched.same m p j q e f found names there) ∙ h)
 due_partner book s m p j q e f sound l found names there (Later h) =
     let apart : j ≢ m = sound.matched.other m p j q e found names in

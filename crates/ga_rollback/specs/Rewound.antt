@@ -5,7 +5,7 @@ use Rattle.std.specs.List.{sum_by, count_by}
 use Rattle.ga_journal.specs.Histories.{EntryRecord, JournalState}
 use Rattle.ga_journal.specs.Events.{act_has_looked, journal_causes, journal_events}
 use Rattle.ga_node.specs.Record.{NodeState}
-use Rattle.ga_event.specs.Undo.{chip_after_undo, IsApplied}
+use Rattle.ga_event.specs.Undo.{chip_after_undo, IsEventApplied}
 use Rattle.ga_journal.specs.Logs.{StampedEvent, AreHistoriesOfLog}
 use Rattle.ga_grid.specs.Chip.{records_of}
 use Rattle.ga_event.specs.Apply.{replay}
@@ -29,7 +29,7 @@ count_all_looks hs = sum_by count_looks hs
 abbrev pub IsAppliedLog : List NodeState → List StampedEvent → Type 0
 IsAppliedLog chip [] = Unit {0}
 IsAppliedLog chip (x ∷ older) =
-    IsApplied (chip_after_undo chip x.event x.effect) x.event x.effect chip × IsAppliedLog (chip_after_undo chip x.event x.effect) older
+    IsEventApplied (chip_after_undo chip x.event x.effect) x.event x.effect chip × IsAppliedLog (chip_after_undo chip x.event x.effect) older
 
 -- The histories are those of events that led to the chip.
 pub record MatchesLog (chip : List NodeState) (book : JournalState) : Type 0 where

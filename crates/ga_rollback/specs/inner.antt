@@ -2,10 +2,10 @@
 use Rattle.std.specs.Prelude.{◌≡◌, ℕ, ◌+◌, List, ◌∷◌, ◌++◌, length, drop, ◌==◌, nat_lt, Bool, false, ◌&&◌, Option, Some, None, ◌-◌, ◌*◌, ◌<◌, ◌≤◌, true, [], take, slice_index, if◌then◌else◌}
 use Rattle.ga_node.specs.Record.{NodeState}
 use Rattle.ga_grid.specs.Chip.{node_at}
-use Rattle.ga_event.specs.Undo.{CanRestore}
+use Rattle.ga_event.specs.Undo.{CanRestoreNode}
 use Rattle.ga_journal.specs.Histories.{EntryRecord, JournalState, history}
 use Rattle.ga_journal.specs.Walked.{node_before_entries}
-use Rattle.ga_journal.specs.Marks.{mark_of, entries, partner_of, partner_at, entry_at, entries_to_remove, is_pending, tick_counted, failed_search_counted, with_lowered_mark, HasValidMarks, counts_event}
+use Rattle.ga_journal.specs.Marks.{mark_of, entries, pass_partner_of, pass_partner_at, entry_at, entries_to_remove, is_node_pending, tick_counted, failed_search_counted, with_lowered_mark, HasValidMarks, counts_event}
 use Rattle.ga_journal.specs.inner.Marks.{to_go, in_line}
 use Rattle.ga_ports.specs.declared.side.Side.{Side}
 use Rattle.ga_ports.specs.declared.side.Side.TheVariants.{Right, Down, Left, Up}
@@ -25,7 +25,7 @@ end_of hs gs n = drop (length (history gs n)) (history hs n)
 abbrev pub CanGoBack : List NodeState → List (List EntryRecord) → Type 0
 CanGoBack chip hs =
     (n : ℕ) (front end : List EntryRecord) (e : EntryRecord) → history hs n ≡ front ++ e ∷ end
-    → CanRestore (node_before_entries (node_at chip n) end) e.saved
+    → CanRestoreNode (node_before_entries (node_at chip n) end) e.saved
 
 -- some of the entries that are to be removed are removed, and the nodes restored by them; each of them was a tick
 pub record IsRestoring (chip : List NodeState) (first : JournalState) (now : List NodeState) (book : JournalState) : Type 0 where
@@ -77,7 +77,7 @@ stamp_at book n p = stamp_of (entry_at book.histories n p)
 pub data IsDue (book : JournalState) (s m p : ℕ) (e : EntryRecord) : Type 0 where
   Start : e.stamp ≡ s → IsDue book s m p e
   Later : mark_of book m < p → IsDue book s m p e
-  Other : (j q : ℕ) → partner_of e.act ≡ Some (j, q) → mark_of book j < q → IsDue book s m p e
+  Other : (j q : ℕ) → pass_partner_of e.act ≡ Some (j, q) → mark_of book j < q → IsDue book s m p e
   Saw : (j q : ℕ) (side : Side) (f : EntryRecord) → act_has_looked e.act ≡ true → neighbour_of m side ≡ Some j
       → entry_at book.histories j q ≡ Some f → mark_of book j ≤ q → f.stamp < e.stamp → IsDue book s m p e
 
@@ -88,13 +88,13 @@ pub record IsMarked (book : JournalState) (visited : List ℕ) (n k : ℕ) : Typ
   pub start : mark_of book n ≤ k
   pub caused : (m p : ℕ) (e : EntryRecord) → entry_at book.histories m p ≡ Some e → mark_of book m ≤ p
       → IsDue book (stamp_at book n k) m p e
-  pub whole : (m p j q : ℕ) → visited_to book visited m ≤ p → partner_at book.histories m p ≡ Some (j, q) → mark_of book j ≤ q
+  pub whole : (m p j q : ℕ) → visited_to book visited m ≤ p → pass_partner_at book.histories m p ≡ Some (j, q) → mark_of book j ≤ q
 
 -- an entry visited: the mark of the node that it names is low enough, or is lowered
 pub data IsFollowed (old : JournalState) (m p : ℕ) (new : JournalState) : Type 0 where
-  Passed : ((j q : ℕ) → partner_at old.histories m p ≡ Some (j, q) → mark_of old j ≤ q)
+  Passed : ((j q : ℕ) → pass_partner_at old.histories m p ≡ Some (j, q) → mark_of old j ≤ q)
       → new ≡ tick_counted old → IsFollowed old m p new
-  Lowered : (j q : ℕ) → partner_at old.histories m p ≡ Some (j, q) → q < mark_of old j
+  Lowered : (j q : ℕ) → pass_partner_at old.histories m p ≡ Some (j, q) → q < mark_of old j
       → new ≡ with_lowered_mark (tick_counted old) j q → IsFollowed old m p new
 
 -- no look of a neighbour that is to stay came after an entry of node j that is to go
@@ -142,7 +142,7 @@ pub record IsMarking (first : JournalState) (n k : ℕ) (book : JournalState) (v
 
 -- where a node does not wait, all its entries to go were visited, and no look that is to stay saw one of them
 abbrev pub IsDone : JournalState → List ℕ → ℕ → Type 0
-IsDone book visited m = is_pending book m ≡ false → (entries_to_remove book m ≤ slice_index visited m) × IsUnseen book m
+IsDone book visited m = is_node_pending book m ≡ false → (entries_to_remove book m ≤ slice_index visited m) × IsUnseen book m
 
 -- ---- marks raised again, entry by entry, and how many events the entries are of
 

@@ -1,7 +1,7 @@
 //! Links between neighbours, by a table.
 
 ghost use Rattle.std.specs.Prelude.{◌≡◌, ◌<◌, true, Some, IfSome};
-ghost use Rattle.ga_grid.specs.Grid.{neighbour_of, optional_number};
+ghost use Rattle.ga_grid.specs.Grid.{neighbour_of, optional_node_number};
 ghost use Rattle.ga_rollback.specs.inner.{is_link, place_of};
 
 use ga_grid::NodeId;
@@ -67,7 +67,7 @@ fn number_beside(node: NodeId, side: Side) -> u8
 #[tactic(auto, using(crate::proofs::Linked::some_beside, crate::proofs::Linked::none_beside))]
 #[inline(always)]
 pub(crate) fn node_beside(node: NodeId, side: Side) -> Option<NodeId>
-    ensures value { optional_number result ≡ neighbour_of node.number side }
+    ensures value { optional_node_number result ≡ neighbour_of node.number side }
     ensures back { IfSome result (λ other. neighbour_of other.number side ≡ Some node.number) }
 {
     let number = number_beside(node, side);

@@ -5,13 +5,13 @@ use Rattle.std.proofs.lemmas.Bool.{cases_lt, eqb-true}
 use Rattle.std.proofs.lemmas.Option.{same_Some, slice_get_within, get_or_from_slice_get}
 use Rattle.std.proofs.lemmas.List.{drop_more, drop_all, take-append-drop, length-take}
 use Rattle.ga_grid.specs.declared.node_id.NodeId.{NodeId}
-use Rattle.ga_event.specs.Told.{count_steps, made_event_in, made_event_after, causes_without_outcomes, events_without_outcomes}
+use Rattle.ga_event.specs.Told.{count_steps, made_event_at_place, made_event_after, causes_without_outcomes, events_without_outcomes}
 use Rattle.ga_event.specs.declared.made.Made.{Made}
-use Rattle.ga_lab.specs.Machine.{State, NodeAtStep, node_at_step, earlier, state_after_undo, outcomes_of_kept, BackwardState, backward_state, made_event_before, causes_of, removed_count}
+use Rattle.ga_lab.specs.Machine.{State, NodeAtStep, node_at_step, earlier_state, state_after_undo, outcomes_of_kept, BackwardState, backward_state, made_event_before, causes_of, removed_count}
 use Rattle.ga_scheduler.specs.declared.condition.Condition.{Condition}
-use Rattle.ga_scheduler.specs.Conditions.{holds, first_holding_condition, is_step_of}
-use Rattle.ga_scheduler.specs.Running.{condition_held_by}
-use Rattle.ga_scheduler.specs.Backward.{condition_held_after, is_considered_event, is_held_at, newest_holding_before, IsNewestHolding, machine_after_undos, find_newest_holding, step_number_of_event, removed_event_count}
+use Rattle.ga_scheduler.specs.Conditions.{holds_after_made_event, first_holding_condition, is_step_of_node}
+use Rattle.ga_scheduler.specs.Running.{first_condition_held_by_event}
+use Rattle.ga_scheduler.specs.Backward.{condition_held_after, is_step_of_optional_node, has_condition_held_at, newest_matching_event_before, IsNewestMatchingEvent, machine_after_undos, find_newest_matching_event, step_number_of_event, removed_event_count}
 use Rattle.ga_scheduler.specs.inner.{held_one, is_held, held_upto, all_upto, newest_place}
 use Rattle.ga_scheduler.proofs.Newest.{undone_earlier, whole_earlier, of_made, ToldAt, told_at}
 use Rattle.std.specs.Result.{result_ok}
@@ -41,19 +41,19 @@ upto_more c only s n m b e h =
     ap (held_upto c only s) (e ∙ add-one n) ∙ ap (λ (z : Bool). cond z (suc n) (held_upto c only s n)) h ∙ ap (λ (z : ℕ). cond b z (held_upto c only s n)) (sym (add-one n) ∙ sym e)
 
 -- the report of the event
-pub held_as : (c : Condition) (only : Option NodeId) (s : State) (n : ℕ) (m : Made) (a h : Bool) → made_event_in (outcomes_of_kept s) n ≡ Some m → a ≡ is_considered_event only (Some m)
-    → h ≡ holds c m (earlier s (n + 1)) → is_held c only s n ≡ a && h
+pub held_as : (c : Condition) (only : Option NodeId) (s : State) (n : ℕ) (m : Made) (a h : Bool) → made_event_at_place (outcomes_of_kept s) n ≡ Some m → a ≡ is_step_of_optional_node only (Some m)
+    → h ≡ holds_after_made_event c m (earlier_state s (n + 1)) → is_held c only s n ≡ a && h
 held_as c only s n m a h is among here =
-    ap (λ (z : Option Made). is_considered_event only z && held_one c z (earlier s (n + 1))) is
-    ∙ ap (λ (z : Bool). z && holds c m (earlier s (n + 1))) (sym among) ∙ ap (λ (z : Bool). a && z) (sym here)
+    ap (λ (z : Option Made). is_step_of_optional_node only z && held_one c z (earlier_state s (n + 1))) is
+    ∙ ap (λ (z : Bool). z && holds_after_made_event c m (earlier_state s (n + 1))) (sym among) ∙ ap (λ (z : Bool). a && z) (sym here)
 
 and_false : (a : Bool) → a && false ≡ false
 and_false true = refl
 and_false false = refl
 
-pub not_among : (c : Condition) (only : Option NodeId) (s : State) (n : ℕ) (m : Made) → made_event_in (outcomes_of_kept s) n ≡ Some m → false ≡ is_considered_event only (Some m) → is_held c only s n ≡ false
+pub not_among : (c : Condition) (only : Option NodeId) (s : State) (n : ℕ) (m : Made) → made_event_at_place (outcomes_of_kept s) n ≡ Some m → false ≡ is_step_of_optional_node only (Some m) → is_held c only s n ≡ false
 not_among c only s n m is among =
-    ap (λ (z : Option Made). is_considered_event only z && held_one c z (earlier s (n + 1))) is ∙ ap (λ (z : Bool). z && holds c m (earlier s (n + 1))) (sym among)
+    ap (λ (z : Option Made). is_step_of_optional_node only z && held_one c z (earlier_state s (n + 1))) is ∙ ap (λ (z : Bool). z && holds_after_made_event c m (earlier_state s (n + 1))) (sym among)
 
 -- ---- some conditions
 
@@ -69,12 +69,12 @@ some_first : (b : Bool) (o : Option ℕ) → is_some (cond b (Some 0) (option_ma
 some_first true o = refl
 some_first false o = some_mapped o
 
-some_held : (c : Condition) (cs : List Condition) (told : Option Made) (t : State) → is_some (condition_held_by (c ∷ cs) told t) ≡ held_one c told t || is_some (condition_held_by cs told t)
+some_held : (c : Condition) (cs : List Condition) (told : Option Made) (t : State) → is_some (first_condition_held_by_event (c ∷ cs) told t) ≡ held_one c told t || is_some (first_condition_held_by_event cs told t)
 unfolding first_holding_condition
 some_held c cs None t = refl
-some_held c cs (Some m) t = some_first (holds c m t) (first_holding_condition cs m t)
+some_held c cs (Some m) t = some_first (holds_after_made_event c m t) (first_holding_condition cs m t)
 
-none_asked : (told : Option Made) (t : State) → is_some (condition_held_by [] told t) ≡ false
+none_asked : (told : Option Made) (t : State) → is_some (first_condition_held_by_event [] told t) ≡ false
 unfolding first_holding_condition
 none_asked None t = refl
 none_asked (Some m) t = refl
@@ -87,17 +87,17 @@ max_step true false true n x y l k = omega (arith, l)
 max_step true false false n x y l k = refl
 
 all_step : (cs : List Condition) (only : Option NodeId) (s : State) (n : ℕ)
-    → all_upto cs only s (suc n) ≡ cond (is_considered_event only (made_event_in (outcomes_of_kept s) n) && is_some (condition_held_after cs s n)) (suc n) (all_upto cs only s n)
+    → all_upto cs only s (suc n) ≡ cond (is_step_of_optional_node only (made_event_at_place (outcomes_of_kept s) n) && is_some (condition_held_after cs s n)) (suc n) (all_upto cs only s n)
 all_step [] only s n =
-    sym (ap (λ (z : Bool). cond z (suc n) 0) (ap (λ (z : Bool). is_considered_event only (made_event_in (outcomes_of_kept s) n) && z) (none_asked (made_event_in (outcomes_of_kept s) n) (earlier s (n + 1)))
-    ∙ and_false (is_considered_event only (made_event_in (outcomes_of_kept s) n))))
+    sym (ap (λ (z : Bool). cond z (suc n) 0) (ap (λ (z : Bool). is_step_of_optional_node only (made_event_at_place (outcomes_of_kept s) n) && z) (none_asked (made_event_at_place (outcomes_of_kept s) n) (earlier_state s (n + 1)))
+    ∙ and_false (is_step_of_optional_node only (made_event_at_place (outcomes_of_kept s) n))))
 all_step (c ∷ cs) only s n =
-    let a : Bool = is_considered_event only (made_event_in (outcomes_of_kept s) n) in
-    let h : Bool = held_one c (made_event_in (outcomes_of_kept s) n) (earlier s (n + 1)) in
+    let a : Bool = is_step_of_optional_node only (made_event_at_place (outcomes_of_kept s) n) in
+    let h : Bool = held_one c (made_event_at_place (outcomes_of_kept s) n) (earlier_state s (n + 1)) in
     let g : Bool = is_some (condition_held_after cs s n) in
     ap (λ (z : ℕ). max (held_upto c only s (suc n)) z) (all_step cs only s n)
     ∙ max_step a h g n (held_upto c only s n) (all_upto cs only s n) (upto_within c only s n) (all_within cs only s n)
-    ∙ ap (λ (z : Bool). cond (a && z) (suc n) (max (held_upto c only s n) (all_upto cs only s n))) (sym (some_held c cs (made_event_in (outcomes_of_kept s) n) (earlier s (n + 1))))
+    ∙ ap (λ (z : Bool). cond (a && z) (suc n) (max (held_upto c only s n) (all_upto cs only s n))) (sym (some_held c cs (made_event_at_place (outcomes_of_kept s) n) (earlier_state s (n + 1))))
 
 all_zero : (cs : List Condition) (only : Option NodeId) (s : State) → all_upto cs only s 0 ≡ 0
 all_zero [] only s = refl
@@ -107,10 +107,10 @@ place_step : (b : Bool) (n x : ℕ) → cond b (Some n) (newest_place x) ≡ new
 place_step true n x = refl
 place_step false n x = refl
 
-pub newest_is : (cs : List Condition) (only : Option NodeId) (s : State) (n : ℕ) → newest_holding_before cs only s n ≡ newest_place (all_upto cs only s n)
+pub newest_is : (cs : List Condition) (only : Option NodeId) (s : State) (n : ℕ) → newest_matching_event_before cs only s n ≡ newest_place (all_upto cs only s n)
 newest_is cs only s zero = ap newest_place (sym (all_zero cs only s))
 newest_is cs only s (suc n) =
-    let b : Bool = is_considered_event only (made_event_in (outcomes_of_kept s) n) && is_some (condition_held_after cs s n) in
+    let b : Bool = is_step_of_optional_node only (made_event_at_place (outcomes_of_kept s) n) && is_some (condition_held_after cs s n) in
     ap (λ (o : Option ℕ). cond b (Some n) o) (newest_is cs only s n)
     ∙ place_step b n (all_upto cs only s n)
     ∙ ap newest_place (sym (all_step cs only s n))
@@ -120,44 +120,44 @@ place_behind upto n e = ap newest_place (sym (add-one n) ∙ sym e)
 
 -- ---- what is found, as a law
 
-pub newest_found : (cs : List Condition) (only : Option NodeId) (s : State) (n place : ℕ) → newest_holding_before cs only s n ≡ Some place → IsNewestHolding cs only s n place
+pub newest_found : (cs : List Condition) (only : Option NodeId) (s : State) (n place : ℕ) → newest_matching_event_before cs only s n ≡ Some place → IsNewestMatchingEvent cs only s n place
 newest_found cs only s zero place h = absurd (cc)
-newest_found cs only s (suc n) place h = by_test (is_held_at cs only s n) refl h (λ k. newest_found cs only s n place k)
+newest_found cs only s (suc n) place h = by_test (has_condition_held_at cs only s n) refl h (λ k. newest_found cs only s n place k)
   where
-    by_test : (b : Bool) → is_held_at cs only s n ≡ b → cond b (Some n) (newest_holding_before cs only s n) ≡ Some place
-        → (newest_holding_before cs only s n ≡ Some place → IsNewestHolding cs only s n place) → IsNewestHolding cs only s (suc n) place
+    by_test : (b : Bool) → has_condition_held_at cs only s n ≡ b → cond b (Some n) (newest_matching_event_before cs only s n) ≡ Some place
+        → (newest_matching_event_before cs only s n ≡ Some place → IsNewestMatchingEvent cs only s n place) → IsNewestMatchingEvent cs only s (suc n) place
     by_test true is k before =
         let e : n ≡ place = same_Some n place k in
         record {
           within = omega (arith, e);
-          here = ap (is_held_at cs only s) (sym e) ∙ is;
+          here = ap (has_condition_held_at cs only s) (sym e) ∙ is;
           later = λ p l m. absurd (omega (arith, e, l, m));
         }
     by_test false is k before =
-        let r : IsNewestHolding cs only s n place = before k in
+        let r : IsNewestMatchingEvent cs only s n place = before k in
         record {
           within = omega (arith, r.within);
           here = r.here;
-          later = λ p l m. ⊎_elim (λ less. r.later p l less) (λ more. (let e : p ≡ n = omega (arith, more, m) in ap (is_held_at cs only s) e ∙ is)) (cases_lt p n);
+          later = λ p l m. ⊎_elim (λ less. r.later p l less) (λ more. (let e : p ≡ n = omega (arith, more, m) in ap (has_condition_held_at cs only s) e ∙ is)) (cases_lt p n);
         }
 
-pub none_found : (cs : List Condition) (only : Option NodeId) (s : State) (n : ℕ) → newest_holding_before cs only s n ≡ None → (p : ℕ) → p < n → is_held_at cs only s p ≡ false
+pub none_found : (cs : List Condition) (only : Option NodeId) (s : State) (n : ℕ) → newest_matching_event_before cs only s n ≡ None → (p : ℕ) → p < n → has_condition_held_at cs only s p ≡ false
 none_found cs only s zero h p l = absurd (omega arith)
-none_found cs only s (suc n) h p l = by_test (is_held_at cs only s n) refl h (λ k q m. none_found cs only s n k q m)
+none_found cs only s (suc n) h p l = by_test (has_condition_held_at cs only s n) refl h (λ k q m. none_found cs only s n k q m)
   where
-    by_test : (b : Bool) → is_held_at cs only s n ≡ b → cond b (Some n) (newest_holding_before cs only s n) ≡ None
-        → (newest_holding_before cs only s n ≡ None → (q : ℕ) → q < n → is_held_at cs only s q ≡ false) → is_held_at cs only s p ≡ false
+    by_test : (b : Bool) → has_condition_held_at cs only s n ≡ b → cond b (Some n) (newest_matching_event_before cs only s n) ≡ None
+        → (newest_matching_event_before cs only s n ≡ None → (q : ℕ) → q < n → has_condition_held_at cs only s q ≡ false) → has_condition_held_at cs only s p ≡ false
     by_test true is k before = absurd (cc)
-    by_test false is k before = ⊎_elim (λ less. before k p less) (λ more. (let e : p ≡ n = omega (arith, more, l) in ap (is_held_at cs only s) e ∙ is)) (cases_lt p n)
+    by_test false is k before = ⊎_elim (λ less. before k p less) (λ more. (let e : p ≡ n = omega (arith, more, l) in ap (has_condition_held_at cs only s) e ∙ is)) (cases_lt p n)
 
 -- ---- the walk over the events
 
 -- the report of the event just before a place
-told_prev : (s : State) (n : ℕ) (m : Made) → 0 < n → Some m ≡ made_event_before s n → made_event_in (outcomes_of_kept s) (n - 1) ≡ Some m
+told_prev : (s : State) (n : ℕ) (m : Made) → 0 < n → Some m ≡ made_event_before s n → made_event_at_place (outcomes_of_kept s) (n - 1) ≡ Some m
 told_prev s zero m l h = absurd (omega arith)
-told_prev s (suc n) m l h = ap (made_event_in (outcomes_of_kept s)) (let e : suc n - 1 ≡ n = omega arith in e) ∙ sym h
+told_prev s (suc n) m l h = ap (made_event_at_place (outcomes_of_kept s)) (let e : suc n - 1 ≡ n = omega arith in e) ∙ sym h
 
-pub told_before : (s : State) (n : ℕ) (m : Made) (events : BackwardState) → 0 < n → events ≡ backward_state s n → Some m ≡ made_event_before events.machine events.place → made_event_in (outcomes_of_kept s) (n - 1) ≡ Some m
+pub told_before : (s : State) (n : ℕ) (m : Made) (events : BackwardState) → 0 < n → events ≡ backward_state s n → Some m ≡ made_event_before events.machine events.place → made_event_at_place (outcomes_of_kept s) (n - 1) ≡ Some m
 told_before s n m events l is told = told_prev s n m l (subst (λ (z : BackwardState). Some m ≡ made_event_before z.machine z.place) is told)
 
 -- one event back
@@ -204,35 +204,35 @@ none_more cs only s n i upto total l same =
 
 -- ---- undos
 
-pub undone_once : (s : State) (n m : ℕ) → n ≤ length s.kept → m + 1 ≡ n → state_after_undo (earlier s n) ≡ earlier s m
-undone_once s n m l e = ap (λ (z : ℕ). state_after_undo (earlier s z)) (sym e) ∙ undone_earlier s m (omega (arith, l, e))
+pub undone_once : (s : State) (n m : ℕ) → n ≤ length s.kept → m + 1 ≡ n → state_after_undo (earlier_state s n) ≡ earlier_state s m
+undone_once s n m l e = ap (λ (z : ℕ). state_after_undo (earlier_state s z)) (sym e) ∙ undone_earlier s m (omega (arith, l, e))
 
-pub undone_all : (s : State) (count : ℕ) → count ≤ length s.kept → machine_after_undos count s ≡ earlier s (length s.kept - count)
-undone_all s zero l = sym (whole_earlier s) ∙ (let e : length s.kept ≡ length s.kept - 0 = omega arith in ap (earlier s) e)
+pub undone_all : (s : State) (count : ℕ) → count ≤ length s.kept → machine_after_undos count s ≡ earlier_state s (length s.kept - count)
+undone_all s zero l = sym (whole_earlier s) ∙ (let e : length s.kept ≡ length s.kept - 0 = omega arith in ap (earlier_state s) e)
 undone_all s (suc count) l =
     ap state_after_undo (undone_all s count (omega (arith, l)))
     ∙ undone_once s (length s.kept - count) (length s.kept - suc count) (omega arith) (omega (arith, l))
 
-pub undone_from : (s : State) (place : ℕ) → place ≤ length s.kept → machine_after_undos (length s.kept - place) s ≡ earlier s place
+pub undone_from : (s : State) (place : ℕ) → place ≤ length s.kept → machine_after_undos (length s.kept - place) s ≡ earlier_state s place
 undone_from s place l =
     undone_all s (length s.kept - place) (omega arith)
-    ∙ (let e : length s.kept - (length s.kept - place) ≡ place = omega (arith, l) in ap (earlier s) e)
+    ∙ (let e : length s.kept - (length s.kept - place) ≡ place = omega (arith, l) in ap (earlier_state s) e)
 
 -- ---- the step of a node that a search backwards finds is the event at that place
 
 -- the report of an event has the number of its step of each of its nodes
-number_behind : (before : List Event) (e : Event) (what : EventOutcome) (m : Made) (n : ℕ) → made_event_after before e what ≡ Some m → is_step_of n m ≡ true
+number_behind : (before : List Event) (e : Event) (what : EventOutcome) (m : Made) (n : ℕ) → made_event_after before e what ≡ Some m → is_step_of_node n m ≡ true
     → step_number_of_event n (Some m) ≡ count_steps n before + 1
 number_behind before (event.Own node) (ExecutedOwn kind) m n is own =
     let e : made.Own node (count_steps node.number before + 1) kind ≡ m = same_Some (made.Own node (count_steps node.number before + 1) kind) m is in
     ap (λ (z : Made). step_number_of_event n (Some z)) (sym e)
-    ∙ ap (λ (z : ℕ). count_steps z before + 1) (eqb-true node.number n (ap (is_step_of n) e ∙ own))
+    ∙ ap (λ (z : ℕ). count_steps z before + 1) (eqb-true node.number n (ap (is_step_of_node n) e ∙ own))
 number_behind before (event.Own node) (PassedWord word) m n is own = absurd (cc)
 number_behind before (event.Pass w r side) (ExecutedOwn kind) m n is own = absurd (cc)
 number_behind before (event.Pass w r side) (PassedWord word) m n is own =
     let e : made.Pass w (count_steps w.number before + 1) r (count_steps r.number before + 1) word ≡ m =
     same_Some (made.Pass w (count_steps w.number before + 1) r (count_steps r.number before + 1) word) m is in
-    ap (λ (z : Made). step_number_of_event n (Some z)) (sym e) ∙ by_end (w.number == n) refl (ap (is_step_of n) e ∙ own)
+    ap (λ (z : Made). step_number_of_event n (Some z)) (sym e) ∙ by_end (w.number == n) refl (ap (is_step_of_node n) e ∙ own)
   where
     by_end : (b : Bool) → (w.number == n) ≡ b → (b || (r.number == n)) ≡ true
         → cond b (count_steps w.number before + 1) (count_steps r.number before + 1) ≡ count_steps n before + 1
@@ -247,7 +247,7 @@ causes_many : (xs : List (Cause × EventOutcome)) → length (causes_without_out
 causes_many [] = refl
 causes_many (x ∷ xs) = ap suc (causes_many xs)
 
-placed : (told : List (Cause × EventOutcome)) (n place : ℕ) (m : Made) → made_event_in told place ≡ Some m → is_step_of n m ≡ true
+placed : (told : List (Cause × EventOutcome)) (n place : ℕ) (m : Made) → made_event_at_place told place ≡ Some m → is_step_of_node n m ≡ true
     → position_of_step (causes_without_outcomes told) n (step_number_of_event n (Some m)) ≡ Some place
 placed told n place m is own =
     let a : ToldAt told place m = told_at told place m is in
@@ -266,7 +266,7 @@ placed told n place m is own =
     ∙ place_split n (count_steps n (events_without_outcomes before)) (causes_without_outcomes before) a.one.0 (causes_without_outcomes behind) (touching_in n (causes_without_outcomes before)) touched
     ∙ ap Some many
 
-among_placed : (s : State) (node : NodeId) (place : ℕ) (o : Option Made) → made_event_in (outcomes_of_kept s) place ≡ o → is_considered_event (Some node) o ≡ true
+among_placed : (s : State) (node : NodeId) (place : ℕ) (o : Option Made) → made_event_at_place (outcomes_of_kept s) place ≡ o → is_step_of_optional_node (Some node) o ≡ true
     → position_of_step (causes_of s) node.number (step_number_of_event node.number o) ≡ Some place
 among_placed s node place None is h = absurd (cc)
 among_placed s node place (Some m) is h = placed (outcomes_of_kept s) node.number place m is h
@@ -275,23 +275,23 @@ left_true : (a b : Bool) → (a && b) ≡ true → a ≡ true
 left_true true b h = refl
 left_true false b h = h
 
-pub found_placed : (until : List Condition) (node : NodeId) (s : State) (place : ℕ) → find_newest_holding until (Some node) s ≡ Some place
-    → position_of_step (causes_of s) node.number (step_number_of_event node.number (made_event_in (outcomes_of_kept s) place)) ≡ Some place
+pub found_placed : (until : List Condition) (node : NodeId) (s : State) (place : ℕ) → find_newest_matching_event until (Some node) s ≡ Some place
+    → position_of_step (causes_of s) node.number (step_number_of_event node.number (made_event_at_place (outcomes_of_kept s) place)) ≡ Some place
 found_placed until node s place h =
-    let found : IsNewestHolding until (Some node) s (length s.kept) place = newest_found until (Some node) s (length s.kept) place h in
-    among_placed s node place (made_event_in (outcomes_of_kept s) place) refl (left_true (is_considered_event (Some node) (made_event_in (outcomes_of_kept s) place)) _ found.here)
+    let found : IsNewestMatchingEvent until (Some node) s (length s.kept) place = newest_found until (Some node) s (length s.kept) place h in
+    among_placed s node place (made_event_at_place (outcomes_of_kept s) place) refl (left_true (is_step_of_optional_node (Some node) (made_event_at_place (outcomes_of_kept s) place)) _ found.here)
 
 -- so some events go
 some_goes : (s : State) (only : Option NodeId) (o : Option ℕ)
     → ((node : NodeId) (place : ℕ) → only ≡ Some node → o ≡ Some place
-    → position_of_step (causes_of s) node.number (step_number_of_event node.number (made_event_in (outcomes_of_kept s) place)) ≡ Some place)
+    → position_of_step (causes_of s) node.number (step_number_of_event node.number (made_event_at_place (outcomes_of_kept s) place)) ≡ Some place)
     → is_some (removed_event_count only s o) ≡ is_some o
 some_goes s only None f = refl
 some_goes s None (Some place) f = refl
 some_goes s (Some node) (Some place) f = ap (λ (z : Option ℕ). is_some (result_ok (removed_count (causes_of s) z))) (f node place refl refl)
 
-pub found_some : (until : List Condition) (only : Option NodeId) (s : State) → IsSome (removed_event_count only s (find_newest_holding until only s)) ↔ IsSome (find_newest_holding until only s)
+pub found_some : (until : List Condition) (only : Option NodeId) (s : State) → IsSome (removed_event_count only s (find_newest_matching_event until only s)) ↔ IsSome (find_newest_matching_event until only s)
 found_some until only s =
-    let same : is_some (removed_event_count only s (find_newest_holding until only s)) ≡ is_some (find_newest_holding until only s) =
-    some_goes s only (find_newest_holding until only s) (λ node place e h. found_placed until node s place (ap (λ (z : Option NodeId). find_newest_holding until z s) (sym e) ∙ h)) in
+    let same : is_some (removed_event_count only s (find_newest_matching_event until only s)) ≡ is_some (find_newest_matching_event until only s) =
+    some_goes s only (find_newest_matching_event until only s) (λ node place e h. found_placed until node s place (ap (λ (z : Option NodeId). find_newest_matching_event until z s) (sym e) ∙ h)) in
     (λ h. sym same ∙ h, λ h. same ∙ h)

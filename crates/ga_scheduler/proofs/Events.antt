@@ -12,10 +12,10 @@ use Rattle.ga_grid.specs.declared.node_id.NodeId.{NodeId}
 use Rattle.ga_scheduler.specs.declared.schedule.Schedule.{Schedule}
 use Rattle.ga_scheduler.specs.Schedules.{schedule_after}
 use Rattle.ga_scheduler.specs.Conditions.{first_holding_condition}
-use Rattle.ga_scheduler.specs.Running.{Running, running, node_to_run, event_by_step, next_run_event, run_after_step, run_after_next, run_after_events, HasNextEvents, condition_held_by, condition_held_next, HasNoConditionHeld, IsRunHalted, HasRunEnded}
+use Rattle.ga_scheduler.specs.Running.{Running, running, node_to_run, event_of_optional_step, next_run_event, run_after_step, run_after_next, run_after_events, HasNextEvents, first_condition_held_by_event, condition_held_after_next_event, HasNoConditionHeld, IsRunHalted, HasRunEnded}
 use Rattle.ga_scheduler.specs.inner.{IsOver, events_at}
-use Rattle.ga_scheduler.specs.declared.watched.WatchedEnd.{WatchedEnd}
-use Rattle.ga_scheduler.specs.declared.watched.WatchedEnd.TheVariants as watched_end
+use Rattle.ga_scheduler.specs.declared.watched.WatchedRunEnd.{WatchedRunEnd}
+use Rattle.ga_scheduler.specs.declared.watched.WatchedRunEnd.TheVariants as watched_end
 use Rattle.ga_races.specs.Orders.{has_event}
 use Rattle.ga_scheduler.specs.Watched.{precedence_node, precedence_event, precedence_run_after_next, precedence_run_after, HasNextPrecedenceEvents, RunWatch, watch_after_event, watch_ends_at_event, watch_after, watch_ends_after, HasNoWatchEnd, IsPrecedenceRunHalted, HasWatchedRunEnded}
 
@@ -35,21 +35,21 @@ made_more start here n made at is before k l = elim (cases_lt k n) [
 ]
 
 -- which of the conditions holds after it
-pub held_is : (until : List Condition) (here next : Running) (made : Made) (held : Option ℕ) → next_run_event here ≡ Some made → next ≡ run_after_next here → held ≡ first_holding_condition until made next.state → condition_held_next until here ≡ held
+pub held_is : (until : List Condition) (here next : Running) (made : Made) (held : Option ℕ) → next_run_event here ≡ Some made → next ≡ run_after_next here → held ≡ first_holding_condition until made next.state → condition_held_after_next_event until here ≡ held
 held_is until here next made held is on h =
-    ap (λ o. condition_held_by until o (run_after_next here).state) is ∙ ap (λ (z : Running). first_holding_condition until made z.state) (sym on) ∙ sym h
+    ap (λ o. first_condition_held_by_event until o (run_after_next here).state) is ∙ ap (λ (z : Running). first_holding_condition until made z.state) (sym on) ∙ sym h
 
-pub never_more : (until : List Condition) (start here : Running) (n : ℕ) → here ≡ run_after_events start n → condition_held_next until here ≡ None → HasNoConditionHeld until start n → HasNoConditionHeld until start (n + 1)
+pub never_more : (until : List Condition) (start here : Running) (n : ℕ) → here ≡ run_after_events start n → condition_held_after_next_event until here ≡ None → HasNoConditionHeld until start n → HasNoConditionHeld until start (n + 1)
 never_more until start here n at unmet before k l = elim (cases_lt k n) [
   | inl less ↦ before k less
-  | inr more ↦ (let e : k ≡ n = omega arith in subst (λ z. condition_held_next until (run_after_events start z) ≡ None) (sym e) (subst (λ z. condition_held_next until z ≡ None) at unmet))
+  | inr more ↦ (let e : k ≡ n = omega arith in subst (λ z. condition_held_after_next_event until (run_after_events start z) ≡ None) (sym e) (subst (λ z. condition_held_after_next_event until z ≡ None) at unmet))
 ]
 
 -- how it ends
 pub ended_reached : (until : List Condition) (start here : Running) (most n : ℕ) (made : Made) (which : ℕ) → here ≡ run_after_events start n → HasNoConditionHeld until start n
-    → next_run_event here ≡ Some made → condition_held_next until here ≡ Some which → HasRunEnded start most until (n + 1) (the_end.Reached made which)
+    → next_run_event here ≡ Some made → condition_held_after_next_event until here ≡ Some which → HasRunEnded start most until (n + 1) (the_end.Reached made which)
 ended_reached until start here most n made which at never is met =
-    (n, refl, never, subst (λ z. next_run_event z ≡ Some made) at is, subst (λ z. condition_held_next until z ≡ Some which) at met)
+    (n, refl, never, subst (λ z. next_run_event z ≡ Some made) at is, subst (λ z. condition_held_after_next_event until z ≡ Some which) at met)
 
 pub ended_halted : (until : List Condition) (start here : Running) (most n : ℕ) (end : RunEnd) → here ≡ run_after_events start n → n < most → HasNoConditionHeld until start n → IsRunHalted here end → HasRunEnded start most until n end
 ended_halted until start here most n the_end.Quiet at less never h = (less, never, subst (λ z. IsRunHalted z the_end.Quiet) at h)
@@ -68,7 +68,7 @@ never_both until r m n first second k l = elim (cases_lt k m) [
   | inl less ↦ first k less
   | inr more ↦ (
       let e : m + (k - m) ≡ k = omega arith in
-      subst (λ z. condition_held_next until (run_after_events r z) ≡ None) e (subst (λ z. condition_held_next until z ≡ None) (after_after r m (k - m)) (second (k - m) (omega arith))))
+      subst (λ z. condition_held_after_next_event until (run_after_events r z) ≡ None) e (subst (λ z. condition_held_after_next_event until z ≡ None) (after_after r m (k - m)) (second (k - m) (omega arith))))
 ]
 
 pub ended_later : (until : List Condition) (r : Running) (most m n : ℕ) (end : RunEnd) → HasNoConditionHeld until r m → HasRunEnded (run_after_events r m) most until n end → HasRunEnded r (m + most) until (m + n) end
@@ -77,7 +77,7 @@ ended_later until r most m n (the_end.Reached made which) never h = (
   (let e : n ≡ h.0 + 1 = h.1 in omega arith),
   never_both until r m h.0 never h.2,
   subst (λ z. next_run_event z ≡ Some made) (after_after r m h.0) h.3,
-  subst (λ z. condition_held_next until z ≡ Some which) (after_after r m h.0) h.4,
+  subst (λ z. condition_held_after_next_event until z ≡ Some which) (after_after r m h.0) h.4,
 )
 ended_later until r most m n the_end.Made never h = (ap (λ (z : ℕ). m + z) h.0, never_both until r m n never h.1)
 ended_later until r most m n the_end.Quiet never h =
@@ -87,7 +87,7 @@ ended_later until r most m n (the_end.Refused why) never h =
 
 -- one event: its report, and where it leads
 pub told_is : (s : State) (schedule : Schedule) (node : NodeId) (made : Made) → node_to_run (running s schedule) ≡ Some node → step_answer s node ≡ Ok made → next_run_event (running s schedule) ≡ Some made
-told_is s schedule node made who answer = ap (event_by_step s) who ∙ ap result_ok answer
+told_is s schedule node made who answer = ap (event_of_optional_step s) who ∙ ap result_ok answer
 
 pub moved_is : (s t : State) (a b : Schedule) (node : NodeId) → node_to_run (running s a) ≡ Some node → t ≡ state_after_step s node → b ≡ schedule_after a node → running t b ≡ run_after_next (running s a)
 moved_is s t a b node who state schedule =
@@ -153,7 +153,7 @@ none_left (Some node) r h = none_chosen (has_event (chip_of r.state) node.number
 
 pub told_is_first : (first : Option NodeId) (s : State) (schedule : Schedule) (node : NodeId) (made : Made) → precedence_node first (running s schedule) ≡ Some node → step_answer s node ≡ Ok made
     → precedence_event first (running s schedule) ≡ Some made
-told_is_first first s schedule node made who answer = ap (event_by_step s) who ∙ ap result_ok answer
+told_is_first first s schedule node made who answer = ap (event_of_optional_step s) who ∙ ap result_ok answer
 
 pub moved_is_first : (first : Option NodeId) (s t : State) (a b : Schedule) (node : NodeId) → precedence_node first (running s a) ≡ Some node → t ≡ state_after_step s node → b ≡ schedule_after a node
     → running t b ≡ precedence_run_after_next first (running s a)
@@ -215,7 +215,7 @@ pub ended_seen : {W : Type 0} (by : RunWatch W) (w : W) (start here : Running) (
     → precedence_event by.first here ≡ Some made → watch_ends_after by w start n ≡ true → HasWatchedRunEnded by w start most (n + 1) (watched_end.Seen made)
 ended_seen by w start here most n made at never is met = (n, refl, never, subst (λ z. precedence_event by.first z ≡ Some made) at is, met)
 
-pub ended_halted_first : {W : Type 0} (by : RunWatch W) (w : W) (start here : Running) (most n : ℕ) (end : WatchedEnd) → here ≡ precedence_run_after by.first start n → n < most → HasNoWatchEnd by w start n
+pub ended_halted_first : {W : Type 0} (by : RunWatch W) (w : W) (start here : Running) (most n : ℕ) (end : WatchedRunEnd) → here ≡ precedence_run_after by.first start n → n < most → HasNoWatchEnd by w start n
     → IsPrecedenceRunHalted by.first here end → HasWatchedRunEnded by w start most n end
 ended_halted_first by w start here most n watched_end.Quiet at less never h = (less, never, subst (λ z. IsPrecedenceRunHalted by.first z watched_end.Quiet) at h)
 ended_halted_first by w start here most n (watched_end.Refused why) at less never h = (less, never, subst (λ z. IsPrecedenceRunHalted by.first z (watched_end.Refused why)) at h)
@@ -257,7 +257,7 @@ never_both_first by w r m n first second k l = elim (cases_lt k m) [
       subst (λ z. watch_ends_after by w r z ≡ false) e (sym (ends_behind_after by w r m (k - m)) ∙ second (k - m) (omega arith)))
 ]
 
-pub ended_later_first : {W : Type 0} (by : RunWatch W) (w : W) (r : Running) (most m n : ℕ) (end : WatchedEnd) → HasNoWatchEnd by w r m
+pub ended_later_first : {W : Type 0} (by : RunWatch W) (w : W) (r : Running) (most m n : ℕ) (end : WatchedRunEnd) → HasNoWatchEnd by w r m
     → HasWatchedRunEnded by (watch_after by w r m) (precedence_run_after by.first r m) most n end → HasWatchedRunEnded by w r (m + most) (m + n) end
 ended_later_first by w r most m n (watched_end.Seen made) never h = (
   m + h.0,

@@ -8,7 +8,7 @@ use Rattle.std.proofs.lemmas.Option.{same_Some}
 use Rattle.ga_event.specs.declared.made.Made.{Made}
 use Rattle.ga_lab.specs.Machine.{State, chip_of, memory_word_at}
 use Rattle.ga_scheduler.specs.declared.condition.Condition.{Condition}
-use Rattle.ga_scheduler.specs.Conditions.{holds, first_holding_condition, is_never, active_conditions, is_node_own_of_kind, is_stop_kind, is_wait_kind, fetches_at, stored_address, addresses_cell, stores_in_cell, node_before_newest, is_requested_word}
+use Rattle.ga_scheduler.specs.Conditions.{holds_after_made_event, first_holding_condition, never_holds, active_conditions, is_node_own_event_of_kind, is_stop_event_kind, is_wait_kind, fetches_at_address, stored_address, addresses_cell, stores_in_cell, node_before_newest_event, is_requested_word}
 use Rattle.ga_node.specs.Record.{NodeRecord}
 use Rattle.ga_node.specs.Table.{refusal}
 use Rattle.ga_node.specs.declared.kind.OwnEventKind.{OwnEventKind}
@@ -34,14 +34,14 @@ none_more test until n next is fails before k one at l = elim (cases_lt k n) [
 
 -- none of the first `n` holds
 abbrev pub NoneOf : List Condition → Made → State → ℕ → Type 0
-NoneOf until m s n = (k : ℕ) (one : Condition) → slice_get until k ≡ Some one → k < n → holds one m s ≡ false
+NoneOf until m s n = (k : ℕ) (one : Condition) → slice_get until k ≡ Some one → k < n → holds_after_made_event one m s ≡ false
 
 pub held_first : (until : List Condition) (i : ℕ) (one : Condition) (m : Made) (s : State) → slice_get until i ≡ Some one → NoneOf until m s i
-    → holds one m s ≡ true → first_holding_condition until m s ≡ Some i
+    → holds_after_made_event one m s ≡ true → first_holding_condition until m s ≡ Some i
 unfolding first_holding_condition
 held_first [] i one m s is before h = absurd (cc)
 held_first (c ∷ cs) zero one m s is before h =
-    ap (λ (b : Bool). cond b (Some 0) (option_map suc (first_holding_condition cs m s))) (ap (λ z. holds z m s) (same_Some c one is) ∙ h)
+    ap (λ (b : Bool). cond b (Some 0) (option_map suc (first_holding_condition cs m s))) (ap (λ z. holds_after_made_event z m s) (same_Some c one is) ∙ h)
 held_first (c ∷ cs) (suc i) one m s is before h =
     ap (λ (b : Bool). cond b (Some 0) (option_map suc (first_holding_condition cs m s))) (before 0 c refl (omega arith))
     ∙ ap (option_map suc) (held_first cs i one m s is (λ k other at l. before (suc k) other at (omega arith)) h)
@@ -56,12 +56,12 @@ none_held (c ∷ cs) m s h =
 -- Those before the first one that holds never.
 
 abbrev pub AreAsked : List Condition → ℕ → Type 0
-AreAsked until n = (k : ℕ) (one : Condition) → slice_get until k ≡ Some one → k < n → is_never one ≡ false
+AreAsked until n = (k : ℕ) (one : Condition) → slice_get until k ≡ Some one → k < n → never_holds one ≡ false
 
-pub asked_before : (until : List Condition) (i : ℕ) (one : Condition) → slice_get until i ≡ Some one → AreAsked until i → is_never one ≡ true → take i until ≡ active_conditions until
+pub asked_before : (until : List Condition) (i : ℕ) (one : Condition) → slice_get until i ≡ Some one → AreAsked until i → never_holds one ≡ true → take i until ≡ active_conditions until
 unfolding active_conditions
 asked_before [] i one is before never = absurd (cc)
-asked_before (c ∷ cs) zero one is before never = sym (ap (λ (b : Bool). cond b [] (c ∷ active_conditions cs)) (ap is_never (same_Some c one is) ∙ never))
+asked_before (c ∷ cs) zero one is before never = sym (ap (λ (b : Bool). cond b [] (c ∷ active_conditions cs)) (ap never_holds (same_Some c one is) ∙ never))
 asked_before (c ∷ cs) (suc i) one is before never =
     ap (λ z. c ∷ z) (asked_before cs i one is (λ k other at l. before (suc k) other at (omega arith)) never)
     ∙ sym (ap (λ (b : Bool). cond b [] (c ∷ active_conditions cs)) (before 0 c refl (omega arith)))
@@ -138,7 +138,7 @@ fetches_not needs n (kind.Run code) h off = not_due needs n h (both (not (is_one
 fetches_not needs n kind.Wait h off = absurd (true≢false (sym off))
 fetches_not needs n (kind.Stop code) h off = absurd (true≢false (sym off))
 
-stops_not : (needs : Needs) (n : NodeRecord) (what : OwnEventKind) → lacks needs n what ≡ true → is_stop_kind what ≡ false
+stops_not : (needs : Needs) (n : NodeRecord) (what : OwnEventKind) → lacks needs n what ≡ true → is_stop_event_kind what ≡ false
 stops_not needs n kind.Fetch off = refl
 stops_not needs n (kind.Run code) off = refl
 stops_not needs n kind.Wait off = refl
@@ -171,29 +171,29 @@ writes_not true false w off = refl
 writes_not false s w off = refl
 
 held_own : (needs : Needs) (one : Condition) (s : State) (node : NodeId) (step : ℕ) (what : OwnEventKind) → Covers needs one → lacks needs (record_at (chip_of s) node.number) what ≡ true
-    → holds one (made.Own node step what) s ≡ false
+    → holds_after_made_event one (made.Own node step what) s ≡ false
 held_own needs Never s node step what h off = refl
 held_own needs (Passes writer reader comparison word) s node step what h off = refl
 held_own needs (PassesNumber writer reader number) s node step what h off = refl
 held_own needs (Steps at k) s node step what h off = absurd (none_lacks needs (record_at (chip_of s) node.number) what h off)
 held_own needs Stops s node step what h off = stops_not needs (record_at (chip_of s) node.number) what off
-held_own needs (StopsAt at) s node step what h off = and_right (node.number == at.number) (is_stop_kind what) (stops_not needs (record_at (chip_of s) node.number) what off)
+held_own needs (StopsAt at) s node step what h off = and_right (node.number == at.number) (is_stop_event_kind what) (stops_not needs (record_at (chip_of s) node.number) what off)
 held_own needs (WaitsAt at) s node step what h off = and_right (node.number == at.number) (is_wait_kind what) (waits_not needs (record_at (chip_of s) node.number) what off)
 held_own needs (HoldsValue at test) s node step what h off = absurd (none_lacks needs (record_at (chip_of s) node.number) what h off)
-held_own needs (Reaches at address) s node step what h off = guarded (node.number == at.number) (fetches_at address (record_at (chip_of s) at.number)) (λ same.
+held_own needs (Reaches at address) s node step what h off = guarded (node.number == at.number) (fetches_at_address address (record_at (chip_of s) at.number)) (λ same.
     let is : node.number ≡ at.number = eqb-true node.number at.number same in
-    subst (λ (z : ℕ). fetches_at address (record_at (chip_of s) z) ≡ false) is
+    subst (λ (z : ℕ). fetches_at_address address (record_at (chip_of s) z) ≡ false) is
     (first_not ((record_at (chip_of s) node.number).slot == 4) ((record_at (chip_of s) node.number).p == address) (is_none (refusal (record_at (chip_of s) node.number)))
     (fetches_not needs (record_at (chip_of s) node.number) what h off)))
 held_own needs (Writes at address word) s node step what h off =
-    writes_not (nat_lt address 128) (is_node_own_of_kind at.number (stores_in_cell (address % 64) (node_before_newest s at.number)) (made.Own node step what)) (is_requested_word word (memory_word_at (record_at (chip_of s) at.number) address))
-    (and_right (node.number == at.number) (stores_in_cell (address % 64) (node_before_newest s at.number) what)
-    (stores_none needs (address % 64) (node_before_newest s at.number) (record_at (chip_of s) node.number) what h off))
+    writes_not (nat_lt address 128) (is_node_own_event_of_kind at.number (stores_in_cell (address % 64) (node_before_newest_event s at.number)) (made.Own node step what)) (is_requested_word word (memory_word_at (record_at (chip_of s) at.number) address))
+    (and_right (node.number == at.number) (stores_in_cell (address % 64) (node_before_newest_event s at.number) what)
+    (stores_none needs (address % 64) (node_before_newest_event s at.number) (record_at (chip_of s) node.number) what h off))
 
 pub none_held_lacking : (needs : Needs) (until : List Condition) (m : Made) (s : State) (node : NodeId) (step : ℕ) (what : OwnEventKind) → m ≡ made.Own node step what
     → IsNeeded needs until → lacks needs (record_at (chip_of s) node.number) what ≡ true → first_holding_condition until m s ≡ None
 none_held_lacking needs until m s node step what own needed off =
-    none_held until m s (λ k one is l. ap (λ z. holds one z s) own ∙ held_own needs one s node step what (needed k one is) off)
+    none_held until m s (λ k one is l. ap (λ z. holds_after_made_event one z s) own ∙ held_own needs one s node step what (needed k one is) off)
 
 -- Where there are no conditions.
 

@@ -11,12 +11,12 @@ use Rattle.ga_event.specs.declared.event.Event.TheVariants as event
 use Rattle.ga_event.specs.declared.event.Cause.{Cause}
 use Rattle.ga_event.specs.Touches.{touches}
 use Rattle.ga_event.specs.Apply.{EventOutcome, ExecutedOwn, PassedWord, replay, cause_of, run}
-use Rattle.ga_event.specs.Told.{count_steps, made_event_after, made_event_in, causes_without_outcomes, events_without_outcomes, made_events_of}
+use Rattle.ga_event.specs.Told.{count_steps, made_event_after, made_event_at_place, causes_without_outcomes, events_without_outcomes, made_events_of_node}
 use Rattle.ga_event.specs.declared.made.Made.{Made}
 use Rattle.ga_event.specs.declared.made.Made.TheVariants as made
-use Rattle.ga_lab.specs.Machine.{State, step_answer, state_after_step, outcomes_of_kept, earlier, outcomes_of_run, history_of, NodeAtStep, node_at_step, chip_of, state_after_undo, memory_word_at}
+use Rattle.ga_lab.specs.Machine.{State, step_answer, state_after_step, outcomes_of_kept, earlier_state, outcomes_of_run, history_of, NodeAtStep, node_at_step, chip_of, state_after_undo, memory_word_at}
 use Rattle.ga_lab.proofs.Stepping.{answers_are_stable}
-use Rattle.ga_scheduler.specs.Conditions.{is_step_of, is_node_own_of_kind, is_requested_word, fetches_at, stores_in_cell, node_before_newest, holds}
+use Rattle.ga_scheduler.specs.Conditions.{is_step_of_node, is_node_own_event_of_kind, is_requested_word, fetches_at_address, stores_in_cell, node_before_newest_event, holds_after_made_event}
 use Rattle.ga_scheduler.specs.inner.{newest_told, counted, counted_by, asked_node}
 use Rattle.ga_scheduler.proofs.WordCounts.{kept_told, behind, history_behind, other_writer, counted_on}
 use Rattle.ga_scheduler.proofs.Stepping.{StepIs, step_is, stepped_is}
@@ -24,7 +24,7 @@ use Rattle.ga_node.specs.Record.{NodeRecord, NodeState, record_of}
 use Rattle.ga_causal.proofs.Runs.{FirstOf, first_of_run}
 use Rattle.ga_lab.proofs.Called.{Runs, runs_of, told_is}
 use Rattle.ga_scheduler.specs.Words.{transfer_count_of_event, numbered_transfers, link_transfer_count}
-use Rattle.ga_scheduler.specs.Values.{passes}
+use Rattle.ga_scheduler.specs.Values.{is_passed_by_node}
 use Rattle.ga_scheduler.specs.declared.value_test.ValueTest.{ValueTest}
 use Rattle.ga_scheduler.specs.declared.condition.Condition.{Condition}
 use Rattle.std.proofs.lemmas.Bool.{lt-ltb, le-ltb, cond-true, cond-false}
@@ -40,7 +40,7 @@ last_place xs e = grind (arith, length-append)
 pub newest_step : (s : State) (n : NodeId) (m : Made) → IsSome (replay s.load s.kept) → step_answer s n ≡ Ok m → newest_told (state_after_step s n) ≡ Some m
 newest_step s n m some h =
     let i : StepIs s n m = step_is s n m h in
-    ap (λ (z : ℕ). made_event_in (outcomes_of_kept (state_after_step s n)) z) (ap (λ (z : State). length z.kept - 1) (stepped_is s n m i.what h i.is) ∙ last_place s.kept i.what)
+    ap (λ (z : ℕ). made_event_at_place (outcomes_of_kept (state_after_step s n)) z) (ap (λ (z : State). length z.kept - 1) (stepped_is s n m i.what h i.is) ∙ last_place s.kept i.what)
     ∙ answers_are_stable s n m some h
 
 -- Steps of the first events.
@@ -65,9 +65,9 @@ or_none false = refl
 
 abbrev is_of_told : ℕ → Option Made → Bool
 is_of_told n None = false
-is_of_told n (Some m) = is_step_of n m
+is_of_told n (Some m) = is_step_of_node n m
 
-pub of_made : (before : List Event) (e : Event) (what : EventOutcome) (m : Made) (n : ℕ) → made_event_after before e what ≡ Some m → touches e n ≡ is_step_of n m
+pub of_made : (before : List Event) (e : Event) (what : EventOutcome) (m : Made) (n : ℕ) → made_event_after before e what ≡ Some m → touches e n ≡ is_step_of_node n m
 of_made before (event.Own node) (ExecutedOwn kind) m n is = or_none (node.number == n) ∙ ap (is_of_told n) is
 of_made before (event.Own node) (PassedWord word) m n is = absurd (cc)
 of_made before (event.Pass w r side) (ExecutedOwn kind) m n is = absurd (cc)
@@ -77,9 +77,9 @@ of_made before (event.Pass w r side) (PassedWord word) m n is = ap (λ (b : Bool
 pub record EventAt (told : List (Cause × EventOutcome)) (place : ℕ) (m : Made) : Type 0 where
   pub event : Event
   pub is : slice_get (events_without_outcomes told) place ≡ Some event
-  pub of : (n : ℕ) → touches event n ≡ is_step_of n m
+  pub of : (n : ℕ) → touches event n ≡ is_step_of_node n m
 
-pub event_at : (told : List (Cause × EventOutcome)) (place : ℕ) (m : Made) → made_event_in told place ≡ Some m → EventAt told place m
+pub event_at : (told : List (Cause × EventOutcome)) (place : ℕ) (m : Made) → made_event_at_place told place ≡ Some m → EventAt told place m
 event_at told place m is = go (slice_get told place) refl is
   where
     go : (o : Option (Cause × EventOutcome)) → slice_get told place ≡ o
@@ -92,15 +92,15 @@ event_at told place m is = go (slice_get told place) refl is
     }
 
 -- how many steps of a node come after the event at a place
-pub steps_told : (s : State) (n place : ℕ) (m : Made) → IsSome (replay s.load s.kept) → made_event_in (outcomes_of_kept s) place ≡ Some m
-    → count_steps n (take (place + 1) s.kept) ≡ count_steps n (take place s.kept) + one_if (is_step_of n m)
+pub steps_told : (s : State) (n place : ℕ) (m : Made) → IsSome (replay s.load s.kept) → made_event_at_place (outcomes_of_kept s) place ≡ Some m
+    → count_steps n (take (place + 1) s.kept) ≡ count_steps n (take place s.kept) + one_if (is_step_of_node n m)
 steps_told s n place m some is =
     let e : EventAt (outcomes_of_kept s) place m = event_at (outcomes_of_kept s) place m is in
     steps_more n place s.kept e.event (ap (λ z. slice_get z place) (sym (kept_told s some)) ∙ e.is)
     ∙ ap (λ b. count_steps n (take place s.kept) + one_if b) (e.of n)
 
 -- and after the newest one
-pub newest_steps : (s : State) (n : ℕ) (m : Made) → IsSome (replay s.load s.kept) → newest_told s ≡ Some m → is_step_of n m ≡ true
+pub newest_steps : (s : State) (n : ℕ) (m : Made) → IsSome (replay s.load s.kept) → newest_told s ≡ Some m → is_step_of_node n m ≡ true
     → count_steps n (take (length s.kept - 1) s.kept) + 1 ≡ count_steps n s.kept
 newest_steps s n m some is own =
     let e : EventAt (outcomes_of_kept s) (length s.kept - 1) m = event_at (outcomes_of_kept s) (length s.kept - 1) m is in
@@ -110,7 +110,7 @@ newest_steps s n m some is own =
 
 pub own_steps : (s : State) (of node : NodeId) (step : ℕ) (kind : OwnEventKind) (m : Made) → IsSome (replay s.load s.kept) → newest_told s ≡ Some m → m ≡ made.Own node step kind → (node.number == of.number) ≡ true
     → count_steps of.number (take (length s.kept - 1) s.kept) + 1 ≡ count_steps of.number s.kept
-own_steps s of node step kind m some is own at = newest_steps s of.number m some is (ap (is_step_of of.number) own ∙ at)
+own_steps s of node step kind m some is own at = newest_steps s of.number m some is (ap (is_step_of_node of.number) own ∙ at)
 
 -- ---- the reports of the first events of the history, and how many words of a link they transferred
 
@@ -137,7 +137,7 @@ front (e ∷ es) c last ts (suc n) h =
     }
 
 -- the reports of the first are the first reports
-told_front : (s : State) (n : ℕ) → IsSome (replay s.load s.kept) → outcomes_of_kept (earlier s n) ≡ take n (outcomes_of_kept s)
+told_front : (s : State) (n : ℕ) → IsSome (replay s.load s.kept) → outcomes_of_kept (earlier_state s n) ≡ take n (outcomes_of_kept s)
 told_front s n some =
     let r : Runs s = runs_of s some in
     let g : Front s.load s.kept r.told n = front s.kept s.load r.last r.told n r.run_is in
@@ -149,7 +149,7 @@ pub record ToldAt (told : List (Cause × EventOutcome)) (n : ℕ) (m : Made) : T
   pub is : slice_get told n ≡ Some one
   pub made : made_event_after (events_without_outcomes (take n told)) one.0.event one.1 ≡ Some m
 
-pub told_at : (told : List (Cause × EventOutcome)) (n : ℕ) (m : Made) → made_event_in told n ≡ Some m → ToldAt told n m
+pub told_at : (told : List (Cause × EventOutcome)) (n : ℕ) (m : Made) → made_event_at_place told n ≡ Some m → ToldAt told n m
 told_at told n m h = go (slice_get told n) refl h
   where
     go : (o : Option (Cause × EventOutcome)) → slice_get told n ≡ o
@@ -159,21 +159,21 @@ told_at told n m h = go (slice_get told n) refl h
 
 -- so the history of a node is that before the event and what the node did by it
 history_front : (s : State) (n node : ℕ) (m : Made) (a : ToldAt (outcomes_of_kept s) n m) → IsSome (replay s.load s.kept)
-    → history_of (earlier s (n + 1)) node ≡ history_of (earlier s n) node ++ (if touches a.one.0.event node then m ∷ [] else [])
+    → history_of (earlier_state s (n + 1)) node ≡ history_of (earlier_state s n) node ++ (if touches a.one.0.event node then m ∷ [] else [])
 history_front s n node m a some =
     let told : List (Cause × EventOutcome) = outcomes_of_kept s in
     let more : take (n + 1) told ≡ take n told ++ a.one ∷ [] =
     take_more told n a.one (slice_get_within told n a.one a.is) ∙ ap (λ (z : Cause × EventOutcome). take n told ++ z ∷ []) (get_or_from_slice_get told n a.one a.one a.is) in
-    ap (λ (z : List (Cause × EventOutcome)). made_events_of z node) (told_front s (n + 1) some ∙ more)
+    ap (λ (z : List (Cause × EventOutcome)). made_events_of_node z node) (told_front s (n + 1) some ∙ more)
     ∙ history_behind [] (take n told) a.one node
-    ∙ ap (λ (o : Option Made). made_events_of (take n told) node ++ (if touches a.one.0.event node then option_to_list o else [])) a.made
-    ∙ ap (λ (z : List (Cause × EventOutcome)). made_events_of z node ++ (if touches a.one.0.event node then m ∷ [] else [])) (sym (told_front s n some))
+    ∙ ap (λ (o : Option Made). made_events_of_node (take n told) node ++ (if touches a.one.0.event node then option_to_list o else [])) a.made
+    ∙ ap (λ (z : List (Cause × EventOutcome)). made_events_of_node z node ++ (if touches a.one.0.event node then m ∷ [] else [])) (sym (told_front s n some))
 
-not_over : (w r : ℕ) (m : Made) → is_step_of w m ≡ false → transfer_count_of_event w r m ≡ 0
+not_over : (w r : ℕ) (m : Made) → is_step_of_node w m ≡ false → transfer_count_of_event w r m ≡ 0
 not_over w r (made.Own n k what) h = refl
 not_over w r (made.Pass a k b j word) h = other_writer (a.number == w) (b.number == w) (b.number == r) h
 
-counted_here : (hist : List Made) (w r : ℕ) (m : Made) (b : Bool) → is_step_of w m ≡ b
+counted_here : (hist : List Made) (w r : ℕ) (m : Made) (b : Bool) → is_step_of_node w m ≡ b
     → length (numbered_transfers w r 0 (hist ++ (if b then m ∷ [] else []))) ≡ length (numbered_transfers w r 0 hist) + transfer_count_of_event w r m
 counted_here hist w r m true h = behind w r hist m
 counted_here hist w r m false h =
@@ -181,17 +181,17 @@ counted_here hist w r m false h =
     ∙ (let q : length (numbered_transfers w r 0 hist) ≡ length (numbered_transfers w r 0 hist) + transfer_count_of_event w r m = omega (arith, not_over w r m h) in q)
 
 words_front : (s : State) (n : ℕ) (m : Made) (a : ToldAt (outcomes_of_kept s) n m) → IsSome (replay s.load s.kept) → (w r : ℕ)
-    → link_transfer_count (earlier s (n + 1)) w r ≡ link_transfer_count (earlier s n) w r + transfer_count_of_event w r m
+    → link_transfer_count (earlier_state s (n + 1)) w r ≡ link_transfer_count (earlier_state s n) w r + transfer_count_of_event w r m
 words_front s n m a some w r =
-    let of : touches a.one.0.event w ≡ is_step_of w m = of_made (events_without_outcomes (take n (outcomes_of_kept s))) a.one.0.event a.one.1 m w a.made in
+    let of : touches a.one.0.event w ≡ is_step_of_node w m = of_made (events_without_outcomes (take n (outcomes_of_kept s))) a.one.0.event a.one.1 m w a.made in
     ap (λ (z : List Made). length (numbered_transfers w r 0 z)) (history_front s n w m a some)
-    ∙ counted_here (history_of (earlier s n) w) w r m (touches a.one.0.event w) (sym of)
+    ∙ counted_here (history_of (earlier_state s n) w) w r m (touches a.one.0.event w) (sym of)
 
 -- how many words a condition counts, from one event to the next
-pub counted_back : (until : Condition) (s : State) (n : ℕ) (m : Made) → IsSome (replay s.load s.kept) → made_event_in (outcomes_of_kept s) n ≡ Some m
-    → counted until (earlier s (n + 1)) ≡ counted until (earlier s n) + counted_by until m
+pub counted_back : (until : Condition) (s : State) (n : ℕ) (m : Made) → IsSome (replay s.load s.kept) → made_event_at_place (outcomes_of_kept s) n ≡ Some m
+    → counted until (earlier_state s (n + 1)) ≡ counted until (earlier_state s n) + counted_by until m
 counted_back until s n m some h =
-    counted_on until (earlier s n) (earlier s (n + 1)) m (words_front s n m (told_at (outcomes_of_kept s) n m h) some)
+    counted_on until (earlier_state s n) (earlier_state s (n + 1)) m (words_front s n m (told_at (outcomes_of_kept s) n m h) some)
 
 -- ---- a condition after an event that others may follow
 
@@ -213,17 +213,17 @@ take_within zero xs = refl
 take_within (suc n) [] = refl
 take_within (suc n) (x ∷ xs) = ap (λ z. x ∷ z) (take_within n xs)
 
-pub undone_earlier : (s : State) (n : ℕ) → n < length s.kept → state_after_undo (earlier s (n + 1)) ≡ earlier s n
+pub undone_earlier : (s : State) (n : ℕ) → n < length s.kept → state_after_undo (earlier_state s (n + 1)) ≡ earlier_state s n
 undone_earlier s n l =
     let many : length (take (n + 1) s.kept) - 1 ≡ n = omega (arith, length-take (n + 1) s.kept) in
     ap (λ (z : List Event). record s { kept = z })
     (ap (λ (z : ℕ). take z (take (n + 1) s.kept)) many ∙ ap (λ (z : ℕ). take n (take z s.kept)) (add-one n) ∙ take_within n s.kept)
 
-pub whole_earlier : (s : State) → earlier s (length s.kept) ≡ s
+pub whole_earlier : (s : State) → earlier_state s (length s.kept) ≡ s
 whole_earlier s = ap (λ (z : List Event). record s { kept = z }) (take_all (length s.kept) s.kept (omega arith))
 
 -- an event with a report is in the history
-pub told_within : (s : State) (place : ℕ) (m : Made) → IsSome (replay s.load s.kept) → made_event_in (outcomes_of_kept s) place ≡ Some m → place < length s.kept
+pub told_within : (s : State) (place : ℕ) (m : Made) → IsSome (replay s.load s.kept) → made_event_at_place (outcomes_of_kept s) place ≡ Some m → place < length s.kept
 told_within s place m some is =
     let e : EventAt (outcomes_of_kept s) place m = event_at (outcomes_of_kept s) place m is in
     slice_get_within s.kept place e.event (ap (λ z. slice_get z place) (sym (kept_told s some)) ∙ e.is)
@@ -231,50 +231,50 @@ told_within s place m some is =
 -- ---- a node that is walked back to a place
 
 pub stands_at : (w : NodeAtStep) (s : State) (n : NodeId) (k place : ℕ) (r : NodeRecord) → w ≡ node_at_step s n k → k ≡ count_steps n.number (take place s.kept)
-    → ((q : ℕ) → count_steps w.node.number (take q w.machine.kept) ≡ w.step → r ≡ record_at (chip_of (earlier w.machine q)) w.node.number)
-    → r ≡ record_at (chip_of (earlier s place)) n.number
+    → ((q : ℕ) → count_steps w.node.number (take q w.machine.kept) ≡ w.step → r ≡ record_at (chip_of (earlier_state w.machine q)) w.node.number)
+    → r ≡ record_at (chip_of (earlier_state s place)) n.number
 stands_at w s n k place r e at f =
-    subst (λ (z : NodeAtStep). (q : ℕ) → count_steps z.node.number (take q z.machine.kept) ≡ z.step → r ≡ record_at (chip_of (earlier z.machine q)) z.node.number) e f place (sym at)
+    subst (λ (z : NodeAtStep). (q : ℕ) → count_steps z.node.number (take q z.machine.kept) ≡ z.step → r ≡ record_at (chip_of (earlier_state z.machine q)) z.node.number) e f place (sym at)
 
 -- so it is before the node's step
-pub stands_before : (s : State) (n : NodeId) (place : ℕ) (m : Made) (r : NodeRecord) → IsSome (replay s.load s.kept) → made_event_in (outcomes_of_kept s) place ≡ Some m
-    → r ≡ record_at (chip_of (earlier s place)) n.number → r ≡ node_before_newest (earlier s (place + 1)) n.number
+pub stands_before : (s : State) (n : NodeId) (place : ℕ) (m : Made) (r : NodeRecord) → IsSome (replay s.load s.kept) → made_event_at_place (outcomes_of_kept s) place ≡ Some m
+    → r ≡ record_at (chip_of (earlier_state s place)) n.number → r ≡ node_before_newest_event (earlier_state s (place + 1)) n.number
 stands_before s n place m r some is e =
     e ∙ ap (λ (z : State). record_at (chip_of z) n.number) (sym (undone_earlier s place (told_within s place m some is)))
 
-pub fewer_before : (s : State) (n place : ℕ) (m : Made) → IsSome (replay s.load s.kept) → made_event_in (outcomes_of_kept s) place ≡ Some m
+pub fewer_before : (s : State) (n place : ℕ) (m : Made) → IsSome (replay s.load s.kept) → made_event_at_place (outcomes_of_kept s) place ≡ Some m
     → count_steps n (take place s.kept) ≤ count_steps n (take (place + 1) s.kept)
 fewer_before s n place m some is = omega (arith, steps_told s n place m some is)
 
 -- ---- each condition that asks for a node
 
 pub holds_here : (c : Condition) (node : NodeId) (test : ValueTest) (result : Bool) (steps : ℕ) (m : Made) (s : State) (r : NodeRecord) → c ≡ HoldsValue node test
-    → r ≡ record_at (chip_of s) (asked_node c).number → steps ≡ count_steps (asked_node c).number s.kept → result ≡ passes test r steps → result ≡ holds c m s
+    → r ≡ record_at (chip_of s) (asked_node c).number → steps ≡ count_steps (asked_node c).number s.kept → result ≡ is_passed_by_node test r steps → result ≡ holds_after_made_event c m s
 holds_here c node test result steps m s r is at many v =
-    subst (λ (z : Condition). r ≡ record_at (chip_of s) (asked_node z).number → steps ≡ count_steps (asked_node z).number s.kept → result ≡ holds z m s) (sym is)
-    (λ h count. v ∙ ap (λ (z : NodeRecord). passes test z steps) h ∙ ap (λ (z : ℕ). passes test (record_at (chip_of s) node.number) z) count) at many
+    subst (λ (z : Condition). r ≡ record_at (chip_of s) (asked_node z).number → steps ≡ count_steps (asked_node z).number s.kept → result ≡ holds_after_made_event z m s) (sym is)
+    (λ h count. v ∙ ap (λ (z : NodeRecord). is_passed_by_node test z steps) h ∙ ap (λ (z : ℕ). is_passed_by_node test (record_at (chip_of s) node.number) z) count) at many
 
 pub reaches_here : (c : Condition) (node : NodeId) (address : ℕ) (result : Bool) (m : Made) (s : State) (r : NodeRecord) → c ≡ Reaches node address
-    → r ≡ record_at (chip_of s) (asked_node c).number → result ≡ (is_step_of node.number m && fetches_at address r) → result ≡ holds c m s
+    → r ≡ record_at (chip_of s) (asked_node c).number → result ≡ (is_step_of_node node.number m && fetches_at_address address r) → result ≡ holds_after_made_event c m s
 reaches_here c node address result m s r is at v =
-    subst (λ (z : Condition). r ≡ record_at (chip_of s) (asked_node z).number → result ≡ holds z m s) (sym is)
-    (λ h. v ∙ ap (λ (z : NodeRecord). is_step_of node.number m && fetches_at address z) h) at
+    subst (λ (z : Condition). r ≡ record_at (chip_of s) (asked_node z).number → result ≡ holds_after_made_event z m s) (sym is)
+    (λ h. v ∙ ap (λ (z : NodeRecord). is_step_of_node node.number m && fetches_at_address address z) h) at
 
 pub writes_here : (c : Condition) (node : NodeId) (address : ℕ) (word : Option ℕ) (result has : Bool) (m : Made) (s : State) (r : NodeRecord) → c ≡ Writes node address word
-    → r ≡ record_at (chip_of s) (asked_node c).number → has ≡ is_node_own_of_kind node.number (stores_in_cell (address % 64) (node_before_newest s node.number)) m
-    → result ≡ (nat_lt address 128 && has && is_requested_word word (memory_word_at r address)) → result ≡ holds c m s
+    → r ≡ record_at (chip_of s) (asked_node c).number → has ≡ is_node_own_event_of_kind node.number (stores_in_cell (address % 64) (node_before_newest_event s node.number)) m
+    → result ≡ (nat_lt address 128 && has && is_requested_word word (memory_word_at r address)) → result ≡ holds_after_made_event c m s
 writes_here c node address word result has m s r is at stored v =
-    subst (λ (z : Condition). r ≡ record_at (chip_of s) (asked_node z).number → result ≡ holds z m s) (sym is)
+    subst (λ (z : Condition). r ≡ record_at (chip_of s) (asked_node z).number → result ≡ holds_after_made_event z m s) (sym is)
     (λ h. v ∙ ap (λ (z : Bool). nat_lt address 128 && z && is_requested_word word (memory_word_at r address)) stored
-    ∙ ap (λ (z : NodeRecord). nat_lt address 128 && is_node_own_of_kind node.number (stores_in_cell (address % 64) (node_before_newest s node.number)) m && is_requested_word word (memory_word_at z address)) h) at
+    ∙ ap (λ (z : NodeRecord). nat_lt address 128 && is_node_own_event_of_kind node.number (stores_in_cell (address % 64) (node_before_newest_event s node.number)) m && is_requested_word word (memory_word_at z address)) h) at
 
 -- an own event, of the node and of another one
 pub own_here : (m : Made) (node : NodeId) (step of cell : ℕ) (kind : OwnEventKind) (result : Bool) (r b : NodeRecord) → m ≡ made.Own node step kind → (node.number == of) ≡ true
-    → r ≡ b → result ≡ stores_in_cell cell r kind → result ≡ is_node_own_of_kind of (stores_in_cell cell b) m
+    → r ≡ b → result ≡ stores_in_cell cell r kind → result ≡ is_node_own_event_of_kind of (stores_in_cell cell b) m
 own_here m node step of cell kind result r b is same e v =
-    v ∙ ap (λ (z : NodeRecord). stores_in_cell cell z kind) e ∙ ap (λ (z : Bool). z && stores_in_cell cell b kind) (sym same) ∙ ap (is_node_own_of_kind of (stores_in_cell cell b)) (sym is)
+    v ∙ ap (λ (z : NodeRecord). stores_in_cell cell z kind) e ∙ ap (λ (z : Bool). z && stores_in_cell cell b kind) (sym same) ∙ ap (is_node_own_event_of_kind of (stores_in_cell cell b)) (sym is)
 
 pub own_elsewhere : (m : Made) (node : NodeId) (step of cell : ℕ) (kind : OwnEventKind) (b : NodeRecord) → m ≡ made.Own node step kind → (node.number == of) ≡ false
-    → false ≡ is_node_own_of_kind of (stores_in_cell cell b) m
+    → false ≡ is_node_own_event_of_kind of (stores_in_cell cell b) m
 own_elsewhere m node step of cell kind b is other =
-    ap (λ (z : Bool). z && stores_in_cell cell b kind) (sym other) ∙ ap (is_node_own_of_kind of (stores_in_cell cell b)) (sym is)
+    ap (λ (z : Bool). z && stores_in_cell cell b kind) (sym other) ∙ ap (is_node_own_event_of_kind of (stores_in_cell cell b)) (sym is)

@@ -25,16 +25,16 @@ use Rattle.ga_scheduler.specs.Schedules.{next_node}
 use Rattle.ga_scheduler.proofs.Drawn.{chosen_same, none_passes}
 use Rattle.ga_races.proofs.Nexts.{near_or_same, runs_on}
 use Rattle.ga_journal.proofs.Parts.{two_touched as pass_touched}
-use Rattle.ga_node.specs.declared.kind.NotReady.{NotReady}
+use Rattle.ga_node.specs.declared.kind.EventRefusal.{EventRefusal}
 use Rattle.ga_event.specs.declared.event.Cause.{Cause}
 use Rattle.ga_event.proofs.Locality.{apply_keeps}
 use Rattle.ga_event.proofs.Nexts.{next_can}
 use Rattle.ga_rollback.proofs.Rewinding.{run_snoc}
 use Rattle.ga_lab.specs.declared.fault.LabFault.{LabFault}
 use Rattle.ga_lab.specs.declared.fault.LabFault.TheVariants.{Full, Memory, Spent}
-use Rattle.ga_lab.specs.Machine.{State, chip_of, made_next_event, answer_to_event, step_answer, with_event, unless_refused, state_after_step}
+use Rattle.ga_lab.specs.Machine.{State, chip_of, made_next_event, answer_to_event, step_answer, with_event, state_unless_refused, state_after_step}
 use Rattle.ga_lab.proofs.Called.{Runs, runs_of, chip_is}
-use Rattle.ga_scheduler.specs.Running.{IsQuiescent, IsRefusedFor}
+use Rattle.ga_scheduler.specs.Running.{IsQuiescent, IsStepRefusedFor}
 
 -- ---- the set of nodes that have an event, from one event to the next
 
@@ -129,7 +129,7 @@ told_is false false here m h = cc
 pub step_is : (s : State) (n : NodeId) (m : Made) → step_answer s n ≡ Ok m → StepIs s n m
 step_is s n m h = go (next (chip_of s) n) refl h
   where
-    go : (o : Result Event NotReady) → next (chip_of s) n ≡ o → answer_to_event s o ≡ Ok m → StepIs s n m
+    go : (o : Result Event EventRefusal) → next (chip_of s) n ≡ o → answer_to_event s o ≡ Ok m → StepIs s n m
     go (Err why) is k = absurd (cc)
     go (Ok e) is k = record { what = e; is = is; told = told_is (nat_le s.limit (length s.kept)) (nat_le (2 ^ 64 - 1) s.made) (made_next_event s e) m k }
 
@@ -144,7 +144,7 @@ chip_with s e some can =
 
 pub stepped_is : (s : State) (n : NodeId) (m : Made) (e : Event) → step_answer s n ≡ Ok m → next (chip_of s) n ≡ Ok e → state_after_step s n ≡ with_event s (Ok e)
 stepped_is s n m e h is =
-    ap (λ (a : Result Made LabFault). unless_refused s a (with_event s (next (chip_of s) n))) h
+    ap (λ (a : Result Made LabFault). state_unless_refused s a (with_event s (next (chip_of s) n))) h
     ∙ ap (with_event s) is
 
 keeps : (c : List NodeRecord) (e : Event) → refusal_of c e ≡ None → AgreeOutsideMarks (touches e) c (after c e).0
@@ -184,6 +184,6 @@ pub answered_ok : (answer : Result Made LabFault) (m : Made) → Answered (Ok m)
 answered_ok answer m (inl h) = sym h
 answered_ok answer m (inr h) = absurd (let q : (let r : Result Made LabFault = Ok m in r) ≡ Err Memory = h.0 in cc)
 
-pub answered_err : (answer : Result Made LabFault) (why : LabFault) → Answered (Err why) answer → IsRefusedFor why answer
+pub answered_err : (answer : Result Made LabFault) (why : LabFault) → Answered (Err why) answer → IsStepRefusedFor why answer
 answered_err answer why (inl h) = inl (sym h)
 answered_err answer why (inr h) = inr (let q : (let r : Result Made LabFault = Err why in r) ≡ Err Memory = h.0 in cc, h.1)

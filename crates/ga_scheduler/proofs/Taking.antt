@@ -8,7 +8,7 @@ use Rattle.ga_grid.proofs.NodeIds.{node_id-number}
 use Rattle.ga_event.specs.Told.{count_steps}
 use Rattle.ga_lab.specs.Machine.{State}
 use Rattle.ga_scheduler.specs.declared.effects.RollbackEffect.{RollbackEffect}
-use Rattle.ga_scheduler.specs.Effects.{kept_steps, rollback_effect_on, effects_below}
+use Rattle.ga_scheduler.specs.Effects.{kept_steps, rollback_effect_on, rollback_effects_below}
 
 -- a node of which no step would be removed isn't listed
 pub told_none : (left all : ℕ → ℕ) (m : ℕ) → left m ≡ all m → (items : List RollbackEffect) → items ≡ items ++ rollback_effect_on left all m
@@ -16,12 +16,12 @@ told_none left all m e items =
     sym (append-nil items) ∙ ap (λ z. items ++ z) (sym (cond-true (left m == all m) [] _ (eq-eqb (left m) (all m) e)))
 
 -- one node more
-pub effects_more : (left all : ℕ → ℕ) (m : ℕ) → effects_below left all (m + 1) ≡ effects_below left all m ++ rollback_effect_on left all m
-unfolding effects_below
+pub effects_more : (left all : ℕ → ℕ) (m : ℕ) → rollback_effects_below left all (m + 1) ≡ rollback_effects_below left all m ++ rollback_effect_on left all m
+unfolding rollback_effects_below
 effects_more left all m = rw add-one refl
 
-pub effects_none : (left all : ℕ → ℕ) → effects_below left all 0 ≡ []
-unfolding effects_below
+pub effects_none : (left all : ℕ → ℕ) → rollback_effects_below left all 0 ≡ []
+unfolding rollback_effects_below
 effects_none left all = refl
 
 -- the entry of a node of which some steps would be removed
@@ -38,22 +38,22 @@ told_some left all node steps first e some f =
     ∙ sym (cond-false (left node.number == all node.number) [] _ (ne_eqb (left node.number) (all node.number) ne))
 
 -- one more node is listed
-pub effects_step : (left all : ℕ → ℕ) (m n : ℕ) (items new : List RollbackEffect) → n ≡ m → items ≡ effects_below left all m → new ≡ items ++ rollback_effect_on left all n → new ≡ effects_below left all (m + 1)
+pub effects_step : (left all : ℕ → ℕ) (m n : ℕ) (items new : List RollbackEffect) → n ≡ m → items ≡ rollback_effects_below left all m → new ≡ items ++ rollback_effect_on left all n → new ≡ rollback_effects_below left all (m + 1)
 effects_step left all m n items new e h g =
-    g ∙ ap (λ z. z ++ rollback_effect_on left all n) h ∙ ap (λ (z : ℕ). effects_below left all m ++ rollback_effect_on left all z) e ∙ sym (effects_more left all m)
+    g ∙ ap (λ z. z ++ rollback_effect_on left all n) h ∙ ap (λ (z : ℕ). rollback_effects_below left all m ++ rollback_effect_on left all z) e ∙ sym (effects_more left all m)
 
 -- nodes of which all would be left
-idle_one : (left all : ℕ → ℕ) (m : ℕ) → left m ≡ all m → effects_below left all (suc m) ≡ effects_below left all m
-unfolding effects_below
-idle_one left all m e = sym (told_none left all m e (effects_below left all m))
+idle_one : (left all : ℕ → ℕ) (m : ℕ) → left m ≡ all m → rollback_effects_below left all (suc m) ≡ rollback_effects_below left all m
+unfolding rollback_effects_below
+idle_one left all m e = sym (told_none left all m e (rollback_effects_below left all m))
 
-idle_from : (left all : ℕ → ℕ) (a d : ℕ) → ((m : ℕ) → a ≤ m → left m ≡ all m) → effects_below left all (d + a) ≡ effects_below left all a
-idle_from left all a zero idle = ap (effects_below left all) (let q : 0 + a ≡ a = omega arith in q)
+idle_from : (left all : ℕ → ℕ) (a d : ℕ) → ((m : ℕ) → a ≤ m → left m ≡ all m) → rollback_effects_below left all (d + a) ≡ rollback_effects_below left all a
+idle_from left all a zero idle = ap (rollback_effects_below left all) (let q : 0 + a ≡ a = omega arith in q)
 idle_from left all a (suc d) idle =
-    ap (effects_below left all) (let q : suc d + a ≡ suc (d + a) = omega arith in q)
+    ap (rollback_effects_below left all) (let q : suc d + a ≡ suc (d + a) = omega arith in q)
     ∙ idle_one left all (d + a) (idle (d + a) (omega arith)) ∙ idle_from left all a d idle
 
-idle_below : (left all : ℕ → ℕ) (a : ℕ) → ((m : ℕ) → m < a → left m ≡ all m) → effects_below left all a ≡ []
+idle_below : (left all : ℕ → ℕ) (a : ℕ) → ((m : ℕ) → m < a → left m ≡ all m) → rollback_effects_below left all a ≡ []
 idle_below left all zero idle = effects_none left all
 idle_below left all (suc a) idle = idle_one left all a (idle a (omega arith)) ∙ idle_below left all a (λ m l. idle m (omega arith))
 
@@ -63,15 +63,15 @@ all_left left steps s m e none = omega (arith, e, none)
 
 -- so no node below the first of which a step would be removed is listed
 pub told_below : (left : ℕ → ℕ) (steps : List ℕ) (s : State) (first : ℕ) → ((m : ℕ) → m < first → slice_index steps m ≡ 0) → ((m : ℕ) → slice_index steps m + left m ≡ count_steps m s.kept)
-    → effects_below left (kept_steps s) first ≡ []
+    → rollback_effects_below left (kept_steps s) first ≡ []
 told_below left steps s first none each = idle_below left (kept_steps s) first (λ m l. all_left left steps s m (each m) (none m l))
 
 -- and of none past the last
 pub told_past : (left : ℕ → ℕ) (steps : List ℕ) (s : State) (past n : ℕ) → past ≤ 144 → past ≤ n → ((m : ℕ) → past ≤ m → slice_index steps m ≡ 0) → ((m : ℕ) → slice_index steps m + left m ≡ count_steps m s.kept)
-    → effects_below left (kept_steps s) n ≡ effects_below left (kept_steps s) 144
+    → rollback_effects_below left (kept_steps s) n ≡ rollback_effects_below left (kept_steps s) 144
 told_past left steps s past n fits beyond none each =
     let idle : (m : ℕ) → past ≤ m → left m ≡ kept_steps s m = λ m l. all_left left steps s m (each m) (none m l) in
-    ap (effects_below left (kept_steps s)) (let q : n ≡ (n - past) + past = omega (arith, beyond) in q)
+    ap (rollback_effects_below left (kept_steps s)) (let q : n ≡ (n - past) + past = omega (arith, beyond) in q)
     ∙ idle_from left (kept_steps s) past (n - past) idle
     ∙ sym (idle_from left (kept_steps s) past (144 - past) idle)
-    ∙ ap (effects_below left (kept_steps s)) (let q : (144 - past) + past ≡ 144 = omega (arith, fits) in q)
+    ∙ ap (rollback_effects_below left (kept_steps s)) (let q : (144 - past) + past ≡ 144 = omega (arith, fits) in q)

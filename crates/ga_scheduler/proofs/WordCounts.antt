@@ -4,7 +4,7 @@ use Rattle.std.specs.Prelude.{slice_get, option_to_list, Option, IsSome, slice_i
 use Rattle.ga_event.specs.declared.made.Made.{Made}
 use Rattle.ga_event.specs.declared.made.Made.TheVariants as made
 use Rattle.ga_scheduler.specs.declared.words.Transfer.{Transfer}
-use Rattle.ga_scheduler.specs.Words.{transfer_of_event, transfer_count_of_event, numbered_transfers, is_transfer_over, link_end_node, link_transfer_count}
+use Rattle.ga_scheduler.specs.Words.{transfer_of_event, transfer_count_of_event, numbered_transfers, is_transfer_over_link, link_end_node, link_transfer_count}
 use Rattle.std.proofs.lemmas.Option.{none-some}
 use Rattle.ga_grid.specs.declared.node_id.NodeId.{NodeId}
 use Rattle.ga_event.specs.declared.event.Event.{Event}
@@ -12,7 +12,7 @@ use Rattle.ga_event.specs.declared.event.Event.TheVariants as event
 use Rattle.ga_event.specs.declared.event.Cause.{Cause}
 use Rattle.ga_event.specs.Touches.{touches}
 use Rattle.ga_event.specs.Apply.{EventOutcome, ExecutedOwn, PassedWord, apply, after, some_if_allowed, cause_of, refusal_of, replay}
-use Rattle.ga_event.specs.Told.{made_event_after, made_events_after, made_events_of, events_without_outcomes}
+use Rattle.ga_event.specs.Told.{made_event_after, made_events_after, made_events_of_node, events_without_outcomes}
 use Rattle.ga_lab.specs.Machine.{State, outcomes_of_kept, history_of, chip_of, made_next_event, step_answer, with_event, state_after_step, outcomes_of_run}
 use Rattle.std.proofs.lemmas.List.{append-nil}
 use Rattle.ga_node.specs.declared.kind.OwnEventKind.{OwnEventKind}
@@ -86,11 +86,11 @@ none_if : (b : Bool) (sent : Transfer) → b ≡ false → [] ≡ (if b then sen
 none_if true sent h = absurd (cc)
 none_if false sent h = refl
 
-carried_none : (w r n : ℕ) (x : Made) → is_transfer_over w r x ≡ false → [] ≡ transfer_of_event w r n x
+carried_none : (w r n : ℕ) (x : Made) → is_transfer_over_link w r x ≡ false → [] ≡ transfer_of_event w r n x
 carried_none w r n (made.Own m k kind) h = refl
 carried_none w r n (made.Pass a k b j carried) h = none_if ((a.number == w) && (b.number == r)) _ h
 
-left_out : (w r n : ℕ) (has : Bool) (x : Made) (xs : List Made) → is_transfer_over w r x ≡ false
+left_out : (w r n : ℕ) (has : Bool) (x : Made) (xs : List Made) → is_transfer_over_link w r x ≡ false
     → numbered_transfers w r n ((if has then x ∷ [] else []) ++ xs) ≡ numbered_transfers w r n xs
 left_out w r n true x xs h = passed_over w r n x xs (carried_none w r (n + 1) x h)
 left_out w r n false x xs h = refl
@@ -114,7 +114,7 @@ had : (has : Bool) (x : Made) (xs : List Made) → has ≡ true → (if has then
 had true x xs h = refl
 had false x xs h = absurd (cc)
 
-one_pass : (w r n : ℕ) (x : Made) (xs ys : List Made) (at_w at_r over : Bool) → is_transfer_over w r x ≡ over → (over ≡ true → (at_w ≡ true) × (at_r ≡ true))
+one_pass : (w r n : ℕ) (x : Made) (xs ys : List Made) (at_w at_r over : Bool) → is_transfer_over_link w r x ≡ over → (over ≡ true → (at_w ≡ true) × (at_r ≡ true))
     → ((m : ℕ) → numbered_transfers w r m xs ≡ numbered_transfers w r m ys)
     → numbered_transfers w r n ((if at_r then x ∷ [] else []) ++ xs) ≡ numbered_transfers w r n ((if at_w then x ∷ [] else []) ++ ys)
 one_pass w r n x xs ys at_w at_r false is at same = left_out w r n at_r x xs is ∙ same n ∙ sym (left_out w r n at_w x ys is)
@@ -190,7 +190,7 @@ at_most_one false = omega arith
 -- they are no more than the events
 pub few_words : (w r : ℕ) (xs : List Made) → length (numbered_transfers w r 0 xs) ≤ length xs
 few_words w r [] = omega arith
-few_words w r (x ∷ xs) = omega (arith, one_counted w r x xs, few_words w r xs, at_most_one (is_transfer_over w r x))
+few_words w r (x ∷ xs) = omega (arith, one_counted w r x xs, few_words w r xs, at_most_one (is_transfer_over_link w r x))
 
 -- one more event at the end
 pub behind : (w r : ℕ) (xs : List Made) (x : Made) → length (numbered_transfers w r 0 (xs ++ x ∷ [])) ≡ length (numbered_transfers w r 0 xs) + transfer_count_of_event w r x
@@ -243,7 +243,7 @@ last_is s e n c is =
 history_with : (s : State) (e : Event) (n : ℕ) → IsSome (replay s.load s.kept) → refusal_of (chip_of s) e ≡ None
     → history_of (with_event s (Ok e)) n ≡ history_of s n ++ (if touches e n then made_next_event s e ∷ [] else [])
 history_with s e n some can =
-    ap (λ z. made_events_of z n) (told_behind s e some can)
+    ap (λ z. made_events_of_node z n) (told_behind s e some can)
     ∙ history_behind [] (outcomes_of_kept s) (cause_of (chip_of s) e, (after (chip_of s) e).1) n
     ∙ ap (λ (z : List Event). history_of s n ++ last_of z (cause_of (chip_of s) e, (after (chip_of s) e).1) n) (kept_told s some)
     ∙ ap (λ (z : List Made). history_of s n ++ z) (last_is s e n (cause_of (chip_of s) e) refl)

@@ -3,41 +3,41 @@
 use Rattle.std.specs.Prelude.{◌≡◌, ℕ, zero, suc, ◌+◌, ◌-◌, ◌<◌, ◌==◌, Bool, true, false, ◌&&◌, if◌then◌else◌, is_some, List, length, Option, Some, None}
 use Rattle.std.specs.Result.{result_ok}
 use Rattle.ga_grid.specs.declared.node_id.NodeId.{NodeId}
-use Rattle.ga_event.specs.Told.{made_event_in}
+use Rattle.ga_event.specs.Told.{made_event_at_place}
 use Rattle.ga_event.specs.declared.made.Made.{Made}
 use Rattle.ga_event.specs.declared.made.Made.TheVariants as made
-use Rattle.ga_lab.specs.Machine.{State, outcomes_of_kept, earlier, state_after_undo, rewind_answer, state_after_rewind}
+use Rattle.ga_lab.specs.Machine.{State, outcomes_of_kept, earlier_state, state_after_undo, rewind_answer, state_after_rewind}
 use Rattle.ga_scheduler.specs.declared.condition.Condition.{Condition}
-use Rattle.ga_scheduler.specs.Conditions.{is_step_of}
-use Rattle.ga_scheduler.specs.Running.{condition_held_by}
+use Rattle.ga_scheduler.specs.Conditions.{is_step_of_node}
+use Rattle.ga_scheduler.specs.Running.{first_condition_held_by_event}
 
 -- which of the conditions held first just after the event at a place, if the machine was the one after it
 abbrev pub condition_held_after : List Condition → State → ℕ → Option ℕ
-condition_held_after until s place = condition_held_by until (made_event_in (outcomes_of_kept s) place) (earlier s (place + 1))
+condition_held_after until s place = first_condition_held_by_event until (made_event_at_place (outcomes_of_kept s) place) (earlier_state s (place + 1))
 
 -- an event is considered: each one is, or each step of a node
-abbrev pub is_considered_event : Option NodeId → Option Made → Bool
-is_considered_event only None = false
-is_considered_event None (Some told) = true
-is_considered_event (Some node) (Some told) = is_step_of node.number told
+abbrev pub is_step_of_optional_node : Option NodeId → Option Made → Bool
+is_step_of_optional_node only None = false
+is_step_of_optional_node None (Some told) = true
+is_step_of_optional_node (Some node) (Some told) = is_step_of_node node.number told
 
-abbrev pub is_held_at : List Condition → Option NodeId → State → ℕ → Bool
-is_held_at until only s place = is_considered_event only (made_event_in (outcomes_of_kept s) place) && is_some (condition_held_after until s place)
+abbrev pub has_condition_held_at : List Condition → Option NodeId → State → ℕ → Bool
+has_condition_held_at until only s place = is_step_of_optional_node only (made_event_at_place (outcomes_of_kept s) place) && is_some (condition_held_after until s place)
 
 -- the place of the newest of the first `n` events that is considered and after which one of the conditions held
-abbrev pub newest_holding_before : List Condition → Option NodeId → State → ℕ → Option ℕ
-newest_holding_before until only s zero = None
-newest_holding_before until only s (suc place) = if is_held_at until only s place then Some place else newest_holding_before until only s place
+abbrev pub newest_matching_event_before : List Condition → Option NodeId → State → ℕ → Option ℕ
+newest_matching_event_before until only s zero = None
+newest_matching_event_before until only s (suc place) = if has_condition_held_at until only s place then Some place else newest_matching_event_before until only s place
 
-abbrev pub find_newest_holding : List Condition → Option NodeId → State → Option ℕ
-find_newest_holding until only s = newest_holding_before until only s (length s.kept)
+abbrev pub find_newest_matching_event : List Condition → Option NodeId → State → Option ℕ
+find_newest_matching_event until only s = newest_matching_event_before until only s (length s.kept)
 
 -- The event at a place is the newest of the first `n` that is considered and after which a condition held: for no later one
 -- both hold.
-pub record IsNewestHolding (until : List Condition) (only : Option NodeId) (s : State) (count place : ℕ) : Type 0 where
+pub record IsNewestMatchingEvent (until : List Condition) (only : Option NodeId) (s : State) (count place : ℕ) : Type 0 where
   pub within : place < count
-  pub here : is_held_at until only s place ≡ true
-  pub later : (n : ℕ) → place < n → n < count → is_held_at until only s n ≡ false
+  pub here : has_condition_held_at until only s place ≡ true
+  pub later : (n : ℕ) → place < n → n < count → has_condition_held_at until only s n ≡ false
 
 -- the number of a node's step that an event was
 abbrev pub step_number_of_event : ℕ → Option Made → ℕ
@@ -46,16 +46,16 @@ step_number_of_event node (Some (made.Own n k what)) = k
 step_number_of_event node (Some (made.Pass w k r j word)) = if w.number == node then k else j
 
 -- The machine without what is taken: the events from a place on; or of a node its step there, with what depends on it.
-abbrev pub machine_back_at_place : Option NodeId → State → Option ℕ → State
-machine_back_at_place only s None = s
-machine_back_at_place None s (Some place) = earlier s place
-machine_back_at_place (Some node) s (Some place) = state_after_rewind s node.number (step_number_of_event node.number (made_event_in (outcomes_of_kept s) place))
+abbrev pub machine_after_back_until : Option NodeId → State → Option ℕ → State
+machine_after_back_until only s None = s
+machine_after_back_until None s (Some place) = earlier_state s place
+machine_after_back_until (Some node) s (Some place) = state_after_rewind s node.number (step_number_of_event node.number (made_event_at_place (outcomes_of_kept s) place))
 
 -- how many events are taken back: those from a place on, or a node's step there with what depends on it; none where there is no place
 abbrev pub removed_event_count : Option NodeId → State → Option ℕ → Option ℕ
 removed_event_count only s None = None
 removed_event_count None s (Some place) = Some (length s.kept - place)
-removed_event_count (Some node) s (Some place) = result_ok (rewind_answer s node.number (step_number_of_event node.number (made_event_in (outcomes_of_kept s) place)))
+removed_event_count (Some node) s (Some place) = result_ok (rewind_answer s node.number (step_number_of_event node.number (made_event_at_place (outcomes_of_kept s) place)))
 
 -- a machine after `n` undos
 abbrev pub machine_after_undos : ℕ → State → State

@@ -18,10 +18,10 @@ rollback_effect_on left all m =
     if left m == all m then [] else record { node = node_id m; first = left m + 1; steps = all m - left m } ∷ []
 
 -- what would go of the first nodes
-unfoldable pub effects_below : (ℕ → ℕ) → (ℕ → ℕ) → ℕ → List RollbackEffect
-effects_below left all zero = []
-effects_below left all (suc m) = effects_below left all m ++ rollback_effect_on left all m
+unfoldable pub rollback_effects_below : (ℕ → ℕ) → (ℕ → ℕ) → ℕ → List RollbackEffect
+rollback_effects_below left all zero = []
+rollback_effects_below left all (suc m) = rollback_effects_below left all m ++ rollback_effect_on left all m
 
 -- what a rollback would take of each node, in the order of the numbers
 abbrev pub rollback_effects : State → ℕ → ℕ → List RollbackEffect
-rollback_effects s n k = effects_below (remaining_steps s n k) (kept_steps s) 144
+rollback_effects s n k = rollback_effects_below (remaining_steps s n k) (kept_steps s) 144

@@ -8,12 +8,12 @@ use Rattle.ga_grid.specs.Chip.{record_at}
 use Rattle.ga_grid.specs.Grid.{load_p_of}
 use Rattle.ga_event.specs.declared.made.Made.{Made}
 use Rattle.ga_lab.specs.Machine.{State, history_of}
-use Rattle.ga_scheduler.specs.Conditions.{is_own_of_kind, is_wait_kind}
+use Rattle.ga_scheduler.specs.Conditions.{is_own_event_of_kind, is_wait_kind}
 
 -- one event, by which the node came to wait
 abbrev pub is_single_wait : List Made → Bool
 is_single_wait [] = false
-is_single_wait (made ∷ []) = is_own_of_kind is_wait_kind made
+is_single_wait (made ∷ []) = is_own_event_of_kind is_wait_kind made
 is_single_wait (made ∷ other ∷ more) = false
 
 -- no event

@@ -31,17 +31,17 @@ node_value n steps (value.DataWord place) = data_word n place
 node_value n steps (value.ReturnWord place) = return_word n place
 node_value n steps (value.Cell address) = memory_word_at n address
 
-abbrev pub compares : Comparison → ℕ → ℕ → Bool
-compares comparison.Equal value number = value == number
-compares comparison.Unequal value number = not (value == number)
-compares comparison.Less value number = nat_lt value number
-compares comparison.AtMost value number = nat_le value number
-compares comparison.More value number = nat_lt number value
-compares comparison.AtLeast value number = nat_le number value
+abbrev pub holds_between : Comparison → ℕ → ℕ → Bool
+holds_between comparison.Equal value number = value == number
+holds_between comparison.Unequal value number = not (value == number)
+holds_between comparison.Less value number = nat_lt value number
+holds_between comparison.AtMost value number = nat_le value number
+holds_between comparison.More value number = nat_lt number value
+holds_between comparison.AtLeast value number = nat_le number value
 
 -- a node that made `steps` steps passes the test
-abbrev pub passes : ValueTest → NodeRecord → ℕ → Bool
-passes test n steps = compares test.comparison (node_value n steps test.value) test.number
+abbrev pub is_passed_by_node : ValueTest → NodeRecord → ℕ → Bool
+is_passed_by_node test n steps = holds_between test.comparison (node_value n steps test.value) test.number
 
 -- the value is the number of steps, and no word
 abbrev pub is_step_count : NodeValue → Bool
@@ -49,5 +49,5 @@ is_step_count value.Step = true
 is_step_count other = false
 
 -- a word has 18 bits; a number of steps is any
-abbrev pub is_possible : ValueTest → Bool
-is_possible test = nat_lt test.number 262144 || is_step_count test.value
+abbrev pub can_be_passed : ValueTest → Bool
+can_be_passed test = nat_lt test.number 262144 || is_step_count test.value

@@ -4,17 +4,17 @@
 -- own.)
 use Rattle.std.specs.Prelude.{◌≡◌, ℕ, zero, suc, ◌+◌, ◌-◌, ◌<◌, Bool, true, false, if◌then◌else◌, length, Option, Some, None, IsSome}
 use Rattle.ga_grid.specs.declared.node_id.NodeId.{NodeId}
-use Rattle.ga_event.specs.Told.{made_event_in}
+use Rattle.ga_event.specs.Told.{made_event_at_place}
 use Rattle.ga_event.specs.declared.made.Made.{Made}
 use Rattle.ga_lab.specs.Machine.{State, chip_of, outcomes_of_kept, step_answer}
-use Rattle.ga_scheduler.specs.declared.watched.WatchedEnd.{WatchedEnd}
-use Rattle.ga_scheduler.specs.declared.watched.WatchedEnd.TheVariants as the_end
+use Rattle.ga_scheduler.specs.declared.watched.WatchedRunEnd.{WatchedRunEnd}
+use Rattle.ga_scheduler.specs.declared.watched.WatchedRunEnd.TheVariants as the_end
 use Rattle.ga_races.specs.Orders.{has_event}
-use Rattle.ga_scheduler.specs.Running.{Running, node_to_run, event_by_step, run_after_step, IsQuiescent, IsRefusedFor}
+use Rattle.ga_scheduler.specs.Running.{Running, node_to_run, event_of_optional_step, run_after_step, IsQuiescent, IsStepRefusedFor}
 
 -- this is the report of the newest event in the history
-abbrev pub IsNewestReport : State → Made → Type 0
-IsNewestReport s made = made_event_in (outcomes_of_kept s) (length s.kept - 1) ≡ Some made
+abbrev pub IsReportOfNewestEvent : State → Made → Type 0
+IsReportOfNewestEvent s made = made_event_at_place (outcomes_of_kept s) (length s.kept - 1) ≡ Some made
 
 -- ---- a node has precedence
 
@@ -25,7 +25,7 @@ precedence_node (Some node) r = if has_event (chip_of r.state) node.number then 
 
 -- the report of the next event, if a node may have precedence, and the run after it
 abbrev pub precedence_event : Option NodeId → Running → Option Made
-precedence_event first r = event_by_step r.state (precedence_node first r)
+precedence_event first r = event_of_optional_step r.state (precedence_node first r)
 
 abbrev pub precedence_run_after_next : Option NodeId → Running → Running
 precedence_run_after_next first r = run_after_step r (precedence_node first r)
@@ -47,8 +47,8 @@ pub record RunWatch (W : Type 0) : Type 0 where
   pub ends : W → Made → State → Bool
   pub seen : W → Made → State → W
 
-abbrev pub watching : {W : Type 0} → Option NodeId → (W → Made → State → Bool) → (W → Made → State → W) → RunWatch W
-watching first ends seen = record { first = first; ends = ends; seen = seen }
+abbrev pub run_watch : {W : Type 0} → Option NodeId → (W → Made → State → Bool) → (W → Made → State → W) → RunWatch W
+run_watch first ends seen = record { first = first; ends = ends; seen = seen }
 
 abbrev pub watch_after_event : {W : Type 0} → RunWatch W → W → Option Made → State → W
 watch_after_event by w None s = w
@@ -74,21 +74,21 @@ abbrev pub HasNoWatchEnd : {W : Type 0} → RunWatch W → W → Running → ℕ
 HasNoWatchEnd by w r events = (k : ℕ) → k < events → watch_ends_after by w r k ≡ false
 
 -- why no event follows in a run, where a node may go first
-abbrev pub IsPrecedenceRunHalted : Option NodeId → Running → WatchedEnd → Type 0
+abbrev pub IsPrecedenceRunHalted : Option NodeId → Running → WatchedRunEnd → Type 0
 IsPrecedenceRunHalted first r the_end.Quiet = IsQuiescent (chip_of r.state)
-IsPrecedenceRunHalted first r (the_end.Refused why) = (node : NodeId) × (precedence_node first r ≡ Some node) × IsRefusedFor why (step_answer r.state node)
+IsPrecedenceRunHalted first r (the_end.Refused why) = (node : NodeId) × (precedence_node first r ≡ Some node) × IsStepRefusedFor why (step_answer r.state node)
 IsPrecedenceRunHalted first r (the_end.Seen made) = ⊥
 IsPrecedenceRunHalted first r the_end.Made = ⊥
 
 -- the event after which the watch ended a run is the newest of the machine
-abbrev pub IsNewestWatchedEvent : State → WatchedEnd → Type 0
-IsNewestWatchedEvent s (the_end.Seen made) = IsNewestReport s made
+abbrev pub IsNewestWatchedEvent : State → WatchedRunEnd → Type 0
+IsNewestWatchedEvent s (the_end.Seen made) = IsReportOfNewestEvent s made
 IsNewestWatchedEvent s the_end.Made = Unit {0}
 IsNewestWatchedEvent s the_end.Quiet = Unit {0}
 IsNewestWatchedEvent s (the_end.Refused why) = Unit {0}
 
 -- how a watched run ended after `n` events, of at most the requested number
-abbrev pub HasWatchedRunEnded : {W : Type 0} → RunWatch W → W → Running → ℕ → ℕ → WatchedEnd → Type 0
+abbrev pub HasWatchedRunEnded : {W : Type 0} → RunWatch W → W → Running → ℕ → ℕ → WatchedRunEnd → Type 0
 HasWatchedRunEnded by w r most events (the_end.Seen made) =
     (k : ℕ) × (events ≡ k + 1) × HasNoWatchEnd by w r k × (precedence_event by.first (precedence_run_after by.first r k) ≡ Some made) × (watch_ends_after by w r k ≡ true)
 HasWatchedRunEnded by w r most events the_end.Made = (events ≡ most) × HasNoWatchEnd by w r events

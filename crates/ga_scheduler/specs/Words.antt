@@ -8,9 +8,9 @@ use Rattle.ga_scheduler.specs.declared.words.Transfer.{Transfer}
 use Rattle.ga_scheduler.specs.declared.words.TransferIter.{TransferIter}
 
 -- the event carried a word over a link
-abbrev pub is_transfer_over : ℕ → ℕ → Made → Bool
-is_transfer_over writer reader (made.Own n k kind) = false
-is_transfer_over writer reader (made.Pass w k r j carried) = (w.number == writer) && (r.number == reader)
+abbrev pub is_transfer_over_link : ℕ → ℕ → Made → Bool
+is_transfer_over_link writer reader (made.Own n k kind) = false
+is_transfer_over_link writer reader (made.Pass w k r j carried) = (w.number == writer) && (r.number == reader)
 
 -- the word that an event carried over a link, with this number; nothing where it carried none there
 abbrev pub transfer_of_event : ℕ → ℕ → ℕ → Made → List Transfer
@@ -21,7 +21,7 @@ transfer_of_event writer reader number (made.Pass w k r j carried) =
 
 -- one where the event carried a word over the link
 abbrev pub transfer_count_of_event : ℕ → ℕ → Made → ℕ
-transfer_count_of_event writer reader told = if is_transfer_over writer reader told then 1 else 0
+transfer_count_of_event writer reader told = if is_transfer_over_link writer reader told then 1 else 0
 
 -- the words that these events transferred, numbered after those before
 abbrev pub numbered_transfers : ℕ → ℕ → ℕ → List Made → List Transfer
@@ -30,12 +30,12 @@ numbered_transfers writer reader before (told ∷ rest) =
     transfer_of_event writer reader (before + 1) told ++ numbered_transfers writer reader (before + transfer_count_of_event writer reader told) rest
 
 -- the words that went from one node to another, of all events that are kept
-abbrev pub words_of : State → ℕ → ℕ → List Transfer
-words_of s writer reader = numbered_transfers writer reader 0 (history_of s writer)
+abbrev pub link_transfers : State → ℕ → ℕ → List Transfer
+link_transfers s writer reader = numbered_transfers writer reader 0 (history_of s writer)
 
 -- how many words went from one node to another, of all events that are kept
 abbrev pub link_transfer_count : State → ℕ → ℕ → ℕ
-link_transfer_count s writer reader = length (words_of s writer reader)
+link_transfer_count s writer reader = length (link_transfers s writer reader)
 
 -- the end of a link whose steps are read: each word that went over it is a step of both
 abbrev pub link_end_node : Bool → NodeId → NodeId → ℕ

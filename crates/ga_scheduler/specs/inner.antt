@@ -2,15 +2,15 @@
 use Rattle.std.specs.Prelude.{ℕ, zero, suc, ◌+◌, ◌&&◌, if◌then◌else◌, max, List, [], ◌∷◌, Bool, false, Option, Some, None, ◌≡◌, ◌-◌, length, slice_index, ◌/◌, ◌%◌, ◌==◌, ◌≢◌, ◌<◌, true, ◌⊎◌, ◌≤◌, nat_lt, not, IfSome}
 use Rattle.ga_grid.specs.declared.node_id.NodeId.{NodeId}
 use Rattle.ga_grid.specs.Grid.{node_id, neighbour_of}
-use Rattle.ga_event.specs.Told.{made_event_in}
+use Rattle.ga_event.specs.Told.{made_event_at_place}
 use Rattle.ga_event.specs.declared.made.Made.{Made}
-use Rattle.ga_lab.specs.Machine.{State, outcomes_of_kept, earlier}
+use Rattle.ga_lab.specs.Machine.{State, outcomes_of_kept, earlier_state}
 use Rattle.ga_scheduler.specs.declared.condition.Condition.{Condition}
 use Rattle.ga_scheduler.specs.declared.condition.Condition.TheVariants.{HoldsValue, Reaches, Writes, PassesNumber, Passes, Steps, Stops, StopsAt, WaitsAt, Never}
-use Rattle.ga_scheduler.specs.Conditions.{holds, is_matching_pass, is_node_step, is_own_of_kind, is_node_own_of_kind, is_stop_kind, is_wait_kind}
-use Rattle.ga_scheduler.specs.Backward.{is_considered_event}
+use Rattle.ga_scheduler.specs.Conditions.{holds_after_made_event, is_matching_pass, is_node_step, is_own_event_of_kind, is_node_own_event_of_kind, is_stop_event_kind, is_wait_kind}
+use Rattle.ga_scheduler.specs.Backward.{is_step_of_optional_node}
 use Rattle.std.specs.List.{slice_get}
-use Rattle.ga_scheduler.specs.Words.{is_transfer_over, transfer_count_of_event, link_transfer_count}
+use Rattle.ga_scheduler.specs.Words.{is_transfer_over_link, transfer_count_of_event, link_transfer_count}
 use Rattle.std.specs.Int.{bit_at}
 use Rattle.ga_scheduler.specs.declared.numbers.NumberSet.{NumberSet}
 use Rattle.ga_scheduler.specs.declared.drawing.Known.{Known}
@@ -28,7 +28,7 @@ use Rattle.ga_scheduler.specs.declared.running.RunEnd.TheVariants as the_end
 use Rattle.ga_node.specs.declared.kind.OwnEventKind.{OwnEventKind}
 use Rattle.ga_scheduler.specs.declared.watching.Needs.{Needs}
 use Rattle.ga_scheduler.specs.declared.running.RunEnd.{RunEnd}
-use Rattle.ga_scheduler.specs.Running.{Running, next_run_event, run_after_next, condition_held_next, IsRunHalted}
+use Rattle.ga_scheduler.specs.Running.{Running, next_run_event, run_after_next, condition_held_after_next_event, IsRunHalted}
 
 -- ---- what the search back for a condition cites
 
@@ -42,10 +42,10 @@ asked_node other = node_id 0
 -- a condition held after the event with this report
 abbrev pub held_one : Condition → Option Made → State → Bool
 held_one until None s = false
-held_one until (Some told) s = holds until told s
+held_one until (Some told) s = holds_after_made_event until told s
 
 abbrev pub is_held : Condition → Option NodeId → State → ℕ → Bool
-is_held until only s place = is_considered_event only (made_event_in (outcomes_of_kept s) place) && held_one until (made_event_in (outcomes_of_kept s) place) (earlier s (place + 1))
+is_held until only s place = is_step_of_optional_node only (made_event_at_place (outcomes_of_kept s) place) && held_one until (made_event_at_place (outcomes_of_kept s) place) (earlier_state s (place + 1))
 
 -- the length of the prefix of events up to the newest that is considered and after which a condition held; 0 if there is none
 abbrev pub held_upto : Condition → Option NodeId → State → ℕ → ℕ
@@ -97,16 +97,16 @@ WereCounted until s told words = (k : ℕ) (one : Condition) → slice_get until
 -- node is not considered
 abbrev pub is_decided_by : Condition → Made → ℕ → Bool
 is_decided_by (Passes writer reader comparison word) told words = is_matching_pass writer.number reader.number comparison word told
-is_decided_by (PassesNumber writer reader number) told words = is_transfer_over writer.number reader.number told && (words == number)
+is_decided_by (PassesNumber writer reader number) told words = is_transfer_over_link writer.number reader.number told && (words == number)
 is_decided_by (Steps node step) told words = is_node_step node.number step told
-is_decided_by Stops told words = is_own_of_kind is_stop_kind told
-is_decided_by (StopsAt node) told words = is_node_own_of_kind node.number is_stop_kind told
-is_decided_by (WaitsAt node) told words = is_node_own_of_kind node.number is_wait_kind told
+is_decided_by Stops told words = is_own_event_of_kind is_stop_event_kind told
+is_decided_by (StopsAt node) told words = is_node_own_event_of_kind node.number is_stop_event_kind told
+is_decided_by (WaitsAt node) told words = is_node_own_event_of_kind node.number is_wait_kind told
 is_decided_by other told words = false
 
 -- the report of the newest event in the history
 abbrev pub newest_told : State → Option Made
-newest_told s = made_event_in (outcomes_of_kept s) (length s.kept - 1)
+newest_told s = made_event_at_place (outcomes_of_kept s) (length s.kept - 1)
 
 -- ---- whether nodes are drawn
 
@@ -194,7 +194,7 @@ IsNeeded needs until = (k : ℕ) (one : Condition) → slice_get until k ≡ Som
 
 -- a run is over with its next event, which led here, or no event follows
 abbrev pub IsOver : List Condition → Running → Running → RunEnd → Type 0
-IsOver until r next (the_end.Reached made which) = (next_run_event r ≡ Some made) × (condition_held_next until r ≡ Some which) × (next ≡ run_after_next r)
+IsOver until r next (the_end.Reached made which) = (next_run_event r ≡ Some made) × (condition_held_after_next_event until r ≡ Some which) × (next ≡ run_after_next r)
 IsOver until r next the_end.Made = ⊥
 IsOver until r next the_end.Quiet = IsRunHalted r the_end.Quiet × (next ≡ r)
 IsOver until r next (the_end.Refused why) = IsRunHalted r (the_end.Refused why) × (next ≡ r)

@@ -3,7 +3,7 @@
 ghost use Rattle.std.specs.Prelude.{◌≡◌, ◌⊎◌, ◌↔◌, ◌+◌, ◌≤◌, ℕ, false, ◌++◌, slice_index, Ok, Err, IsOk, IfOk, OnOk, IfErr};
 ghost use Rattle.ga_event.specs.Told.{count_steps};
 ghost use Rattle.ga_lab.specs.Machine.{rewind_answer, has_step};
-ghost use Rattle.ga_scheduler.specs.Effects.{kept_steps, rollback_effect_on, effects_below, rollback_effects};
+ghost use Rattle.ga_scheduler.specs.Effects.{kept_steps, rollback_effect_on, rollback_effects_below, rollback_effects};
 
 use ga_grid::NodeId;
 use ga_lab::{Lab, LabFault};
@@ -57,7 +57,7 @@ fn listed(alloc: Global, lab: &Lab, steps: &VisitedEntries) -> Result<Vec<Rollba
     requires { (m : ℕ) → slice_index steps.now m ≤ count_steps m lab.now.kept }
     ensures ok { IfOk result (λ list. (left : ℕ → ℕ) →
         ((m : ℕ) → slice_index steps.now m + left m ≡ count_steps m lab.now.kept) →
-        list.items ≡ effects_below left (kept_steps lab.now) 144) }
+        list.items ≡ rollback_effects_below left (kept_steps lab.now) 144) }
     ensures err { IfErr result (λ why. why ≡ LabFault.Memory) }
 {
     let mut list = Vec::new(alloc);

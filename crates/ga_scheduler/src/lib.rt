@@ -22,16 +22,16 @@ mod words;
 pub use condition::Condition;
 pub use effects::{Effects, RollbackEffect, find_rollback_effects};
 pub use event_tests::{
-    addresses_cell, fetches_at, is_matching_pass, is_step_of, is_stop_event, is_stop_event_of,
-    is_wait_event_of, stores_in_cell,
+    addresses_cell, fetches_at_address, is_matching_pass, is_step_of_node, is_stop_event,
+    is_stop_event_of, is_wait_event_of, stores_in_cell,
 };
-pub use idle::find_idle;
-pub use reverse_search::{back_until, find_newest_holding};
+pub use idle::find_idle_nodes;
+pub use reverse_search::{back_until, find_newest_matching_event};
 pub use running::{RunEnd, RunResult, run_schedule};
 pub use schedule::{Order, Schedule};
 pub use value_test::{Comparison, NodeValue, ValueTest};
 pub use watch::StopCondition;
-pub use watched::{WatchedEnd, WatchedRun, has_stored_in_cell, run_watched};
+pub use watched::{WatchedRun, WatchedRunEnd, has_stored_in_cell, run_watched};
 pub use watching::{MAX_CONDITIONS, active_conditions};
 pub use words::telling::count_transfers;
 pub use words::{Transfer, TransferIter};

@@ -6,7 +6,7 @@ ghost use Rattle.ga_lab.specs.Machine.{chip_of, step_answer, state_after_step};
 ghost use Rattle.ga_scheduler.specs.Words.{transfer_count_of_event, link_transfer_count};
 ghost use Rattle.ga_scheduler.specs.inner.{HoldsReady, IsKnown, is_random, AreCounted, newest_told, IsNeeded, IsOver, events_at};
 ghost use Rattle.ga_scheduler.specs.Schedules.{schedule_after};
-ghost use Rattle.ga_scheduler.specs.Running.{running, next_run_event, run_after_next, condition_held_next, run_after_events, HasNextEvents, IsRefusedFor, HasRunEnded};
+ghost use Rattle.ga_scheduler.specs.Running.{running, next_run_event, run_after_next, condition_held_after_next_event, run_after_events, HasNextEvents, IsStepRefusedFor, HasRunEnded};
 
 use crate::condition::Condition;
 use crate::drawing::Known;
@@ -81,7 +81,7 @@ pub(crate) fn make(
     ensures newest { IfOk result (λ made. newest_told lab.new ≡ Some made) }
     ensures replays { OnOk result (IsSome (replay lab.new.load lab.new.kept)) }
     ensures draws { draws ≡ is_random schedule.new.order }
-    ensures refused { IfErr result (λ why. IsRefusedFor why (step_answer lab.old node)) }
+    ensures refused { IfErr result (λ why. IsStepRefusedFor why (step_answer lab.old node)) }
     ensures same { OnErr result (lab.new ≡ lab.old) }
     ensures stays { OnErr result (schedule.new ≡ schedule.old) }
 {
@@ -122,7 +122,7 @@ fn advance(
     requires size { length words.old ≡ 8 }
     requires counted { AreCounted until.now lab.old words.old }
     ensures made { OnOk result (IsSome (next_run_event (running lab.old schedule.old))) }
-    ensures unmet { OnOk result (condition_held_next until.now (running lab.old schedule.old) ≡ None) }
+    ensures unmet { OnOk result (condition_held_after_next_event until.now (running lab.old schedule.old) ≡ None) }
     ensures moved { OnOk result (running lab.new schedule.new ≡ run_after_next (running lab.old schedule.old)) }
     ensures ready { OnOk result (HoldsReady (chip_of lab.new) ready.new) }
     ensures known { OnOk result (IsKnown ready.new known.new) }

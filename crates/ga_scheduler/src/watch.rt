@@ -3,7 +3,7 @@
 ghost use Rattle.std.specs.Prelude.{◌≡◌, Bool};
 ghost use Rattle.ga_event.specs.declared.made.Made.{Made};
 ghost use Rattle.ga_lab.specs.Machine.{State};
-ghost use Rattle.ga_scheduler.specs.Watched.{IsNewestReport};
+ghost use Rattle.ga_scheduler.specs.Watched.{IsReportOfNewestEvent};
 
 use ga_lab::{Lab, Made};
 
@@ -17,7 +17,7 @@ pub trait StopCondition {
 
     /// Considers the newest event of a lab, and returns whether the run ends after it.
     fn sees(&mut self, made: &Made, lab: &Lab) -> bool
-        requires { IsNewestReport lab.now made.now }
+        requires { IsReportOfNewestEvent lab.now made.now }
         ensures answer { result ≡ ends self.old made.now lab.now }
         ensures behind { self.new ≡ seen self.old made.now lab.now };
 }

@@ -4,10 +4,10 @@ ghost use Rattle.std.specs.Prelude.{◌≡◌, ◌≤◌, ◌%◌, Ok, Some, Non
 ghost use Rattle.ga_event.specs.Apply.{replay};
 ghost use Rattle.ga_lab.specs.Machine.{chip_of};
 ghost use Rattle.ga_scheduler.specs.declared.condition.Condition.TheVariants.{Writes};
-ghost use Rattle.ga_scheduler.specs.Conditions.{holds};
+ghost use Rattle.ga_scheduler.specs.Conditions.{holds_after_made_event};
 ghost use Rattle.ga_scheduler.specs.inner.{HoldsReady, IsKnown, is_random};
 ghost use Rattle.ga_scheduler.specs.Running.{running};
-ghost use Rattle.ga_scheduler.specs.Watched.{IsNewestReport, precedence_node, precedence_event, precedence_run_after_next, precedence_run_after, HasNextPrecedenceEvents, watching, watch_after, IsPrecedenceRunHalted, IsNewestWatchedEvent, HasWatchedRunEnded};
+ghost use Rattle.ga_scheduler.specs.Watched.{IsReportOfNewestEvent, precedence_node, precedence_event, precedence_run_after_next, precedence_run_after, HasNextPrecedenceEvents, run_watch, watch_after, IsPrecedenceRunHalted, IsNewestWatchedEvent, HasWatchedRunEnded};
 
 use crate::drawing::Known;
 use crate::edges::writes;
@@ -21,7 +21,7 @@ use ga_lab::{Lab, LabFault, Made};
 
 /// Why no more events were made.
 #[derive(Clone, Copy, PartialEq, Eq, Debug)]
-pub enum WatchedEnd {
+pub enum WatchedRunEnd {
     /// The watch ended the run after this event, and after none before.
     Seen(Made),
     /// As many events were made as were asked for.
@@ -38,7 +38,7 @@ pub struct WatchedRun {
     /// How many events were made.
     pub events: u64,
     /// Why no more events were made.
-    pub end: WatchedEnd,
+    pub end: WatchedRunEnd,
     /// The schedule after the last event, with which a further run continues.
     pub schedule: Schedule,
 }
@@ -80,7 +80,7 @@ fn go(
     first: Option<NodeId>,
     schedule: &mut Schedule,
     draws: bool,
-) -> Result<Made, WatchedEnd>
+) -> Result<Made, WatchedRunEnd>
     requires ready { HoldsReady (chip_of lab.old) ready.old }
     requires known { IsKnown ready.old known.old }
     requires replays { IsSome (replay lab.old.load lab.old.kept) }
@@ -90,7 +90,7 @@ fn go(
     ensures ready { OnOk result (HoldsReady (chip_of lab.new) ready.new) }
     ensures known { OnOk result (IsKnown ready.new known.new) }
     ensures draws { draws ≡ is_random schedule.new.order }
-    ensures newest { IfOk result (λ made. IsNewestReport lab.new made) }
+    ensures newest { IfOk result (λ made. IsReportOfNewestEvent lab.new made) }
     ensures replays { OnOk result (IsSome (replay lab.new.load lab.new.kept)) }
     ensures halted { IfErr result (IsPrecedenceRunHalted first (running lab.old schedule.old)) }
     ensures same { OnErr result (lab.new ≡ lab.old) }
@@ -99,9 +99,9 @@ fn go(
     match next_first(ready, known, first, schedule, lab, draws) {
         Some(node) => match make(lab, ready, known, schedule, node, true, draws) {
             Ok(made) => Ok(made),
-            Err(why) => Err(WatchedEnd::Refused(why)),
+            Err(why) => Err(WatchedRunEnd::Refused(why)),
         },
-        None => Err(WatchedEnd::Quiet),
+        None => Err(WatchedRunEnd::Quiet),
     }
 }
 
@@ -117,10 +117,10 @@ pub fn run_watched<W: StopCondition>(
 ) -> WatchedRun
     ensures state { running lab.new result.schedule ≡ precedence_run_after first (running lab.old schedule) result.events }
     ensures made { HasNextPrecedenceEvents first (running lab.old schedule) result.events }
-    ensures watch { watch.new ≡ watch_after (watching first W.ends W.seen) watch.old (running lab.old schedule) result.events }
+    ensures watch { watch.new ≡ watch_after (run_watch first W.ends W.seen) watch.old (running lab.old schedule) result.events }
     ensures most { result.events ≤ most }
     ensures newest { IsNewestWatchedEvent lab.new result.end }
-    ensures end { HasWatchedRunEnded (watching first W.ends W.seen) watch.old (running lab.old schedule) most result.events result.end }
+    ensures end { HasWatchedRunEnded (run_watch first W.ends W.seen) watch.old (running lab.old schedule) most result.events result.end }
 {
     let mut ready = ready_nodes(lab.chip());
     let mut known = Known::nothing();
@@ -131,7 +131,7 @@ pub fn run_watched<W: StopCondition>(
             Ok(made) => {
                 events += 1;
                 if watch.sees(&made, lab) {
-                    let end = WatchedEnd::Seen(made);
+                    let end = WatchedRunEnd::Seen(made);
                     return WatchedRun {
                         events,
                         end,
@@ -148,7 +148,7 @@ pub fn run_watched<W: StopCondition>(
             }
         }
     }
-    let end = WatchedEnd::Made;
+    let end = WatchedRunEnd::Made;
     WatchedRun {
         events,
         end,
@@ -158,8 +158,8 @@ pub fn run_watched<W: StopCondition>(
 
 /// Whether the newest event of a lab stored in a cell of RAM of a node, which the low six bits of an address name.
 pub fn has_stored_in_cell(lab: &Lab, made: &Made, node: NodeId, address: u8) -> bool
-    requires { IsNewestReport lab.now made.now }
-    ensures { result ≡ holds (Writes node (address % 64) None) made.now lab.now }
+    requires { IsReportOfNewestEvent lab.now made.now }
+    ensures { result ≡ holds_after_made_event (Writes node (address % 64) None) made.now lab.now }
 {
     writes(made, lab, node, address % 64, None)
 }

@@ -146,7 +146,7 @@ pub fn active_conditions(until: &[Condition]) -> &[Condition]
     ensures most { length result.now ≤ length until.now }
 {
     for (place, condition) in until.iter().enumerate() {
-        if condition.is_never() {
+        if condition.never_holds() {
             return until.split_at(place).0;
         }
     }
@@ -191,7 +191,7 @@ fn first_asked(until: &[Condition], words: &LinkCounts, made: &Made, lab: &Lab) 
     ensures { result ≡ first_holding_condition until.now made.now lab.now }
 {
     for (place, condition) in until.iter().enumerate() {
-        if condition.holds(made, lab, words[place]) {
+        if condition.holds_after_made_event(made, lab, words[place]) {
             return Some(place as u8);
         }
     }

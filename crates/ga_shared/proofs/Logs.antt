@@ -2,16 +2,16 @@
 use Rattle.ga_shared.specs.declared.call.CallAnswer.TheVariants as answer
 use Rattle.std.proofs.Common.{◌≡◌, ◌+◌, ℕ, cond, refl, arith, ◌≢◌, List, [], ◌∷◌, ◌++◌, length, length-append, sym, ap, ◌∙◌, subst, zero-add, ◌<◌, take, get_or, zero, suc, map, sum_by, Some, Bool, true, false}
 use Rattle.std.specs.Prelude.{Result, Ok, Err, All, slice_get, ◌==◌, if◌then◌else◌}
-use Rattle.ga_node.specs.declared.kind.NotReady.{NotReady}
+use Rattle.ga_node.specs.declared.kind.EventRefusal.{EventRefusal}
 use Rattle.ga_event.specs.declared.event.Event.{Event}
 use Rattle.ga_event.specs.Next.{next}
 use Rattle.ga_event.specs.declared.made.Made.{Made}
 use Rattle.ga_lab.specs.declared.fault.LabFault.{LabFault}
-use Rattle.ga_lab.specs.Machine.{State, chip_of, step_answer, with_event, unless_refused, answer_to_event as lab_answer_to, rewind_answer, initial_state}
+use Rattle.ga_lab.specs.Machine.{State, chip_of, step_answer, with_event, state_unless_refused, answer_to_event as lab_answer_to, rewind_answer, initial_state}
 use Rattle.ga_shared.specs.declared.call.Call.{Call}
 use Rattle.ga_shared.specs.declared.call.Call.TheVariants.{Step, Rewind}
 use Rattle.ga_shared.specs.declared.call.CallAnswer.{CallAnswer}
-use Rattle.ga_shared.specs.Log.{call_answer, answer_of_step, answer_of_rewind, state_after_call, has_made_event, IsLegalLog, LockedState, HasConsistentLog, count_made_events, Worker, fresh_worker, IsRaceResult, calls_of_worker, AreAllSeats, HasMatchingReceipts, receipts_of}
+use Rattle.ga_shared.specs.Log.{call_answer, answer_of_step, answer_of_rewind, state_after_call, has_made_event, IsLegalLog, LockedState, HasConsistentLog, count_made_events, Worker, fresh_worker, IsRaceResult, calls_of_worker, AreAllSeats, HasMatchingReceipts, receipts_of_worker}
 use Rattle.std.proofs.lemmas.List.Sums.{sum_by-append, sum_by-cons}
 use Rattle.ga_shared.specs.declared.call.LogEntry.{LogEntry}
 use Rattle.std.proofs.lemmas.List.{take_more}
@@ -20,7 +20,7 @@ use Rattle.std.proofs.lemmas.Option.{slice_get-get_or, slice_get_within, get_or_
 use Rattle.ga_shared.specs.declared.call.Receipt.{Receipt}
 use Rattle.ga_shared.specs.declared.closing.ClosedLab.{ClosedLab}
 use Rattle.ga_node.specs.Record.{NodeRecord}
-use Rattle.ga_shared.specs.Close.{IsSoundLog, IsOpenedWith}
+use Rattle.ga_shared.specs.Close.{IsSoundLog, IsLabOpenedWith}
 use Rattle.ga_shared.specs.inner.{IsDone}
 
 -- ---- What a call leaves of the machine: its load, its limit, and how many events were made
@@ -30,15 +30,15 @@ abbrev pub added_by : CallAnswer → ℕ
 added_by a = cond (has_made_event a) 1 0
 
 -- what a field of the machine is after a call, where the call leaves it
-unless : {X : Type 0} {Y : Type 0} (f : State → Y) (r : Result X LabFault) (old new : State) → f new ≡ f old → f (unless_refused old r new) ≡ f old
+unless : {X : Type 0} {Y : Type 0} (f : State → Y) (r : Result X LabFault) (old new : State) → f new ≡ f old → f (state_unless_refused old r new) ≡ f old
 unless f (Ok x) old new same = same
 unless f (Err fault) old new same = refl
 
-pub with_event-load : (s : State) (r : Result Event NotReady) → (with_event s r).load ≡ s.load
+pub with_event-load : (s : State) (r : Result Event EventRefusal) → (with_event s r).load ≡ s.load
 with_event-load s (Ok e) = refl
 with_event-load s (Err why) = refl
 
-with_event-limit : (s : State) (r : Result Event NotReady) → (with_event s r).limit ≡ s.limit
+with_event-limit : (s : State) (r : Result Event EventRefusal) → (with_event s r).limit ≡ s.limit
 with_event-limit s (Ok e) = refl
 with_event-limit s (Err why) = refl
 
@@ -52,7 +52,7 @@ state_after_call-limit s (Step node) = unless (λ t. t.limit) (step_answer s nod
 state_after_call-limit s (Rewind node step) = refl
 
 -- a step that made an event counts it, and a refused one doesn't
-made_by_step : (s : State) (r : Result Event NotReady) (a : Result Made LabFault) → a ≡ lab_answer_to s r → (unless_refused s a (with_event s r)).made ≡ s.made + added_by (answer_of_step a)
+made_by_step : (s : State) (r : Result Event EventRefusal) (a : Result Made LabFault) → a ≡ lab_answer_to s r → (state_unless_refused s a (with_event s r)).made ≡ s.made + added_by (answer_of_step a)
 made_by_step s (Ok e) (Ok made) is = refl
 made_by_step s (Err why) (Ok made) is = cc
 made_by_step s r (Err fault) is = omega arith
@@ -111,8 +111,8 @@ All-take-more : {X : Type 0} (P : X → Type 0) (xs : List X) (i : ℕ) (x : X) 
 All-take-more P xs i x within is before here =
     subst (All P) (sym (take_more xs i x within ∙ ap (λ y. take i xs ++ y ∷ []) (sym is))) (All-append P (take i xs) (x ∷ []) before (All-one P x here))
 
-pub HasMatchingReceipts-more : (log : List LogEntry) (seats : List Worker) (w i : ℕ) (s : Worker) → i < length seats → s ≡ get_or seats i s → HasMatchingReceipts log (take i seats) w → (s.number ≡ w → s.receipts ≡ receipts_of w 0 log) → HasMatchingReceipts log (take (i + 1) seats) w
-HasMatchingReceipts-more log seats w i s within is before here = All-take-more (λ (t : Worker). t.number ≡ w → t.receipts ≡ receipts_of w 0 log) seats i s within is before here
+pub HasMatchingReceipts-more : (log : List LogEntry) (seats : List Worker) (w i : ℕ) (s : Worker) → i < length seats → s ≡ get_or seats i s → HasMatchingReceipts log (take i seats) w → (s.number ≡ w → s.receipts ≡ receipts_of_worker w 0 log) → HasMatchingReceipts log (take (i + 1) seats) w
+HasMatchingReceipts-more log seats w i s within is before here = All-take-more (λ (t : Worker). t.number ≡ w → t.receipts ≡ receipts_of_worker w 0 log) seats i s within is before here
 
 -- ---- What a race leads to
 
@@ -121,9 +121,9 @@ branch true r rs cs same = ap (λ l. r.call ∷ l) same
 branch false r rs cs same = same
 
 -- the calls of a worker's receipts are its calls in the log
-pub map-receipts_of : (w place : ℕ) (log : List LogEntry) → map (λ (r : Receipt). r.call) (receipts_of w place log) ≡ calls_of_worker w log
-map-receipts_of w place [] = refl
-map-receipts_of w place (e ∷ es) = branch (e.worker == w) (record { place = place; call = e.call; answer = e.answer }) (receipts_of w (place + 1) es) (calls_of_worker w es) (map-receipts_of w (place + 1) es)
+pub map-receipts_of_worker : (w place : ℕ) (log : List LogEntry) → map (λ (r : Receipt). r.call) (receipts_of_worker w place log) ≡ calls_of_worker w log
+map-receipts_of_worker w place [] = refl
+map-receipts_of_worker w place (e ∷ es) = branch (e.worker == w) (record { place = place; call = e.call; answer = e.answer }) (receipts_of_worker w (place + 1) es) (calls_of_worker w es) (map-receipts_of_worker w (place + 1) es)
 
 -- sums over two lists that agree place by place
 pub sum_by-pairs : {X Y : Type 0} (f : X → ℕ) (h : Y → ℕ) (xs : List X) (ys : List Y) → length xs ≡ length ys → ((k : ℕ) (x : X) (y : Y) → slice_get xs k ≡ Some x → slice_get ys k ≡ Some y → f x ≡ h y) → sum_by f xs ≡ sum_by h ys
@@ -134,15 +134,15 @@ sum_by-pairs f h (x ∷ xs) (y ∷ ys) size same =
     sum_by-cons f x xs ∙ (λ i. same zero x y refl refl i + sum_by-pairs f h xs ys (omega (arith, size)) (λ k a b p q. same (suc k) a b p q) i) ∙ sym (sum_by-cons h y ys)
 
 -- a worker that is done, whose receipts are the log's
-done_calls : (lists : List (List Call)) (log : List LogEntry) (w : ℕ) (s : Worker) (list : List Call) → s.number ≡ w → IsDone lists s → slice_get lists w ≡ Some list → s.receipts ≡ receipts_of w 0 log → (calls_of_worker w log ≡ list) × (s.calls ≡ length list)
+done_calls : (lists : List (List Call)) (log : List LogEntry) (w : ℕ) (s : Worker) (list : List Call) → s.number ≡ w → IsDone lists s → slice_get lists w ≡ Some list → s.receipts ≡ receipts_of_worker w 0 log → (calls_of_worker w log ≡ list) × (s.calls ≡ length list)
 done_calls lists log w s list is done at agrees =
     let works = done list (ap (slice_get lists) is ∙ at) in
     let receipts : s.receipts ≡ works.0 = ap (λ x. x.receipts) works.2 in (
-      sym (map-receipts_of w 0 log) ∙ ap (λ l. map (λ (r : Receipt). r.call) l) (sym agrees ∙ receipts) ∙ works.1,
+      sym (map-receipts_of_worker w 0 log) ∙ ap (λ l. map (λ (r : Receipt). r.call) l) (sym agrees ∙ receipts) ∙ works.1,
       ap (λ x. x.calls) works.2 ∙ zero-add (length list),
     )
 
-pub raced : (load : List NodeRecord) (limit n : ℕ) (lists : List (List Call)) (seats : List Worker) (closed : ClosedLab) → length lists ≡ n → length seats ≡ n → ((w : ℕ) (s : Worker) → slice_get seats w ≡ Some s → (s.number ≡ w) × IsDone lists s) → IsSoundLog seats closed → IsOpenedWith (record { load = load; limit = limit; workers = n }) closed.lab → ((w : ℕ) → w < n → HasMatchingReceipts closed.log.items seats w) → IsRaceResult load limit lists closed
+pub raced : (load : List NodeRecord) (limit n : ℕ) (lists : List (List Call)) (seats : List Worker) (closed : ClosedLab) → length lists ≡ n → length seats ≡ n → ((w : ℕ) (s : Worker) → slice_get seats w ≡ Some s → (s.number ≡ w) × IsDone lists s) → IsSoundLog seats closed → IsLabOpenedWith (record { load = load; limit = limit; workers = n }) closed.lab → ((w : ℕ) → w < n → HasMatchingReceipts closed.log.items seats w) → IsRaceResult load limit lists closed
 raced load limit n lists seats closed many size done sound opened agrees =
     let log = closed.log.items in
     record {
@@ -158,7 +158,7 @@ raced load limit n lists seats closed many size done sound opened agrees =
         let in_seats = slice_get_within seats w s s_at in
         let d = done w s s_at in
         let same : get_or seats w s ≡ s = get_or_from_slice_get seats w s s s_at in
-        (done_calls lists closed.log.items w s list d.0 d.1 at (subst (λ (x : Worker). x.number ≡ w → x.receipts ≡ receipts_of w 0 closed.log.items) same (agrees w (omega (arith, size)) w s in_seats) d.0)).1
+        (done_calls lists closed.log.items w s list d.0 d.1 at (subst (λ (x : Worker). x.number ≡ w → x.receipts ≡ receipts_of_worker w 0 closed.log.items) same (agrees w (omega (arith, size)) w s in_seats) d.0)).1
 
     at_place : (w : ℕ) (list : List Call) → slice_get lists w ≡ Some list → (d : Worker) → (calls_of_worker w closed.log.items ≡ list) × Unit {0}
     at_place w list at d =

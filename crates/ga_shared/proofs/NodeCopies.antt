@@ -5,7 +5,7 @@ use Rattle.std.specs.Int.{from_bool}
 use Rattle.std.proofs.lemmas.List.{ext_get_or, length-map}
 use Rattle.ga_stacks.specs.Ring.{Ring, words_of_stack}
 use Rattle.ga_node.specs.Record.{NodeState, record_of}
-use Rattle.ga_grid.specs.Chip.{nowhere, node_at, records_of, record_at}
+use Rattle.ga_grid.specs.Chip.{default_node, node_at, records_of, record_at}
 use Rattle.ga_grid.proofs.Chips.{record_at-records_of}
 use Rattle.ga_shared.specs.inner.{with_registers}
 
@@ -24,7 +24,7 @@ record_of-copied from to t1 t2 t3 kept returned e1 e2 e3 d r =
 -- chips alike node by node
 pub records_of-same : (x y : List NodeState) → length x ≡ 144 → length y ≡ 144 → ((k : ℕ) → k < 144 → record_of (node_at x k) ≡ record_of (node_at y k)) → records_of x ≡ records_of y
 records_of-same x y xs ys same =
-    ext_get_or (record_of nowhere) (records_of x) (records_of y) (length-map x record_of ∙ xs ∙ sym (length-map y record_of ∙ ys))
+    ext_get_or (record_of default_node) (records_of x) (records_of y) (length-map x record_of ∙ xs ∙ sym (length-map y record_of ∙ ys))
     (λ k below. record_at-records_of x k ∙ same k (omega (arith, length-map x record_of)) ∙ sym (record_at-records_of y k))
 
 pub records_of-node : (x y : List NodeState) (k : ℕ) → records_of x ≡ records_of y → record_of (node_at x k) ≡ record_of (node_at y k)

@@ -4,7 +4,7 @@ use Rattle.ga_lab.specs.Machine.{State, initial_state}
 use Rattle.ga_shared.specs.declared.closing.ClosedLab.{ClosedLab}
 use Rattle.ga_shared.specs.declared.closing.CloseFault.{CloseFault}
 use Rattle.ga_shared.specs.declared.closing.CloseFault.TheVariants.{Missing, Disagree}
-use Rattle.ga_shared.specs.Log.{Worker, IsLegalLog, count_made_events, OpeningParameters, AreAllSeats, HasMatchingReceipts, IsFirstDisagreement}
+use Rattle.ga_shared.specs.Log.{Worker, IsLegalLog, count_made_events, OpeningParameters, AreAllSeats, HasMatchingReceipts, IsFirstWorkerNotMatching}
 
 -- the log leads the machine from its first state to the lab; its length is the number of calls of all workers together, and the
 -- lab counts the events that the log's calls made
@@ -14,18 +14,18 @@ pub record IsSoundLog (seats : List Worker) (closed : ClosedLab) : Type 0 where
   pub made : closed.lab.made ≡ count_made_events closed.log.items
 
 -- the lab is one over the chip and the limit with which it was opened
-abbrev pub IsOpenedWith : OpeningParameters → State → Type 0
-IsOpenedWith o lab = (lab.load ≡ o.load) × (lab.limit ≡ o.limit)
+abbrev pub IsLabOpenedWith : OpeningParameters → State → Type 0
+IsLabOpenedWith o lab = (lab.load ≡ o.load) × (lab.limit ≡ o.limit)
 
 -- What closing returns: the lab and the log, if load and limit are those given at opening and the receipts of each worker are
 -- its entries; or that seats are missing; or the first disagreement, with the same lab and log
 abbrev pub IsCloseResult : {L : Type 0} → OpeningParameters → List Worker → Result ClosedLab (CloseFault L) → Type 0
 IsCloseResult o seats (Ok closed) =
-    AreAllSeats o.workers seats × IsSoundLog seats closed × IsOpenedWith o closed.lab
+    AreAllSeats o.workers seats × IsSoundLog seats closed × IsLabOpenedWith o closed.lab
     × ((w : ℕ) → w < o.workers → HasMatchingReceipts closed.log.items seats w)
 IsCloseResult o seats (Err (Missing shared back)) = (¬ AreAllSeats o.workers seats) × (shared ≡ o) × (back.items ≡ seats)
 IsCloseResult o seats (Err (Disagree None closed)) =
-    AreAllSeats o.workers seats × IsSoundLog seats closed × (¬ IsOpenedWith o closed.lab)
+    AreAllSeats o.workers seats × IsSoundLog seats closed × (¬ IsLabOpenedWith o closed.lab)
 IsCloseResult o seats (Err (Disagree (Some w) closed)) =
-    AreAllSeats o.workers seats × IsSoundLog seats closed × IsOpenedWith o closed.lab
-    × (w < o.workers) × IsFirstDisagreement closed.log.items seats w
+    AreAllSeats o.workers seats × IsSoundLog seats closed × IsLabOpenedWith o closed.lab
+    × (w < o.workers) × IsFirstWorkerNotMatching closed.log.items seats w

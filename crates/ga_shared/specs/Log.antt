@@ -87,8 +87,8 @@ abbrev pub fresh_worker : ℕ → Worker
 fresh_worker number = record { number = number; receipts = []; calls = 0 }
 
 -- the worker after a call: one receipt and one call more
-abbrev pub with_receipt : Worker → Receipt → Worker
-with_receipt worker receipt = record worker { receipts = worker.receipts ++ receipt ∷ []; calls = worker.calls + 1 }
+abbrev pub worker_with_receipt : Worker → Receipt → Worker
+worker_with_receipt worker receipt = record worker { receipts = worker.receipts ++ receipt ∷ []; calls = worker.calls + 1 }
 
 -- what the log keeps of a worker's call
 abbrev pub log_entry : Worker → Receipt → LogEntry
@@ -103,14 +103,14 @@ pub record IsLoggedCall (old new : LockedState) (was now : Worker) (call : Call)
   pub load : new.load ≡ old.load
   pub log : new.log ≡ old.log ++ log_entry was receipt ∷ []
   pub book : new.calls ≡ old.calls + 1
-  pub worker : now ≡ with_receipt was receipt
+  pub worker : now ≡ worker_with_receipt was receipt
 
 -- One call counted: the receipt names the call, its place is no less than the number of calls that the worker made before,
 -- and the worker has one receipt and one call more
 pub record CountsCall (was now : Worker) (call : Call) (receipt : Receipt) : Type 0 where
   pub asked : receipt.call ≡ call
   pub place : was.calls ≤ receipt.place
-  pub worker : now ≡ with_receipt was receipt
+  pub worker : now ≡ worker_with_receipt was receipt
 
 -- ---- what workers do, each with a list of calls
 
@@ -143,11 +143,11 @@ pub record OpeningParameters : Type 0 where
   pub workers : ℕ
 
 -- the receipts that a log has for a worker, in order, where `place` entries came before the log
-abbrev pub receipts_of : ℕ → ℕ → List LogEntry → List Receipt
-receipts_of worker place [] = []
-receipts_of worker place (e ∷ es) =
-    if e.worker == worker then record { place = place; call = e.call; answer = e.answer } ∷ receipts_of worker (place + 1) es
-    else receipts_of worker (place + 1) es
+abbrev pub receipts_of_worker : ℕ → ℕ → List LogEntry → List Receipt
+receipts_of_worker worker place [] = []
+receipts_of_worker worker place (e ∷ es) =
+    if e.worker == worker then record { place = place; call = e.call; answer = e.answer } ∷ receipts_of_worker worker (place + 1) es
+    else receipts_of_worker worker (place + 1) es
 
 -- the seats are those of the workers 0 to n - 1, each once
 abbrev pub AreAllSeats : ℕ → List Worker → Type 0
@@ -155,8 +155,8 @@ AreAllSeats n seats = (length seats ≡ n) × ((w : ℕ) → w < n → count_by 
 
 -- the receipts of this worker are the log's entries of it, in order and with their places
 abbrev pub HasMatchingReceipts : List LogEntry → List Worker → ℕ → Type 0
-HasMatchingReceipts log seats w = All (λ s. s.number ≡ w → s.receipts ≡ receipts_of w 0 log) seats
+HasMatchingReceipts log seats w = All (λ s. s.number ≡ w → s.receipts ≡ receipts_of_worker w 0 log) seats
 
 -- this worker's receipts are not the log's, and those of all workers before it are
-abbrev pub IsFirstDisagreement : List LogEntry → List Worker → ℕ → Type 0
-IsFirstDisagreement log seats w = (¬ HasMatchingReceipts log seats w) × ((v : ℕ) → v < w → HasMatchingReceipts log seats v)
+abbrev pub IsFirstWorkerNotMatching : List LogEntry → List Worker → ℕ → Type 0
+IsFirstWorkerNotMatching log seats w = (¬ HasMatchingReceipts log seats w) × ((v : ℕ) → v < w → HasMatchingReceipts log seats v)

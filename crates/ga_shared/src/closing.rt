@@ -2,7 +2,7 @@
 
 ghost use Rattle.std.specs.Prelude.{◌≡◌, ◌≢◌, ◌<◌, ◌↔◌, ◌==◌, ℕ, sum_by, count_by, IfSome, IfNone, IsTrue, ◌∷◌, List, vec_len};
 ghost use Rattle.ga_grid.specs.Chip.{records_of};
-ghost use Rattle.ga_shared.specs.Log.{receipts_of, AreAllSeats, HasMatchingReceipts, IsFirstDisagreement};
+ghost use Rattle.ga_shared.specs.Log.{receipts_of_worker, AreAllSeats, HasMatchingReceipts, IsFirstWorkerNotMatching};
 ghost use Rattle.ga_shared.specs.declared.call.Receipt.{Receipt};
 
 use crate::call::{LogEntry, Receipt};
@@ -117,7 +117,7 @@ fn count_of<L: Ledger>(seats: &[WorkerSeat<L>], number: u32) -> usize
 /// The least worker whose receipts are not those of the log.
 fn least_wrong<L: Ledger>(log: &[LogEntry], seats: &[WorkerSeat<L>], workers: u32) -> Option<u32>
     ensures none { IfNone result ((w : ℕ) → w < workers → HasMatchingReceipts log.now seats.now w) }
-    ensures some { IfSome result (λ w. (w < workers) × IsFirstDisagreement log.now seats.now w) }
+    ensures some { IfSome result (λ w. (w < workers) × IsFirstWorkerNotMatching log.now seats.now w) }
 {
     for worker in 0..workers {
         if !agrees(log, seats, worker) {
@@ -142,7 +142,7 @@ fn agrees<L: Ledger>(log: &[LogEntry], seats: &[WorkerSeat<L>], worker: u32) -> 
 
 /// Whether a worker's receipts are the log's entries of that worker, in order and with their places.
 pub fn receipts_match(log: &[LogEntry], worker: u32, receipts: &[Receipt]) -> bool
-    ensures { IsTrue result ↔ (receipts.now ≡ receipts_of worker 0 log.now) }
+    ensures { IsTrue result ↔ (receipts.now ≡ receipts_of_worker worker 0 log.now) }
 {
     let mut left = receipts;
     for place in 0..log.len() {

@@ -6,43 +6,43 @@ use Rattle.std.proofs.Math.Nat.{mod-eq_of_lt}
 use Rattle.std.proofs.lemmas.Nat.{xor_lt}
 use Rattle.ga_slots.specs.declared.op.Op.{Op}
 use Rattle.ga_slots.specs.declared.op.Op.TheVariants.{Return, Execute, Jump, Call, Unext, Next, If, MinusIf, FetchP, FetchPlus, FetchB, Fetch, StoreP, StorePlus, StoreB, Store, MultiplyStep, TwoStar, TwoSlash, Invert, Plus, And, Or, Drop, Dup, Pop, Over, A, Nop, Push, BStore, AStore}
-use Rattle.ga_slots.specs.Codes.{code_of, op_of}
+use Rattle.ga_slots.specs.Codes.{code_of, op_of_code}
 use Rattle.ga_slots.specs.Slots.{opcode, opcode_mask, word_of_codes, encoded_word}
 
 -- an opcode is the one of its code
-pub op_of-code_of : (op : Op) → op_of (code_of op) ≡ op
-op_of-code_of Return = refl
-op_of-code_of Execute = refl
-op_of-code_of Jump = refl
-op_of-code_of Call = refl
-op_of-code_of Unext = refl
-op_of-code_of Next = refl
-op_of-code_of If = refl
-op_of-code_of MinusIf = refl
-op_of-code_of FetchP = refl
-op_of-code_of FetchPlus = refl
-op_of-code_of FetchB = refl
-op_of-code_of Fetch = refl
-op_of-code_of StoreP = refl
-op_of-code_of StorePlus = refl
-op_of-code_of StoreB = refl
-op_of-code_of Store = refl
-op_of-code_of MultiplyStep = refl
-op_of-code_of TwoStar = refl
-op_of-code_of TwoSlash = refl
-op_of-code_of Invert = refl
-op_of-code_of Plus = refl
-op_of-code_of And = refl
-op_of-code_of Or = refl
-op_of-code_of Drop = refl
-op_of-code_of Dup = refl
-op_of-code_of Pop = refl
-op_of-code_of Over = refl
-op_of-code_of A = refl
-op_of-code_of Nop = refl
-op_of-code_of Push = refl
-op_of-code_of BStore = refl
-op_of-code_of AStore = refl
+pub op_of_code-code_of : (op : Op) → op_of_code (code_of op) ≡ op
+op_of_code-code_of Return = refl
+op_of_code-code_of Execute = refl
+op_of_code-code_of Jump = refl
+op_of_code-code_of Call = refl
+op_of_code-code_of Unext = refl
+op_of_code-code_of Next = refl
+op_of_code-code_of If = refl
+op_of_code-code_of MinusIf = refl
+op_of_code-code_of FetchP = refl
+op_of_code-code_of FetchPlus = refl
+op_of_code-code_of FetchB = refl
+op_of_code-code_of Fetch = refl
+op_of_code-code_of StoreP = refl
+op_of_code-code_of StorePlus = refl
+op_of_code-code_of StoreB = refl
+op_of_code-code_of Store = refl
+op_of_code-code_of MultiplyStep = refl
+op_of_code-code_of TwoStar = refl
+op_of_code-code_of TwoSlash = refl
+op_of_code-code_of Invert = refl
+op_of_code-code_of Plus = refl
+op_of_code-code_of And = refl
+op_of_code-code_of Or = refl
+op_of_code-code_of Drop = refl
+op_of_code-code_of Dup = refl
+op_of_code-code_of Pop = refl
+op_of_code-code_of Over = refl
+op_of_code-code_of A = refl
+op_of_code-code_of Nop = refl
+op_of_code-code_of Push = refl
+op_of_code-code_of BStore = refl
+op_of_code-code_of AStore = refl
 
 pub code_of-lt : (op : Op) → code_of op < 32
 code_of-lt Return = lit< tt
@@ -102,21 +102,21 @@ each_slot P a b c d (suc (suc (suc zero))) below = d
 each_slot P a b c d (suc (suc (suc (suc slot)))) below = absurd (omega arith)
 
 -- the opcode in each slot of a word of four codes, the last of them a multiple of 4
-first : (a b c d : ℕ) → a < 32 → b < 32 → c < 32 → d < 32 → opcode (word_of_codes a b c d) 0 ≡ op_of a
+first : (a b c d : ℕ) → a < 32 → b < 32 → c < 32 → d < 32 → opcode (word_of_codes a b c d) 0 ≡ op_of_code a
 first a b c d p q r s =
-    rw (xor_back (plain_of a b c d) opcode_mask) (ap op_of (let e : plain_of a b c d / 2 ^ 13 % 32 ≡ a = omega arith in e))
+    rw (xor_back (plain_of a b c d) opcode_mask) (ap op_of_code (let e : plain_of a b c d / 2 ^ 13 % 32 ≡ a = omega arith in e))
 
-second : (a b c d : ℕ) → a < 32 → b < 32 → c < 32 → d < 32 → opcode (word_of_codes a b c d) 1 ≡ op_of b
+second : (a b c d : ℕ) → a < 32 → b < 32 → c < 32 → d < 32 → opcode (word_of_codes a b c d) 1 ≡ op_of_code b
 second a b c d p q r s =
-    rw (xor_back (plain_of a b c d) opcode_mask) (ap op_of (let e : plain_of a b c d / 2 ^ 8 % 32 ≡ b = omega arith in e))
+    rw (xor_back (plain_of a b c d) opcode_mask) (ap op_of_code (let e : plain_of a b c d / 2 ^ 8 % 32 ≡ b = omega arith in e))
 
-third : (a b c d : ℕ) → a < 32 → b < 32 → c < 32 → d < 32 → opcode (word_of_codes a b c d) 2 ≡ op_of c
+third : (a b c d : ℕ) → a < 32 → b < 32 → c < 32 → d < 32 → opcode (word_of_codes a b c d) 2 ≡ op_of_code c
 third a b c d p q r s =
-    rw (xor_back (plain_of a b c d) opcode_mask) (ap op_of (let e : plain_of a b c d / 2 ^ 3 % 32 ≡ c = omega arith in e))
+    rw (xor_back (plain_of a b c d) opcode_mask) (ap op_of_code (let e : plain_of a b c d / 2 ^ 3 % 32 ≡ c = omega arith in e))
 
-fourth : (a b c d : ℕ) → a < 32 → b < 32 → c < 32 → d < 32 → d % 4 ≡ 0 → opcode (word_of_codes a b c d) 3 ≡ op_of d
+fourth : (a b c d : ℕ) → a < 32 → b < 32 → c < 32 → d < 32 → d % 4 ≡ 0 → opcode (word_of_codes a b c d) 3 ≡ op_of_code d
 fourth a b c d p q r s fits =
-    rw (xor_back (plain_of a b c d) opcode_mask) (ap op_of (let e : plain_of a b c d % 8 * 4 ≡ d = omega arith in e))
+    rw (xor_back (plain_of a b c d) opcode_mask) (ap op_of_code (let e : plain_of a b c d % 8 * 4 ≡ d = omega arith in e))
 
 -- the same for the codes of opcodes in a list
 pub opcode-word_of : (ops : List Op) → let code = λ (i : ℕ). code_of (slice_index_or ops i Return) in
@@ -124,10 +124,10 @@ pub opcode-word_of : (ops : List Op) → let code = λ (i : ℕ). code_of (slice
 opcode-word_of ops fits slot below =
     let op : ℕ → Op = λ i. slice_index_or ops i Return in
     each_slot (λ k. opcode (word_of_codes (code_of (op 0)) (code_of (op 1)) (code_of (op 2)) (code_of (op 3))) k ≡ op k)
-    (first (code_of (op 0)) (code_of (op 1)) (code_of (op 2)) (code_of (op 3)) (code_of-lt (op 0)) (code_of-lt (op 1)) (code_of-lt (op 2)) (code_of-lt (op 3)) ∙ op_of-code_of (op 0))
-    (second (code_of (op 0)) (code_of (op 1)) (code_of (op 2)) (code_of (op 3)) (code_of-lt (op 0)) (code_of-lt (op 1)) (code_of-lt (op 2)) (code_of-lt (op 3)) ∙ op_of-code_of (op 1))
-    (third (code_of (op 0)) (code_of (op 1)) (code_of (op 2)) (code_of (op 3)) (code_of-lt (op 0)) (code_of-lt (op 1)) (code_of-lt (op 2)) (code_of-lt (op 3)) ∙ op_of-code_of (op 2))
-    (fourth (code_of (op 0)) (code_of (op 1)) (code_of (op 2)) (code_of (op 3)) (code_of-lt (op 0)) (code_of-lt (op 1)) (code_of-lt (op 2)) (code_of-lt (op 3)) fits ∙ op_of-code_of (op 3))
+    (first (code_of (op 0)) (code_of (op 1)) (code_of (op 2)) (code_of (op 3)) (code_of-lt (op 0)) (code_of-lt (op 1)) (code_of-lt (op 2)) (code_of-lt (op 3)) ∙ op_of_code-code_of (op 0))
+    (second (code_of (op 0)) (code_of (op 1)) (code_of (op 2)) (code_of (op 3)) (code_of-lt (op 0)) (code_of-lt (op 1)) (code_of-lt (op 2)) (code_of-lt (op 3)) ∙ op_of_code-code_of (op 1))
+    (third (code_of (op 0)) (code_of (op 1)) (code_of (op 2)) (code_of (op 3)) (code_of-lt (op 0)) (code_of-lt (op 1)) (code_of-lt (op 2)) (code_of-lt (op 3)) ∙ op_of_code-code_of (op 2))
+    (fourth (code_of (op 0)) (code_of (op 1)) (code_of (op 2)) (code_of (op 3)) (code_of-lt (op 0)) (code_of-lt (op 1)) (code_of-lt (op 2)) (code_of-lt (op 3)) fits ∙ op_of_code-code_of (op 3))
     slot below
 
 -- the word of opcodes whose fourth fits its slot

@@ -13,7 +13,7 @@ use Rattle.ga_parser.specs.Saying.{token_contents, TokenContent, next_line_numbe
 use Rattle.ga_parser.proofs.Hearing.{same_text}
 use Rattle.ga_parser.proofs.PlainAsked.{map_map}
 use Rattle.ga_source.specs.inner.{AreOfFirst, AreAskedFirst}
-use Rattle.ga_source.specs.Recovery.{with_line, with_numbers}
+use Rattle.ga_source.specs.Recovery.{token_with_line, tokens_with_numbers}
 
 -- ---- up to the next `node`
 
@@ -246,15 +246,15 @@ all_asked words left programs none read =
 
 -- ---- numbers
 
-pub one_numbered : (words : List Token) (k number : ℕ) (d one : Token) (before new all : List Token) → k < length words → one ≡ with_line (get_or words k d) number → new ≡ before ++ one ∷ [] → before ++ with_numbers number (drop k words) ≡ all → new ++ with_numbers (next_line_number number) (drop (k + 1) words) ≡ all
-unfolding with_numbers
+pub one_numbered : (words : List Token) (k number : ℕ) (d one : Token) (before new all : List Token) → k < length words → one ≡ token_with_line (get_or words k d) number → new ≡ before ++ one ∷ [] → before ++ tokens_with_numbers number (drop k words) ≡ all → new ++ tokens_with_numbers (next_line_number number) (drop (k + 1) words) ≡ all
+unfolding tokens_with_numbers
 one_numbered words k number d one before new all within is pushed e =
     let next : suc k ≡ k + 1 = omega arith in
     let left : drop k words ≡ get_or words k d ∷ drop (k + 1) words = drop-cons words k d within ∙ ap (λ (j : ℕ). get_or words k d ∷ drop j words) next in
-    ap (λ (l : List Token). l ++ with_numbers (next_line_number number) (drop (k + 1) words)) (pushed ∙ ap (λ (o : Token). before ++ o ∷ []) is)
-    ∙ (append_assoc before (with_line (get_or words k d) number ∷ []) (with_numbers (next_line_number number) (drop (k + 1) words))
-    ∙ (ap (λ (l : List Token). before ++ with_numbers number l) (sym left) ∙ e))
+    ap (λ (l : List Token). l ++ tokens_with_numbers (next_line_number number) (drop (k + 1) words)) (pushed ∙ ap (λ (o : Token). before ++ o ∷ []) is)
+    ∙ (append_assoc before (token_with_line (get_or words k d) number ∷ []) (tokens_with_numbers (next_line_number number) (drop (k + 1) words))
+    ∙ (ap (λ (l : List Token). before ++ tokens_with_numbers number l) (sym left) ∙ e))
 
-pub all_numbered : (number : ℕ) (left before all : List Token) → left ≡ [] → before ++ with_numbers number left ≡ all → before ≡ all
-unfolding with_numbers
-all_numbered number left before all none e = sym (append-nil before) ∙ (ap (λ (l : List Token). before ++ with_numbers number l) (sym none) ∙ e)
+pub all_numbered : (number : ℕ) (left before all : List Token) → left ≡ [] → before ++ tokens_with_numbers number left ≡ all → before ≡ all
+unfolding tokens_with_numbers
+all_numbered number left before all none e = sym (append-nil before) ∙ (ap (λ (l : List Token). before ++ tokens_with_numbers number l) (sym none) ∙ e)

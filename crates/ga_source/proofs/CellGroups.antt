@@ -3,21 +3,21 @@ use Rattle.std.proofs.Common.{◌≡◌, ◌≢◌, ◌∙◌, ◌+◌, ◌%◌,
 use Rattle.std.proofs.lemmas.Bool.{cases_lt}
 use Rattle.std.proofs.lemmas.List.{get_or-replicate, get_or_past, length-replicate}
 use Rattle.ga_parser.specs.declared.item.Operand.TheVariants.{Number}
-use Rattle.ga_parser.specs.declared.item.Item.{Item}
-use Rattle.ga_parser.specs.declared.item.Item.TheVariants.{Cell}
+use Rattle.ga_parser.specs.declared.item.AssemblyItem.{AssemblyItem}
+use Rattle.ga_parser.specs.declared.item.AssemblyItem.TheVariants.{Cell}
 use Rattle.ga_source.specs.declared.group.CellGroup.{CellGroup}
 use Rattle.ga_parser.specs.declared.item.AssemblyRequest.{AssemblyRequest}
 use Rattle.ga_parser.specs.declared.item.AssemblyRequest.TheVariants.{Put, Go}
 use Rattle.ga_parser.specs.declared.item.LocatedRequest.{LocatedRequest}
 use Rattle.ga_source.specs.declared.packing.Packer.{Packer}
 use Rattle.ga_source.specs.declared.group.PackingSpot.{PackingSpot}
-use Rattle.ga_source.specs.Reading.{first_spot_of_cell, spot_after_item, item_fits}
-use Rattle.ga_source.specs.Made.{address_after_request, requested_cell, requested_cells, cell_of, AreDistinctCells, IsMemoryAddress}
+use Rattle.ga_source.specs.Reading.{first_spot_of_cell, spot_after_item, item_fits_at_spot}
+use Rattle.ga_source.specs.Made.{address_after_request, requested_cell, requested_cells, cell_at_index, AreDistinctCells, IsMemoryAddress}
 use Rattle.ga_source.specs.inner.{IsClosed, requests_of, IsPlainRequest, ArePlain, address_after, IsCellGroup, AreCellGroups, IsPackedPlain, AreWords}
 
 -- from the k-th on, no cell is given
 abbrev pub AreOpen : List (Option ℕ) → List (ℕ × ℕ) → ℕ → Type 0
-AreOpen given cells from = (k : ℕ) → from ≤ k → k < length cells → slice_index_or given ((cell_of cells k).0 % 512) None ≡ None
+AreOpen given cells from = (k : ℕ) → from ≤ k → k < length cells → slice_index_or given ((cell_at_index cells k).0 % 512) None ≡ None
 
 -- ---- one more
 
@@ -43,7 +43,7 @@ after_more at (first ∷ requests) request = after_more (address_after_request a
 -- ---- the packer
 
 -- a cell is added
-pub added_cell : (before full closed : Packer) (next : PackingSpot) (item : Item) (n : ℕ) (requests : List AssemblyRequest) → item ≡ Cell (Number n) → IsPackedPlain before requests
+pub added_cell : (before full closed : Packer) (next : PackingSpot) (item : AssemblyItem) (n : ℕ) (requests : List AssemblyRequest) → item ≡ Cell (Number n) → IsPackedPlain before requests
     → full.filling.items ≡ before.filling.items ++ item ∷ [] → full.broken ≡ before.broken → full.spot ≡ before.spot → full.groups.items ≡ before.groups.items → IsClosed full closed
     → ((n : ℕ) (cells : List (ℕ × ℕ)) → full.filling.items ≡ Cell (Number n) ∷ [] → full.broken ≡ None → AreCellGroups cells full.groups.items → AreCellGroups (cells ++ (full.spot.at, n) ∷ []) closed.groups.items)
     → next ≡ spot_after_item before.spot item → IsPackedPlain (record closed { spot = next }) (requests ++ Put item ∷ [])
@@ -52,7 +52,7 @@ added_cell before full closed next item n requests is packed filled broken spot 
     let here : full.spot.at ≡ at = ap (λ (s : PackingSpot). s.at) (spot ∙ packed.spot) in
     let cells : AreCellGroups (requested_cells 0 requests ++ (full.spot.at, n) ∷ []) closed.groups.items =
     cell n (requested_cells 0 requests)
-    (filled ∙ (ap (λ (items : List Item). items ++ item ∷ []) packed.filling ∙ ap (λ (i : Item). i ∷ []) is))
+    (filled ∙ (ap (λ (items : List AssemblyItem). items ++ item ∷ []) packed.filling ∙ ap (λ (i : AssemblyItem). i ∷ []) is))
     (broken ∙ packed.whole)
     (subst (AreCellGroups (requested_cells 0 requests)) (sym groups) packed.groups) in
     record {
@@ -61,7 +61,7 @@ added_cell before full closed next item n requests is packed filled broken spot 
       spot = goes ∙ (ap (λ (s : PackingSpot). spot_after_item s item) packed.spot ∙ (ap (spot_after_item (first_spot_of_cell at)) is ∙ ap first_spot_of_cell (sym (after_more 0 requests (Put item)))));
       groups = subst (λ (list : List (ℕ × ℕ)). AreCellGroups list closed.groups.items)
           (ap (λ (a : ℕ). requested_cells 0 requests ++ (a, n) ∷ []) here
-          ∙ (ap (λ (i : Item). requested_cells 0 requests ++ requested_cell at (Put i)) (sym is) ∙ sym (cells_more 0 requests (Put item)))) cells;
+          ∙ (ap (λ (i : AssemblyItem). requested_cells 0 requests ++ requested_cell at (Put i)) (sym is) ∙ sym (cells_more 0 requests (Put item)))) cells;
     }
 
 -- another address
@@ -75,16 +75,16 @@ gone_packed before closed spot address requests is packed stays = record {
 }
 
 -- a cell has room
-pub cell_fits : (packer : Packer) (requests : List AssemblyRequest) (item : Item) (n : ℕ) → item ≡ Cell (Number n) → IsPackedPlain packer requests → item_fits packer.labels.items packer.spot item ≡ true
+pub cell_fits : (packer : Packer) (requests : List AssemblyRequest) (item : AssemblyItem) (n : ℕ) → item ≡ Cell (Number n) → IsPackedPlain packer requests → item_fits_at_spot packer.labels.items packer.spot item ≡ true
 cell_fits packer requests item n is packed =
-    ap (λ (s : PackingSpot). item_fits packer.labels.items s item) packed.spot ∙ ap (item_fits packer.labels.items (first_spot_of_cell (address_after 0 requests))) is
+    ap (λ (s : PackingSpot). item_fits_at_spot packer.labels.items s item) packed.spot ∙ ap (item_fits_at_spot packer.labels.items (first_spot_of_cell (address_after 0 requests))) is
 
 -- an item that plain requests ask for
-pub record IsCellItem (item : Item) : Type 0 where
+pub record IsCellItem (item : AssemblyItem) : Type 0 where
   pub n : ℕ
   pub is : item ≡ Cell (Number n)
 
-pub plain_item : (item : Item) → IsPlainRequest (Put item) → IsCellItem item
+pub plain_item : (item : AssemblyItem) → IsPlainRequest (Put item) → IsCellItem item
 plain_item (Cell (Number n)) plain = record { n = n; is = refl }
 plain_item _ plain = absurd plain
 
@@ -109,11 +109,11 @@ given_set given now a b k line is same other =
     ∙ get_or-set_other given (a % 512) k line None (λ e. other (e ∙ ap (λ (n : ℕ). n % 512) same))
 
 -- the item of a cell of data
-pub cell_item : (items : List Item) (n i : ℕ) (d : Item) → items ≡ Cell (Number n) ∷ [] → i < length items → slice_index_or items i d ≡ Cell (Number n)
-cell_item items n zero d is within = ap (λ (list : List Item). slice_index_or list 0 d) is
+pub cell_item : (items : List AssemblyItem) (n i : ℕ) (d : AssemblyItem) → items ≡ Cell (Number n) ∷ [] → i < length items → slice_index_or items i d ≡ Cell (Number n)
+cell_item items n zero d is within = ap (λ (list : List AssemblyItem). slice_index_or list 0 d) is
 cell_item items n (suc i) d is within = let one : length items ≡ 1 = ap length is in absurd (omega arith)
 
-pub group_at : (cells : List (ℕ × ℕ)) (groups : List CellGroup) (i : ℕ) (d : CellGroup) → AreCellGroups cells groups → i < length groups → IsCellGroup (cell_of cells i) (slice_index_or groups i d)
+pub group_at : (cells : List (ℕ × ℕ)) (groups : List CellGroup) (i : ℕ) (d : CellGroup) → AreCellGroups cells groups → i < length groups → IsCellGroup (cell_at_index cells i) (slice_index_or groups i d)
 unfolding AreCellGroups
 group_at [] [] i d are within = absurd (omega arith)
 group_at (cell ∷ cells) (group ∷ groups) zero d are within = are.0
@@ -132,8 +132,8 @@ same_length (cell ∷ cells) [] are = absurd are
 pub open_more : (given now : List (Option ℕ)) (cells : List (ℕ × ℕ)) (groups : List CellGroup) (i : ℕ) (group : CellGroup) → AreCellGroups cells groups → AreDistinctCells cells → i < length groups → group ≡ slice_index_or groups i group
     → ((cell : ℕ × ℕ) (k : ℕ) → IsCellGroup cell group → k ≢ cell.0 % 512 → slice_index_or now k None ≡ slice_index_or given k None) → AreOpen given cells i → AreOpen now cells (i + 1)
 open_more given now cells groups i group are free within is stays before = λ k from small.
-    let here : IsCellGroup (cell_of cells i) group = subst (IsCellGroup (cell_of cells i)) (sym is) (group_at cells groups i group are within) in
-    stays (cell_of cells i) ((cell_of cells k).0 % 512) here (free.apart i k (omega arith) small) ∙ before k (omega arith) small
+    let here : IsCellGroup (cell_at_index cells i) group = subst (IsCellGroup (cell_at_index cells i)) (sym is) (group_at cells groups i group are within) in
+    stays (cell_at_index cells i) ((cell_at_index cells k).0 % 512) here (free.apart i k (omega arith) small) ∙ before k (omega arith) small
 
 -- before the first
 none_there : (k : ℕ) (none : Option ℕ) → slice_index_or (replicate 192 none) k none ≡ none
@@ -144,18 +144,18 @@ none_there k none = elim (cases_lt k 192) [
 
 pub all_open : (given : List (Option ℕ)) (cells : List (ℕ × ℕ)) → given ≡ replicate 192 None → AreOpen given cells 0
 all_open given cells is = λ k from small.
-    ap (λ (list : List (Option ℕ)). slice_index_or list ((cell_of cells k).0 % 512) None) is ∙ none_there ((cell_of cells k).0 % 512) None
+    ap (λ (list : List (Option ℕ)). slice_index_or list ((cell_at_index cells k).0 % 512) None) is ∙ none_there ((cell_at_index cells k).0 % 512) None
 
 -- no cell is given twice
 pub never_twice : (given : List (Option ℕ)) (cells : List (ℕ × ℕ)) (groups : List CellGroup) (i : ℕ) (group : CellGroup) → AreCellGroups cells groups → AreWords cells → AreDistinctCells cells → i < length groups → group ≡ slice_index_or groups i group → length given ≡ 192
     → ((cell : ℕ × ℕ) → IsCellGroup cell group → cell.1 < 2 ^ 18 → IsMemoryAddress cell.0 → length given ≡ 192 → slice_index_or given (cell.0 % 512) None ≢ None) → AreOpen given cells i → ⊥
 never_twice given cells groups i group are words free within is size refused before =
-    let here : IsCellGroup (cell_of cells i) group = subst (IsCellGroup (cell_of cells i)) (sym is) (group_at cells groups i group are within) in
+    let here : IsCellGroup (cell_at_index cells i) group = subst (IsCellGroup (cell_at_index cells i)) (sym is) (group_at cells groups i group are within) in
     let same = same_length cells groups are in
     let small : i < length cells = omega (arith, same) in
-    refused (cell_of cells i) here (words i small) (free.memory i small) size (before i (omega arith) small)
+    refused (cell_at_index cells i) here (words i small) (free.memory i small) size (before i (omega arith) small)
 
-words_more : (cell : ℕ × ℕ) (cells : List (ℕ × ℕ)) → cell.1 < 2 ^ 18 → AreWords cells → (k : ℕ) → k < length (cell ∷ cells) → (cell_of (cell ∷ cells) k).1 < 2 ^ 18
+words_more : (cell : ℕ × ℕ) (cells : List (ℕ × ℕ)) → cell.1 < 2 ^ 18 → AreWords cells → (k : ℕ) → k < length (cell ∷ cells) → (cell_at_index (cell ∷ cells) k).1 < 2 ^ 18
 words_more cell cells small words zero within = small
 words_more cell cells small words (suc k) within = words k (omega arith)
 

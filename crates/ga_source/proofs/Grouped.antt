@@ -7,8 +7,8 @@ use Rattle.std.proofs.lemmas.Bool.{cond-false, ne_eqb}
 use Rattle.std.proofs.lemmas.List.{length_push}
 use Rattle.std.proofs.lemmas.Grind.{flat_map-append}
 use Rattle.ga_slots.specs.declared.op.Op.TheVariants.{Unext as UnextOp}
-use Rattle.ga_parser.specs.declared.item.Item.{Item}
-use Rattle.ga_parser.specs.declared.item.Item.TheVariants.{Opcode}
+use Rattle.ga_parser.specs.declared.item.AssemblyItem.{AssemblyItem}
+use Rattle.ga_parser.specs.declared.item.AssemblyItem.TheVariants.{Opcode}
 use Rattle.ga_parser.specs.declared.item.LocatedRequest.{LocatedRequest}
 use Rattle.ga_parser.specs.declared.item.AssemblyRequest.{AssemblyRequest}
 use Rattle.ga_parser.specs.declared.item.AssemblyRequest.TheVariants.{Put, Unext, Mark, Fill, Go, Carry}
@@ -16,7 +16,7 @@ use Rattle.ga_source.specs.declared.group.CellGroup.{CellGroup}
 use Rattle.ga_source.specs.declared.packing.Packer.{Packer}
 use Rattle.ga_source.specs.declared.group.PackingSpot.{PackingSpot}
 use Rattle.ga_source.specs.Reading.{first_spot_of_cell, spot_after_request}
-use Rattle.ga_source.specs.Cells.{PlacedItem, placed_item, placed_request_items, placed_items_from, CellGroupContent, items_of_first_cell, group_of_items, groups_of_items, groups_of, cell_group_content}
+use Rattle.ga_source.specs.Cells.{PlacedItem, placed_item, placed_request_items, placed_items_from, CellGroupContent, items_of_first_cell, group_of_items, groups_of_items, groups_of_requests, cell_group_content}
 use Rattle.ga_source.specs.inner.{after_all, Extends, IsInCell, IsWalked, IsClosed, IsFilling, places_in, group_places, HasLines, packer_places, IsGrouped, IsPutting, IsGathered}
 use Rattle.ga_source.proofs.Marking.{label_extends}
 
@@ -31,7 +31,7 @@ placed-push labels spot (first ∷ rest) one =
     ∙ sym (append_assoc (placed_request_items labels spot first.request first.line) (placed_items_from labels (spot_after_request labels spot first.request) rest) (placed_request_items labels (after_all labels (spot_after_request labels spot first.request) rest) one.request one.line))
 
 -- one item more in a cell
-places-push : (address slot : ℕ) (items : List Item) (lines : List ℕ) (item : Item) (line at : ℕ) → length lines ≡ length items → at ≡ slot + length items → places_in address slot (items ++ item ∷ []) (lines ++ line ∷ []) ≡ places_in address slot items lines ++ record { address = address; slot = at; item = item; line = line } ∷ []
+places-push : (address slot : ℕ) (items : List AssemblyItem) (lines : List ℕ) (item : AssemblyItem) (line at : ℕ) → length lines ≡ length items → at ≡ slot + length items → places_in address slot (items ++ item ∷ []) (lines ++ line ∷ []) ≡ places_in address slot items lines ++ record { address = address; slot = at; item = item; line = line } ∷ []
 unfolding places_in
 places-push address slot [] [] item line at size is = ap (λ (n : ℕ). let one : PlacedItem = record { address = address; slot = n; item = item; line = line } in one ∷ []) (omega (arith, is))
 places-push address slot (first ∷ items) (number ∷ lines) item line at size is =
@@ -41,15 +41,15 @@ places-push address slot [] (number ∷ lines) item line at size is = absurd (om
 places-push address slot (first ∷ items) [] item line at size is = absurd (omega (arith, size))
 
 -- an empty cell has none
-no_places : (address slot : ℕ) (items : List Item) (lines : List ℕ) → items ≡ [] → places_in address slot items lines ≡ []
+no_places : (address slot : ℕ) (items : List AssemblyItem) (lines : List ℕ) → items ≡ [] → places_in address slot items lines ≡ []
 unfolding places_in
-no_places address slot items lines empty = ap (λ (list : List Item). places_in address slot list lines) empty
+no_places address slot items lines empty = ap (λ (list : List AssemblyItem). places_in address slot list lines) empty
 
-no_lines : (items : List Item) (lines : List ℕ) → length lines ≡ length items → items ≡ [] → lines ≡ []
+no_lines : (items : List AssemblyItem) (lines : List ℕ) → length lines ≡ length items → items ≡ [] → lines ≡ []
 no_lines items [] size empty = refl
 no_lines items (line ∷ lines) size empty = let none : length items ≡ 0 = ap length empty in absurd (omega (arith, size, none))
 
-pub some_of : (items : List Item) → items ≢ [] → 0 < length items
+pub some_of : (items : List AssemblyItem) → items ≢ [] → 0 < length items
 some_of [] begun = absurd (begun refl)
 some_of (first ∷ rest) begun = omega arith
 
@@ -69,18 +69,18 @@ gathered_group before after group pushed address items lines none begun = record
       ∙ ap (λ (places : List PlacedItem). flat_map group_places before.groups.items ++ places)
       (append-nil (group_places group)
       ∙ (ap (λ (at : ℕ). places_in at 0 group.items.items group.lines.items) address
-      ∙ (ap (λ (list : List Item). places_in before.spot.at 0 list group.lines.items) items
+      ∙ (ap (λ (list : List AssemblyItem). places_in before.spot.at 0 list group.lines.items) items
       ∙ ap (λ (list : List ℕ). places_in before.spot.at 0 before.filling.items list) lines))));
   lines = λ size. none;
   groups = λ size whole all. subst (All HasLines) (sym pushed) (All-push HasLines before.groups.items group all (record {
-    begun = subst (λ (list : List Item). 0 < length list) (sym items) (some_of before.filling.items (λ empty. begun empty (whole empty)));
+    begun = subst (λ (list : List AssemblyItem). 0 < length list) (sym items) (some_of before.filling.items (λ empty. begun empty (whole empty)));
     each = ap length lines ∙ (size ∙ ap length (sym items));
   }));
 }
 
 -- ---- an item to be put
 
-pub putting_here : (p : Packer) (before : List LocatedRequest) (one : LocatedRequest) (item : Item) → ((labels : List (Option ℕ)) → Extends p.labels.items labels → placed_request_items labels p.spot one.request one.line ≡ placed_item p.spot item one.line ∷ []) → IsWalked p before → IsGrouped p before → IsPutting p (before ++ one ∷ []) item one.line
+pub putting_here : (p : Packer) (before : List LocatedRequest) (one : LocatedRequest) (item : AssemblyItem) → ((labels : List (Option ℕ)) → Extends p.labels.items labels → placed_request_items labels p.spot one.request one.line ≡ placed_item p.spot item one.line ∷ []) → IsWalked p before → IsGrouped p before → IsPutting p (before ++ one ∷ []) item one.line
 putting_here p before one item puts w g = record {
   places = λ labels more.
       placed-push labels (first_spot_of_cell 0) before one
@@ -105,7 +105,7 @@ closed_lines p q size closed gathered = ap length (gathered.lines size) ∙ sym 
 same_labels : (p q : Packer) (labels : List (Option ℕ)) → q.labels.items ≡ p.labels.items → Extends q.labels.items labels → Extends p.labels.items labels
 same_labels p q labels e more = subst (λ (known : List (Option ℕ)). Extends known labels) e more
 
-pub putting_next : (p q : Packer) (s : PackingSpot) (before : List LocatedRequest) (one : LocatedRequest) (item : Item) → ((labels : List (Option ℕ)) → Extends p.labels.items labels → placed_request_items labels p.spot one.request one.line ≡ placed_item s item one.line ∷ []) → IsWalked p before → IsGrouped p before → IsClosed p q → IsGathered p q → IsPutting (record q { spot = s }) (before ++ one ∷ []) item one.line
+pub putting_next : (p q : Packer) (s : PackingSpot) (before : List LocatedRequest) (one : LocatedRequest) (item : AssemblyItem) → ((labels : List (Option ℕ)) → Extends p.labels.items labels → placed_request_items labels p.spot one.request one.line ≡ placed_item s item one.line ∷ []) → IsWalked p before → IsGrouped p before → IsClosed p q → IsGathered p q → IsPutting (record q { spot = s }) (before ++ one ∷ []) item one.line
 putting_next p q s before one item puts w g closed gathered = record {
   places = λ labels e.
       let more = same_labels p q labels closed.labels_stay e in
@@ -125,7 +125,7 @@ putting_unext p q before line label filling lines spot_is groups labels_are w g 
       places = λ labels e.
           here.places labels (same_labels p q labels labels_are e)
           ∙ (ap (λ (g : List CellGroup). (flat_map group_places g ++ places_in p.spot.at 0 p.filling.items p.lines.items) ++ placed_item p.spot (Opcode UnextOp) line ∷ []) (sym groups)
-          ∙ (ap (λ (items : List Item). (flat_map group_places q.groups.items ++ places_in p.spot.at 0 items p.lines.items) ++ placed_item p.spot (Opcode UnextOp) line ∷ []) (sym filling)
+          ∙ (ap (λ (items : List AssemblyItem). (flat_map group_places q.groups.items ++ places_in p.spot.at 0 items p.lines.items) ++ placed_item p.spot (Opcode UnextOp) line ∷ []) (sym filling)
           ∙ (ap (λ (list : List ℕ). (flat_map group_places q.groups.items ++ places_in p.spot.at 0 q.filling.items list) ++ placed_item p.spot (Opcode UnextOp) line ∷ []) (sym lines)
           ∙ ap (λ (s : PackingSpot). (flat_map group_places q.groups.items ++ places_in s.at 0 q.filling.items q.lines.items) ++ placed_item s (Opcode UnextOp) line ∷ []) (sym spot_is))));
       groups = subst (All HasLines) (sym groups) g.groups;
@@ -134,19 +134,19 @@ putting_unext p q before line label filling lines spot_is groups labels_are w g 
 
 -- ---- an item that is put
 
-module _ (p : Packer) (asked : List LocatedRequest) (item : Item) (line : ℕ) (list : List Item) (numbers : List ℕ) (pushed : list ≡ p.filling.items ++ item ∷ []) (numbered : numbers ≡ p.lines.items ++ line ∷ []) (c : IsInCell p) (w : IsPutting p asked item line) where
+module _ (p : Packer) (asked : List LocatedRequest) (item : AssemblyItem) (line : ℕ) (list : List AssemblyItem) (numbers : List ℕ) (pushed : list ≡ p.filling.items ++ item ∷ []) (numbered : numbers ≡ p.lines.items ++ line ∷ []) (c : IsInCell p) (w : IsPutting p asked item line) where
   put_places : packer_places p ++ placed_item p.spot item line ∷ [] ≡ flat_map group_places p.groups.items ++ places_in p.spot.at 0 list numbers
   put_places =
       append_assoc (flat_map group_places p.groups.items) (places_in p.spot.at 0 p.filling.items p.lines.items) (placed_item p.spot item line ∷ [])
       ∙ ap (λ (places : List PlacedItem). flat_map group_places p.groups.items ++ places)
       (sym (places-push p.spot.at 0 p.filling.items p.lines.items item line p.spot.slot w.lines (omega (arith, c.size)))
-      ∙ (ap (λ (items : List Item). places_in p.spot.at 0 items (p.lines.items ++ line ∷ [])) (sym pushed)
+      ∙ (ap (λ (items : List AssemblyItem). places_in p.spot.at 0 items (p.lines.items ++ line ∷ [])) (sym pushed)
       ∙ ap (λ (lines : List ℕ). places_in p.spot.at 0 list lines) (sym numbered)))
 
   put_lines : length numbers ≡ length list
   put_lines = ap length numbered ∙ (length_push p.lines.items line ∙ (ap (λ (n : ℕ). n + 1) w.lines ∙ (sym (length_push p.filling.items item) ∙ ap length (sym pushed))))
 
-  put_begun : (items : List Item) → items ≡ list → items ≢ []
+  put_begun : (items : List AssemblyItem) → items ≡ list → items ≢ []
   put_begun items is empty = let size : length (p.filling.items ++ item ∷ []) ≡ 0 = ap length (sym pushed ∙ (sym is ∙ empty)) in let more = length_push p.filling.items item in absurd (omega (arith, size, more))
 
   -- the cell continues
@@ -158,7 +158,7 @@ module _ (p : Packer) (asked : List LocatedRequest) (item : Item) (line : ℕ) (
         ∙ (ap (λ (g : List CellGroup). flat_map group_places g ++ places_in p.spot.at 0 list numbers) (sym groups)
         ∙ ap (λ (places : List PlacedItem). flat_map group_places q.groups.items ++ places)
         (ap (λ (a : ℕ). places_in a 0 list numbers) (sym at)
-        ∙ (ap (λ (items : List Item). places_in q.spot.at 0 items numbers) (sym filling) ∙ ap (λ (n : List ℕ). places_in q.spot.at 0 q.filling.items n) (sym lines)))));
+        ∙ (ap (λ (items : List AssemblyItem). places_in q.spot.at 0 items numbers) (sym filling) ∙ ap (λ (n : List ℕ). places_in q.spot.at 0 q.filling.items n) (sym lines)))));
     groups = subst (All HasLines) (sym groups) w.groups;
     lines = ap length lines ∙ (put_lines ∙ ap length (sym filling));
     whole = λ empty. absurd (put_begun q.filling.items filling empty);
@@ -229,13 +229,13 @@ grouped_none p groups filling lines broken = record {
 
 -- ---- places as cells
 
-items_of : (address slot : ℕ) (items : List Item) (lines : List ℕ) → length lines ≡ length items → map (λ one. one.item) (places_in address slot items lines) ≡ items
+items_of : (address slot : ℕ) (items : List AssemblyItem) (lines : List ℕ) → length lines ≡ length items → map (λ one. one.item) (places_in address slot items lines) ≡ items
 unfolding places_in
 items_of address slot [] lines size = refl
-items_of address slot (item ∷ items) (line ∷ lines) size = ap (λ (list : List Item). item ∷ list) (items_of address (suc slot) items lines (omega (arith, size)))
+items_of address slot (item ∷ items) (line ∷ lines) size = ap (λ (list : List AssemblyItem). item ∷ list) (items_of address (suc slot) items lines (omega (arith, size)))
 items_of address slot (item ∷ items) [] size = absurd (omega (arith, size))
 
-lines_of : (address slot : ℕ) (items : List Item) (lines : List ℕ) → length lines ≡ length items → map (λ one. one.line) (places_in address slot items lines) ≡ lines
+lines_of : (address slot : ℕ) (items : List AssemblyItem) (lines : List ℕ) → length lines ≡ length items → map (λ one. one.line) (places_in address slot items lines) ≡ lines
 unfolding places_in
 lines_of address slot [] [] size = refl
 lines_of address slot [] (line ∷ lines) size = absurd (omega (arith, size))
@@ -246,7 +246,7 @@ later : (slot : ℕ) → (suc slot == 0) ≡ false
 later slot = ne_eqb (suc slot) 0 (λ e. absurd (omega arith))
 
 -- after slot 0 the cell continues up to the beginning of the next one
-front_of : (address slot : ℕ) (items : List Item) (lines : List ℕ) (rest : List PlacedItem) → items_of_first_cell rest ≡ [] → items_of_first_cell (places_in address (suc slot) items lines ++ rest) ≡ places_in address (suc slot) items lines
+front_of : (address slot : ℕ) (items : List AssemblyItem) (lines : List ℕ) (rest : List PlacedItem) → items_of_first_cell rest ≡ [] → items_of_first_cell (places_in address (suc slot) items lines ++ rest) ≡ places_in address (suc slot) items lines
 unfolding places_in items_of_first_cell
 front_of address slot [] lines rest none = none
 front_of address slot (item ∷ items) [] rest none = none
@@ -256,7 +256,7 @@ front_of address slot (item ∷ items) (line ∷ lines) rest none =
     cond-false (suc slot == 0) [] (one ∷ items_of_first_cell behind) (later slot)
     ∙ ap (λ (places : List PlacedItem). let one : PlacedItem = record { address = address; slot = suc slot; item = item; line = line } in one ∷ places) (front_of address (suc slot) items lines rest none)
 
-behind_of : (address slot : ℕ) (items : List Item) (lines : List ℕ) (rest : List PlacedItem) → groups_of_items (places_in address (suc slot) items lines ++ rest) ≡ groups_of_items rest
+behind_of : (address slot : ℕ) (items : List AssemblyItem) (lines : List ℕ) (rest : List PlacedItem) → groups_of_items (places_in address (suc slot) items lines ++ rest) ≡ groups_of_items rest
 unfolding places_in groups_of_items
 behind_of address slot [] lines rest = refl
 behind_of address slot (item ∷ items) [] rest = refl
@@ -267,19 +267,19 @@ behind_of address slot (item ∷ items) (line ∷ lines) rest =
     ∙ behind_of address (suc slot) items lines rest
 
 -- a group begins a cell
-no_front : (address : ℕ) (items : List Item) (lines : List ℕ) (rest : List PlacedItem) → 0 < length items → length lines ≡ length items → items_of_first_cell (places_in address 0 items lines ++ rest) ≡ []
+no_front : (address : ℕ) (items : List AssemblyItem) (lines : List ℕ) (rest : List PlacedItem) → 0 < length items → length lines ≡ length items → items_of_first_cell (places_in address 0 items lines ++ rest) ≡ []
 unfolding places_in items_of_first_cell
 no_front address (item ∷ items) (line ∷ lines) rest begun size = refl
 no_front address (item ∷ items) [] rest begun size = absurd (omega (arith, size))
 no_front address [] lines rest begun size = absurd (omega arith)
 
-one_cell : (address : ℕ) (items : List Item) (lines : List ℕ) (rest : List PlacedItem) → 0 < length items → length lines ≡ length items → items_of_first_cell rest ≡ [] → (let cell : CellGroupContent = record { address = address; items = items; lines = lines } in groups_of_items (places_in address 0 items lines ++ rest) ≡ cell ∷ groups_of_items rest)
+one_cell : (address : ℕ) (items : List AssemblyItem) (lines : List ℕ) (rest : List PlacedItem) → 0 < length items → length lines ≡ length items → items_of_first_cell rest ≡ [] → (let cell : CellGroupContent = record { address = address; items = items; lines = lines } in groups_of_items (places_in address 0 items lines ++ rest) ≡ cell ∷ groups_of_items rest)
 unfolding places_in groups_of_items
 one_cell address (item ∷ items) (line ∷ lines) rest begun size none =
     let size_behind : length lines ≡ length items = omega (arith, size) in
     let front = front_of address 0 items lines rest none in
     ap (λ (places : List PlacedItem). let one : PlacedItem = record { address = address; slot = 0; item = item; line = line } in group_of_items one places ∷ groups_of_items (places_in address 1 items lines ++ rest)) front
-    ∙ (ap (λ (list : List Item). let cell : CellGroupContent = record { address = address; items = item ∷ list; lines = line ∷ map (λ one. one.line) (places_in address 1 items lines) } in cell ∷ groups_of_items (places_in address 1 items lines ++ rest)) (items_of address 1 items lines size_behind)
+    ∙ (ap (λ (list : List AssemblyItem). let cell : CellGroupContent = record { address = address; items = item ∷ list; lines = line ∷ map (λ one. one.line) (places_in address 1 items lines) } in cell ∷ groups_of_items (places_in address 1 items lines ++ rest)) (items_of address 1 items lines size_behind)
     ∙ (ap (λ (list : List ℕ). let cell : CellGroupContent = record { address = address; items = item ∷ items; lines = line ∷ list } in cell ∷ groups_of_items (places_in address 1 items lines ++ rest)) (lines_of address 1 items lines size_behind)
     ∙ ap (λ (cells : List CellGroupContent). let cell : CellGroupContent = record { address = address; items = item ∷ items; lines = line ∷ lines } in cell ∷ cells) (behind_of address 0 items lines rest)))
 one_cell address (item ∷ items) [] rest begun size none = absurd (omega (arith, size))
@@ -302,7 +302,7 @@ all_cells (group ∷ groups) all =
     one_cell group.address group.items.items group.lines.items (flat_map group_places groups) first.begun first.each (groups_begin groups rest)
     ∙ ap (λ (cells : List CellGroupContent). cell_group_content group ∷ cells) (all_cells groups rest)
 
-pub grouped : (p q : Packer) (asked : List LocatedRequest) → IsGrouped p asked → IsClosed p q → IsGathered p q → map cell_group_content q.groups.items ≡ groups_of q.labels.items asked
+pub grouped : (p q : Packer) (asked : List LocatedRequest) → IsGrouped p asked → IsClosed p q → IsGathered p q → map cell_group_content q.groups.items ≡ groups_of_requests q.labels.items asked
 grouped p q asked g closed gathered =
     let labels = q.labels.items in
     let more : Extends p.labels.items labels = λ k address known. subst (λ (list : List (Option ℕ)). slice_index_or list k None ≡ Some address) (sym closed.labels_stay) known in

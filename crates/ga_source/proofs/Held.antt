@@ -11,12 +11,12 @@ use Rattle.ga_slots.specs.Slots.{opcode, target}
 use Rattle.ga_slots.specs.declared.op.Op.{Op}
 use Rattle.ga_slots.specs.declared.op.Op.TheVariants.{FetchP, Nop}
 use Rattle.ga_node.specs.Record.{NodeState}
-use Rattle.ga_parser.specs.declared.item.Item.{Item}
-use Rattle.ga_parser.specs.declared.item.Item.TheVariants.{Opcode, Literal, Back, Ahead, Cell}
+use Rattle.ga_parser.specs.declared.item.AssemblyItem.{AssemblyItem}
+use Rattle.ga_parser.specs.declared.item.AssemblyItem.TheVariants.{Opcode, Literal, Back, Ahead, Cell}
 use Rattle.ga_source.specs.declared.group.CellGroup.{CellGroup}
 use Rattle.ga_parser.specs.declared.item.Operand.TheVariants.{Label}
 use Rattle.ga_source.specs.declared.group.PackingSpot.{PackingSpot}
-use Rattle.ga_source.specs.Reading.{first_spot_of_cell, spot_after_item, operand_value, are_equal_numbers, word_at_address, has_opcode_in_slot, jump_leads_to, is_item_at_spot, is_filled_with_nops, ends_cell}
+use Rattle.ga_source.specs.Reading.{first_spot_of_cell, spot_after_item, operand_value, are_equal_numbers, word_at_address, has_opcode_in_slot, jump_leads_to, is_item_at_spot, is_filled_with_nops, item_ends_cell}
 use Rattle.ga_source.specs.Cells.{is_address_of_cell, item_uses_cell, KeepsOtherCells}
 use Rattle.ga_source.specs.inner.{nothing, behind_all, Stand, taken, spot_in, IsFit, IsRead, takes_group, are_taken, KeepsRest, HasItem, HasRest, HoldsRest, Holds, Keeps, MayEnd, IsWordOf, IsWriting, IsLoadedGroup}
 use Rattle.ga_source.proofs.Laying.{behind-same, behind-slot, Stand-push, taken-pop, empty_reads, step_spot, last_ends}
@@ -30,7 +30,7 @@ dots word slot = (nat_lt 1 slot || has_opcode_in_slot word 1 Nop) && (nat_lt 2 s
 has_op_by : (word slot : ℕ) (op : Op) → slot < 4 → opcode word slot ≡ op → has_opcode_in_slot (Some word) slot op ≡ true
 has_op_by word slot op l e = and_from (nat_lt slot 4) (code_of (opcode word slot) == code_of op) (lt-ltb slot 4 l) (eq-eqb (code_of (opcode word slot)) (code_of op) (ap code_of e))
 
-stands_in : (node : NodeState) (labels : List (Option ℕ)) (word : ℕ) (spot : PackingSpot) (item : Item) → spot.slot < 4 → MayEnd spot.slot item → HasItem labels word spot.slot item → HasRest node labels spot item → (found : Option ℕ) → found ≡ Some word → word_at_address node spot.at ≡ found → is_item_at_spot node labels spot item ≡ true
+stands_in : (node : NodeState) (labels : List (Option ℕ)) (word : ℕ) (spot : PackingSpot) (item : AssemblyItem) → spot.slot < 4 → MayEnd spot.slot item → HasItem labels word spot.slot item → HasRest node labels spot item → (found : Option ℕ) → found ≡ Some word → word_at_address node spot.at ≡ found → is_item_at_spot node labels spot item ≡ true
 stands_in node labels word spot (Opcode op) l may has rest found e at = subst (λ (w : Option ℕ). has_opcode_in_slot w spot.slot op ≡ true) (sym (at ∙ e)) (has_op_by word spot.slot op l has)
 stands_in node labels word spot (Literal value) l may has rest found e at = and_from (has_opcode_in_slot (word_at_address node spot.at) spot.slot FetchP) (are_equal_numbers (operand_value labels value) (word_at_address node spot.p))
     (subst (λ (w : Option ℕ). has_opcode_in_slot w spot.slot FetchP ≡ true) (sym (at ∙ e)) (has_op_by word spot.slot FetchP l has)) rest
@@ -47,14 +47,14 @@ stands_in node labels word spot (Cell value) l may has rest found e at = and_fro
 
 -- ---- what stays
 
-takes_cell : (spot : PackingSpot) (item : Item) → item_uses_cell spot item (spot.at % 512) ≡ true
+takes_cell : (spot : PackingSpot) (item : AssemblyItem) → item_uses_cell spot item (spot.at % 512) ≡ true
 takes_cell spot (Opcode op) = eq-eqb (spot.at % 512) (spot.at % 512) refl
 takes_cell spot (Literal value) = or_left (is_address_of_cell spot.at (spot.at % 512)) (is_address_of_cell spot.p (spot.at % 512)) (eq-eqb (spot.at % 512) (spot.at % 512) refl)
 takes_cell spot (Back op label) = eq-eqb (spot.at % 512) (spot.at % 512) refl
 takes_cell spot (Ahead op label) = eq-eqb (spot.at % 512) (spot.at % 512) refl
 takes_cell spot (Cell value) = eq-eqb (spot.at % 512) (spot.at % 512) refl
 
-takes_rest : (given : List (Option ℕ)) (spot : PackingSpot) (item : Item) → ((cell : ℕ) → item_uses_cell spot item cell ≡ true → Holds given cell) → HoldsRest given spot item
+takes_rest : (given : List (Option ℕ)) (spot : PackingSpot) (item : AssemblyItem) → ((cell : ℕ) → item_uses_cell spot item cell ≡ true → Holds given cell) → HoldsRest given spot item
 takes_rest given spot (Opcode op) held = tt
 takes_rest given spot (Literal value) held = held (spot.p % 512) (or_right (is_address_of_cell spot.at (spot.p % 512)) (is_address_of_cell spot.p (spot.p % 512)) (eq-eqb (spot.p % 512) (spot.p % 512) refl))
 takes_rest given spot (Back op label) held = tt
@@ -62,7 +62,7 @@ takes_rest given spot (Ahead op label) held = tt
 takes_rest given spot (Cell value) held = tt
 
 -- what an item takes is its cell and that of its literal
-holds_taken : (given : List (Option ℕ)) (spot : PackingSpot) (item : Item) → Holds given (spot.at % 512) → HoldsRest given spot item → (cell : ℕ) → item_uses_cell spot item cell ≡ true → Holds given cell
+holds_taken : (given : List (Option ℕ)) (spot : PackingSpot) (item : AssemblyItem) → Holds given (spot.at % 512) → HoldsRest given spot item → (cell : ℕ) → item_uses_cell spot item cell ≡ true → Holds given cell
 holds_taken given spot (Opcode op) at rest cell h = subst (Holds given) (eqb-true (spot.at % 512) cell h) at
 holds_taken given spot (Literal value) at rest cell h = elim (or_cases (is_address_of_cell spot.at cell) (is_address_of_cell spot.p cell) h) [
   | inl e ↦ subst (Holds given) (eqb-true (spot.at % 512) cell e) at
@@ -73,7 +73,7 @@ holds_taken given spot (Ahead op label) at rest cell h = subst (Holds given) (eq
 holds_taken given spot (Cell value) at rest cell h = subst (Holds given) (eqb-true (spot.at % 512) cell h) at
 
 -- after some items the cell is one that they take, or nothing of it is read
-end_held : (given : List (Option ℕ)) (spot : PackingSpot) (items : List Item) → (spot.slot ≡ 0) ⊎ Holds given (spot.at % 512) → ((cell : ℕ) → taken spot items cell ≡ true → Holds given cell) → ((behind_all spot items).slot ≡ 0) ⊎ Holds given ((behind_all spot items).at % 512)
+end_held : (given : List (Option ℕ)) (spot : PackingSpot) (items : List AssemblyItem) → (spot.slot ≡ 0) ⊎ Holds given (spot.at % 512) → ((cell : ℕ) → taken spot items cell ≡ true → Holds given cell) → ((behind_all spot items).slot ≡ 0) ⊎ Holds given ((behind_all spot items).at % 512)
 unfolding taken behind_all
 end_held given spot [] at held = at
 end_held given spot (item ∷ rest) at held = end_held given (spot_after_item spot item) rest
@@ -84,7 +84,7 @@ end_held given spot (item ∷ rest) at held = end_held given (spot_after_item sp
     (λ cell e. held cell (or_right (item_uses_cell spot item cell) (taken (spot_after_item spot item) rest cell) e))
 
 module _ (before after : NodeState) (given later : List (Option ℕ)) (keeps : Keeps before given after later) where
-  stands_stays : (labels : List (Option ℕ)) (spot : PackingSpot) (item : Item) → Holds given (spot.at % 512) → HoldsRest given spot item → is_item_at_spot after labels spot item ≡ is_item_at_spot before labels spot item
+  stands_stays : (labels : List (Option ℕ)) (spot : PackingSpot) (item : AssemblyItem) → Holds given (spot.at % 512) → HoldsRest given spot item → is_item_at_spot after labels spot item ≡ is_item_at_spot before labels spot item
   stands_stays labels spot (Opcode op) at rest = ap (λ (w : Option ℕ). has_opcode_in_slot w spot.slot op) ((keeps spot.at at).0)
   stands_stays labels spot (Literal value) at rest =
       ap (λ (w : Option ℕ). has_opcode_in_slot w spot.slot FetchP && are_equal_numbers (operand_value labels value) (word_at_address after spot.p)) ((keeps spot.at at).0)
@@ -93,7 +93,7 @@ module _ (before after : NodeState) (given later : List (Option ℕ)) (keeps : K
   stands_stays labels spot (Ahead op label) at rest = ap (λ (w : Option ℕ). has_opcode_in_slot w spot.slot op && jump_leads_to w spot.slot spot.p (operand_value labels (Label label))) ((keeps spot.at at).0)
   stands_stays labels spot (Cell value) at rest = ap (λ (w : Option ℕ). spot.slot == 0 && are_equal_numbers (operand_value labels value) w) ((keeps spot.at at).0)
 
-  pub Stand_stays : (labels : List (Option ℕ)) (spot : PackingSpot) (items : List Item) → ((cell : ℕ) → taken spot items cell ≡ true → Holds given cell) → Stand before labels spot items → Stand after labels spot items
+  pub Stand_stays : (labels : List (Option ℕ)) (spot : PackingSpot) (items : List AssemblyItem) → ((cell : ℕ) → taken spot items cell ≡ true → Holds given cell) → Stand before labels spot items → Stand after labels spot items
   unfolding Stand taken
   Stand_stays labels spot [] held h = tt
   Stand_stays labels spot (item ∷ rest) held h =
@@ -157,7 +157,7 @@ elsewhere_less named less first second sub one = record {
 
 -- ---- a whole group
 
-pub taken_at : (spot : PackingSpot) (items : List Item) (i cell : ℕ) → i < length items → item_uses_cell (behind_all spot (take i items)) (slice_index_or items i nothing) cell ≡ true → taken spot items cell ≡ true
+pub taken_at : (spot : PackingSpot) (items : List AssemblyItem) (i cell : ℕ) → i < length items → item_uses_cell (behind_all spot (take i items)) (slice_index_or items i nothing) cell ≡ true → taken spot items cell ≡ true
 unfolding taken behind_all
 taken_at spot [] i cell l h = absurd (omega arith)
 taken_at spot (first ∷ rest) zero cell l h = or_left (item_uses_cell spot first cell) (taken (spot_after_item spot first) rest cell) h
@@ -167,7 +167,7 @@ pub group_at : (groups : List CellGroup) (i cell : ℕ) (none : CellGroup) → i
 group_at groups i cell none l h = list_any_at (takes_group cell) groups i none l h
 
 -- one more item of the group is in place
-pub stand_more : (node : NodeState) (labels : List (Option ℕ)) (address word : ℕ) (items : List Item) (i : ℕ) → i < length items → length items ≤ 4 → IsFit labels address items → IsWordOf labels items word → word_at_address node address ≡ Some word → HasRest node labels (spot_in address items i) (slice_index_or items i nothing) → Stand node labels (first_spot_of_cell address) (take i items) → Stand node labels (first_spot_of_cell address) (take (i + 1) items)
+pub stand_more : (node : NodeState) (labels : List (Option ℕ)) (address word : ℕ) (items : List AssemblyItem) (i : ℕ) → i < length items → length items ≤ 4 → IsFit labels address items → IsWordOf labels items word → word_at_address node address ≡ Some word → HasRest node labels (spot_in address items i) (slice_index_or items i nothing) → Stand node labels (first_spot_of_cell address) (take i items) → Stand node labels (first_spot_of_cell address) (take (i + 1) items)
 stand_more node labels address word items i l few fit is_word at rest h =
     let spot = spot_in address items i in
     let slot : spot.slot ≡ i = fit.slots i l in
@@ -177,10 +177,10 @@ stand_more node labels address word items i l few fit is_word at rest h =
     (subst (λ (n : ℕ). HasItem labels word n (slice_index_or items i nothing)) (sym slot) (is_word.has i l)) rest (Some word) refl (ap (word_at_address node) (fit.cells i l) ∙ at)))
 
 -- its cells are given
-pub held_more : (labels given : List (Option ℕ)) (address : ℕ) (items : List Item) (i : ℕ) → i < length items → IsFit labels address items → Holds given (address % 512) → HoldsRest given (spot_in address items i) (slice_index_or items i nothing) → ((cell : ℕ) → taken (first_spot_of_cell address) (take i items) cell ≡ true → Holds given cell) → (cell : ℕ) → taken (first_spot_of_cell address) (take (i + 1) items) cell ≡ true → Holds given cell
+pub held_more : (labels given : List (Option ℕ)) (address : ℕ) (items : List AssemblyItem) (i : ℕ) → i < length items → IsFit labels address items → Holds given (address % 512) → HoldsRest given (spot_in address items i) (slice_index_or items i nothing) → ((cell : ℕ) → taken (first_spot_of_cell address) (take i items) cell ≡ true → Holds given cell) → (cell : ℕ) → taken (first_spot_of_cell address) (take (i + 1) items) cell ≡ true → Holds given cell
 held_more labels given address items i l fit at rest held cell h =
     let item = slice_index_or items i nothing in
-    elim (taken-pop (first_spot_of_cell address) (take i items) item cell (subst (λ (list : List Item). taken (first_spot_of_cell address) list cell ≡ true) (take_more items i nothing l) h)) [
+    elim (taken-pop (first_spot_of_cell address) (take i items) item cell (subst (λ (list : List AssemblyItem). taken (first_spot_of_cell address) list cell ≡ true) (take_more items i nothing l) h)) [
       | inl a ↦ held cell a
       | inr b ↦ holds_taken given (spot_in address items i) item (subst (λ (a : ℕ). Holds given (a % 512)) (sym (fit.cells i l)) at) rest cell b
     ]
@@ -198,7 +198,7 @@ dots_by node address word size at some few nops =
     (elim (cases_lt 2 size) [ inl l ↦ or_left (nat_lt 2 size) (has_opcode_in_slot w 2 Nop) (lt-ltb 2 size l) | inr l ↦ or_right (nat_lt 2 size) (has_opcode_in_slot w 2 Nop) (dot_by node address word 2 at (omega arith) (nops 2 l (omega arith))) ]))
     (dot_by node address word 3 at (omega arith) (nops 3 (omega arith) (omega arith)))
 
-filled_at : (node : NodeState) (labels : List (Option ℕ)) (address word n : ℕ) (items : List Item) (spot : PackingSpot) → length items ≡ n + 1 → length items ≤ 4 → IsFit labels address items → IsWordOf labels items word → word_at_address node address ≡ Some word → spot ≡ spot_after_item (spot_in address items n) (slice_index_or items n nothing) → is_filled_with_nops node spot ≡ true
+filled_at : (node : NodeState) (labels : List (Option ℕ)) (address word n : ℕ) (items : List AssemblyItem) (spot : PackingSpot) → length items ≡ n + 1 → length items ≤ 4 → IsFit labels address items → IsWordOf labels items word → word_at_address node address ≡ Some word → spot ≡ spot_after_item (spot_in address items n) (slice_index_or items n nothing) → is_filled_with_nops node spot ≡ true
 filled_at node labels address word n items spot size few fit is_word at is_spot = elim (cases_eq spot.slot 0) [
   | inl e ↦ or_left (spot.slot == 0) (dots (word_at_address node spot.at) spot.slot) (eq-eqb spot.slot 0 e)
   | inr other ↦
@@ -215,7 +215,7 @@ filled_at node labels address word n items spot size few fit is_word at is_spot 
       or_right (spot.slot == 0) (dots (word_at_address node spot.at) spot.slot)
       (subst (λ (k : ℕ). dots (word_at_address node spot.at) k ≡ true) (sym slot)
       (subst (λ (a : ℕ). dots (word_at_address node a) (n + 1) ≡ true) (sym cell)
-      (dots_by node address word (n + 1) at (omega arith) small (λ k h m. is_word.dots k (omega arith) m (ap (λ (j : ℕ). ends_cell (slice_index_or items j nothing)) end ∙ parts.2)))))
+      (dots_by node address word (n + 1) at (omega arith) small (λ k h m. is_word.dots k (omega arith) m (ap (λ (j : ℕ). item_ends_cell (slice_index_or items j nothing)) end ∙ parts.2)))))
 ]
 
 -- the group is read if each of its items is in place
@@ -242,7 +242,7 @@ pub empty_loaded : (node : NodeState) (labels given : List (Option ℕ)) (group 
 unfolding taken
 empty_loaded node labels given group whole empty = record {
   read = record { whole = whole; cell = empty_reads node labels group.address group.items.items empty };
-  held = λ cell h. absurd (true≢false (sym (subst (λ (list : List Item). taken (first_spot_of_cell group.address) list cell ≡ true) empty h)));
+  held = λ cell h. absurd (true≢false (sym (subst (λ (list : List AssemblyItem). taken (first_spot_of_cell group.address) list cell ≡ true) empty h)));
 }
 
 -- ---- a group that is being written
@@ -250,14 +250,14 @@ empty_loaded node labels given group whole empty = record {
 pub rest_both : (first second third : NodeState) → KeepsRest first second → KeepsRest second third → KeepsRest first third
 rest_both first second third one two = two ∙ ap (λ (node : NodeState). record node { ram = third.ram; rom = third.rom }) one
 
-takes_own : (spot : PackingSpot) (item : Item) (cell : ℕ) → is_address_of_cell spot.at cell ≡ true → item_uses_cell spot item cell ≡ true
+takes_own : (spot : PackingSpot) (item : AssemblyItem) (cell : ℕ) → is_address_of_cell spot.at cell ≡ true → item_uses_cell spot item cell ≡ true
 takes_own spot (Opcode op) cell h = h
 takes_own spot (Literal value) cell h = or_left (is_address_of_cell spot.at cell) (is_address_of_cell spot.p cell) h
 takes_own spot (Back op label) cell h = h
 takes_own spot (Ahead op label) cell h = h
 takes_own spot (Cell value) cell h = h
 
-own_cell : (address : ℕ) (items : List Item) (cell : ℕ) → 0 < length items → is_address_of_cell address cell ≡ true → taken (first_spot_of_cell address) items cell ≡ true
+own_cell : (address : ℕ) (items : List AssemblyItem) (cell : ℕ) → 0 < length items → is_address_of_cell address cell ≡ true → taken (first_spot_of_cell address) items cell ≡ true
 unfolding taken
 own_cell address [] cell some h = absurd (omega arith)
 own_cell address (first ∷ rest) cell some h = or_left (item_uses_cell (first_spot_of_cell address) first cell) (taken (spot_after_item (first_spot_of_cell address) first) rest cell) (takes_own (first_spot_of_cell address) first cell h)
@@ -296,13 +296,13 @@ written_more before node next given later given_next labels group spot spot_next
     }
 
 -- the same with the item under another name
-pub written_step : (before node next : NodeState) (given later given_next labels : List (Option ℕ)) (group : CellGroup) (spot spot_next : PackingSpot) (i : ℕ) (item : Item) → item ≡ slice_index_or group.items.items i nothing → IsWriting before given node later labels group spot i → i < length group.items.items → length group.items.items ≤ 4 → IsFit labels group.address group.items.items → KeepsRest node next → KeepsOtherCells (item_uses_cell spot item) node next → HasRest next labels spot item → HoldsRest given_next spot item → Keeps node later next given_next → spot_next ≡ spot_after_item spot item → IsWriting before given next given_next labels group spot_next (i + 1)
+pub written_step : (before node next : NodeState) (given later given_next labels : List (Option ℕ)) (group : CellGroup) (spot spot_next : PackingSpot) (i : ℕ) (item : AssemblyItem) → item ≡ slice_index_or group.items.items i nothing → IsWriting before given node later labels group spot i → i < length group.items.items → length group.items.items ≤ 4 → IsFit labels group.address group.items.items → KeepsRest node next → KeepsOtherCells (item_uses_cell spot item) node next → HasRest next labels spot item → HoldsRest given_next spot item → Keeps node later next given_next → spot_next ≡ spot_after_item spot item → IsWriting before given next given_next labels group spot_next (i + 1)
 written_step before node next given later given_next labels group spot spot_next i item is_item_request w l few fit rest elsewhere has held kept is_next =
     written_more before node next given later given_next labels group spot spot_next i w l few fit rest
-    (subst (λ (one : Item). KeepsOtherCells (item_uses_cell spot one) node next) is_item_request elsewhere)
-    (subst (λ (one : Item). HasRest next labels spot one) is_item_request has)
-    (subst (λ (one : Item). HoldsRest given_next spot one) is_item_request held)
-    kept (is_next ∙ ap (λ (one : Item). spot_after_item spot one) is_item_request)
+    (subst (λ (one : AssemblyItem). KeepsOtherCells (item_uses_cell spot one) node next) is_item_request elsewhere)
+    (subst (λ (one : AssemblyItem). HasRest next labels spot one) is_item_request has)
+    (subst (λ (one : AssemblyItem). HoldsRest given_next spot one) is_item_request held)
+    kept (is_next ∙ ap (λ (one : AssemblyItem). spot_after_item spot one) is_item_request)
 
 pub written_last : (before node : NodeState) (given later labels : List (Option ℕ)) (group : CellGroup) (spot : PackingSpot) (i : ℕ) → IsWriting before given node later labels group spot i → length group.items.items ≤ i → 0 < length group.items.items → length group.items.items ≤ 4 → IsFit labels group.address group.items.items → group.broken ≡ None → IsLoadedGroup node labels later group
 written_last before node given later labels group spot i w all some few fit whole =
@@ -310,7 +310,7 @@ written_last before node given later labels group spot i w all some few fit whol
     let same = take_all i items all in
     group_loaded node labels later group w.has_word.word whole some few fit w.has_word.is_word w.has_word.in_cell
     (subst (Stand node labels (first_spot_of_cell group.address)) same w.so_far)
-    (λ cell h. w.cells cell (subst (λ (list : List Item). taken (first_spot_of_cell group.address) list cell ≡ true) (sym same) h))
+    (λ cell h. w.cells cell (subst (λ (list : List AssemblyItem). taken (first_spot_of_cell group.address) list cell ≡ true) (sym same) h))
 
 pub slot_there : (before node : NodeState) (given later labels : List (Option ℕ)) (group : CellGroup) (spot : PackingSpot) (i : ℕ) → IsWriting before given node later labels group spot i → i < length group.items.items → length group.items.items ≤ 4 → IsFit labels group.address group.items.items → spot.slot < 4
 slot_there before node given later labels group spot i w l few fit =

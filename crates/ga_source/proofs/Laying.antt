@@ -3,11 +3,11 @@ use Rattle.std.specs.Prelude.{◌==◌, ◌&&◌, ◌||◌, not, nat_lt, cond, I
 use Rattle.std.proofs.Common.{◌≡◌, ◌≢◌, ◌∙◌, ℕ, ◌+◌, ◌⊎◌, inl, inr, refl, sym, ap, subst, Bool, true, false, List, [], ◌∷◌, ◌++◌, Option, Some, None, slice_index_or, arith, ◌-◌, ◌%◌, ◌<◌, ◌≤◌, length}
 use Rattle.std.proofs.lemmas.Bool.{or_cases, or_left, or_right, and_from, or_parts, cond-true, cond-false, true≢false, cases_eq, eqb-false, eq-eqb, ne_eqb, and_parts, eqb-true, ltb-true}
 use Rattle.ga_node.specs.Record.{NodeState}
-use Rattle.ga_parser.specs.declared.item.Item.{Item}
-use Rattle.ga_parser.specs.declared.item.Item.TheVariants.{Opcode, Literal, Back, Ahead, Cell}
+use Rattle.ga_parser.specs.declared.item.AssemblyItem.{AssemblyItem}
+use Rattle.ga_parser.specs.declared.item.AssemblyItem.TheVariants.{Opcode, Literal, Back, Ahead, Cell}
 use Rattle.ga_parser.specs.declared.item.LocatedRequest.{LocatedRequest}
 use Rattle.ga_source.specs.declared.group.PackingSpot.{PackingSpot}
-use Rattle.ga_source.specs.Reading.{first_spot_of_cell, next_cell_spot, spot_after_item, ends_cell, p_after_item, moves_p, is_item_at_spot, is_filled_with_nops, item_fits, item_spot, slot_reaches, is_request_met, spot_after_request, cells_match_requests, operand_value, are_equal_numbers}
+use Rattle.ga_source.specs.Reading.{first_spot_of_cell, next_cell_spot, spot_after_item, item_ends_cell, p_after_item, item_moves_p, is_item_at_spot, is_filled_with_nops, item_fits_at_spot, item_spot, slot_reaches_address, is_request_met, spot_after_request, cells_match_requests, operand_value, are_equal_numbers}
 use Rattle.ga_source.specs.Cells.{item_uses_cell, request_uses_cell, requests_use_cell}
 use Rattle.ga_source.specs.inner.{behind_all, Stand, taken, IsReadAt, IsFit, after_all, AreMet, Extends, IsKnown, op_in, nothing, spot_in, Leads, HasItem, MayEnd, IsWordOf}
 use Rattle.std.proofs.lemmas.List.{take_more}
@@ -19,23 +19,23 @@ use Rattle.ga_parser.specs.declared.item.Operand.TheVariants.{Label}
 
 -- ---- items
 
-pub behind_all-push : (spot : PackingSpot) (items : List Item) (item : Item) → behind_all spot (items ++ item ∷ []) ≡ spot_after_item (behind_all spot items) item
+pub behind_all-push : (spot : PackingSpot) (items : List AssemblyItem) (item : AssemblyItem) → behind_all spot (items ++ item ∷ []) ≡ spot_after_item (behind_all spot items) item
 unfolding behind_all
 behind_all-push spot [] item = refl
 behind_all-push spot (first ∷ rest) item = behind_all-push (spot_after_item spot first) rest item
 
-pub Stand-pop : (node : NodeState) (labels : List (Option ℕ)) (spot : PackingSpot) (items : List Item) (item : Item) → Stand node labels spot (items ++ item ∷ []) → Stand node labels spot items × (is_item_at_spot node labels (behind_all spot items) item ≡ true)
+pub Stand-pop : (node : NodeState) (labels : List (Option ℕ)) (spot : PackingSpot) (items : List AssemblyItem) (item : AssemblyItem) → Stand node labels spot (items ++ item ∷ []) → Stand node labels spot items × (is_item_at_spot node labels (behind_all spot items) item ≡ true)
 unfolding Stand behind_all
 Stand-pop node labels spot [] item h = (tt, h.0)
 Stand-pop node labels spot (first ∷ rest) item h =
     let parts = Stand-pop node labels (spot_after_item spot first) rest item h.1 in ((h.0, parts.0), parts.1)
 
-pub Stand-push : (node : NodeState) (labels : List (Option ℕ)) (spot : PackingSpot) (items : List Item) (item : Item) → Stand node labels spot items → is_item_at_spot node labels (behind_all spot items) item ≡ true → Stand node labels spot (items ++ item ∷ [])
+pub Stand-push : (node : NodeState) (labels : List (Option ℕ)) (spot : PackingSpot) (items : List AssemblyItem) (item : AssemblyItem) → Stand node labels spot items → is_item_at_spot node labels (behind_all spot items) item ≡ true → Stand node labels spot (items ++ item ∷ [])
 unfolding Stand behind_all
 Stand-push node labels spot [] item h last = (last, tt)
 Stand-push node labels spot (first ∷ rest) item h last = (h.0, Stand-push node labels (spot_after_item spot first) rest item h.1 last)
 
-pub taken-pop : (spot : PackingSpot) (items : List Item) (item : Item) (cell : ℕ) → taken spot (items ++ item ∷ []) cell ≡ true → (taken spot items cell ≡ true) ⊎ (item_uses_cell (behind_all spot items) item cell ≡ true)
+pub taken-pop : (spot : PackingSpot) (items : List AssemblyItem) (item : AssemblyItem) (cell : ℕ) → taken spot (items ++ item ∷ []) cell ≡ true → (taken spot items cell ≡ true) ⊎ (item_uses_cell (behind_all spot items) item cell ≡ true)
 unfolding taken behind_all
 taken-pop spot [] item cell h = elim (or_cases (item_uses_cell spot item cell) false h) [ inl e ↦ inr e | inr e ↦ inl e ]
 taken-pop spot (first ∷ rest) item cell h = elim (or_cases (item_uses_cell spot first cell) (taken (spot_after_item spot first) (rest ++ item ∷ []) cell) h) [
@@ -47,11 +47,11 @@ taken-pop spot (first ∷ rest) item cell h = elim (or_cases (item_uses_cell spo
 ]
 
 -- a cell with no items reads as it should
-pub empty_reads : (node : NodeState) (labels : List (Option ℕ)) (address : ℕ) (items : List Item) → items ≡ [] → IsReadAt node labels address items
+pub empty_reads : (node : NodeState) (labels : List (Option ℕ)) (address : ℕ) (items : List AssemblyItem) → items ≡ [] → IsReadAt node labels address items
 unfolding Stand behind_all
 empty_reads node labels address items e = subst (IsReadAt node labels address) (sym e) (record { items_stand = tt; filled = refl })
 
-pub empty_fits : (labels : List (Option ℕ)) (address : ℕ) (items : List Item) → items ≡ [] → IsFit labels address items
+pub empty_fits : (labels : List (Option ℕ)) (address : ℕ) (items : List AssemblyItem) → items ≡ [] → IsFit labels address items
 empty_fits labels address items e = subst (IsFit labels address) (sym e) (record {
   slots = λ k h. absurd (omega arith);
   cells = λ k h. absurd (omega arith);
@@ -73,19 +73,19 @@ chosen_slot true p slot next e h = absurd (h refl)
 chosen_slot false p slot next e h = (e, refl)
 
 -- the spot after an item is in the same cell, or at the beginning of another
-pub behind-same : (spot : PackingSpot) (item : Item) → (spot_after_item spot item).slot ≢ 0 → (spot_after_item spot item).at ≡ spot.at
-behind-same spot item h = chosen_cell (ends_cell item || spot.slot == 3) (p_after_item spot.p item) spot.at (record { at = spot.at; slot = spot.slot + 1; p = p_after_item spot.p item; is_p_moved = spot.is_p_moved || moves_p item }) refl h
+pub behind-same : (spot : PackingSpot) (item : AssemblyItem) → (spot_after_item spot item).slot ≢ 0 → (spot_after_item spot item).at ≡ spot.at
+behind-same spot item h = chosen_cell (item_ends_cell item || spot.slot == 3) (p_after_item spot.p item) spot.at (record { at = spot.at; slot = spot.slot + 1; p = p_after_item spot.p item; is_p_moved = spot.is_p_moved || item_moves_p item }) refl h
 
-pub behind-begins : (spot : PackingSpot) (item : Item) → (spot_after_item spot item).slot ≡ 0 → spot_after_item spot item ≡ first_spot_of_cell (spot_after_item spot item).at
-behind-begins spot item h = chosen_begins (ends_cell item || spot.slot == 3) (p_after_item spot.p item) (record { at = spot.at; slot = spot.slot + 1; p = p_after_item spot.p item; is_p_moved = spot.is_p_moved || moves_p item }) (λ e. absurd (omega arith)) h
+pub behind-begins : (spot : PackingSpot) (item : AssemblyItem) → (spot_after_item spot item).slot ≡ 0 → spot_after_item spot item ≡ first_spot_of_cell (spot_after_item spot item).at
+behind-begins spot item h = chosen_begins (item_ends_cell item || spot.slot == 3) (p_after_item spot.p item) (record { at = spot.at; slot = spot.slot + 1; p = p_after_item spot.p item; is_p_moved = spot.is_p_moved || item_moves_p item }) (λ e. absurd (omega arith)) h
 
-pub behind-slot : (spot : PackingSpot) (item : Item) → (spot_after_item spot item).slot ≢ 0 → ((spot_after_item spot item).slot ≡ spot.slot + 1) × (spot.slot ≢ 3) × (ends_cell item ≡ false)
+pub behind-slot : (spot : PackingSpot) (item : AssemblyItem) → (spot_after_item spot item).slot ≢ 0 → ((spot_after_item spot item).slot ≡ spot.slot + 1) × (spot.slot ≢ 3) × (item_ends_cell item ≡ false)
 behind-slot spot item h =
-    let parts = chosen_slot (ends_cell item || spot.slot == 3) (p_after_item spot.p item) (spot.slot + 1) (record { at = spot.at; slot = spot.slot + 1; p = p_after_item spot.p item; is_p_moved = spot.is_p_moved || moves_p item }) refl h in
-    let neither = or_parts (ends_cell item) (spot.slot == 3) parts.1 in
+    let parts = chosen_slot (item_ends_cell item || spot.slot == 3) (p_after_item spot.p item) (spot.slot + 1) (record { at = spot.at; slot = spot.slot + 1; p = p_after_item spot.p item; is_p_moved = spot.is_p_moved || item_moves_p item }) refl h in
+    let neither = or_parts (item_ends_cell item) (spot.slot == 3) parts.1 in
     (parts.0, eqb-false spot.slot 3 neither.1, neither.0)
 
-pub behind-opened : (spot : PackingSpot) (item : Item) → (spot_after_item spot item).slot ≢ 0 → ends_cell item ≡ false
+pub behind-opened : (spot : PackingSpot) (item : AssemblyItem) → (spot_after_item spot item).slot ≢ 0 → item_ends_cell item ≡ false
 behind-opened spot item h = (behind-slot spot item h).2
 
 pub next-begins : (spot : PackingSpot) → (spot.slot ≡ 0 → first_spot_of_cell spot.at ≡ spot) → next_cell_spot spot ≡ first_spot_of_cell (next_cell_spot spot).at
@@ -105,7 +105,7 @@ next-slot spot = elim (cases_eq spot.slot 0) [
 pub None≢Some : (address : ℕ) → ◌≡◌ {A = Option ℕ} None (Some address) → ⊥
 None≢Some address e = cc
 
-pub begin_fits : (labels : List (Option ℕ)) (address : ℕ) (item : Item) → item_fits labels (first_spot_of_cell address) item ≡ true
+pub begin_fits : (labels : List (Option ℕ)) (address : ℕ) (item : AssemblyItem) → item_fits_at_spot labels (first_spot_of_cell address) item ≡ true
 begin_fits labels address (Opcode op) = refl
 begin_fits labels address (Literal value) = refl
 begin_fits labels address (Back op label) = refl
@@ -117,18 +117,18 @@ known_by before after label None more known e = absurd (known e)
 known_by before after label (Some address) more known e = more label address e ∙ sym e
 
 -- labels that become known change nothing of what has room
-pub item_fits-extends : (before after : List (Option ℕ)) (spot : PackingSpot) (item : Item) → Extends before after → IsKnown before item → item_fits after spot item ≡ item_fits before spot item
-item_fits-extends before after spot (Opcode op) more known = refl
-item_fits-extends before after spot (Literal value) more known = refl
-item_fits-extends before after spot (Back op label) more known = ap (λ (found : Option ℕ). spot.slot == 0 || not spot.is_p_moved && nat_lt spot.slot 3 && slot_reaches spot.p spot.slot found) (known_by before after label (slice_index_or before label None) more known refl)
-item_fits-extends before after spot (Ahead op label) more known = refl
-item_fits-extends before after spot (Cell value) more known = refl
+pub item_fits_at_spot-extends : (before after : List (Option ℕ)) (spot : PackingSpot) (item : AssemblyItem) → Extends before after → IsKnown before item → item_fits_at_spot after spot item ≡ item_fits_at_spot before spot item
+item_fits_at_spot-extends before after spot (Opcode op) more known = refl
+item_fits_at_spot-extends before after spot (Literal value) more known = refl
+item_fits_at_spot-extends before after spot (Back op label) more known = ap (λ (found : Option ℕ). spot.slot == 0 || not spot.is_p_moved && nat_lt spot.slot 3 && slot_reaches_address spot.p spot.slot found) (known_by before after label (slice_index_or before label None) more known refl)
+item_fits_at_spot-extends before after spot (Ahead op label) more known = refl
+item_fits_at_spot-extends before after spot (Cell value) more known = refl
 
-pub here-item_fits : (labels : List (Option ℕ)) (spot : PackingSpot) (item : Item) → item_fits labels spot item ≡ true → item_spot labels spot item ≡ spot
-here-item_fits labels spot item e = cond-true (item_fits labels spot item) spot (next_cell_spot spot) e
+pub here-item_fits_at_spot : (labels : List (Option ℕ)) (spot : PackingSpot) (item : AssemblyItem) → item_fits_at_spot labels spot item ≡ true → item_spot labels spot item ≡ spot
+here-item_fits_at_spot labels spot item e = cond-true (item_fits_at_spot labels spot item) spot (next_cell_spot spot) e
 
-pub next-item_fits : (labels : List (Option ℕ)) (spot : PackingSpot) (item : Item) → item_fits labels spot item ≡ false → item_spot labels spot item ≡ next_cell_spot spot
-next-item_fits labels spot item e = cond-false (item_fits labels spot item) spot (next_cell_spot spot) e
+pub next-item_fits_at_spot : (labels : List (Option ℕ)) (spot : PackingSpot) (item : AssemblyItem) → item_fits_at_spot labels spot item ≡ false → item_spot labels spot item ≡ next_cell_spot spot
+next-item_fits_at_spot labels spot item e = cond-false (item_fits_at_spot labels spot item) spot (next_cell_spot spot) e
 
 -- ---- requests
 
@@ -162,12 +162,12 @@ cells_match_requests-met node labels spot (first ∷ rest) met last = and_from (
 
 -- ---- the words of groups
 
-may_end : (labels : List (Option ℕ)) (spot : PackingSpot) (item : Item) → item_fits labels spot item ≡ true → MayEnd spot.slot item
+may_end : (labels : List (Option ℕ)) (spot : PackingSpot) (item : AssemblyItem) → item_fits_at_spot labels spot item ≡ true → MayEnd spot.slot item
 may_end labels spot (Opcode op) h = tt
 may_end labels spot (Literal value) h = tt
-may_end labels spot (Back op label) h = elim (or_cases (spot.slot == 0) (not spot.is_p_moved && nat_lt spot.slot 3 && slot_reaches spot.p spot.slot (operand_value labels (Label label))) h) [
+may_end labels spot (Back op label) h = elim (or_cases (spot.slot == 0) (not spot.is_p_moved && nat_lt spot.slot 3 && slot_reaches_address spot.p spot.slot (operand_value labels (Label label))) h) [
   | inl e ↦ let first = eqb-true spot.slot 0 e in omega arith
-  | inr e ↦ ltb-true spot.slot 3 ((and_parts (not spot.is_p_moved) (nat_lt spot.slot 3) ((and_parts (not spot.is_p_moved && nat_lt spot.slot 3) (slot_reaches spot.p spot.slot (operand_value labels (Label label))) e).0)).1)
+  | inr e ↦ ltb-true spot.slot 3 ((and_parts (not spot.is_p_moved) (nat_lt spot.slot 3) ((and_parts (not spot.is_p_moved && nat_lt spot.slot 3) (slot_reaches_address spot.p spot.slot (operand_value labels (Label label))) e).0)).1)
 ]
 may_end labels spot (Ahead op label) h = elim (or_cases (spot.slot == 0) (not spot.is_p_moved && nat_lt spot.slot 2) h) [
   | inl e ↦ let first = eqb-true spot.slot 0 e in omega arith
@@ -175,7 +175,7 @@ may_end labels spot (Ahead op label) h = elim (or_cases (spot.slot == 0) (not sp
 ]
 may_end labels spot (Cell value) h = eqb-true spot.slot 0 h
 
-fourth : (labels : List (Option ℕ)) (spot : PackingSpot) (item : Item) → spot.slot ≡ 3 → item_fits labels spot item ≡ true → code_of (op_in item) % 4 ≡ 0
+fourth : (labels : List (Option ℕ)) (spot : PackingSpot) (item : AssemblyItem) → spot.slot ≡ 3 → item_fits_at_spot labels spot item ≡ true → code_of (op_in item) % 4 ≡ 0
 fourth labels spot (Opcode op) e h = elim (or_cases (nat_lt spot.slot 3) (code_of op % 4 == 0) h) [
   | inl l ↦ let few = ltb-true spot.slot 3 l in absurd (omega arith)
   | inr m ↦ eqb-true (code_of op % 4) 0 m
@@ -185,31 +185,31 @@ fourth labels spot (Back op label) e h = let few : spot.slot < 3 = may_end label
 fourth labels spot (Ahead op label) e h = let few : spot.slot < 3 = may_end labels spot (Ahead op label) h in absurd (omega arith)
 fourth labels spot (Cell value) e h = let first : spot.slot ≡ 0 = may_end labels spot (Cell value) h in absurd (omega arith)
 
-pub four_codes : (labels : List (Option ℕ)) (address : ℕ) (items : List Item) → IsFit labels address items → length items ≡ 4 → code_of (op_in (slice_index_or items 3 nothing)) % 4 ≡ 0
+pub four_codes : (labels : List (Option ℕ)) (address : ℕ) (items : List AssemblyItem) → IsFit labels address items → length items ≡ 4 → code_of (op_in (slice_index_or items 3 nothing)) % 4 ≡ 0
 four_codes labels address items fit e =
     let l : 3 < length items = omega arith in
     fourth labels (spot_in address items 3) (slice_index_or items 3 nothing) (fit.slots 3 l) (fit.room 3 l)
 
-pub last_ends : (labels : List (Option ℕ)) (address : ℕ) (items : List Item) → IsFit labels address items → (k : ℕ) → k < length items → MayEnd k (slice_index_or items k nothing)
+pub last_ends : (labels : List (Option ℕ)) (address : ℕ) (items : List AssemblyItem) → IsFit labels address items → (k : ℕ) → k < length items → MayEnd k (slice_index_or items k nothing)
 last_ends labels address items fit k l = subst (λ (n : ℕ). MayEnd n (slice_index_or items k nothing)) (fit.slots k l) (may_end labels (spot_in address items k) (slice_index_or items k nothing) (fit.room k l))
 
-pub step_spot : (address : ℕ) (items : List Item) (k : ℕ) → k < length items → spot_in address items (k + 1) ≡ spot_after_item (spot_in address items k) (slice_index_or items k nothing)
+pub step_spot : (address : ℕ) (items : List AssemblyItem) (k : ℕ) → k < length items → spot_in address items (k + 1) ≡ spot_after_item (spot_in address items k) (slice_index_or items k nothing)
 step_spot address items k l = ap (behind_all (first_spot_of_cell address)) (take_more items k nothing l) ∙ behind_all-push (first_spot_of_cell address) _ (slice_index_or items k nothing)
 
-not_last : (labels : List (Option ℕ)) (address : ℕ) (items : List Item) → IsFit labels address items → (k : ℕ) → k + 1 < length items → ends_cell (slice_index_or items k nothing) ≡ false
+not_last : (labels : List (Option ℕ)) (address : ℕ) (items : List AssemblyItem) → IsFit labels address items → (k : ℕ) → k + 1 < length items → item_ends_cell (slice_index_or items k nothing) ≡ false
 not_last labels address items fit k l =
     let few : k < length items = omega arith in
     behind-opened (spot_in address items k) (slice_index_or items k nothing) (λ e.
     let zero_is : k + 1 ≡ 0 = sym (fit.slots (k + 1) l) ∙ (ap (λ (s : PackingSpot). s.slot) (step_spot address items k few) ∙ e) in absurd (omega arith))
 
-plain_item : (labels : List (Option ℕ)) (word slot : ℕ) (item : Item) → ends_cell item ≡ false → opcode word slot ≡ op_in item → HasItem labels word slot item
+plain_item : (labels : List (Option ℕ)) (word slot : ℕ) (item : AssemblyItem) → item_ends_cell item ≡ false → opcode word slot ≡ op_in item → HasItem labels word slot item
 plain_item labels word slot (Opcode op) e h = h
 plain_item labels word slot (Literal value) e h = h
 plain_item labels word slot (Back op label) e h = absurd (true≢false e)
 plain_item labels word slot (Ahead op label) e h = absurd (true≢false e)
 plain_item labels word slot (Cell value) e h = absurd (true≢false e)
 
-pub word_has : (labels : List (Option ℕ)) (address : ℕ) (items : List Item) (first found : ℕ) → 0 < length items → IsFit labels address items → ((k : ℕ) → k < length items → opcode first k ≡ op_in (slice_index_or items k nothing)) → ((k : ℕ) → length items ≤ k → k < 4 → opcode first k ≡ Nop) → (opcode first (length items - 1) ≡ op_in (slice_index_or items (length items - 1) nothing) → HasItem labels found (length items - 1) (slice_index_or items (length items - 1) nothing)) → ((k : ℕ) → k < length items - 1 → opcode found k ≡ opcode first k) → (ends_cell (slice_index_or items (length items - 1) nothing) ≡ false → found ≡ first) → IsWordOf labels items found
+pub word_has : (labels : List (Option ℕ)) (address : ℕ) (items : List AssemblyItem) (first found : ℕ) → 0 < length items → IsFit labels address items → ((k : ℕ) → k < length items → opcode first k ≡ op_in (slice_index_or items k nothing)) → ((k : ℕ) → length items ≤ k → k < 4 → opcode first k ≡ Nop) → (opcode first (length items - 1) ≡ op_in (slice_index_or items (length items - 1) nothing) → HasItem labels found (length items - 1) (slice_index_or items (length items - 1) nothing)) → ((k : ℕ) → k < length items - 1 → opcode found k ≡ opcode first k) → (item_ends_cell (slice_index_or items (length items - 1) nothing) ≡ false → found ≡ first) → IsWordOf labels items found
 word_has labels address items first found some fit ops dots has before same = record {
   has = λ k l. elim (cases_eq k (length items - 1)) [
     | inl e ↦ subst (λ (n : ℕ). HasItem labels found n (slice_index_or items n nothing)) (sym e) (has (ops (length items - 1) (omega arith)))
@@ -219,18 +219,18 @@ word_has labels address items first found some fit ops dots has before same = re
 }
 
 -- a word whose jump leads where its address is reached
-pub leads_by : (labels : List (Option ℕ)) (word slot label address : ℕ) → operand_value labels (Label label) ≡ Some address → ((p : ℕ) → slot_reaches p slot (Some address) ≡ true → target p word slot ≡ address) → Leads labels word slot label
+pub leads_by : (labels : List (Option ℕ)) (word slot label address : ℕ) → operand_value labels (Label label) ≡ Some address → ((p : ℕ) → slot_reaches_address p slot (Some address) ≡ true → target p word slot ≡ address) → Leads labels word slot label
 leads_by labels word slot label address e jump_leads_to p h = subst (λ (to : Option ℕ). are_equal_numbers to (Some (target p word slot)) ≡ true) (sym e)
-    (eq-eqb address (target p word slot) (sym (jump_leads_to p (subst (λ (to : Option ℕ). slot_reaches p slot to ≡ true) e h))))
+    (eq-eqb address (target p word slot) (sym (jump_leads_to p (subst (λ (to : Option ℕ). slot_reaches_address p slot to ≡ true) e h))))
 
 pub same_value : (found : Option ℕ) (word : ℕ) → found ≡ Some word → are_equal_numbers found (Some word) ≡ true
 same_value found word e = subst (λ (to : Option ℕ). are_equal_numbers to (Some word) ≡ true) (sym e) (eq-eqb word word refl)
 
 -- a jump that is put into its slot
-pub jump_item : (labels : List (Option ℕ)) (result : Option ℕ) (word slot label : ℕ) (op : Op) (last item : Item) → last ≡ item → op_in item ≡ op → ((found : ℕ) → opcode found slot ≡ op → Leads labels found slot label → HasItem labels found slot item) → IfSome result (λ found. Leads labels found slot label) → IfSome result (λ found. (k : ℕ) → k ≤ slot → opcode found k ≡ opcode word k) → IfSome result (λ found. opcode word slot ≡ op_in last → HasItem labels found slot last)
+pub jump_item : (labels : List (Option ℕ)) (result : Option ℕ) (word slot label : ℕ) (op : Op) (last item : AssemblyItem) → last ≡ item → op_in item ≡ op → ((found : ℕ) → opcode found slot ≡ op → Leads labels found slot label → HasItem labels found slot item) → IfSome result (λ found. Leads labels found slot label) → IfSome result (λ found. (k : ℕ) → k ≤ slot → opcode found k ≡ opcode word k) → IfSome result (λ found. opcode word slot ≡ op_in last → HasItem labels found slot last)
 jump_item labels None word slot label op last item e is_op has jump_leads_to before = tt
 jump_item labels (Some found) word slot label op last item e is_op has jump_leads_to before = λ h. subst (HasItem labels found slot) (sym e) (has found (before slot (omega arith) ∙ (h ∙ (ap op_in e ∙ is_op))) jump_leads_to)
 
-pub word_found : (labels : List (Option ℕ)) (address : ℕ) (items : List Item) (first : ℕ) (result : Option ℕ) → 0 < length items → IsFit labels address items → ((k : ℕ) → k < length items → opcode first k ≡ op_in (slice_index_or items k nothing)) → ((k : ℕ) → length items ≤ k → k < 4 → opcode first k ≡ Nop) → IfSome result (λ found. opcode first (length items - 1) ≡ op_in (slice_index_or items (length items - 1) nothing) → HasItem labels found (length items - 1) (slice_index_or items (length items - 1) nothing)) → IfSome result (λ found. (k : ℕ) → k < length items - 1 → opcode found k ≡ opcode first k) → IfSome result (λ found. ends_cell (slice_index_or items (length items - 1) nothing) ≡ false → found ≡ first) → IfSome result (λ found. IsWordOf labels items found)
+pub word_found : (labels : List (Option ℕ)) (address : ℕ) (items : List AssemblyItem) (first : ℕ) (result : Option ℕ) → 0 < length items → IsFit labels address items → ((k : ℕ) → k < length items → opcode first k ≡ op_in (slice_index_or items k nothing)) → ((k : ℕ) → length items ≤ k → k < 4 → opcode first k ≡ Nop) → IfSome result (λ found. opcode first (length items - 1) ≡ op_in (slice_index_or items (length items - 1) nothing) → HasItem labels found (length items - 1) (slice_index_or items (length items - 1) nothing)) → IfSome result (λ found. (k : ℕ) → k < length items - 1 → opcode found k ≡ opcode first k) → IfSome result (λ found. item_ends_cell (slice_index_or items (length items - 1) nothing) ≡ false → found ≡ first) → IfSome result (λ found. IsWordOf labels items found)
 word_found labels address items first None some fit ops dots has before same = tt
 word_found labels address items first (Some found) some fit ops dots has before same = word_has labels address items first found some fit ops dots has before same

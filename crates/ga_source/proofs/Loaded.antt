@@ -5,12 +5,12 @@ use Rattle.std.proofs.lemmas.Bool.{cases_eq, cases_lt}
 use Rattle.std.proofs.lemmas.List.{get_or-replicate, get_or_past, length-replicate, get_or-set_same, get_or-set_other}
 use Rattle.std.proofs.lemmas.List.Elements.{All-nil, All-cons, All-head, All-tail, All-push, All-pop, All-weaker}
 use Rattle.ga_node.specs.Record.{NodeState, fresh_node}
-use Rattle.ga_grid.specs.Chip.{nowhere, node_at, with_node}
+use Rattle.ga_grid.specs.Chip.{default_node, node_at, with_node}
 use Rattle.ga_grid.specs.Grid.{default_chip, load_p_of}
 use Rattle.ga_grid.proofs.Chips.{node_at-default_chip, length-default_chip, node_at-with_node_other as stays}
 use Rattle.ga_source.specs.declared.program.Program.{Program}
 use Rattle.ga_source.specs.Cells.{IsUnusedCell, AreUnusedCellsZero}
-use Rattle.ga_source.specs.Programs.{IsProgramLoaded, IsUnprogrammedNode, IsAssembledChip, given_register_value, value_or, has_cells, at_load, KeepsOtherState, HasProgram}
+use Rattle.ga_source.specs.Programs.{IsProgramLoaded, IsUnprogrammedNode, IsAssembledChip, given_register_value, value_or_previous, has_cells, values_at_load, KeepsOtherState, HasProgram}
 use Rattle.ga_source.specs.inner.{HasBegun, AreLoaded}
 
 -- each word of a memory at load is 0
@@ -29,7 +29,7 @@ fresh_rom p k = word_at_load k
 pub of_each_at_load : (P : NodeState → Type 0) → ((p : ℕ) → P (fresh_node p)) → (n : ℕ) → P (node_at default_chip n)
 of_each_at_load P fresh n = ⊎_elim
     (λ l. subst P (sym (node_at-default_chip n l)) (fresh (load_p_of n)))
-    (λ l. subst P (sym (get_or_past default_chip n nowhere (rw length-default_chip l))) (fresh 0))
+    (λ l. subst P (sym (get_or_past default_chip n default_node (rw length-default_chip l))) (fresh 0))
     (cases_lt n 144)
 
 -- the node is as at load but for what one of the programs named, or as at load
@@ -77,10 +77,10 @@ both chip begun n node programs fresh marked each = λ k d in_list. stays_loaded
 
 -- the program is loaded into its node
 loaded_here : (chip : List NodeState) (n : ℕ) (node : NodeState) (program : Program) → n < length chip → program.node.number ≡ n → node_at chip n ≡ node_at default_chip n → HasProgram (node_at chip n) node program → IsProgramLoaded (with_node chip n node) program
-loaded_here chip n node program in_chip is_n at_load has =
+loaded_here chip n node program in_chip is_n values_at_load has =
     subst (λ k. HasProgram (node_at default_chip k) (node_at (with_node chip n node) k) program) (sym is_n)
-    (subst (λ found. HasProgram (node_at default_chip n) found program) (sym (get_or-set_same chip n node nowhere in_chip))
-    (subst (λ before. HasProgram before node program) at_load has))
+    (subst (λ found. HasProgram (node_at default_chip n) found program) (sym (get_or-set_same chip n node default_node in_chip))
+    (subst (λ before. HasProgram before node program) values_at_load has))
 
 -- a node whose memories and registers were written keeps all else
 kept_of : (before after : NodeState) (ram rom : List ℕ) (p a b : ℕ) → after ≡ record before { ram = ram; rom = rom; p = p; a = a; b = b } → KeepsOtherState before after
@@ -89,20 +89,20 @@ kept_of before after ram rom p a b e = subst (λ node. KeepsOtherState before no
 kept_by : (before after : NodeState) (program : Program) → HasProgram before after program → KeepsOtherState before after
 kept_by before after program has =
     let labels = program.labels.items in
-    let registers = at_load program.registers program.names.items (has_cells program.asked.items) in
-    kept_of before after after.ram after.rom (value_or (given_register_value labels registers.p) before.p) (value_or (given_register_value labels registers.a) before.a)
-    (value_or (given_register_value labels registers.b) before.b) has.rest
+    let registers = values_at_load program.registers program.names.items (has_cells program.asked.items) in
+    kept_of before after after.ram after.rom (value_or_previous (given_register_value labels registers.p) before.p) (value_or_previous (given_register_value labels registers.a) before.a)
+    (value_or_previous (given_register_value labels registers.b) before.b) has.rest
 
 kept_here : (chip : List NodeState) (n : ℕ) (node : NodeState) (program : Program) → n < length chip → node_at chip n ≡ node_at default_chip n → HasProgram (node_at chip n) node program → KeepsOtherState (node_at default_chip n) (node_at (with_node chip n node) n)
-kept_here chip n node program in_chip at_load has =
-    subst (λ found. KeepsOtherState (node_at default_chip n) found) (sym (get_or-set_same chip n node nowhere in_chip))
-    (kept_by (node_at default_chip n) node program (subst (λ before. HasProgram before node program) at_load has))
+kept_here chip n node program in_chip values_at_load has =
+    subst (λ found. KeepsOtherState (node_at default_chip n) found) (sym (get_or-set_same chip n node default_node in_chip))
+    (kept_by (node_at default_chip n) node program (subst (λ before. HasProgram before node program) values_at_load has))
 
 -- each program, and the one that is loaded into a node where none was
 pub one_more : (chip : List NodeState) (begun : List Bool) (programs : List Program) (n : ℕ) (node : NodeState) (program : Program) → n < length chip → n < length begun → slice_index_or begun n false ≡ false → AreLoaded chip begun programs → program.node.number ≡ n → HasProgram (node_at chip n) node program → AreLoaded (with_node chip n node) (set begun n true) (programs ++ program ∷ [])
 one_more chip begun programs n node program in_chip in_begun fresh all is_n has =
     let others : IsUnprogrammedNode programs n = All-weaker (HasBegun begun) (λ p. p.node.number ≢ n) (λ p h. apart begun n p fresh h) programs all.marked in
-    let at_load : node_at chip n ≡ node_at default_chip n = all.assembled.rest n others in
+    let values_at_load : node_at chip n ≡ node_at default_chip n = all.assembled.rest n others in
     record {
       marked = All-push (HasBegun (set begun n true)) programs program
           (All-weaker (HasBegun begun) (HasBegun (set begun n true)) (λ p h. stays_marked begun n p fresh h) programs all.marked)
@@ -110,13 +110,13 @@ one_more chip begun programs n node program in_chip in_begun fresh all is_n has 
       assembled = record {
         each = All-push (IsProgramLoaded (with_node chip n node)) programs program
             (both chip begun n node programs fresh all.marked all.assembled.each)
-            (loaded_here chip n node program in_chip is_n at_load has);
+            (loaded_here chip n node program in_chip is_n values_at_load has);
         rest = λ k unnamed.
             let parts = All-pop (λ p. p.node.number ≢ k) (programs ++ program ∷ []) programs (Some program) refl unnamed in
             stays chip n k node (λ e. parts.1 (is_n ∙ sym e)) ∙ all.assembled.rest k parts.0;
         state = λ k. elim (cases_eq k n) [
           | inl e ↦ subst (λ j. KeepsOtherState (node_at default_chip j) (node_at (with_node chip n node) j)) (sym e)
-              (kept_here chip n node program in_chip at_load has)
+              (kept_here chip n node program in_chip values_at_load has)
           | inr other ↦ subst (λ found. KeepsOtherState (node_at default_chip k) found) (sym (stays chip n k node other)) (all.assembled.state k)
         ];
       };

@@ -3,45 +3,45 @@ use Rattle.std.specs.Prelude.{bit_xor, ◌==◌, ◌||◌, ◌&&◌}
 use Rattle.std.proofs.Common.{◌≡◌, ◌∙◌, ℕ, zero, suc, ◌<◌, ◌≤◌, arith, ◌+◌, ◌*◌, ◌/◌, ◌%◌, ◌^◌, true, Some, ap, sym, List, length, set, slice_index_or, inl, inr, ◌≢◌, ◌⊎◌, refl, Option, None, Bool, false, [], ◌∷◌, ◌++◌, slice_index}
 use Rattle.std.proofs.lemmas.Nat.{xor_shr}
 use Rattle.std.proofs.lemmas.Bool.{eqb-true, cases_eq, cond-true, cond-false, eq-eqb, ne_eqb, eqb-false, and_parts, both_ways}
-use Rattle.ga_slots.specs.Codes.{op_of}
+use Rattle.ga_slots.specs.Codes.{op_of_code}
 use Rattle.ga_slots.specs.Slots.{opcode, opcode_mask, address_field_size, target}
 use Rattle.ga_slots.specs.declared.op.Op.{Op}
 use Rattle.ga_slots.specs.declared.op.Op.TheVariants.{Return}
-use Rattle.ga_parser.specs.declared.item.Item.{Item}
+use Rattle.ga_parser.specs.declared.item.AssemblyItem.{AssemblyItem}
 use Rattle.ga_source.specs.inner.{op_in, nothing, IsCell, KeepsRest, Holds, Keeps, requests_of, IsPlainRequest, ArePlain}
-use Rattle.ga_source.specs.Reading.{slot_reaches, word_of_target, word_at_address, first_spot_of_cell, are_equal_numbers, is_request_met, spot_after_request, cells_match_requests}
+use Rattle.ga_source.specs.Reading.{slot_reaches_address, word_of_target, word_at_address, first_spot_of_cell, are_equal_numbers, is_request_met, spot_after_request, cells_match_requests}
 use Rattle.std.proofs.lemmas.List.{get_or-set_same, get_or-set_other, length-set}
-use Rattle.ga_ports.specs.declared.address.Target.TheVariants.{Ram as RamOf, Rom as RomOf, Ram as TargetRam, Rom as TargetRom, Io, Ports, Bad}
+use Rattle.ga_ports.specs.declared.address.AddressTarget.TheVariants.{Ram as RamOf, Rom as RomOf, Ram as TargetRam, Rom as TargetRom, Io, Ports, Bad}
 use Rattle.ga_ports.specs.Address.{address_target, advanced_address}
 use Rattle.ga_node.specs.Record.{NodeState}
-use Rattle.ga_node.specs.State.{with_value, HasMemory}
+use Rattle.ga_node.specs.State.{with_value, HasMemoryOfPlace}
 use Rattle.ga_node.specs.declared.place.Place.{Place}
 use Rattle.ga_node.specs.declared.place.Place.TheVariants.{Ram, Rom}
 use Rattle.ga_source.specs.Cells.{KeepsOtherCells, is_address_of_cell, request_uses_cell, requests_use_cell}
 use Rattle.ga_source.proofs.Laying.{None≢Some}
-use Rattle.ga_ports.specs.declared.address.Target.{Target}
+use Rattle.ga_ports.specs.declared.address.AddressTarget.{AddressTarget}
 use Rattle.ga_parser.specs.declared.item.Operand.TheVariants.{Number}
-use Rattle.ga_parser.specs.declared.item.Item.TheVariants.{Cell}
+use Rattle.ga_parser.specs.declared.item.AssemblyItem.TheVariants.{Cell}
 use Rattle.ga_parser.specs.declared.item.AssemblyRequest.{AssemblyRequest}
 use Rattle.ga_parser.specs.declared.item.AssemblyRequest.TheVariants.{Put, Go}
 use Rattle.ga_parser.specs.declared.item.LocatedRequest.{LocatedRequest}
-use Rattle.ga_source.specs.Made.{with_cell, with_requested_cell, address_after_request, with_requests}
+use Rattle.ga_source.specs.Made.{node_with_cell, with_requested_cell, address_after_request, node_with_requests}
 
 -- the bits above some bits determine those of the word without its mask above them
 above : (k v w : ℕ) → v / 2 ^ k ≡ w / 2 ^ k → bit_xor v opcode_mask / 2 ^ k ≡ bit_xor w opcode_mask / 2 ^ k
 above k v w e = xor_shr v opcode_mask k ∙ (ap (λ x. bit_xor x (opcode_mask / 2 ^ k)) e ∙ sym (xor_shr w opcode_mask k))
 
 pub same_first : (v w : ℕ) → v / 2 ^ 13 ≡ w / 2 ^ 13 → opcode v 0 ≡ opcode w 0
-same_first v w e = ap (λ x. op_of (x % 32)) (above 13 v w e)
+same_first v w e = ap (λ x. op_of_code (x % 32)) (above 13 v w e)
 
 pub same_second : (v w : ℕ) → v / 2 ^ 8 ≡ w / 2 ^ 8 → opcode v 1 ≡ opcode w 1
-same_second v w e = ap (λ x. op_of (x % 32)) (above 8 v w e)
+same_second v w e = ap (λ x. op_of_code (x % 32)) (above 8 v w e)
 
 pub same_third : (v w : ℕ) → v / 2 ^ 3 ≡ w / 2 ^ 3 → opcode v 2 ≡ opcode w 2
-same_third v w e = ap (λ x. op_of (x % 32)) (above 3 v w e)
+same_third v w e = ap (λ x. op_of_code (x % 32)) (above 3 v w e)
 
 -- a word with the field of an address leads where that is reached
-pub reached : (p word slot address : ℕ) → word % address_field_size slot ≡ address % address_field_size slot → slot_reaches p slot (Some address) ≡ true → target p word slot ≡ address
+pub reached : (p word slot address : ℕ) → word % address_field_size slot ≡ address % address_field_size slot → slot_reaches_address p slot (Some address) ≡ true → target p word slot ≡ address
 reached p word slot address e h = ap (λ x. p / address_field_size slot * address_field_size slot + x) e ∙ eqb-true (target p address slot) address h
 
 -- the opcodes up to a slot, one by one
@@ -52,7 +52,7 @@ each_kept v w slot few a b c (suc (suc zero)) h = c h
 each_kept v w slot few a b c (suc (suc (suc k))) h = absurd (omega arith)
 
 -- one more opcode in its place
-pub one_more : (ops : List Op) (items : List Item) (i : ℕ) (op : Op) → i < length ops → op ≡ op_in (slice_index_or items i nothing) → ((k : ℕ) → k < i → slice_index_or ops k Return ≡ op_in (slice_index_or items k nothing)) → (k : ℕ) → k < i + 1 → slice_index_or (set ops i op) k Return ≡ op_in (slice_index_or items k nothing)
+pub one_more : (ops : List Op) (items : List AssemblyItem) (i : ℕ) (op : Op) → i < length ops → op ≡ op_in (slice_index_or items i nothing) → ((k : ℕ) → k < i → slice_index_or ops k Return ≡ op_in (slice_index_or items k nothing)) → (k : ℕ) → k < i + 1 → slice_index_or (set ops i op) k Return ≡ op_in (slice_index_or items k nothing)
 one_more ops items i op l is before k h = elim (cases_eq k i) [
   | inl e ↦ (ap (λ j. slice_index_or (set ops i op) j Return) e ∙ get_or-set_same ops i op Return l) ∙ (is ∙ ap (λ j. op_in (slice_index_or items j nothing)) (sym e))
   | inr other ↦ get_or-set_other ops i k op Return other ∙ before k (omega arith)
@@ -74,7 +74,7 @@ in_rom address l h =
     ∙ cond-false (low / 2 ^ 7 == 0) _ _ (ne_eqb (low / 2 ^ 7) 0 (λ e. absurd (omega arith)))
 
 -- the cell that is written
-pub written_by : (node : NodeState) (place : Place) (address word : ℕ) → IsCell address place → HasMemory node place → word_at_address (with_value node place word) address ≡ Some word
+pub written_by : (node : NodeState) (place : Place) (address word : ℕ) → IsCell address place → HasMemoryOfPlace node place → word_at_address (with_value node place word) address ≡ Some word
 written_by node (Ram cell) address word c size =
     let l : address % 512 < 64 = omega arith in
     ap (word_of_target (with_value node (Ram cell) word)) (in_ram address l)
@@ -152,12 +152,12 @@ one_plain_more (first ∷ requests) request plain one = (plain.0, one_plain_more
 
 -- ---- a cell that is written
 
-abbrev cell_or : Target → ℕ → ℕ
+abbrev cell_or : AddressTarget → ℕ → ℕ
 cell_or (TargetRam k) n = k
 cell_or (TargetRom k) n = k
 cell_or _ n = n
 
-abbrev is_ram : Target → Bool
+abbrev is_ram : AddressTarget → Bool
 is_ram (TargetRam k) = true
 is_ram _ = false
 
@@ -166,7 +166,7 @@ same_number : (n m : ℕ) → are_equal_numbers (Some n) (Some m) ≡ true → m
 same_number n m is = sym (eqb-true n m is)
 
 module _ (before after : NodeState) (at n k : ℕ) (small : k < 64) where
-  pub ram_written : (t : Target) → address_target at ≡ t → are_equal_numbers (Some n) (word_of_target after t) ≡ true → length before.ram ≡ 64 → (is_address_of_cell at k ≡ false → slice_index after.ram k ≡ slice_index before.ram k) → slice_index after.ram k ≡ slice_index (with_cell before t n).ram k
+  pub ram_written : (t : AddressTarget) → address_target at ≡ t → are_equal_numbers (Some n) (word_of_target after t) ≡ true → length before.ram ≡ 64 → (is_address_of_cell at k ≡ false → slice_index after.ram k ≡ slice_index before.ram k) → slice_index after.ram k ≡ slice_index (node_with_cell before t n).ram k
   ram_written (TargetRam j) is here size stays = elim (cases_eq k j) [
     | inl e ↦
         let there : slice_index after.ram j ≡ n = same_number n (slice_index after.ram j) here in
@@ -174,7 +174,7 @@ module _ (before after : NodeState) (at n k : ℕ) (small : k < 64) where
     | inr other ↦
         stays (ne_eqb (at % 512) k (λ e.
         let low : at % 512 < 64 = omega arith in
-        other (sym (ap (λ (t : Target). cell_or t 0) (sym is ∙ in_ram at low) ∙ e))))
+        other (sym (ap (λ (t : AddressTarget). cell_or t 0) (sym is ∙ in_ram at low) ∙ e))))
         ∙ sym (get_or-set_other before.ram j k n 0 other)
   ]
   ram_written (TargetRom j) is here size stays =
@@ -185,7 +185,7 @@ module _ (before after : NodeState) (at n k : ℕ) (small : k < 64) where
   ram_written (Ports s) is here size stays = absurd (both_ways false refl here)
   ram_written Bad is here size stays = absurd (both_ways false refl here)
 
-  pub rom_written : (t : Target) → address_target at ≡ t → are_equal_numbers (Some n) (word_of_target after t) ≡ true → length before.rom ≡ 64 → (is_address_of_cell at (128 + k) ≡ false → slice_index after.rom k ≡ slice_index before.rom k) → slice_index after.rom k ≡ slice_index (with_cell before t n).rom k
+  pub rom_written : (t : AddressTarget) → address_target at ≡ t → are_equal_numbers (Some n) (word_of_target after t) ≡ true → length before.rom ≡ 64 → (is_address_of_cell at (128 + k) ≡ false → slice_index after.rom k ≡ slice_index before.rom k) → slice_index after.rom k ≡ slice_index (node_with_cell before t n).rom k
   rom_written (TargetRom j) is here size stays = elim (cases_eq k j) [
     | inl e ↦
         let there : slice_index after.rom j ≡ n = same_number n (slice_index after.rom j) here in
@@ -195,7 +195,7 @@ module _ (before after : NodeState) (at n k : ℕ) (small : k < 64) where
         let low : 128 ≤ at % 512 = omega arith in
         let high : at % 512 < 192 = omega arith in
         let cell : at % 512 % 64 ≡ k = omega arith in
-        other (sym (ap (λ (t : Target). cell_or t 0) (sym is ∙ in_rom at low high) ∙ cell))))
+        other (sym (ap (λ (t : AddressTarget). cell_or t 0) (sym is ∙ in_rom at low high) ∙ cell))))
         ∙ sym (get_or-set_other before.rom j k n 0 other)
   ]
   rom_written (TargetRam j) is here size stays =
@@ -212,14 +212,14 @@ or_none false y left right = right
 or_none true y left right = left
 
 -- the memories keep their sizes
-pub with_cell_ram : (node : NodeState) (t : Target) (n : ℕ) → length (with_cell node t n).ram ≡ length node.ram
+pub with_cell_ram : (node : NodeState) (t : AddressTarget) (n : ℕ) → length (node_with_cell node t n).ram ≡ length node.ram
 with_cell_ram node (TargetRam k) n = length-set node.ram k n
 with_cell_ram node (TargetRom k) n = refl
 with_cell_ram node Io n = refl
 with_cell_ram node (Ports s) n = refl
 with_cell_ram node Bad n = refl
 
-pub with_cell_rom : (node : NodeState) (t : Target) (n : ℕ) → length (with_cell node t n).rom ≡ length node.rom
+pub with_cell_rom : (node : NodeState) (t : AddressTarget) (n : ℕ) → length (node_with_cell node t n).rom ≡ length node.rom
 with_cell_rom node (TargetRam k) n = refl
 with_cell_rom node (TargetRom k) n = length-set node.rom k n
 with_cell_rom node Io n = refl
@@ -243,24 +243,24 @@ pub record Stays (is_named : ℕ → Bool) (before after : NodeState) : Type 0 w
 module _ (labels : List (Option ℕ)) (after : NodeState) where
   -- requests that were read make the node from any before it
   abbrev pub Makes : List LocatedRequest → Type 0
-  Makes asked = (before : NodeState) (at : ℕ) → cells_match_requests after labels (first_spot_of_cell at) asked ≡ true → Stays (requests_use_cell labels (first_spot_of_cell at) asked) before after → AreCells (with_requests before at (requests_of asked)) after
+  Makes asked = (before : NodeState) (at : ℕ) → cells_match_requests after labels (first_spot_of_cell at) asked ≡ true → Stays (requests_use_cell labels (first_spot_of_cell at) asked) before after → AreCells (node_with_requests before at (requests_of asked)) after
 
-  cell_made : (n at : ℕ) (rest : List LocatedRequest) → (are_equal_numbers (Some n) (word_of_target after (address_target at)) && cells_match_requests after labels (first_spot_of_cell (advanced_address at)) rest) ≡ true → (before : NodeState) → Stays (λ k. is_address_of_cell at k || requests_use_cell labels (first_spot_of_cell (advanced_address at)) rest k) before after → Makes rest → AreCells (with_requests (with_cell before (address_target at) n) (advanced_address at) (requests_of rest)) after
+  cell_made : (n at : ℕ) (rest : List LocatedRequest) → (are_equal_numbers (Some n) (word_of_target after (address_target at)) && cells_match_requests after labels (first_spot_of_cell (advanced_address at)) rest) ≡ true → (before : NodeState) → Stays (λ k. is_address_of_cell at k || requests_use_cell labels (first_spot_of_cell (advanced_address at)) rest k) before after → Makes rest → AreCells (node_with_requests (node_with_cell before (address_target at) n) (advanced_address at) (requests_of rest)) after
   cell_made n at rest read before stays makes =
       let parts = and_parts (are_equal_numbers (Some n) (word_of_target after (address_target at))) (cells_match_requests after labels (first_spot_of_cell (advanced_address at)) rest) read in
-      makes (with_cell before (address_target at) n) (advanced_address at) parts.1 (record {
+      makes (node_with_cell before (address_target at) n) (advanced_address at) parts.1 (record {
         ram_size = with_cell_ram before (address_target at) n ∙ stays.ram_size;
         rom_size = with_cell_rom before (address_target at) n ∙ stays.rom_size;
         ram = λ k small none. ram_written before after at n k small (address_target at) refl parts.0 stays.ram_size (λ other. stays.ram k small (or_none (is_address_of_cell at k) (requests_use_cell labels (first_spot_of_cell (advanced_address at)) rest k) other none));
         rom = λ k small none. rom_written before after at n k small (address_target at) refl parts.0 stays.rom_size (λ other. stays.rom k small (or_none (is_address_of_cell at (128 + k)) (requests_use_cell labels (first_spot_of_cell (advanced_address at)) rest (128 + k)) other none));
       })
 
-  request_made : (request : AssemblyRequest) (rest : List LocatedRequest) (at : ℕ) → IsPlainRequest request → (is_request_met after labels (first_spot_of_cell at) request && cells_match_requests after labels (spot_after_request labels (first_spot_of_cell at) request) rest) ≡ true → (before : NodeState) → Stays (λ k. request_uses_cell labels (first_spot_of_cell at) request k || requests_use_cell labels (spot_after_request labels (first_spot_of_cell at) request) rest k) before after → Makes rest → AreCells (with_requests (with_requested_cell before at request) (address_after_request at request) (requests_of rest)) after
+  request_made : (request : AssemblyRequest) (rest : List LocatedRequest) (at : ℕ) → IsPlainRequest request → (is_request_met after labels (first_spot_of_cell at) request && cells_match_requests after labels (spot_after_request labels (first_spot_of_cell at) request) rest) ≡ true → (before : NodeState) → Stays (λ k. request_uses_cell labels (first_spot_of_cell at) request k || requests_use_cell labels (spot_after_request labels (first_spot_of_cell at) request) rest k) before after → Makes rest → AreCells (node_with_requests (with_requested_cell before at request) (address_after_request at request) (requests_of rest)) after
   request_made (Put (Cell (Number n))) rest at plain read before stays makes = cell_made n at rest read before stays makes
   request_made (Go address) rest at plain read before stays makes = makes before address read stays
   request_made _ rest at plain read before stays makes = absurd plain
 
   pub requests_made : (asked : List LocatedRequest) → ArePlain (requests_of asked) → Makes asked
-  unfolding ArePlain cells_match_requests requests_use_cell with_requests
+  unfolding ArePlain cells_match_requests requests_use_cell node_with_requests
   requests_made [] plain before at read stays = record { ram = λ k small. stays.ram k small refl; rom = λ k small. stays.rom k small refl }
   requests_made (one ∷ rest) plain before at read stays = request_made one.request rest at plain.0 read before stays (requests_made rest plain.1)

@@ -6,8 +6,8 @@ use Rattle.std.proofs.lemmas.Bool.{or_right, and_from, true≢false, cases_eq, e
 use Rattle.std.proofs.lemmas.List.Elements.{All-nil}
 use Rattle.ga_node.specs.Record.{NodeState}
 use Rattle.ga_slots.specs.declared.op.Op.TheVariants.{Unext as UnextOp}
-use Rattle.ga_parser.specs.declared.item.Item.{Item}
-use Rattle.ga_parser.specs.declared.item.Item.TheVariants.{Opcode}
+use Rattle.ga_parser.specs.declared.item.AssemblyItem.{AssemblyItem}
+use Rattle.ga_parser.specs.declared.item.AssemblyItem.TheVariants.{Opcode}
 use Rattle.ga_parser.specs.declared.item.LocatedRequest.{LocatedRequest}
 use Rattle.ga_source.specs.declared.group.CellGroup.{CellGroup}
 use Rattle.ga_parser.specs.declared.item.AssemblyRequest.{AssemblyRequest}
@@ -16,7 +16,7 @@ use Rattle.ga_parser.specs.declared.item.Operand.TheVariants.{Label as LabelOf}
 use Rattle.ga_source.specs.declared.packing.PackedNode.{PackedNode}
 use Rattle.ga_source.specs.declared.packing.Packer.{Packer}
 use Rattle.ga_source.specs.declared.group.PackingSpot.{PackingSpot}
-use Rattle.ga_source.specs.Reading.{first_spot_of_cell, next_cell_spot, spot_after_item, operand_value, are_equal_numbers, is_item_at_spot, is_filled_with_nops, item_fits, is_request_met, spot_after_request}
+use Rattle.ga_source.specs.Reading.{first_spot_of_cell, next_cell_spot, spot_after_item, operand_value, are_equal_numbers, is_item_at_spot, is_filled_with_nops, item_fits_at_spot, is_request_met, spot_after_request}
 use Rattle.ga_source.specs.Cells.{item_uses_cell}
 use Rattle.ga_source.specs.inner.{behind_all, Stand, taken, IsFit, IsRead, IsFitGroup, are_taken, after_all, AreMet, Extends, IsInCell, IsWalked, IsPending, IsClosed, IsFilling, IsLaidOut}
 use Rattle.ga_source.proofs.Laying.{empty_fits, requests_use_cell-before, cells_match_requests-met, None≢Some}
@@ -25,7 +25,7 @@ use Rattle.ga_source.proofs.Walking.{named_more, met_more, walk_more, begun, non
 -- ---- `unext`
 
 -- it has room in every slot
-unext_fits : (labels : List (Option ℕ)) (spot : PackingSpot) → item_fits labels spot (Opcode UnextOp) ≡ true
+unext_fits : (labels : List (Option ℕ)) (spot : PackingSpot) → item_fits_at_spot labels spot (Opcode UnextOp) ≡ true
 unext_fits labels spot = or_right (nat_lt spot.slot 3) true refl
 
 known_label : (labels : List (Option ℕ)) (label address : ℕ) → slice_index_or labels label None ≡ Some address → are_equal_numbers (operand_value labels (LabelOf label)) (Some address) ≡ true
@@ -49,7 +49,7 @@ pending_unext p q before line label whole_by filling spot_is groups labels_are w
       named = λ labels cell e h. elim h [
         | inl a ↦ requests_use_cell-before labels (first_spot_of_cell 0) before one cell (w.named labels cell (more labels e) (inl (subst (λ (g : List CellGroup). are_taken g cell ≡ true) groups a)))
         | inr b ↦ elim b [
-          | inl d ↦ requests_use_cell-before labels (first_spot_of_cell 0) before one cell (w.named labels cell (more labels e) (inr (subst (λ (l : List Item). taken (first_spot_of_cell p.spot.at) l cell ≡ true) filling (subst (λ (a : ℕ). taken (first_spot_of_cell a) q.filling.items cell ≡ true) at d))))
+          | inl d ↦ requests_use_cell-before labels (first_spot_of_cell 0) before one cell (w.named labels cell (more labels e) (inr (subst (λ (l : List AssemblyItem). taken (first_spot_of_cell p.spot.at) l cell ≡ true) filling (subst (λ (a : ℕ). taken (first_spot_of_cell a) q.filling.items cell ≡ true) at d))))
           | inr d ↦ named_more labels p.spot before one cell (w.walk labels (more labels e)) (subst (λ (t : PackingSpot). item_uses_cell t (Opcode UnextOp) cell ≡ true) spot_is d)
         ]
       ];

@@ -1,35 +1,35 @@
 -- The nodes that plain words make, from the programs of a source.
 use Rattle.std.proofs.Common.{ℕ, List, subst, sym, ◌≡◌, ◌≢◌, ◌∙◌, ◌<◌, inl, inr, refl, ap, Bool, true, false, ltb, [], ◌∷◌, Option, Some, None, length, drop, slice_index, slice_index_or, arith}
-use Rattle.ga_node.specs.Record.{NodeState, fresh_node, record_of, HasSizes, IsConsistentWait, HasConsistentWait}
+use Rattle.ga_node.specs.Record.{NodeState, fresh_node, record_of, HasListSizes, IsConsistentWait, HasConsistentWait}
 use Rattle.ga_grid.specs.Chip.{node_at, records_of, HaveConsistentWaits}
 use Rattle.ga_grid.specs.Grid.{default_chip, load_p_of}
 use Rattle.ga_grid.proofs.Chips.{record_at-records_of, node_at-default_chip}
 use Rattle.ga_source.specs.declared.program.Program.{Program}
-use Rattle.ga_source.specs.Programs.{KeepsOtherState, IsAssembledChip, given_register_value, value_or, is_item_request, has_cells, start_or_default, at_load, HasProgram, IsProgramLoaded, IsUnprogrammedNode, IsPlainProgramOf, ArePlainProgramsOf, ArePlainProgramsOfSource, body_token_lists, AreProgramsOfBodies, AreProgramsOfSource}
+use Rattle.ga_source.specs.Programs.{KeepsOtherState, IsAssembledChip, given_register_value, value_or_previous, is_item_request, has_cells, start_or_default, values_at_load, HasProgram, IsProgramLoaded, IsUnprogrammedNode, IsPlainProgramOf, ArePlainProgramsOf, ArePlainProgramsOfSource, body_token_lists, AreProgramsOfBodies, AreProgramsOfSource}
 use Rattle.std.specs.Prelude.{is_none, ◌||◌, codes, bytes_eq, if◌then◌else◌, Result, Ok, Err, IfOk, IfErr}
 use Rattle.std.specs.List.{All, list_any, list_all}
 use Rattle.std.proofs.lemmas.Bool.{cases_Bool, and_parts, ltb-true}
 use Rattle.std.proofs.lemmas.List.{length-replicate, ext_get_or}
 use Rattle.std.proofs.lemmas.List.Elements.{All-nil, All-cons, All-head, All-tail}
-use Rattle.ga_ports.specs.declared.address.Target.{Target}
-use Rattle.ga_ports.specs.declared.address.Target.TheVariants.{Ram, Rom, Io, Ports, Bad}
+use Rattle.ga_ports.specs.declared.address.AddressTarget.{AddressTarget}
+use Rattle.ga_ports.specs.declared.address.AddressTarget.TheVariants.{Ram, Rom, Io, Ports, Bad}
 use Rattle.ga_ports.specs.Address.{address_target}
 use Rattle.ga_parser.specs.declared.item.Operand.{Operand}
 use Rattle.ga_parser.specs.declared.item.Operand.TheVariants.{Number, Label}
 use Rattle.ga_parser.specs.declared.item.RegisterValue.{RegisterValue}
-use Rattle.ga_parser.specs.declared.item.Item.TheVariants.{Cell}
+use Rattle.ga_parser.specs.declared.item.AssemblyItem.TheVariants.{Cell}
 use Rattle.ga_parser.specs.declared.item.AssemblyRequest.{AssemblyRequest}
 use Rattle.ga_parser.specs.declared.item.AssemblyRequest.TheVariants.{Put, Go}
 use Rattle.ga_parser.specs.declared.item.InitialRegisters.{InitialRegisters}
 use Rattle.ga_parser.specs.declared.item.LocatedRequest.{LocatedRequest}
 use Rattle.ga_parser.specs.declared.labels.Label.{Label as Name}
 use Rattle.ga_ports.specs.Steps.{◌>>=◌}
-use Rattle.ga_parser.specs.Vocabulary.{number_of_word}
+use Rattle.ga_parser.specs.Vocabulary.{number_spelled_by_word}
 use Rattle.ga_source.specs.Cells.{requests_use_cell, AreUnusedCellsZero}
 use Rattle.ga_source.specs.Reading.{first_spot_of_cell, operand_value}
-use Rattle.ga_parser.specs.Plain.{Plain, no_request, if_number, value_if, is_cell_address, may_set_register, with_two_words, plain_requests_from, plain_requests_of, value_in, as_plain_requests, body_word_lists, named_node_number, token_texts}
+use Rattle.ga_parser.specs.Plain.{Plain, no_plain_requests, and_then_number, some_value_if, is_cell_address, may_set_register, with_plain_word_pair, plain_requests_from, plain_requests_of, optional_register_operand, as_plain_requests, body_word_lists, named_node_number, token_texts}
 use Rattle.ga_parser.specs.Words.{source_word_texts, source_tokens_until_fault, source_tokens}
-use Rattle.ga_source.specs.Made.{with_cell, with_requested_cell, address_after_request, with_requests, number_or, node_with_plain_requests, IsSameNode, HasPlainNode, IsChipOfSource, IsSoundSource, AreWordsOfSource}
+use Rattle.ga_source.specs.Made.{node_with_cell, with_requested_cell, address_after_request, node_with_requests, number_or_previous, node_with_plain_requests, IsSameNode, HasPlainNode, IsChipOfSource, IsSoundSource, AreWordsOfSource}
 use Rattle.ga_source.specs.inner.{requests_of, ArePlain, IsNumber, AreNumbers, KeepsRest}
 use Rattle.ga_source.proofs.Loaded.{of_each_at_load, assembled_empty}
 use Rattle.ga_parser.proofs.Hearing.{some_same, no_some, allowed, number_asks}
@@ -68,18 +68,18 @@ pub record IsPlain (plain : Plain) : Type 0 where
   pub b : IsNumber 0x200 plain.b
 
 -- what a number asks for is plain where it is for each number
-number_plain : (word : List ℕ) (asks : ℕ → Option Plain) (more : Plain) → ((n : ℕ) → n < 262144 → asks n ≡ Some more → IsPlain more) → if_number (number_of_word word) asks ≡ Some more → IsPlain more
+number_plain : (word : List ℕ) (asks : ℕ → Option Plain) (more : Plain) → ((n : ℕ) → n < 262144 → asks n ≡ Some more → IsPlain more) → and_then_number (number_spelled_by_word word) asks ≡ Some more → IsPlain more
 number_plain word asks more each is = number_asks word asks more (IsPlain more) each is
 
 -- what a test allows
-only_plain : (b : Bool) (plain more : Plain) → (b ≡ true → IsPlain plain) → value_if b plain ≡ Some more → IsPlain more
+only_plain : (b : Bool) (plain more : Plain) → (b ≡ true → IsPlain plain) → some_value_if b plain ≡ Some more → IsPlain more
 only_plain b plain more each is = let found = allowed b plain more is in subst IsPlain found.1 (each found.0)
 
 -- a register's test
 below : (given : Option Operand) (n bound : ℕ) → may_set_register given n bound ≡ true → n < bound
 below given n bound may = ltb-true n bound ((and_parts (is_none given) (ltb n bound) may).1)
 
-words_plain : (plain more : Plain) (first second : List ℕ) → IsPlain plain → with_two_words plain first second ≡ Some more → IsPlain more
+words_plain : (plain more : Plain) (first second : List ℕ) → IsPlain plain → with_plain_word_pair plain first second ≡ Some more → IsPlain more
 words_plain plain more first second is found = elim (cases_Bool (bytes_eq second (codes ","))) [
   | inl comma ↦ number_plain first _ more (λ n small e. subst IsPlain (some_same _ more e)
       (record { requests = one_plain_more plain.requests (Put (Cell (Number n))) is.requests small; p = is.p; a = is.a; b = is.b })) (rw comma at found)
@@ -112,15 +112,15 @@ unfolding plain_requests_from
 from_plain [] plain all is found = subst IsPlain (some_same plain all found) is
 from_plain (word ∷ []) plain all is found = absurd (no_some found)
 from_plain (first ∷ second ∷ words) plain all is found =
-    behind_plain words all (with_two_words plain first second) (λ m e. words_plain plain m first second is e) (λ m p e. from_plain words m all p e) found
+    behind_plain words all (with_plain_word_pair plain first second) (λ m e. words_plain plain m first second is e) (λ m p e. from_plain words m all p e) found
 
 pub all_plain : (words : List (List ℕ)) (plain : Plain) → plain_requests_of words ≡ Some plain → IsPlain plain
 unfolding ArePlain
-all_plain words plain is = from_plain words no_request plain (record { requests = tt; p = tt; a = tt; b = tt }) is
+all_plain words plain is = from_plain words no_plain_requests plain (record { requests = tt; p = tt; a = tt; b = tt }) is
 
 -- ---- nothing but the memories is written
 
-cell_keeps : (node : NodeState) (t : Target) (n : ℕ) → KeepsRest node (with_cell node t n)
+cell_keeps : (node : NodeState) (t : AddressTarget) (n : ℕ) → KeepsRest node (node_with_cell node t n)
 cell_keeps node (Ram k) n = refl
 cell_keeps node (Rom k) n = refl
 cell_keeps node Io n = refl
@@ -134,11 +134,11 @@ asked_keeps node at _ = refl
 keeps_twice : (before now after : NodeState) → KeepsRest before now → KeepsRest now after → KeepsRest before after
 keeps_twice before now after first second = second ∙ ap (λ (node : NodeState). record node { ram = after.ram; rom = after.rom }) first
 
-written_keeps : (node : NodeState) (at : ℕ) (requests : List AssemblyRequest) → KeepsRest node (with_requests node at requests)
-unfolding with_requests
+written_keeps : (node : NodeState) (at : ℕ) (requests : List AssemblyRequest) → KeepsRest node (node_with_requests node at requests)
+unfolding node_with_requests
 written_keeps node at [] = refl
 written_keeps node at (request ∷ requests) =
-    keeps_twice node (with_requested_cell node at request) (with_requests (with_requested_cell node at request) (address_after_request at request) requests)
+    keeps_twice node (with_requested_cell node at request) (node_with_requests (with_requested_cell node at request) (address_after_request at request) requests)
     (asked_keeps node at request) (written_keeps (with_requested_cell node at request) (address_after_request at request) requests)
 
 -- ---- registers
@@ -147,21 +147,21 @@ has_same : (asked : List LocatedRequest) → has_cells asked ≡ list_any is_ite
 has_same [] = refl
 has_same (one ∷ rest) = ap (λ (b : Bool). is_item_request one.request || b) (has_same rest)
 
-value_same : (labels : List (Option ℕ)) (value : Operand) (bound before : ℕ) → IsNumber bound (Some value) → value_or (operand_value labels value) before ≡ number_or (Some value) before
+value_same : (labels : List (Option ℕ)) (value : Operand) (bound before : ℕ) → IsNumber bound (Some value) → value_or_previous (operand_value labels value) before ≡ number_or_previous (Some value) before
 value_same labels (Number n) bound before is = refl
 value_same labels (Label k) bound before is = absurd is
 
-register_same : (labels : List (Option ℕ)) (given : Option RegisterValue) (bound before : ℕ) → IsNumber bound (value_in given) → value_or (given_register_value labels given) before ≡ number_or (value_in given) before
+register_same : (labels : List (Option ℕ)) (given : Option RegisterValue) (bound before : ℕ) → IsNumber bound (optional_register_operand given) → value_or_previous (given_register_value labels given) before ≡ number_or_previous (optional_register_operand given) before
 register_same labels None bound before is = refl
 register_same labels (Some given) bound before is = value_same labels given.value bound before is
 
 -- given values go on top of those that were there
-above_all : (value : Operand) (bound before other : ℕ) → IsNumber bound (Some value) → number_or (Some value) before ≡ number_or (Some value) other
+above_all : (value : Operand) (bound before other : ℕ) → IsNumber bound (Some value) → number_or_previous (Some value) before ≡ number_or_previous (Some value) other
 above_all (Number n) bound before other is = refl
 above_all (Label k) bound before other is = absurd is
 
 -- P where no label has a name
-p_same : (labels : List (Option ℕ)) (given : Option RegisterValue) (has : Bool) (before : ℕ) → IsNumber 0x400 (value_in given) → value_or (given_register_value labels (start_or_default given [] has)) before ≡ number_or (value_in given) (if has then 0 else before)
+p_same : (labels : List (Option ℕ)) (given : Option RegisterValue) (has : Bool) (before : ℕ) → IsNumber 0x400 (optional_register_operand given) → value_or_previous (given_register_value labels (start_or_default given [] has)) before ≡ number_or_previous (optional_register_operand given) (if has then 0 else before)
 p_same labels None true before is = refl
 p_same labels None false before is = refl
 p_same labels (Some given) true before is = value_same labels given.value 0x400 before is ∙ above_all given.value 0x400 before 0 is
@@ -183,16 +183,16 @@ rest_made before after program none is has =
     let asked = program.asked.items in
     let given = program.registers in
     let requests = requests_of asked in
-    let p = number_or (value_in given.p) (if list_any is_item_request requests then 0 else before.p) in
-    let a = number_or (value_in given.a) before.a in
-    let b = number_or (value_in given.b) before.b in
-    let p_is : value_or (given_register_value labels (start_or_default given.p program.names.items (has_cells asked))) before.p ≡ p =
-    ap (λ (names : List Name). value_or (given_register_value labels (start_or_default given.p names (has_cells asked))) before.p) none
-    ∙ (ap (λ (some : Bool). value_or (given_register_value labels (start_or_default given.p [] some)) before.p) (has_same asked)
+    let p = number_or_previous (optional_register_operand given.p) (if list_any is_item_request requests then 0 else before.p) in
+    let a = number_or_previous (optional_register_operand given.a) before.a in
+    let b = number_or_previous (optional_register_operand given.b) before.b in
+    let p_is : value_or_previous (given_register_value labels (start_or_default given.p program.names.items (has_cells asked))) before.p ≡ p =
+    ap (λ (names : List Name). value_or_previous (given_register_value labels (start_or_default given.p names (has_cells asked))) before.p) none
+    ∙ (ap (λ (some : Bool). value_or_previous (given_register_value labels (start_or_default given.p [] some)) before.p) (has_same asked)
     ∙ p_same labels given.p (list_any is_item_request requests) before.p is.p) in
     has.rest
-    ∙ (ap (λ (n : ℕ). record before { ram = after.ram; rom = after.rom; p = n; a = value_or (given_register_value labels given.a) before.a; b = value_or (given_register_value labels given.b) before.b }) p_is
-    ∙ (ap (λ (n : ℕ). record before { ram = after.ram; rom = after.rom; p = p; a = n; b = value_or (given_register_value labels given.b) before.b }) (register_same labels given.a 0x40000 before.a is.a)
+    ∙ (ap (λ (n : ℕ). record before { ram = after.ram; rom = after.rom; p = n; a = value_or_previous (given_register_value labels given.a) before.a; b = value_or_previous (given_register_value labels given.b) before.b }) p_is
+    ∙ (ap (λ (n : ℕ). record before { ram = after.ram; rom = after.rom; p = p; a = n; b = value_or_previous (given_register_value labels given.b) before.b }) (register_same labels given.a 0x40000 before.a is.a)
     ∙ (ap (λ (n : ℕ). record before { ram = after.ram; rom = after.rom; p = p; a = a; b = n }) (register_same labels given.b 0x200 before.b is.b)
     ∙ sym (ap (λ (node : NodeState). record node { ram = after.ram; rom = after.rom; p = p; a = a; b = b }) (written_keeps before 0 requests)))))
 
@@ -258,17 +258,17 @@ source_made source chip programs read assembled = record {
 pub plain_requests : (words : List (List ℕ)) (plain : Plain) (asked : List LocatedRequest) (registers : InitialRegisters) → plain_requests_of words ≡ Some plain → as_plain_requests asked registers ≡ plain → ArePlain (requests_of asked)
 plain_requests words plain asked registers is same = subst ArePlain (sym (ap (λ (p : Plain). p.requests) same)) (all_plain words plain is).requests
 
-start_number : (given : Option RegisterValue) (has : Bool) → IsNumber 0x400 (value_in given) → IsNumber 0x400 (value_in (start_or_default given [] has))
+start_number : (given : Option RegisterValue) (has : Bool) → IsNumber 0x400 (optional_register_operand given) → IsNumber 0x400 (optional_register_operand (start_or_default given [] has))
 start_number None true is = omega arith
 start_number None false is = tt
 start_number (Some given) true is = is
 start_number (Some given) false is = is
 
-pub plain_registers : (words : List (List ℕ)) (plain : Plain) (asked : List LocatedRequest) (registers : InitialRegisters) (names : List Name) (has : Bool) → plain_requests_of words ≡ Some plain → as_plain_requests asked registers ≡ plain → names ≡ [] → AreNumbers (value_in (at_load registers names has).p) (value_in (at_load registers names has).a) (value_in (at_load registers names has).b)
+pub plain_registers : (words : List (List ℕ)) (plain : Plain) (asked : List LocatedRequest) (registers : InitialRegisters) (names : List Name) (has : Bool) → plain_requests_of words ≡ Some plain → as_plain_requests asked registers ≡ plain → names ≡ [] → AreNumbers (optional_register_operand (values_at_load registers names has).p) (optional_register_operand (values_at_load registers names has).a) (optional_register_operand (values_at_load registers names has).b)
 plain_registers words plain asked registers names has is same none =
     let found = subst IsPlain (sym same) (all_plain words plain is) in
     record {
-      p_below = subst (λ (list : List Name). IsNumber 0x400 (value_in (start_or_default registers.p list has))) (sym none) (start_number registers.p has found.p);
+      p_below = subst (λ (list : List Name). IsNumber 0x400 (optional_register_operand (start_or_default registers.p list has))) (sym none) (start_number registers.p has found.p);
       a_below = found.a;
       b_below = found.b;
     }
@@ -283,13 +283,13 @@ written_rom : (node : NodeState) (at : ℕ) (request : AssemblyRequest) → leng
 written_rom node at (Put (Cell (Number n))) = with_cell_rom node (address_target at) n
 written_rom node at _ = refl
 
-ram_size : (node : NodeState) (at : ℕ) (requests : List AssemblyRequest) → length (with_requests node at requests).ram ≡ length node.ram
-unfolding with_requests
+ram_size : (node : NodeState) (at : ℕ) (requests : List AssemblyRequest) → length (node_with_requests node at requests).ram ≡ length node.ram
+unfolding node_with_requests
 ram_size node at [] = refl
 ram_size node at (request ∷ requests) = ram_size (with_requested_cell node at request) (address_after_request at request) requests ∙ written_ram node at request
 
-rom_size : (node : NodeState) (at : ℕ) (requests : List AssemblyRequest) → length (with_requests node at requests).rom ≡ length node.rom
-unfolding with_requests
+rom_size : (node : NodeState) (at : ℕ) (requests : List AssemblyRequest) → length (node_with_requests node at requests).rom ≡ length node.rom
+unfolding node_with_requests
 rom_size node at [] = refl
 rom_size node at (request ∷ requests) = rom_size (with_requested_cell node at request) (address_after_request at request) requests ∙ written_rom node at request
 
@@ -297,24 +297,24 @@ rom_size node at (request ∷ requests) = rom_size (with_requested_cell node at 
 same_memory : (memory other : List ℕ) → length memory ≡ 64 → length other ≡ 64 → ((k : ℕ) → k < 64 → slice_index memory k ≡ slice_index other k) → memory ≡ other
 same_memory memory other size other_size each = ext_get_or 0 memory other (size ∙ sym other_size) (λ k within. each k (omega (arith, size)))
 
-sizes_ram : (node : NodeState) → HasSizes (record_of node) → length node.ram ≡ 64
+sizes_ram : (node : NodeState) → HasListSizes (record_of node) → length node.ram ≡ 64
 unfolding record_of
 sizes_ram node sizes = sizes.ram
 
-sizes_rom : (node : NodeState) → HasSizes (record_of node) → length node.rom ≡ 64
+sizes_rom : (node : NodeState) → HasListSizes (record_of node) → length node.rom ≡ 64
 unfolding record_of
 sizes_rom node sizes = sizes.rom
 
-pub whole_node : (chip : List NodeState) (words : List (List ℕ)) (n : ℕ) (plain : Plain) → HasPlainNode chip words → named_node_number (slice_index_or words 0 []) ≡ Some n → plain_requests_of (drop 1 words) ≡ Some plain → HasSizes (record_of (node_at chip n)) → node_at chip n ≡ node_with_plain_requests (node_at default_chip n) plain
+pub whole_node : (chip : List NodeState) (words : List (List ℕ)) (n : ℕ) (plain : Plain) → HasPlainNode chip words → named_node_number (slice_index_or words 0 []) ≡ Some n → plain_requests_of (drop 1 words) ≡ Some plain → HasListSizes (record_of (node_at chip n)) → node_at chip n ≡ node_with_plain_requests (node_at default_chip n) plain
 whole_node chip words n plain has name is sizes =
     let node = node_at chip n in
     let load = node_at default_chip n in
     let made = node_with_plain_requests load plain in
     let found = has n plain name is in
     let ram : node.ram ≡ made.ram = same_memory node.ram made.ram (sizes_ram node sizes)
-    (ram_size load 0 plain.requests ∙ of_each_at_load (λ (at_load : NodeState). length at_load.ram ≡ 64) fresh_ram_size n) found.ram in
+    (ram_size load 0 plain.requests ∙ of_each_at_load (λ (values_at_load : NodeState). length values_at_load.ram ≡ 64) fresh_ram_size n) found.ram in
     let rom : node.rom ≡ made.rom = same_memory node.rom made.rom (sizes_rom node sizes)
-    (rom_size load 0 plain.requests ∙ of_each_at_load (λ (at_load : NodeState). length at_load.rom ≡ 64) fresh_rom_size n) found.rom in
+    (rom_size load 0 plain.requests ∙ of_each_at_load (λ (values_at_load : NodeState). length values_at_load.rom ≡ 64) fresh_rom_size n) found.rom in
     found.rest ∙ (ap (λ (list : List ℕ). record made { ram = list; rom = node.rom }) ram ∙ ap (λ (list : List ℕ). record made { ram = made.ram; rom = list }) rom)
 
 -- ---- what is assembled of a source is what is assembled of its words

@@ -14,7 +14,7 @@ use Rattle.ga_parser.specs.Plain.{Plain, is_node_keyword, body_words, body_word_
 use Rattle.std.specs.Prelude.{◌&&◌, if◌then◌else◌}
 use Rattle.ga_parser.proofs.PlainAsked.{map_map}
 use Rattle.ga_source.specs.Made.{requested_cells, AreDistinctCells, IsSoundBody, IsSoundSource, AreWordsOfSource}
-use Rattle.ga_source.specs.Recovery.{with_numbers}
+use Rattle.ga_source.specs.Recovery.{tokens_with_numbers}
 use Rattle.ga_parser.specs.inner.Drafting.{texts_of}
 use Rattle.ga_source.specs.inner.{AreSound, IsSoundFrom}
 use Rattle.ga_source.proofs.Bodies.{no_number, drop_twice}
@@ -136,13 +136,13 @@ source_sound words begun none source has sound =
 
 -- ---- words with numbers in place of their lines
 
-texts_numbered : (number : ℕ) (words : List Token) → token_texts (token_contents (with_numbers number words)) ≡ token_texts (token_contents words)
-unfolding with_numbers
+texts_numbered : (number : ℕ) (words : List Token) → token_texts (token_contents (tokens_with_numbers number words)) ≡ token_texts (token_contents words)
+unfolding tokens_with_numbers
 texts_numbered number [] = refl
 texts_numbered number (word ∷ words) = ap (λ (texts : List (List ℕ)). word.text.now ∷ texts) (texts_numbered (next_line_number number) words)
 
-kinds_numbered : (number : ℕ) (words : List Token) → list_all is_word (token_contents (with_numbers number words)) ≡ list_all is_word (token_contents words)
-unfolding with_numbers
+kinds_numbered : (number : ℕ) (words : List Token) → list_all is_word (token_contents (tokens_with_numbers number words)) ≡ list_all is_word (token_contents words)
+unfolding tokens_with_numbers
 kinds_numbered number [] = refl
 kinds_numbered number (word ∷ words) = ap (λ (b : Bool). is_word_kind word.kind && b) (kinds_numbered (next_line_number number) words)
 
@@ -155,7 +155,7 @@ no_fault (said ∷ rest) whole =
     let taken : (if is_word said then tokens_until_fault rest else []) ≡ tokens_until_fault rest = rw parts.0 refl in
     ap (λ (l : List TokenContent). said ∷ l) (taken ∙ no_fault rest (ap (list_all is_word) (sym taken) ∙ parts.1))
 
-pub numbered_words : (words : List Token) (source : List ℕ) → token_contents words ≡ source_tokens source → IsSoundSource source → AreWordsOfSource source (token_contents (with_numbers 1 words))
+pub numbered_words : (words : List Token) (source : List ℕ) → token_contents words ≡ source_tokens source → IsSoundSource source → AreWordsOfSource source (token_contents (tokens_with_numbers 1 words))
 unfolding source_tokens_until_fault
 numbered_words words source said sound =
     let whole : source_tokens_until_fault source ≡ token_contents words = no_fault (source_tokens source) sound.whole ∙ sym said in

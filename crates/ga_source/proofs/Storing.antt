@@ -2,54 +2,54 @@
 use Rattle.std.proofs.Common.{◌≡◌, ◌∙◌, ℕ, ◌+◌, ◌<◌, List, [], ◌∷◌, ◌++◌, length, drop, get_or, if◌then◌else◌, sym, ap, Option, Some, None, append_assoc}
 use Rattle.std.specs.Prelude.{slice_index}
 use Rattle.std.proofs.lemmas.List.{drop_more}
-use Rattle.ga_parser.specs.declared.item.Item.{Item}
+use Rattle.ga_parser.specs.declared.item.AssemblyItem.{AssemblyItem}
 use Rattle.ga_parser.specs.declared.item.LocatedRequest.{LocatedRequest}
 use Rattle.ga_source.specs.Reading.{p_after_item, is_data_cell}
 use Rattle.ga_source.specs.declared.group.CellGroup.{CellGroup}
 use Rattle.ga_source.specs.declared.program.Program.{Program}
 use Rattle.ga_source.specs.declared.stores.Store.{Store}
 use Rattle.ga_source.specs.declared.stores.Known.{Known}
-use Rattle.ga_source.specs.Stores.{with_literal, with_literals, with_groups, with_code_word, stores_from, code_store_of_request, with_optional_store, known_after_request}
+use Rattle.ga_source.specs.Stores.{code_lines_with_literal, code_lines_with_literals, code_lines_with_groups, code_lines_with_word, stores_of_requests, code_store_of_request, with_optional_store, known_registers_after_request}
 
-pub literals_more : (code lines : List ℕ) (p i : ℕ) (items : List Item) (d : Item) → i < length items
-    → with_literals code lines p i (drop i items) ≡ with_literals (with_literal code p (slice_index lines i) (get_or items i d)) lines (p_after_item p (get_or items i d)) (i + 1) (drop (i + 1) items)
-unfolding with_literals
-literals_more code lines p i items d within = ap (with_literals code lines p i) (drop_more items i d within)
+pub literals_more : (code lines : List ℕ) (p i : ℕ) (items : List AssemblyItem) (d : AssemblyItem) → i < length items
+    → code_lines_with_literals code lines p i (drop i items) ≡ code_lines_with_literals (code_lines_with_literal code p (slice_index lines i) (get_or items i d)) lines (p_after_item p (get_or items i d)) (i + 1) (drop (i + 1) items)
+unfolding code_lines_with_literals
+literals_more code lines p i items d within = ap (code_lines_with_literals code lines p i) (drop_more items i d within)
 
-pub literals_all : (code lines : List ℕ) (p i : ℕ) (items : List Item) → items ≡ [] → with_literals code lines p i items ≡ code
-unfolding with_literals
-literals_all code lines p i items none = ap (with_literals code lines p i) none
+pub literals_all : (code lines : List ℕ) (p i : ℕ) (items : List AssemblyItem) → items ≡ [] → code_lines_with_literals code lines p i items ≡ code
+unfolding code_lines_with_literals
+literals_all code lines p i items none = ap (code_lines_with_literals code lines p i) none
 
 pub groups_more : (code : List ℕ) (groups : List CellGroup) (i : ℕ) (d : CellGroup) → i < length groups
-    → with_groups code (drop i groups) ≡ with_groups (if is_data_cell (get_or groups i d).items.items then code else with_code_word code (get_or groups i d)) (drop (i + 1) groups)
-unfolding with_groups
-groups_more code groups i d within = ap (with_groups code) (drop_more groups i d within)
+    → code_lines_with_groups code (drop i groups) ≡ code_lines_with_groups (if is_data_cell (get_or groups i d).items.items then code else code_lines_with_word code (get_or groups i d)) (drop (i + 1) groups)
+unfolding code_lines_with_groups
+groups_more code groups i d within = ap (code_lines_with_groups code) (drop_more groups i d within)
 
-pub groups_all : (code : List ℕ) (groups : List CellGroup) → groups ≡ [] → with_groups code groups ≡ code
-unfolding with_groups
-groups_all code groups none = ap (with_groups code) none
+pub groups_all : (code : List ℕ) (groups : List CellGroup) → groups ≡ [] → code_lines_with_groups code groups ≡ code
+unfolding code_lines_with_groups
+groups_all code groups none = ap (code_lines_with_groups code) none
 
 pub stores_more : (program : Program) (code : List ℕ) (known : Known) (asked : List LocatedRequest) (i : ℕ) (d : LocatedRequest) → i < length asked
-    → stores_from program code known (drop i asked)
-    ≡ with_optional_store (code_store_of_request code known (get_or asked i d).line (get_or asked i d).request) (stores_from program code (known_after_request program known (get_or asked i d).request) (drop (i + 1) asked))
-unfolding stores_from
-stores_more program code known asked i d within = ap (stores_from program code known) (drop_more asked i d within)
+    → stores_of_requests program code known (drop i asked)
+    ≡ with_optional_store (code_store_of_request code known (get_or asked i d).line (get_or asked i d).request) (stores_of_requests program code (known_registers_after_request program known (get_or asked i d).request) (drop (i + 1) asked))
+unfolding stores_of_requests
+stores_more program code known asked i d within = ap (stores_of_requests program code known) (drop_more asked i d within)
 
-pub stores_all : (program : Program) (code : List ℕ) (known : Known) (asked : List LocatedRequest) → asked ≡ [] → stores_from program code known asked ≡ []
-unfolding stores_from
-stores_all program code known asked none = ap (stores_from program code known) none
+pub stores_all : (program : Program) (code : List ℕ) (known : Known) (asked : List LocatedRequest) → asked ≡ [] → stores_of_requests program code known asked ≡ []
+unfolding stores_of_requests
+stores_all program code known asked none = ap (stores_of_requests program code known) none
 
 put_in_front : (stores rest : List Store) (store : Option Store) → (stores ++ with_optional_store store []) ++ rest ≡ stores ++ with_optional_store store rest
 put_in_front stores rest None = append_assoc stores [] rest
 put_in_front stores rest (Some store) = append_assoc stores (store ∷ []) rest
 
 pub store_step : (program : Program) (code : List ℕ) (known behind : Known) (asked : List LocatedRequest) (i : ℕ) (d : LocatedRequest) (stores after whole : List Store) (store : Option Store) → i < length asked
-    → store ≡ code_store_of_request code known (get_or asked i d).line (get_or asked i d).request → after ≡ stores ++ with_optional_store store [] → behind ≡ known_after_request program known (get_or asked i d).request
-    → stores ++ stores_from program code known (drop i asked) ≡ whole → after ++ stores_from program code behind (drop (i + 1) asked) ≡ whole
+    → store ≡ code_store_of_request code known (get_or asked i d).line (get_or asked i d).request → after ≡ stores ++ with_optional_store store [] → behind ≡ known_registers_after_request program known (get_or asked i d).request
+    → stores ++ stores_of_requests program code known (drop i asked) ≡ whole → after ++ stores_of_requests program code behind (drop (i + 1) asked) ≡ whole
 store_step program code known behind asked i d stores after whole store within is added next all =
-    let rest = stores_from program code (known_after_request program known (get_or asked i d).request) (drop (i + 1) asked) in
-    ap (λ (list : List Store). list ++ stores_from program code behind (drop (i + 1) asked)) added
-    ∙ (ap (λ (k : Known). (stores ++ with_optional_store store []) ++ stores_from program code k (drop (i + 1) asked)) next
+    let rest = stores_of_requests program code (known_registers_after_request program known (get_or asked i d).request) (drop (i + 1) asked) in
+    ap (λ (list : List Store). list ++ stores_of_requests program code behind (drop (i + 1) asked)) added
+    ∙ (ap (λ (k : Known). (stores ++ with_optional_store store []) ++ stores_of_requests program code k (drop (i + 1) asked)) next
     ∙ (put_in_front stores rest store
     ∙ (ap (λ (one : Option Store). stores ++ with_optional_store one rest) is
     ∙ (ap (λ (list : List Store). stores ++ list) (sym (stores_more program code known asked i d within)) ∙ all))))

@@ -7,16 +7,16 @@ use Rattle.std.proofs.lemmas.List.{length_push, get_or_push, get_or_append_left,
 use Rattle.std.proofs.lemmas.List.Folds.{list_any-append}
 use Rattle.std.proofs.lemmas.List.Elements.{All-push, All-pop}
 use Rattle.ga_node.specs.Record.{NodeState}
-use Rattle.ga_parser.specs.declared.item.Item.{Item}
+use Rattle.ga_parser.specs.declared.item.AssemblyItem.{AssemblyItem}
 use Rattle.ga_parser.specs.declared.item.LocatedRequest.{LocatedRequest}
 use Rattle.ga_source.specs.declared.group.CellGroup.{CellGroup}
 use Rattle.ga_parser.specs.declared.item.AssemblyRequest.TheVariants.{Put}
 use Rattle.ga_source.specs.declared.packing.Packer.{Packer}
 use Rattle.ga_source.specs.declared.group.PackingSpot.{PackingSpot}
-use Rattle.ga_source.specs.Reading.{first_spot_of_cell, next_cell_spot, spot_after_item, is_item_at_spot, is_filled_with_nops, item_fits, item_spot, is_request_met, spot_after_request}
+use Rattle.ga_source.specs.Reading.{first_spot_of_cell, next_cell_spot, spot_after_item, is_item_at_spot, is_filled_with_nops, item_fits_at_spot, item_spot, is_request_met, spot_after_request}
 use Rattle.ga_source.specs.Cells.{item_uses_cell, request_uses_cell, requests_use_cell}
 use Rattle.ga_source.specs.inner.{nothing, behind_all, Stand, taken, IsReadAt, spot_in, IsFit, IsRead, IsFitGroup, takes_group, are_taken, after_all, AreMet, Extends, IsKnown, IsInCell, IsWalked, IsPending, IsClosed}
-use Rattle.ga_source.proofs.Laying.{behind_all-push, Stand-pop, taken-pop, empty_reads, empty_fits, behind-same, behind-begins, behind-slot, next-begins, begin_fits, item_fits-extends, here-item_fits, next-item_fits, after_all-push, AreMet-push, requests_use_cell-before, requests_use_cell-last}
+use Rattle.ga_source.proofs.Laying.{behind_all-push, Stand-pop, taken-pop, empty_reads, empty_fits, behind-same, behind-begins, behind-slot, next-begins, begin_fits, item_fits_at_spot-extends, here-item_fits_at_spot, next-item_fits_at_spot, after_all-push, AreMet-push, requests_use_cell-before, requests_use_cell-last}
 
 -- ---- closing
 
@@ -43,15 +43,15 @@ closed_group before after group pushed address items broken labels_stay spot_sta
   whole = whole;
   read = λ node labels all.
       let parts = All-pop (IsRead node labels) after.groups.items before.groups.items (Some group) pushed all in
-      (parts.0, subst (λ (a : ℕ). IsReadAt node labels a before.filling.items) address (subst (λ (list : List Item). IsReadAt node labels group.address list) items parts.1.cell), sym broken ∙ parts.1.whole);
+      (parts.0, subst (λ (a : ℕ). IsReadAt node labels a before.filling.items) address (subst (λ (list : List AssemblyItem). IsReadAt node labels group.address list) items parts.1.cell), sym broken ∙ parts.1.whole);
   fit = λ labels all opened. subst (All (IsFitGroup labels)) (sym pushed) (All-push (IsFitGroup labels) before.groups.items group all
-      (subst (λ (a : ℕ). IsFit labels a group.items.items) (sym address) (subst (λ (list : List Item). IsFit labels before.spot.at list) (sym items) opened)));
+      (subst (λ (a : ℕ). IsFit labels a group.items.items) (sym address) (subst (λ (list : List AssemblyItem). IsFit labels before.spot.at list) (sym items) opened)));
   cells = λ cell h.
       let e = sym (list_any-append (takes_group cell) before.groups.items (group ∷ [])) ∙ subst (λ (groups : List CellGroup). are_taken groups cell ≡ true) pushed h in
       elim (or_cases (are_taken before.groups.items cell) (takes_group cell group || false) e) [
         | inl a ↦ inl a
         | inr b ↦ elim (or_cases (takes_group cell group) false b) [
-          | inl c ↦ inr (subst (λ (at : ℕ). taken (first_spot_of_cell at) before.filling.items cell ≡ true) address (subst (λ (list : List Item). taken (first_spot_of_cell group.address) list cell ≡ true) items c))
+          | inl c ↦ inr (subst (λ (at : ℕ). taken (first_spot_of_cell at) before.filling.items cell ≡ true) address (subst (λ (list : List AssemblyItem). taken (first_spot_of_cell group.address) list cell ≡ true) items c))
           | inr d ↦ absurd (true≢false (sym d))
         ]
       ];
@@ -59,15 +59,15 @@ closed_group before after group pushed address items broken labels_stay spot_sta
 
 -- ---- an item that has room, and one that has none
 
-met_here : (node : NodeState) (labels : List (Option ℕ)) (spot : PackingSpot) (item : Item) → item_fits labels spot item ≡ true → is_item_at_spot node labels spot item ≡ true → is_request_met node labels spot (Put item) ≡ true
-met_here node labels spot item e h = and_from (item_fits labels spot item || is_filled_with_nops node spot) (is_item_at_spot node labels (item_spot labels spot item) item)
-    (or_left (item_fits labels spot item) (is_filled_with_nops node spot) e)
-    (subst (λ (s : PackingSpot). is_item_at_spot node labels s item ≡ true) (sym (here-item_fits labels spot item e)) h)
+met_here : (node : NodeState) (labels : List (Option ℕ)) (spot : PackingSpot) (item : AssemblyItem) → item_fits_at_spot labels spot item ≡ true → is_item_at_spot node labels spot item ≡ true → is_request_met node labels spot (Put item) ≡ true
+met_here node labels spot item e h = and_from (item_fits_at_spot labels spot item || is_filled_with_nops node spot) (is_item_at_spot node labels (item_spot labels spot item) item)
+    (or_left (item_fits_at_spot labels spot item) (is_filled_with_nops node spot) e)
+    (subst (λ (s : PackingSpot). is_item_at_spot node labels s item ≡ true) (sym (here-item_fits_at_spot labels spot item e)) h)
 
-met_next : (node : NodeState) (labels : List (Option ℕ)) (spot : PackingSpot) (item : Item) → item_fits labels spot item ≡ false → is_filled_with_nops node spot ≡ true → is_item_at_spot node labels (next_cell_spot spot) item ≡ true → is_request_met node labels spot (Put item) ≡ true
-met_next node labels spot item e filled h = and_from (item_fits labels spot item || is_filled_with_nops node spot) (is_item_at_spot node labels (item_spot labels spot item) item)
-    (or_right (item_fits labels spot item) (is_filled_with_nops node spot) filled)
-    (subst (λ (s : PackingSpot). is_item_at_spot node labels s item ≡ true) (sym (next-item_fits labels spot item e)) h)
+met_next : (node : NodeState) (labels : List (Option ℕ)) (spot : PackingSpot) (item : AssemblyItem) → item_fits_at_spot labels spot item ≡ false → is_filled_with_nops node spot ≡ true → is_item_at_spot node labels (next_cell_spot spot) item ≡ true → is_request_met node labels spot (Put item) ≡ true
+met_next node labels spot item e filled h = and_from (item_fits_at_spot labels spot item || is_filled_with_nops node spot) (is_item_at_spot node labels (item_spot labels spot item) item)
+    (or_right (item_fits_at_spot labels spot item) (is_filled_with_nops node spot) filled)
+    (subst (λ (s : PackingSpot). is_item_at_spot node labels s item ≡ true) (sym (next-item_fits_at_spot labels spot item e)) h)
 
 -- a request whose place is where the walk is, and which takes what its item takes
 pub named_more : (labels : List (Option ℕ)) (spot : PackingSpot) (before : List LocatedRequest) (one : LocatedRequest) (cell : ℕ) → after_all labels (first_spot_of_cell 0) before ≡ spot → request_uses_cell labels spot one.request cell ≡ true → requests_use_cell labels (first_spot_of_cell 0) (before ++ one ∷ []) cell ≡ true
@@ -79,44 +79,44 @@ met_more node labels spot before one e met h = AreMet-push node labels (first_sp
 pub walk_more : (labels : List (Option ℕ)) (spot next : PackingSpot) (before : List LocatedRequest) (one : LocatedRequest) → after_all labels (first_spot_of_cell 0) before ≡ spot → spot_after_request labels spot one.request ≡ next → after_all labels (first_spot_of_cell 0) (before ++ one ∷ []) ≡ next
 walk_more labels spot next before one e h = after_all-push labels (first_spot_of_cell 0) before one ∙ (ap (λ (s : PackingSpot). spot_after_request labels s one.request) e ∙ h)
 
-takes_at : (labels : List (Option ℕ)) (spot place : PackingSpot) (item : Item) (cell : ℕ) → item_spot labels spot item ≡ place → item_uses_cell place item cell ≡ true → request_uses_cell labels spot (Put item) cell ≡ true
+takes_at : (labels : List (Option ℕ)) (spot place : PackingSpot) (item : AssemblyItem) (cell : ℕ) → item_spot labels spot item ≡ place → item_uses_cell place item cell ≡ true → request_uses_cell labels spot (Put item) cell ≡ true
 takes_at labels spot place item cell e h = subst (λ (s : PackingSpot). item_uses_cell s item cell ≡ true) (sym e) h
 
-pub pending_here : (p : Packer) (before : List LocatedRequest) (line : ℕ) (item : Item) → item_fits p.labels.items p.spot item ≡ true → IsKnown p.labels.items item → IsWalked p before → IsPending p (before ++ record { line = line; request = Put item } ∷ []) item
+pub pending_here : (p : Packer) (before : List LocatedRequest) (line : ℕ) (item : AssemblyItem) → item_fits_at_spot p.labels.items p.spot item ≡ true → IsKnown p.labels.items item → IsWalked p before → IsPending p (before ++ record { line = line; request = Put item } ∷ []) item
 pending_here p before line item has known w =
     let one : LocatedRequest = record { line = line; request = Put item } in
-    let fit = λ (labels : List (Option ℕ)) (more : Extends p.labels.items labels). item_fits-extends p.labels.items labels p.spot item more known ∙ has in
+    let fit = λ (labels : List (Option ℕ)) (more : Extends p.labels.items labels). item_fits_at_spot-extends p.labels.items labels p.spot item more known ∙ has in
     record {
       here = w.here;
       fit = fit;
-      walk = λ labels more. walk_more labels p.spot (spot_after_item p.spot item) before one (w.walk labels more) (ap (λ (s : PackingSpot). spot_after_item s item) (here-item_fits labels p.spot item (fit labels more)));
+      walk = λ labels more. walk_more labels p.spot (spot_after_item p.spot item) before one (w.walk labels more) (ap (λ (s : PackingSpot). spot_after_item s item) (here-item_fits_at_spot labels p.spot item (fit labels more)));
       met = λ node labels more read whole opened last. met_more node labels p.spot before one (w.walk labels more) (w.met node labels more read whole opened) (met_here node labels p.spot item (fit labels more) last);
       named = λ labels cell more h. elim h [
         | inl a ↦ requests_use_cell-before labels (first_spot_of_cell 0) before one cell (w.named labels cell more (inl a))
         | inr b ↦ elim b [
           | inl c ↦ requests_use_cell-before labels (first_spot_of_cell 0) before one cell (w.named labels cell more (inr c))
-          | inr d ↦ named_more labels p.spot before one cell (w.walk labels more) (takes_at labels p.spot p.spot item cell (here-item_fits labels p.spot item (fit labels more)) d)
+          | inr d ↦ named_more labels p.spot before one cell (w.walk labels more) (takes_at labels p.spot p.spot item cell (here-item_fits_at_spot labels p.spot item (fit labels more)) d)
         ]
       ];
       groups_fit = w.groups_fit;
       open_fits = w.open_fits;
     }
 
-pub nil_of : (items : List Item) → length items ≡ 0 → items ≡ []
+pub nil_of : (items : List AssemblyItem) → length items ≡ 0 → items ≡ []
 nil_of [] e = refl
 nil_of (first ∷ rest) e = absurd (omega arith)
 
-pub begun : (items : List Item) (spot : PackingSpot) → items ≡ [] → spot ≡ first_spot_of_cell spot.at → behind_all (first_spot_of_cell spot.at) items ≡ spot
+pub begun : (items : List AssemblyItem) (spot : PackingSpot) → items ≡ [] → spot ≡ first_spot_of_cell spot.at → behind_all (first_spot_of_cell spot.at) items ≡ spot
 unfolding behind_all
-begun items spot e h = ap (λ (list : List Item). behind_all (first_spot_of_cell spot.at) list) e ∙ sym h
+begun items spot e h = ap (λ (list : List AssemblyItem). behind_all (first_spot_of_cell spot.at) list) e ∙ sym h
 
-begun_back : (items : List Item) (spot : PackingSpot) → items ≡ [] → behind_all (first_spot_of_cell spot.at) items ≡ spot → first_spot_of_cell spot.at ≡ spot
+begun_back : (items : List AssemblyItem) (spot : PackingSpot) → items ≡ [] → behind_all (first_spot_of_cell spot.at) items ≡ spot → first_spot_of_cell spot.at ≡ spot
 unfolding behind_all
-begun_back items spot e h = subst (λ (list : List Item). behind_all (first_spot_of_cell spot.at) list ≡ spot) e h
+begun_back items spot e h = subst (λ (list : List AssemblyItem). behind_all (first_spot_of_cell spot.at) list ≡ spot) e h
 
-pub none_taken : (spot : PackingSpot) (items : List Item) (cell : ℕ) → items ≡ [] → taken spot items cell ≡ true → ⊥
+pub none_taken : (spot : PackingSpot) (items : List AssemblyItem) (cell : ℕ) → items ≡ [] → taken spot items cell ≡ true → ⊥
 unfolding taken
-none_taken spot items cell e h = true≢false (sym (subst (λ (list : List Item). taken spot list cell ≡ true) e h))
+none_taken spot items cell e h = true≢false (sym (subst (λ (list : List AssemblyItem). taken spot list cell ≡ true) e h))
 
 -- the next cell begins where the packer's cell hasn't begun
 pub next_spot : (p : Packer) (before : List LocatedRequest) → IsInCell p → IsWalked p before → next_cell_spot p.spot ≡ first_spot_of_cell (next_cell_spot p.spot).at
@@ -147,16 +147,16 @@ settled p q labels_now s before one w closed more_now begins after met_one r gro
       open_fits = λ labels e. empty_fits labels r.spot.at r.filling.items empty;
     }
 
-pub pending_next : (p q : Packer) (s : PackingSpot) (before : List LocatedRequest) (line : ℕ) (item : Item) → s ≡ next_cell_spot p.spot → item_fits p.labels.items p.spot item ≡ false → IsKnown p.labels.items item → IsInCell p → IsWalked p before → IsClosed p q → IsPending (record q { spot = s }) (before ++ record { line = line; request = Put item } ∷ []) item
+pub pending_next : (p q : Packer) (s : PackingSpot) (before : List LocatedRequest) (line : ℕ) (item : AssemblyItem) → s ≡ next_cell_spot p.spot → item_fits_at_spot p.labels.items p.spot item ≡ false → IsKnown p.labels.items item → IsInCell p → IsWalked p before → IsClosed p q → IsPending (record q { spot = s }) (before ++ record { line = line; request = Put item } ∷ []) item
 pending_next p q s before line item is_next none known c w closed =
     let one : LocatedRequest = record { line = line; request = Put item } in
     let more = λ (labels : List (Option ℕ)) (e : Extends q.labels.items labels). subst (λ (list : List (Option ℕ)). Extends list labels) closed.labels_stay e in
-    let no_room = λ (labels : List (Option ℕ)) (e : Extends q.labels.items labels). item_fits-extends p.labels.items labels p.spot item (more labels e) known ∙ none in
+    let no_room = λ (labels : List (Option ℕ)) (e : Extends q.labels.items labels). item_fits_at_spot-extends p.labels.items labels p.spot item (more labels e) known ∙ none in
     let begins : s ≡ first_spot_of_cell s.at = is_next ∙ (next_spot p before c w ∙ ap (λ (t : PackingSpot). first_spot_of_cell t.at) (sym is_next)) in
     record {
       here = begun q.filling.items s closed.empty begins;
-      fit = λ labels e. subst (λ (t : PackingSpot). item_fits labels t item ≡ true) (sym begins) (begin_fits labels s.at item);
-      walk = λ labels e. walk_more labels p.spot (spot_after_item s item) before one (w.walk labels (more labels e)) (ap (λ (t : PackingSpot). spot_after_item t item) (next-item_fits labels p.spot item (no_room labels e) ∙ sym is_next));
+      fit = λ labels e. subst (λ (t : PackingSpot). item_fits_at_spot labels t item ≡ true) (sym begins) (begin_fits labels s.at item);
+      walk = λ labels e. walk_more labels p.spot (spot_after_item s item) before one (w.walk labels (more labels e)) (ap (λ (t : PackingSpot). spot_after_item t item) (next-item_fits_at_spot labels p.spot item (no_room labels e) ∙ sym is_next));
       met = λ node labels e read whole opened last.
           let parts = closed.read node labels read in
           met_more node labels p.spot before one (w.walk labels (more labels e)) (w.met node labels (more labels e) parts.0 parts.2 parts.1.items_stand)
@@ -165,7 +165,7 @@ pending_next p q s before line item is_next none known c w closed =
         | inl a ↦ requests_use_cell-before labels (first_spot_of_cell 0) before one cell (w.named labels cell (more labels e) (closed.cells cell a))
         | inr b ↦ elim b [
           | inl d ↦ absurd (none_taken (first_spot_of_cell s.at) q.filling.items cell closed.empty d)
-          | inr d ↦ named_more labels p.spot before one cell (w.walk labels (more labels e)) (takes_at labels p.spot s item cell (next-item_fits labels p.spot item (no_room labels e) ∙ sym is_next) d)
+          | inr d ↦ named_more labels p.spot before one cell (w.walk labels (more labels e)) (takes_at labels p.spot s item cell (next-item_fits_at_spot labels p.spot item (no_room labels e) ∙ sym is_next) d)
         ]
       ];
       groups_fit = λ labels e. closed.fit labels (w.groups_fit labels (more labels e)) (w.open_fits labels (more labels e));
@@ -174,7 +174,7 @@ pending_next p q s before line item is_next none known c w closed =
 
 -- ---- one more item in the cell
 
-module _ (address : ℕ) (items : List Item) (spot : PackingSpot) (item : Item) (here : behind_all (first_spot_of_cell address) items ≡ spot) where
+module _ (address : ℕ) (items : List AssemblyItem) (spot : PackingSpot) (item : AssemblyItem) (here : behind_all (first_spot_of_cell address) items ≡ spot) where
   spot_before : (k : ℕ) → k < length items → spot_in address (items ++ item ∷ []) k ≡ spot_in address items k
   spot_before k l = ap (behind_all (first_spot_of_cell address)) (take-append-le k items (item ∷ []) (omega arith))
 
@@ -187,7 +187,7 @@ module _ (address : ℕ) (items : List Item) (spot : PackingSpot) (item : Item) 
       let few : k < length items + 1 = subst (λ (n : ℕ). k < n) (length_push items item) h in
       elim (cases_lt k (length items)) [ inl l ↦ before k l | inr l ↦ last k (omega arith) ]
 
-pub fit-push : (labels : List (Option ℕ)) (address : ℕ) (items : List Item) (spot : PackingSpot) (item : Item) → length items ≡ spot.slot → spot.at ≡ address → behind_all (first_spot_of_cell address) items ≡ spot → IsFit labels address items → item_fits labels spot item ≡ true → IsFit labels address (items ++ item ∷ [])
+pub fit-push : (labels : List (Option ℕ)) (address : ℕ) (items : List AssemblyItem) (spot : PackingSpot) (item : AssemblyItem) → length items ≡ spot.slot → spot.at ≡ address → behind_all (first_spot_of_cell address) items ≡ spot → IsFit labels address items → item_fits_at_spot labels spot item ≡ true → IsFit labels address (items ++ item ∷ [])
 fit-push labels address items spot item size at here fit has =
     record {
       slots = each_of address items spot item here (λ k. (spot_in address (items ++ item ∷ []) k).slot ≡ k)
@@ -196,15 +196,15 @@ fit-push labels address items spot item size at here fit has =
       cells = each_of address items spot item here (λ k. (spot_in address (items ++ item ∷ []) k).at ≡ address)
           (λ k l. ap (λ (s : PackingSpot). s.at) (spot_before address items spot item here k l) ∙ fit.cells k l)
           (λ k e. ap (λ (s : PackingSpot). s.at) (spot_last address items spot item here k e) ∙ at);
-      room = each_of address items spot item here (λ k. item_fits labels (spot_in address (items ++ item ∷ []) k) (slice_index_or (items ++ item ∷ []) k nothing) ≡ true)
-          (λ k l. subst (λ (s : PackingSpot). item_fits labels s (slice_index_or (items ++ item ∷ []) k nothing) ≡ true) (sym (spot_before address items spot item here k l))
-          (subst (λ (one : Item). item_fits labels (spot_in address items k) one ≡ true) (sym (get_or_append_left items (item ∷ []) nothing k l)) (fit.room k l)))
-          (λ k e. subst (λ (s : PackingSpot). item_fits labels s (slice_index_or (items ++ item ∷ []) k nothing) ≡ true) (sym (spot_last address items spot item here k e))
-          (subst (λ (one : Item). item_fits labels spot one ≡ true) (sym (get_or_push items item nothing k (sym e))) has));
+      room = each_of address items spot item here (λ k. item_fits_at_spot labels (spot_in address (items ++ item ∷ []) k) (slice_index_or (items ++ item ∷ []) k nothing) ≡ true)
+          (λ k l. subst (λ (s : PackingSpot). item_fits_at_spot labels s (slice_index_or (items ++ item ∷ []) k nothing) ≡ true) (sym (spot_before address items spot item here k l))
+          (subst (λ (one : AssemblyItem). item_fits_at_spot labels (spot_in address items k) one ≡ true) (sym (get_or_append_left items (item ∷ []) nothing k l)) (fit.room k l)))
+          (λ k e. subst (λ (s : PackingSpot). item_fits_at_spot labels s (slice_index_or (items ++ item ∷ []) k nothing) ≡ true) (sym (spot_last address items spot item here k e))
+          (subst (λ (one : AssemblyItem). item_fits_at_spot labels spot one ≡ true) (sym (get_or_push items item nothing k (sym e))) has));
     }
 
 -- the cell of an item that is being put: its items stand where those before do and this one does
-module _ (p : Packer) (asked : List LocatedRequest) (item : Item) (list : List Item) (pushed : list ≡ p.filling.items ++ item ∷ []) (c : IsInCell p) (w : IsPending p asked item) where
+module _ (p : Packer) (asked : List LocatedRequest) (item : AssemblyItem) (list : List AssemblyItem) (pushed : list ≡ p.filling.items ++ item ∷ []) (c : IsInCell p) (w : IsPending p asked item) where
   put_here : behind_all (first_spot_of_cell p.spot.at) list ≡ spot_after_item p.spot item
   put_here = ap (behind_all (first_spot_of_cell p.spot.at)) pushed ∙ (behind_all-push (first_spot_of_cell p.spot.at) p.filling.items item ∙ ap (λ (s : PackingSpot). spot_after_item s item) w.here)
 
@@ -217,7 +217,7 @@ module _ (p : Packer) (asked : List LocatedRequest) (item : Item) (list : List I
       w.met node labels more read whole parts.0 (subst (λ (s : PackingSpot). is_item_at_spot node labels s item ≡ true) w.here parts.1)
 
   put_named : (labels : List (Option ℕ)) (cell : ℕ) → Extends p.labels.items labels → taken (first_spot_of_cell p.spot.at) list cell ≡ true → requests_use_cell labels (first_spot_of_cell 0) asked cell ≡ true
-  put_named labels cell more h = elim (taken-pop (first_spot_of_cell p.spot.at) p.filling.items item cell (subst (λ (l : List Item). taken (first_spot_of_cell p.spot.at) l cell ≡ true) pushed h)) [
+  put_named labels cell more h = elim (taken-pop (first_spot_of_cell p.spot.at) p.filling.items item cell (subst (λ (l : List AssemblyItem). taken (first_spot_of_cell p.spot.at) l cell ≡ true) pushed h)) [
     | inl a ↦ w.named labels cell more (inr (inl a))
     | inr b ↦ w.named labels cell more (inr (inr (subst (λ (s : PackingSpot). item_uses_cell s item cell ≡ true) w.here b)))
   ]
@@ -235,7 +235,7 @@ module _ (p : Packer) (asked : List LocatedRequest) (item : Item) (list : List I
             (subst (Stand node labels (first_spot_of_cell p.spot.at)) filling (subst (λ (a : ℕ). Stand node labels (first_spot_of_cell a) q.filling.items) at stand));
         named = λ labels cell e h. elim h [
           | inl a ↦ w.named labels cell (more labels e) (inl (subst (λ (g : List CellGroup). are_taken g cell ≡ true) groups a))
-          | inr b ↦ put_named labels cell (more labels e) (subst (λ (l : List Item). taken (first_spot_of_cell p.spot.at) l cell ≡ true) filling (subst (λ (a : ℕ). taken (first_spot_of_cell a) q.filling.items cell ≡ true) at b))
+          | inr b ↦ put_named labels cell (more labels e) (subst (λ (l : List AssemblyItem). taken (first_spot_of_cell p.spot.at) l cell ≡ true) filling (subst (λ (a : ℕ). taken (first_spot_of_cell a) q.filling.items cell ≡ true) at b))
         ];
         groups_fit = λ labels e. subst (All (IsFitGroup labels)) (sym groups) (w.groups_fit labels (more labels e));
         open_fits = λ labels e. subst (λ (a : ℕ). IsFit labels a q.filling.items) (sym at) (subst (IsFit labels p.spot.at) (sym filling) (put_fits labels (more labels e)));
@@ -257,7 +257,7 @@ module _ (p : Packer) (asked : List LocatedRequest) (item : Item) (list : List I
         named = λ labels cell e h. elim h [
           | inl a ↦ elim (closed.cells cell a) [
             | inl d ↦ w.named labels cell (more labels e) (inl (subst (λ (g : List CellGroup). are_taken g cell ≡ true) groups d))
-            | inr d ↦ put_named labels cell (more labels e) (subst (λ (l : List Item). taken (first_spot_of_cell p.spot.at) l cell ≡ true) filling (subst (λ (a : ℕ). taken (first_spot_of_cell a) full.filling.items cell ≡ true) at d))
+            | inr d ↦ put_named labels cell (more labels e) (subst (λ (l : List AssemblyItem). taken (first_spot_of_cell p.spot.at) l cell ≡ true) filling (subst (λ (a : ℕ). taken (first_spot_of_cell a) full.filling.items cell ≡ true) at d))
           ]
           | inr b ↦ absurd (none_taken (first_spot_of_cell s.at) q.filling.items cell closed.empty b)
         ];
@@ -271,7 +271,7 @@ module _ (p : Packer) (asked : List LocatedRequest) (item : Item) (list : List I
 pub in_next : (q : Packer) (s : PackingSpot) → q.filling.items ≡ [] → s.slot ≡ 0 → IsInCell (record q { spot = s })
 in_next q s empty e = record { slot = omega arith; size = ap length empty ∙ sym e }
 
-pub in_more : (p q : Packer) (item : Item) → IsInCell p → q.filling.items ≡ p.filling.items ++ item ∷ [] → q.spot ≡ spot_after_item p.spot item → q.spot.slot ≢ 0 → IsInCell q
+pub in_more : (p q : Packer) (item : AssemblyItem) → IsInCell p → q.filling.items ≡ p.filling.items ++ item ∷ [] → q.spot ≡ spot_after_item p.spot item → q.spot.slot ≢ 0 → IsInCell q
 in_more p q item c pushed is_behind opened =
     let parts = behind-slot p.spot item (λ e. opened (ap (λ (s : PackingSpot). s.slot) is_behind ∙ e)) in
     let slot : q.spot.slot ≡ p.spot.slot + 1 = ap (λ (s : PackingSpot). s.slot) is_behind ∙ parts.0 in

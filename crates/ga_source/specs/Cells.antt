@@ -4,8 +4,8 @@ use Rattle.std.specs.Prelude.{◌≡◌, ℕ, ◌+◌, ◌%◌, ◌==◌, Bool, 
 use Rattle.std.specs.List.{All}
 use Rattle.ga_node.specs.Record.{NodeState}
 use Rattle.ga_grid.specs.Chip.{node_at}
-use Rattle.ga_parser.specs.declared.item.Item.{Item}
-use Rattle.ga_parser.specs.declared.item.Item.TheVariants.{Literal, Opcode}
+use Rattle.ga_parser.specs.declared.item.AssemblyItem.{AssemblyItem}
+use Rattle.ga_parser.specs.declared.item.AssemblyItem.TheVariants.{Literal, Opcode}
 use Rattle.ga_parser.specs.declared.item.AssemblyRequest.{AssemblyRequest}
 use Rattle.ga_parser.specs.declared.item.AssemblyRequest.TheVariants.{Put, Unext}
 use Rattle.ga_parser.specs.declared.item.LocatedRequest.{LocatedRequest}
@@ -20,7 +20,7 @@ abbrev pub is_address_of_cell : ℕ → ℕ → Bool
 is_address_of_cell address cell = address % 512 == cell
 
 -- the item is in the cell, or its literal is
-abbrev pub item_uses_cell : PackingSpot → Item → ℕ → Bool
+abbrev pub item_uses_cell : PackingSpot → AssemblyItem → ℕ → Bool
 item_uses_cell spot (Literal _) cell = is_address_of_cell spot.at cell || is_address_of_cell spot.p cell
 item_uses_cell spot _ cell = is_address_of_cell spot.at cell
 
@@ -59,10 +59,10 @@ pub record AreUnusedCellsZero (chip : List NodeState) (programs : List Program) 
 pub record PlacedItem : Type 0 where
   pub address : ℕ
   pub slot : ℕ
-  pub item : Item
+  pub item : AssemblyItem
   pub line : ℕ
 
-abbrev pub placed_item : PackingSpot → Item → ℕ → PlacedItem
+abbrev pub placed_item : PackingSpot → AssemblyItem → ℕ → PlacedItem
 placed_item spot item line = record { address = spot.at; slot = spot.slot; item = item; line = line }
 
 -- the item of a request, if the walk is at this spot
@@ -81,7 +81,7 @@ placed_items_from labels spot (asked ∷ rest) = placed_request_items labels spo
 -- a cell: its address, its items from slot 0 on, and the line of each
 pub record CellGroupContent : Type 0 where
   pub address : ℕ
-  pub items : List Item
+  pub items : List AssemblyItem
   pub lines : List ℕ
 
 -- the items up to the next in slot 0, with which another cell begins
@@ -103,8 +103,8 @@ groups_of_items [] = []
 groups_of_items (one ∷ rest) = if one.slot == 0 then group_of_items one (items_of_first_cell rest) ∷ groups_of_items rest else groups_of_items rest
 
 -- the cells of requests, where labels have these addresses
-abbrev pub groups_of : List (Option ℕ) → List LocatedRequest → List CellGroupContent
-groups_of labels asked = groups_of_items (placed_items_from labels (first_spot_of_cell 0) asked)
+abbrev pub groups_of_requests : List (Option ℕ) → List LocatedRequest → List CellGroupContent
+groups_of_requests labels asked = groups_of_items (placed_items_from labels (first_spot_of_cell 0) asked)
 
 -- ---- programs
 
@@ -113,4 +113,4 @@ cell_group_content group = record { address = group.address; items = group.items
 
 -- the program's groups are the cells that its requests make, in order: each has just their items, each with its request's line
 abbrev pub HasRequestedGroups : Program → Type 0
-HasRequestedGroups program = map cell_group_content program.groups.items ≡ groups_of program.labels.items program.asked.items
+HasRequestedGroups program = map cell_group_content program.groups.items ≡ groups_of_requests program.labels.items program.asked.items

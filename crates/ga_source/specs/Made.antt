@@ -2,15 +2,15 @@
 -- project's own).
 use Rattle.std.specs.Prelude.{ℕ, ◌≡◌, ◌≢◌, ◌<◌, if◌then◌else◌, List, [], ◌∷◌, drop, slice_index, slice_index_or, slice_set, Option, Some, ◌%◌, ◌≤◌, ◌⊎◌, true, ◌++◌, length}
 use Rattle.std.specs.List.{All, list_any, list_all}
-use Rattle.ga_ports.specs.declared.address.Target.{Target}
-use Rattle.ga_ports.specs.declared.address.Target.TheVariants.{Ram, Rom}
+use Rattle.ga_ports.specs.declared.address.AddressTarget.{AddressTarget}
+use Rattle.ga_ports.specs.declared.address.AddressTarget.TheVariants.{Ram, Rom}
 use Rattle.ga_ports.specs.Address.{address_target, advanced_address}
 use Rattle.ga_node.specs.Record.{NodeState}
 use Rattle.ga_grid.specs.Chip.{node_at}
 use Rattle.ga_grid.specs.Grid.{default_chip}
 use Rattle.ga_parser.specs.declared.item.Operand.{Operand}
 use Rattle.ga_parser.specs.declared.item.Operand.TheVariants.{Number}
-use Rattle.ga_parser.specs.declared.item.Item.TheVariants.{Cell}
+use Rattle.ga_parser.specs.declared.item.AssemblyItem.TheVariants.{Cell}
 use Rattle.ga_parser.specs.declared.item.AssemblyRequest.{AssemblyRequest}
 use Rattle.ga_parser.specs.declared.item.AssemblyRequest.TheVariants.{Put, Go}
 use Rattle.ga_source.specs.Programs.{is_item_request}
@@ -21,14 +21,14 @@ use Rattle.ga_parser.specs.Saying.{TokenContent, is_word}
 -- ---- cells
 
 -- the node with a number in the cell that is named
-abbrev pub with_cell : NodeState → Target → ℕ → NodeState
-with_cell node (Ram k) n = record node { ram = slice_set node.ram k n }
-with_cell node (Rom k) n = record node { rom = slice_set node.rom k n }
-with_cell node _ n = node
+abbrev pub node_with_cell : NodeState → AddressTarget → ℕ → NodeState
+node_with_cell node (Ram k) n = record node { ram = slice_set node.ram k n }
+node_with_cell node (Rom k) n = record node { rom = slice_set node.rom k n }
+node_with_cell node _ n = node
 
 -- the node with the cell that a request asks for at this address
 abbrev pub with_requested_cell : NodeState → ℕ → AssemblyRequest → NodeState
-with_requested_cell node at (Put (Cell (Number n))) = with_cell node (address_target at) n
+with_requested_cell node at (Put (Cell (Number n))) = node_with_cell node (address_target at) n
 with_requested_cell node at _ = node
 
 -- the address after a request
@@ -38,24 +38,24 @@ address_after_request at (Go address) = address
 address_after_request at _ = at
 
 -- the node with the cells that requests ask for, from an address on
-unfoldable pub with_requests : NodeState → ℕ → List AssemblyRequest → NodeState
-with_requests node at [] = node
-with_requests node at (request ∷ requests) = with_requests (with_requested_cell node at request) (address_after_request at request) requests
+unfoldable pub node_with_requests : NodeState → ℕ → List AssemblyRequest → NodeState
+node_with_requests node at [] = node
+node_with_requests node at (request ∷ requests) = node_with_requests (with_requested_cell node at request) (address_after_request at request) requests
 
 -- ---- nodes
 
 -- a number that is given, or what was there before
-abbrev pub number_or : Option Operand → ℕ → ℕ
-number_or (Some (Number n)) before = n
-number_or _ before = before
+abbrev pub number_or_previous : Option Operand → ℕ → ℕ
+number_or_previous (Some (Number n)) before = n
+number_or_previous _ before = before
 
 -- The node with what plain words ask for: their cells from address 0 on, and the registers. P is 0 where there are cells and no
 -- `/p`.
 abbrev pub node_with_plain_requests : NodeState → Plain → NodeState
-node_with_plain_requests node plain = record (with_requests node 0 plain.requests) {
-  p = number_or plain.p (if list_any is_item_request plain.requests then 0 else node.p);
-  a = number_or plain.a node.a;
-  b = number_or plain.b node.b;
+node_with_plain_requests node plain = record (node_with_requests node 0 plain.requests) {
+  p = number_or_previous plain.p (if list_any is_item_request plain.requests then 0 else node.p);
+  a = number_or_previous plain.a node.a;
+  b = number_or_previous plain.b node.b;
 }
 
 -- the node is this one, cell by cell
@@ -90,13 +90,13 @@ abbrev pub IsMemoryAddress : ℕ → Type 0
 IsMemoryAddress address = (address % 512 < 64) ⊎ ((128 ≤ address % 512) × (address % 512 < 192))
 
 -- the k-th cell
-abbrev pub cell_of : List (ℕ × ℕ) → ℕ → ℕ × ℕ
-cell_of cells k = slice_index_or cells k (0, 0)
+abbrev pub cell_at_index : List (ℕ × ℕ) → ℕ → ℕ × ℕ
+cell_at_index cells k = slice_index_or cells k (0, 0)
 
 -- each cell is one of a memory, and none comes twice
 pub record AreDistinctCells (cells : List (ℕ × ℕ)) : Type 0 where
-  pub memory : (k : ℕ) → k < length cells → IsMemoryAddress (cell_of cells k).0
-  pub apart : (j k : ℕ) → j < k → k < length cells → (cell_of cells k).0 % 512 ≢ (cell_of cells j).0 % 512
+  pub memory : (k : ℕ) → k < length cells → IsMemoryAddress (cell_at_index cells k).0
+  pub apart : (j k : ℕ) → j < k → k < length cells → (cell_at_index cells k).0 % 512 ≢ (cell_at_index cells j).0 % 512
 
 -- the words after a `node` name one, and the others are plain and give each cell once
 pub record IsSoundBody (words : List (List ℕ)) : Type 0 where

@@ -90,16 +90,16 @@ given_register_value labels (Some given) = operand_value labels given.value
 given_register_value labels None = None
 
 -- a value, or what was there before
-abbrev pub value_or : Option ℕ → ℕ → ℕ
-value_or (Some value) before = value
-value_or None before = before
+abbrev pub value_or_previous : Option ℕ → ℕ → ℕ
+value_or_previous (Some value) before = value
+value_or_previous None before = before
 
 -- the node with the registers that are given; the others stay
 abbrev pub with_registers : NodeState → List (Option ℕ) → InitialRegisters → NodeState
 with_registers node labels registers = record node {
-  p = value_or (given_register_value labels registers.p) node.p;
-  a = value_or (given_register_value labels registers.a) node.a;
-  b = value_or (given_register_value labels registers.b) node.b;
+  p = value_or_previous (given_register_value labels registers.p) node.p;
+  a = value_or_previous (given_register_value labels registers.a) node.a;
+  b = value_or_previous (given_register_value labels registers.b) node.b;
 }
 
 -- the request asks for an item
@@ -113,27 +113,27 @@ abbrev pub has_cells : List LocatedRequest → Bool
 has_cells asked = list_any (λ one. is_item_request one.request) asked
 
 -- the label has this name
-abbrev pub is_named : List ℕ → Label → Bool
-is_named name label = bytes_eq label.name.now name
+abbrev pub is_label_named : List ℕ → Label → Bool
+is_label_named name label = bytes_eq label.name.now name
 
 -- P where no line gives it: the address of the label `main` where there is one, else 0
 abbrev pub default_start : List Label → Operand
-default_start labels = option_map_or LabelOf (position (is_named (codes "main")) labels) (Number 0)
+default_start labels = option_map_or LabelOf (position (is_label_named (codes "main")) labels) (Number 0)
 
 abbrev pub start_or_default : Option RegisterValue → List Label → Bool → Option RegisterValue
 start_or_default None labels true = Some (record { line = 0; value = default_start labels })
 start_or_default given _ _ = given
 
 -- the registers of a program at load: those that it gives, and where it has cells and gives no P, the one that it has then
-abbrev pub at_load : InitialRegisters → List Label → Bool → InitialRegisters
-at_load given labels has = record given { p = start_or_default given.p labels has }
+abbrev pub values_at_load : InitialRegisters → List Label → Bool → InitialRegisters
+values_at_load given labels has = record given { p = start_or_default given.p labels has }
 
 -- From address 0 on, the cells of the node read as what the program asks of it, and each cell that it doesn't name is as it was.
 -- Its registers are those of the program at load, and what is left is as it was before.
 pub record HasProgram (before after : NodeState) (program : Program) : Type 0 where
   pub reads : cells_match_requests after program.labels.items (first_spot_of_cell 0) program.asked.items ≡ true
   pub elsewhere : KeepsOtherCells (program_uses_cell program) before after
-  pub rest : after ≡ with_registers (record before { ram = after.ram; rom = after.rom }) program.labels.items (at_load program.registers program.names.items (has_cells program.asked.items))
+  pub rest : after ≡ with_registers (record before { ram = after.ram; rom = after.rom }) program.labels.items (values_at_load program.registers program.names.items (has_cells program.asked.items))
 
 -- the program's node has it, and was as at load before
 abbrev pub IsProgramLoaded : List NodeState → Program → Type 0

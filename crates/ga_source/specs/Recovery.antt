@@ -34,13 +34,13 @@ use Rattle.ga_source.specs.Reading.{operand_value}
 
 -- ---- numbers of words
 
-abbrev pub with_line : Token → ℕ → Token
-with_line word number = record word { line = number }
+abbrev pub token_with_line : Token → ℕ → Token
+token_with_line word number = record word { line = number }
 
 -- the words with numbers, from this one on, in place of their lines
-unfoldable pub with_numbers : ℕ → List Token → List Token
-with_numbers number [] = []
-with_numbers number (word ∷ words) = with_line word number ∷ with_numbers (next_line_number number) words
+unfoldable pub tokens_with_numbers : ℕ → List Token → List Token
+tokens_with_numbers number [] = []
+tokens_with_numbers number (word ∷ words) = token_with_line word number ∷ tokens_with_numbers (next_line_number number) words
 
 -- The chip has the programs of these words: each asks for what its words do, and each other node is as at load.
 pub record IsAssemblyOfWords (words : List Token) (all : AssembledChip) : Type 0 where
@@ -51,17 +51,17 @@ pub record IsAssemblyOfWords (words : List Token) (all : AssembledChip) : Type 0
 -- ---- from numbers back to lines
 
 -- the line of the word with this number, 0 if there is none
-abbrev pub line_of_number : List Token → ℕ → ℕ
-line_of_number words number = option_map_or (λ (word : Token). word.line) (slice_get words (number - 1)) 0
+abbrev pub line_of_numbered_word : List Token → ℕ → ℕ
+line_of_numbered_word words number = option_map_or (λ (word : Token). word.line) (slice_get words (number - 1)) 0
 
 -- a cell that is given twice names two words
 abbrev pub cause_with_line : List Token → SourceCause → SourceCause
-cause_with_line words (CellTwice cell number) = CellTwice cell (line_of_number words number)
+cause_with_line words (CellTwice cell number) = CellTwice cell (line_of_numbered_word words number)
 cause_with_line words cause = cause
 
 -- the fault at the number of a word, at that word's line
 abbrev pub fault_at_line : List Token → SourceFault → SourceFault
-fault_at_line words fault = record { line = line_of_number words fault.line; cause = cause_with_line words fault.cause }
+fault_at_line words fault = record { line = line_of_numbered_word words fault.line; cause = cause_with_line words fault.cause }
 
 -- the faults at their lines, without those that are equal to the one before
 abbrev pub faults_by_line : List Token → List SourceFault → List SourceFault
@@ -172,5 +172,5 @@ pub record AreFaultsOfSource (source : List ℕ) (first : SourceFault) (faults :
   pub words : List Token
   pub numbered : List SourceFault
   pub said : token_contents words ≡ source_tokens_without_copies source
-  pub found : AreFaultsOfWords (token_contents (with_numbers 1 words)) numbered
+  pub found : AreFaultsOfWords (token_contents (tokens_with_numbers 1 words)) numbered
   pub lines : faults ≡ faults_or_first (faults_by_line words numbered) first

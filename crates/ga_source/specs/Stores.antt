@@ -4,8 +4,8 @@ use Rattle.std.specs.Option.{option_map_or}
 use Rattle.ga_slots.specs.declared.op.Op.{Op}
 use Rattle.ga_slots.specs.declared.op.Op.TheVariants.{StoreB, Store as StoreA, StorePlus, FetchPlus, AStore, BStore, MultiplyStep, Return, Execute, Jump, Call, Unext as UnextOp}
 use Rattle.ga_ports.specs.Address.{advanced_address}
-use Rattle.ga_parser.specs.declared.item.Item.{Item}
-use Rattle.ga_parser.specs.declared.item.Item.TheVariants.{Opcode, Literal, Back, Ahead}
+use Rattle.ga_parser.specs.declared.item.AssemblyItem.{AssemblyItem}
+use Rattle.ga_parser.specs.declared.item.AssemblyItem.TheVariants.{Opcode, Literal, Back, Ahead}
 use Rattle.ga_parser.specs.declared.item.AssemblyRequest.{AssemblyRequest}
 use Rattle.ga_parser.specs.declared.item.AssemblyRequest.TheVariants.{Put, Unext, Mark}
 use Rattle.ga_parser.specs.declared.item.LocatedRequest.{LocatedRequest}
@@ -24,31 +24,31 @@ abbrev pub cell_index : ℕ → ℕ
 cell_index address = if nat_lt (address % 256) 128 then address % 256 % 64 else 128 + address % 256 % 64
 
 -- a cell holds code of this line
-abbrev pub with_code_line : List ℕ → ℕ → ℕ → List ℕ
-with_code_line code address line = slice_set code (cell_index address) line
+abbrev pub code_lines_with_line : List ℕ → ℕ → ℕ → List ℕ
+code_lines_with_line code address line = slice_set code (cell_index address) line
 
 -- so does the cell of a literal, which is at P
-abbrev pub with_literal : List ℕ → ℕ → ℕ → Item → List ℕ
-with_literal code p line (Literal _) = with_code_line code p line
-with_literal code p line _ = code
+abbrev pub code_lines_with_literal : List ℕ → ℕ → ℕ → AssemblyItem → List ℕ
+code_lines_with_literal code p line (Literal _) = code_lines_with_line code p line
+code_lines_with_literal code p line _ = code
 
 -- the cells of the literals among items from the i-th on, whose lines these are
-unfoldable pub with_literals : List ℕ → List ℕ → ℕ → ℕ → List Item → List ℕ
-with_literals code lines p i [] = code
-with_literals code lines p i (item ∷ items) = with_literals (with_literal code p (slice_index lines i) item) lines (p_after_item p item) (i + 1) items
+unfoldable pub code_lines_with_literals : List ℕ → List ℕ → ℕ → ℕ → List AssemblyItem → List ℕ
+code_lines_with_literals code lines p i [] = code
+code_lines_with_literals code lines p i (item ∷ items) = code_lines_with_literals (code_lines_with_literal code p (slice_index lines i) item) lines (p_after_item p item) (i + 1) items
 
 -- an instruction word, followed by its literals
-abbrev pub with_code_word : List ℕ → CellGroup → List ℕ
-with_code_word code group =
-    with_literals (with_code_line code group.address (slice_index group.lines.items 0)) group.lines.items (advanced_address group.address) 0 group.items.items
+abbrev pub code_lines_with_word : List ℕ → CellGroup → List ℕ
+code_lines_with_word code group =
+    code_lines_with_literals (code_lines_with_line code group.address (slice_index group.lines.items 0)) group.lines.items (advanced_address group.address) 0 group.items.items
 
 -- of each cell the line of its code, 0 where none is: all groups but cells of data
-unfoldable pub with_groups : List ℕ → List CellGroup → List ℕ
-with_groups code [] = code
-with_groups code (group ∷ groups) = with_groups (if is_data_cell group.items.items then code else with_code_word code group) groups
+unfoldable pub code_lines_with_groups : List ℕ → List CellGroup → List ℕ
+code_lines_with_groups code [] = code
+code_lines_with_groups code (group ∷ groups) = code_lines_with_groups (if is_data_cell group.items.items then code else code_lines_with_word code group) groups
 
 abbrev pub code_lines : Program → List ℕ
-code_lines program = with_groups (replicate 192 0) program.groups.items
+code_lines program = code_lines_with_groups (replicate 192 0) program.groups.items
 
 -- ---- what is known of A and B along the source
 
@@ -64,34 +64,34 @@ store_address known _ = None
 
 -- `a!` and `b!` take the literal just before them, `!+` and `@+` increment A, `+*` changes it, and after a way out nothing is
 -- known
-abbrev pub known_after_opcode : Known → Op → Known
-known_after_opcode known AStore = record { a = known.literal; b = known.b; literal = None }
-known_after_opcode known BStore = record { a = known.a; b = known.literal; literal = None }
-known_after_opcode known StorePlus = record { a = option_map advanced_address known.a; b = known.b; literal = None }
-known_after_opcode known FetchPlus = record { a = option_map advanced_address known.a; b = known.b; literal = None }
-known_after_opcode known MultiplyStep = record { a = None; b = known.b; literal = None }
-known_after_opcode known Return = unknown_registers
-known_after_opcode known Execute = unknown_registers
-known_after_opcode known Jump = unknown_registers
-known_after_opcode known Call = unknown_registers
-known_after_opcode known _ = record { a = known.a; b = known.b; literal = None }
+abbrev pub known_registers_after_opcode : Known → Op → Known
+known_registers_after_opcode known AStore = record { a = known.literal; b = known.b; literal = None }
+known_registers_after_opcode known BStore = record { a = known.a; b = known.literal; literal = None }
+known_registers_after_opcode known StorePlus = record { a = option_map advanced_address known.a; b = known.b; literal = None }
+known_registers_after_opcode known FetchPlus = record { a = option_map advanced_address known.a; b = known.b; literal = None }
+known_registers_after_opcode known MultiplyStep = record { a = None; b = known.b; literal = None }
+known_registers_after_opcode known Return = unknown_registers
+known_registers_after_opcode known Execute = unknown_registers
+known_registers_after_opcode known Jump = unknown_registers
+known_registers_after_opcode known Call = unknown_registers
+known_registers_after_opcode known _ = record { a = known.a; b = known.b; literal = None }
 
 -- after the end of a loop, which may move A more than once
-abbrev pub known_after_loop : Known → Op → Known
-known_after_loop known op = record { a = None; b = (known_after_opcode known op).b; literal = None }
+abbrev pub known_registers_after_loop : Known → Op → Known
+known_registers_after_loop known op = record { a = None; b = (known_registers_after_opcode known op).b; literal = None }
 
 -- a control word made the label, so that it isn't reached from elsewhere
 abbrev pub is_unnamed_label : List Label → ℕ → Bool
 is_unnamed_label names label = option_map_or (λ (found : Label). not (has_bytes found.name.now)) (slice_get names label) false
 
-abbrev pub known_after_request : Program → Known → AssemblyRequest → Known
-known_after_request program known (Put (Literal value)) = record { a = known.a; b = known.b; literal = operand_value program.labels.items value }
-known_after_request program known (Put (Opcode op)) = known_after_opcode known op
-known_after_request program known (Put (Ahead op _)) = known_after_opcode known op
-known_after_request program known (Put (Back op _)) = known_after_loop known op
-known_after_request program known (Unext _) = known_after_loop known UnextOp
-known_after_request program known (Mark label) = if is_unnamed_label program.names.items label then known else unknown_registers
-known_after_request program known _ = known
+abbrev pub known_registers_after_request : Program → Known → AssemblyRequest → Known
+known_registers_after_request program known (Put (Literal value)) = record { a = known.a; b = known.b; literal = operand_value program.labels.items value }
+known_registers_after_request program known (Put (Opcode op)) = known_registers_after_opcode known op
+known_registers_after_request program known (Put (Ahead op _)) = known_registers_after_opcode known op
+known_registers_after_request program known (Put (Back op _)) = known_registers_after_loop known op
+known_registers_after_request program known (Unext _) = known_registers_after_loop known UnextOp
+known_registers_after_request program known (Mark label) = if is_unnamed_label program.names.items label then known else unknown_registers
+known_registers_after_request program known _ = known
 
 -- ---- stores
 
@@ -111,11 +111,11 @@ with_optional_store None stores = stores
 with_optional_store (Some store) stores = store ∷ stores
 
 -- those of the requests, in their order, where this is known before the first
-unfoldable pub stores_from : Program → List ℕ → Known → List LocatedRequest → List Store
-stores_from program code known [] = []
-stores_from program code known (asked ∷ rest) =
-    with_optional_store (code_store_of_request code known asked.line asked.request) (stores_from program code (known_after_request program known asked.request) rest)
+unfoldable pub stores_of_requests : Program → List ℕ → Known → List LocatedRequest → List Store
+stores_of_requests program code known [] = []
+stores_of_requests program code known (asked ∷ rest) =
+    with_optional_store (code_store_of_request code known asked.line asked.request) (stores_of_requests program code (known_registers_after_request program known asked.request) rest)
 
 -- all of a program
 abbrev pub stores_of_program : Program → List Store
-stores_of_program program = stores_from program (code_lines program) unknown_registers program.asked.items
+stores_of_program program = stores_of_requests program (code_lines program) unknown_registers program.asked.items

@@ -2,8 +2,8 @@
 use Rattle.std.specs.Prelude.{if◌then◌else◌, drop, Bool, true, false, List, [], ◌∷◌, ℕ, ◌≡◌, ◌≢◌, ◌<◌, ◌⊎◌, ◌||◌, Option, Some, None, length, take, slice_index_or, suc, ◌++◌, ◌+◌, ◌%◌, ◌-◌, ◌≤◌, ◌^◌, map}
 use Rattle.ga_slots.specs.declared.op.Op.{Op}
 use Rattle.ga_slots.specs.declared.op.Op.TheVariants.{FetchP, Nop, Return}
-use Rattle.ga_parser.specs.declared.item.Item.{Item}
-use Rattle.ga_parser.specs.declared.item.Item.TheVariants.{Opcode, Literal, Back, Ahead, Cell}
+use Rattle.ga_parser.specs.declared.item.AssemblyItem.{AssemblyItem}
+use Rattle.ga_parser.specs.declared.item.AssemblyItem.TheVariants.{Opcode, Literal, Back, Ahead, Cell}
 use Rattle.std.specs.List.{All, list_any, flat_map}
 use Rattle.ga_node.specs.Record.{NodeState}
 use Rattle.ga_parser.specs.declared.item.LocatedRequest.{LocatedRequest}
@@ -13,14 +13,14 @@ use Rattle.ga_parser.specs.declared.item.AssemblyRequest.TheVariants.{Fill, Go, 
 use Rattle.ga_source.specs.declared.packing.PackedNode.{PackedNode}
 use Rattle.ga_source.specs.declared.packing.Packer.{Packer}
 use Rattle.ga_source.specs.declared.group.PackingSpot.{PackingSpot}
-use Rattle.ga_source.specs.Reading.{first_spot_of_cell, spot_after_item, is_item_at_spot, is_filled_with_nops, item_fits, is_request_met, spot_after_request, cells_match_requests, operand_value, are_equal_numbers, word_at_address, slot_reaches, ends_cell}
+use Rattle.ga_source.specs.Reading.{first_spot_of_cell, spot_after_item, is_item_at_spot, is_filled_with_nops, item_fits_at_spot, is_request_met, spot_after_request, cells_match_requests, operand_value, are_equal_numbers, word_at_address, slot_reaches_address, item_ends_cell}
 use Rattle.ga_source.specs.Cells.{item_uses_cell, requests_use_cell, KeepsOtherCells, PlacedItem, placed_item, placed_items_from}
 use Rattle.ga_node.specs.declared.place.Place.{Place}
 use Rattle.ga_node.specs.declared.place.Place.TheVariants.{Ram, Rom}
 use Rattle.ga_slots.specs.Slots.{opcode, target}
 use Rattle.ga_parser.specs.declared.item.Operand.TheVariants.{Label, Number}
 use Rattle.ga_parser.specs.declared.item.Operand.{Operand}
-use Rattle.ga_source.specs.Made.{address_after_request, requested_cells, cell_of, node_number_of_words, IsSoundBody}
+use Rattle.ga_source.specs.Made.{address_after_request, requested_cells, cell_at_index, node_number_of_words, IsSoundBody}
 use Rattle.ga_source.specs.declared.program.Program.{Program}
 use Rattle.ga_source.specs.Programs.{IsAssembledChip, IsPlainProgramOf, IsProgramOfBody}
 use Rattle.ga_parser.specs.Saying.{TokenContent, is_word}
@@ -36,7 +36,7 @@ use Rattle.ga_parser.specs.inner.Drafting.{texts_of}
 -- ---- the opcodes of items, and cells of data
 
 -- the opcode of an item
-abbrev pub op_in : Item → Op
+abbrev pub op_in : AssemblyItem → Op
 op_in (Opcode op) = op
 op_in (Literal _) = FetchP
 op_in (Back op _) = op
@@ -44,40 +44,40 @@ op_in (Ahead op _) = op
 op_in (Cell _) = Nop
 
 -- what is read where there is no item
-abbrev pub nothing : Item
+abbrev pub nothing : AssemblyItem
 nothing = Opcode Return
 
 -- ---- the items of a cell
 
 -- the spot after items
-unfoldable pub behind_all : PackingSpot → List Item → PackingSpot
+unfoldable pub behind_all : PackingSpot → List AssemblyItem → PackingSpot
 behind_all spot [] = spot
 behind_all spot (item ∷ rest) = behind_all (spot_after_item spot item) rest
 
 -- the items are in place, in sequence
-unfoldable pub Stand : NodeState → List (Option ℕ) → PackingSpot → List Item → Type 0
+unfoldable pub Stand : NodeState → List (Option ℕ) → PackingSpot → List AssemblyItem → Type 0
 Stand node labels spot [] = Unit {0}
 Stand node labels spot (item ∷ rest) = (is_item_at_spot node labels spot item ≡ true) × Stand node labels (spot_after_item spot item) rest
 
 -- one of the items or its literal is in the cell
-unfoldable pub taken : PackingSpot → List Item → ℕ → Bool
+unfoldable pub taken : PackingSpot → List AssemblyItem → ℕ → Bool
 taken spot [] cell = false
 taken spot (item ∷ rest) cell = item_uses_cell spot item cell || taken (spot_after_item spot item) rest cell
 
 -- the cell reads as these items, followed by `.`
-pub record IsReadAt (node : NodeState) (labels : List (Option ℕ)) (address : ℕ) (items : List Item) : Type 0 where
+pub record IsReadAt (node : NodeState) (labels : List (Option ℕ)) (address : ℕ) (items : List AssemblyItem) : Type 0 where
   pub items_stand : Stand node labels (first_spot_of_cell address) items
   pub filled : is_filled_with_nops node (behind_all (first_spot_of_cell address) items) ≡ true
 
 -- the spot of an item of the cell
-abbrev pub spot_in : ℕ → List Item → ℕ → PackingSpot
+abbrev pub spot_in : ℕ → List AssemblyItem → ℕ → PackingSpot
 spot_in address items k = behind_all (first_spot_of_cell address) (take k items)
 
 -- each item has room in its slot of the cell
-pub record IsFit (labels : List (Option ℕ)) (address : ℕ) (items : List Item) : Type 0 where
+pub record IsFit (labels : List (Option ℕ)) (address : ℕ) (items : List AssemblyItem) : Type 0 where
   pub slots : (k : ℕ) → k < length items → (spot_in address items k).slot ≡ k
   pub cells : (k : ℕ) → k < length items → (spot_in address items k).at ≡ address
-  pub room : (k : ℕ) → k < length items → item_fits labels (spot_in address items k) (slice_index_or items k nothing) ≡ true
+  pub room : (k : ℕ) → k < length items → item_fits_at_spot labels (spot_in address items k) (slice_index_or items k nothing) ≡ true
 
 -- ---- groups
 
@@ -114,7 +114,7 @@ abbrev pub Extends : List (Option ℕ) → List (Option ℕ) → Type 0
 Extends before after = (k address : ℕ) → slice_index_or before k None ≡ Some address → slice_index_or after k None ≡ Some address
 
 -- a jump back leads to a label that is known
-abbrev pub IsKnown : List (Option ℕ) → Item → Type 0
+abbrev pub IsKnown : List (Option ℕ) → AssemblyItem → Type 0
 IsKnown labels (Back _ label) = slice_index_or labels label None ≢ None
 IsKnown labels _ = Unit {0}
 
@@ -134,9 +134,9 @@ pub record IsWalked (packer : Packer) (asked : List LocatedRequest) : Type 0 whe
   pub open_fits : (labels : List (Option ℕ)) → Extends packer.labels.items labels → IsFit labels packer.spot.at packer.filling.items
 
 -- The requests so far are laid out, where the last asks for an item that is still to be put, at the packer's spot.
-pub record IsPending (packer : Packer) (asked : List LocatedRequest) (item : Item) : Type 0 where
+pub record IsPending (packer : Packer) (asked : List LocatedRequest) (item : AssemblyItem) : Type 0 where
   pub here : behind_all (first_spot_of_cell packer.spot.at) packer.filling.items ≡ packer.spot
-  pub fit : (labels : List (Option ℕ)) → Extends packer.labels.items labels → item_fits labels packer.spot item ≡ true
+  pub fit : (labels : List (Option ℕ)) → Extends packer.labels.items labels → item_fits_at_spot labels packer.spot item ≡ true
   pub walk : (labels : List (Option ℕ)) → Extends packer.labels.items labels → after_all labels (first_spot_of_cell 0) asked ≡ spot_after_item packer.spot item
   pub met : (node : NodeState) (labels : List (Option ℕ)) → Extends packer.labels.items labels → All (IsRead node labels) packer.groups.items → packer.broken ≡ None → Stand node labels (first_spot_of_cell packer.spot.at) packer.filling.items → is_item_at_spot node labels packer.spot item ≡ true → AreMet node labels (first_spot_of_cell 0) asked
   pub named : (labels : List (Option ℕ)) (cell : ℕ) → Extends packer.labels.items labels → (are_taken packer.groups.items cell ≡ true) ⊎ ((taken (first_spot_of_cell packer.spot.at) packer.filling.items cell ≡ true) ⊎ (item_uses_cell packer.spot item cell ≡ true)) → requests_use_cell labels (first_spot_of_cell 0) asked cell ≡ true
@@ -170,7 +170,7 @@ pub record IsLaidOut (packed : PackedNode) (asked : List LocatedRequest) : Type 
 -- ---- groups as the places of their items, while requests are packed
 
 -- items of a cell, each with its line, one in each slot from this one on
-unfoldable pub places_in : ℕ → ℕ → List Item → List ℕ → List PlacedItem
+unfoldable pub places_in : ℕ → ℕ → List AssemblyItem → List ℕ → List PlacedItem
 places_in address slot [] lines = []
 places_in address slot (item ∷ items) [] = []
 places_in address slot (item ∷ items) (line ∷ lines) = record { address = address; slot = slot; item = item; line = line } ∷ places_in address (suc slot) items lines
@@ -202,7 +202,7 @@ pub record TakesOn (old new : Packer) (asked : LocatedRequest) : Type 0 where
   pub grouped : (before : List LocatedRequest) → IsWalked old before → IsGrouped old before → IsGrouped new (before ++ asked ∷ [])
 
 -- The groups, the open cell and an item that is still to be put at the packer's spot are what the requests so far ask for.
-pub record IsPutting (packer : Packer) (asked : List LocatedRequest) (item : Item) (line : ℕ) : Type 0 where
+pub record IsPutting (packer : Packer) (asked : List LocatedRequest) (item : AssemblyItem) (line : ℕ) : Type 0 where
   pub places : (labels : List (Option ℕ)) → Extends packer.labels.items labels → placed_items_from labels (first_spot_of_cell 0) asked ≡ packer_places packer ++ placed_item packer.spot item line ∷ []
   pub groups : All HasLines packer.groups.items
   pub lines : length packer.lines.items ≡ length packer.filling.items
@@ -229,10 +229,10 @@ KeepsRest before after = after ≡ record before { ram = after.ram; rom = after.
 
 -- a jump that leads from wherever its label is reached
 abbrev pub Leads : List (Option ℕ) → ℕ → ℕ → ℕ → Type 0
-Leads labels word slot label = (p : ℕ) → slot_reaches p slot (operand_value labels (Label label)) ≡ true → are_equal_numbers (operand_value labels (Label label)) (Some (target p word slot)) ≡ true
+Leads labels word slot label = (p : ℕ) → slot_reaches_address p slot (operand_value labels (Label label)) ≡ true → are_equal_numbers (operand_value labels (Label label)) (Some (target p word slot)) ≡ true
 
 -- the word has the item in a slot
-abbrev pub HasItem : List (Option ℕ) → ℕ → ℕ → Item → Type 0
+abbrev pub HasItem : List (Option ℕ) → ℕ → ℕ → AssemblyItem → Type 0
 HasItem labels word slot (Opcode op) = opcode word slot ≡ op
 HasItem labels word slot (Literal _) = opcode word slot ≡ FetchP
 HasItem labels word slot (Back op label) = (opcode word slot ≡ op) × Leads labels word slot label
@@ -240,16 +240,16 @@ HasItem labels word slot (Ahead op label) = (opcode word slot ≡ op) × Leads l
 HasItem labels word slot (Cell value) = are_equal_numbers (operand_value labels value) (Some word) ≡ true
 
 -- the last item of a cell may stand in this slot
-abbrev pub MayEnd : ℕ → Item → Type 0
+abbrev pub MayEnd : ℕ → AssemblyItem → Type 0
 MayEnd slot (Back _ _) = slot < 3
 MayEnd slot (Ahead _ _) = slot < 3
 MayEnd slot (Cell _) = slot ≡ 0
 MayEnd slot _ = Unit {0}
 
 -- the word has each item in its slot, followed by `.`
-pub record IsWordOf (labels : List (Option ℕ)) (items : List Item) (word : ℕ) : Type 0 where
+pub record IsWordOf (labels : List (Option ℕ)) (items : List AssemblyItem) (word : ℕ) : Type 0 where
   pub has : (k : ℕ) → k < length items → HasItem labels word k (slice_index_or items k nothing)
-  pub dots : (k : ℕ) → length items ≤ k → k < 4 → ends_cell (slice_index_or items (length items - 1) nothing) ≡ false → opcode word k ≡ Nop
+  pub dots : (k : ℕ) → length items ≤ k → k < 4 → item_ends_cell (slice_index_or items (length items - 1) nothing) ≡ false → opcode word k ≡ Nop
 
 -- ---- cells
 
@@ -263,19 +263,19 @@ abbrev pub Keeps : NodeState → List (Option ℕ) → NodeState → List (Optio
 Keeps before given after given_then = (address : ℕ) → Holds given (address % 512) → (word_at_address after address ≡ word_at_address before address) × Holds given_then (address % 512)
 
 -- besides its opcode, what an item needs: its literal, or that its jump reaches
-abbrev pub HasRest : NodeState → List (Option ℕ) → PackingSpot → Item → Type 0
+abbrev pub HasRest : NodeState → List (Option ℕ) → PackingSpot → AssemblyItem → Type 0
 HasRest node labels spot (Literal value) = are_equal_numbers (operand_value labels value) (word_at_address node spot.p) ≡ true
-HasRest node labels spot (Back _ label) = (spot.slot < 3) × (slot_reaches spot.p spot.slot (operand_value labels (Label label)) ≡ true)
-HasRest node labels spot (Ahead _ label) = (spot.slot < 3) × (slot_reaches spot.p spot.slot (operand_value labels (Label label)) ≡ true)
+HasRest node labels spot (Back _ label) = (spot.slot < 3) × (slot_reaches_address spot.p spot.slot (operand_value labels (Label label)) ≡ true)
+HasRest node labels spot (Ahead _ label) = (spot.slot < 3) × (slot_reaches_address spot.p spot.slot (operand_value labels (Label label)) ≡ true)
 HasRest node labels spot _ = Unit {0}
 
 -- the cell of an item's literal is given
-abbrev pub HoldsRest : List (Option ℕ) → PackingSpot → Item → Type 0
+abbrev pub HoldsRest : List (Option ℕ) → PackingSpot → AssemblyItem → Type 0
 HoldsRest given spot (Literal _) = Holds given (spot.p % 512)
 HoldsRest given spot _ = Unit {0}
 
 -- the word of a group is in its cell
-pub record HasWord (node : NodeState) (labels : List (Option ℕ)) (address : ℕ) (items : List Item) : Type 0 where
+pub record HasWord (node : NodeState) (labels : List (Option ℕ)) (address : ℕ) (items : List AssemblyItem) : Type 0 where
   pub word : ℕ
   pub is_word : IsWordOf labels items word
   pub in_cell : word_at_address node address ≡ Some word
@@ -357,7 +357,7 @@ pub record IsPackedPlain (packer : Packer) (requests : List AssemblyRequest) : T
 
 -- the numbers of cells are words
 abbrev pub AreWords : List (ℕ × ℕ) → Type 0
-AreWords cells = (k : ℕ) → k < length cells → (cell_of cells k).1 < 2 ^ 18
+AreWords cells = (k : ℕ) → k < length cells → (cell_at_index cells k).1 < 2 ^ 18
 
 -- ---- programs loaded so far
 

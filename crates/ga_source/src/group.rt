@@ -4,7 +4,7 @@ ghost use Rattle.std.specs.Prelude.{◌≡◌, slice_index};
 ghost use Rattle.ga_source.specs.Reading.{is_data_cell};
 
 use arrayvec::ArrayVec;
-use ga_parser::Item;
+use ga_parser::AssemblyItem;
 
 /// A slot of a cell, with P after the cell and its literals so far, unless an opcode moved it.
 #[derive(Clone, Copy, PartialEq, Eq)]
@@ -20,7 +20,7 @@ pub(crate) struct PackingSpot {
 #[derive(Drop)]
 pub struct CellGroup {
     pub address: u32,
-    pub items: ArrayVec<Item, 4>,
+    pub items: ArrayVec<AssemblyItem, 4>,
     /// The line of each item.
     pub lines: ArrayVec<u32, 4>,
     /// The line of an `unext` whose loop didn't begin in this cell, or has a literal.
@@ -46,7 +46,7 @@ impl CellGroup {
     pub(crate) fn is_data(&self) -> bool
         ensures { result ≡ is_data_cell self.now.items.items }
     {
-        if let [Item::Cell(_)] = self.items.as_slice() {
+        if let [AssemblyItem::Cell(_)] = self.items.as_slice() {
             true
         } else {
             false

@@ -16,12 +16,14 @@ mod recovery;
 mod stores;
 
 pub use ga_parser::{
-    AssemblyRequest, ExpectationLine, Hint, InitialRegisters, Item, Label, LocatedRequest,
+    AssemblyItem, AssemblyRequest, ExpectationLine, Hint, InitialRegisters, Label, LocatedRequest,
     NumberRange, Operand, RegisterValue, SourceCause, SourceFault, Token, TokenKind,
     expectation_lines, hint_for, source_words, source_words_without_copies, strip_bom,
 };
 pub use group::CellGroup;
-pub use numbered_words::{assemble_by_word_number, fault_on_line, faults_on_lines, line_of_number};
+pub use numbered_words::{
+    assemble_by_word_number, fault_on_line, faults_on_lines, line_of_numbered_word,
+};
 pub use program::{AssembledChip, Program, assemble, assemble_words};
 pub use recovery::{RecoveredPrograms, all_faults, faults_or_first, recover_words};
 pub use stores::{Store, stores_over_code};

@@ -2,10 +2,10 @@
 
 ghost use Rattle.std.specs.Prelude.{◌≡◌, ◌≢◌, ◌-◌, ◌%◌, ◌<◌, ◌≤◌, ◌^◌, ℕ, Some, true, false, List, [], ◌∷◌, length, replicate, slice_index_or, slice_set, OnOk, OnErr, IsOk, IfSome, IsSome};
 ghost use Rattle.std.specs.List.{All};
-ghost use Rattle.ga_node.specs.State.{with_value, HasMemory};
+ghost use Rattle.ga_node.specs.State.{with_value, HasMemoryOfPlace};
 ghost use Rattle.ga_slots.specs.Codes.{code_of};
 ghost use Rattle.ga_slots.specs.Slots.{opcode as opcode_of, target as target_of};
-ghost use Rattle.ga_source.specs.Reading.{first_spot_of_cell as begin_of, ends_cell, cells_match_requests as follows_of, slot_reaches as reaches_to, operand_value, word_at_address};
+ghost use Rattle.ga_source.specs.Reading.{first_spot_of_cell as begin_of, item_ends_cell, cells_match_requests as follows_of, slot_reaches_address as reaches_to, operand_value, word_at_address};
 ghost use Rattle.ga_source.specs.inner.{IsFitGroup, IsLaidOut, takes_group, HasItem, HasRest, Holds, HoldsRest, IsLoadedGroup, IsMemory, IsWordOf, Keeps, Leads, MayEnd, IsCell, KeepsRest, op_in, nothing, IsCellGroup, AreCellGroups, AreWords, Adds, AreAny};
 ghost use Rattle.ga_parser.specs.declared.item.Operand.{Operand as ValueOf};
 ghost use Rattle.ga_source.specs.Made.{IsMemoryAddress, AreDistinctCells};
@@ -13,9 +13,9 @@ ghost use Rattle.ga_source.specs.Cells.{KeepsOtherCells, requests_use_cell, is_a
 
 use super::group::{CellGroup, PackingSpot};
 use super::packing::PackedNode;
-use super::reading::{first_spot_of_cell, resolve, slot_reaches, spot_after_item};
+use super::reading::{first_spot_of_cell, resolve, slot_reaches_address, spot_after_item};
 use ga_node::{Node, Place};
-use ga_parser::{Item, LocatedRequest, Operand, SourceCause, SourceFault, fault_at};
+use ga_parser::{AssemblyItem, LocatedRequest, Operand, SourceCause, SourceFault, fault_at};
 use ga_ports::advance_p;
 use ga_slots::{Op, encode};
 use ga_word::Word18;
@@ -57,13 +57,13 @@ fn with_target(word: Word18, slot: usize, address: u32) -> Word18
 }
 
 /// The opcode of an item.
-fn opcode_in(item: Item) -> Op
+fn opcode_in(item: AssemblyItem) -> Op
     ensures { result ≡ op_in item }
 {
     match item {
-        Item::Opcode(op) | Item::Back(op, _) | Item::Ahead(op, _) => op,
-        Item::Literal(_) => Op::FetchP,
-        Item::Cell(_) => Op::Nop,
+        AssemblyItem::Opcode(op) | AssemblyItem::Back(op, _) | AssemblyItem::Ahead(op, _) => op,
+        AssemblyItem::Literal(_) => Op::FetchP,
+        AssemblyItem::Cell(_) => Op::Nop,
     }
 }
 
@@ -75,7 +75,7 @@ fn all_nop() -> [Op; 4]
 }
 
 /// The opcodes of items, followed by `.`.
-fn opcodes_in(items: &[Item]) -> [Op; 4]
+fn opcodes_in(items: &[AssemblyItem]) -> [Op; 4]
     requires { length items.now ≤ 4 }
     ensures size { length result ≡ 4 }
     ensures ops { (k : ℕ) → k < length items.now → slice_index_or result k Op.Return ≡ op_in (slice_index_or items.now k nothing) }
@@ -89,7 +89,7 @@ fn opcodes_in(items: &[Item]) -> [Op; 4]
 }
 
 /// The instruction word with the opcodes of some items, followed by `.`.
-fn opcode_word(items: &[Item]) -> Word18
+fn opcode_word(items: &[AssemblyItem]) -> Word18
     requires few { length items.now ≤ 4 }
     requires last { length items.now ≡ 4 → code_of (op_in (slice_index_or items.now 3 nothing)) % 4 ≡ 0 }
     ensures ops { (k : ℕ) → k < length items.now → opcode_of result k ≡ op_in (slice_index_or items.now k nothing) }
@@ -120,18 +120,23 @@ fn with_jump(labels: &[Option<u32>], word: Word18, slot: usize, label: usize) ->
 }
 
 /// The word with its last item, in this slot, by the word of the opcodes.
-fn with_last(labels: &[Option<u32>], word: Word18, slot: usize, last: Item) -> Option<Word18>
+fn with_last(
+    labels: &[Option<u32>],
+    word: Word18,
+    slot: usize,
+    last: AssemblyItem,
+) -> Option<Word18>
     requires { MayEnd slot last }
     ensures has { IfSome result (λ found. opcode_of word slot ≡ op_in last → HasItem labels.now found slot last) }
     ensures before { IfSome result (λ found. (k : ℕ) → k < slot → opcode_of found k ≡ opcode_of word k) }
-    ensures behind { IfSome result (λ found. ends_cell last ≡ false → found ≡ word) }
-    ensures some { (n : ℕ) → last ≡ Item.Cell (Operand.Number n) → n < 2 ^ 18 → IsSome result }
+    ensures behind { IfSome result (λ found. item_ends_cell last ≡ false → found ≡ word) }
+    ensures some { (n : ℕ) → last ≡ AssemblyItem.Cell (Operand.Number n) → n < 2 ^ 18 → IsSome result }
 {
     match last {
-        Item::Cell(value) => value_in(labels, value),
-        Item::Back(_, label) => with_jump(labels, word, slot, label),
-        Item::Ahead(_, label) => with_jump(labels, word, slot, label),
-        Item::Opcode(_) | Item::Literal(_) => Some(word),
+        AssemblyItem::Cell(value) => value_in(labels, value),
+        AssemblyItem::Back(_, label) => with_jump(labels, word, slot, label),
+        AssemblyItem::Ahead(_, label) => with_jump(labels, word, slot, label),
+        AssemblyItem::Opcode(_) | AssemblyItem::Literal(_) => Some(word),
     }
 }
 
@@ -140,7 +145,7 @@ fn word_of(labels: &[Option<u32>], group: &CellGroup) -> Option<Word18>
     requires begun { 0 < length group.now.items.items }
     requires fit { IsFitGroup labels.now group.now }
     ensures word { IfSome result (λ word. IsWordOf labels.now group.now.items.items word) }
-    ensures some { (n : ℕ) → group.now.items.items ≡ Item.Cell (Operand.Number n) ∷ [] → n < 2 ^ 18 → IsSome result }
+    ensures some { (n : ℕ) → group.now.items.items ≡ AssemblyItem.Cell (Operand.Number n) ∷ [] → n < 2 ^ 18 → IsSome result }
 {
     let items = group.items.as_slice();
     let word = opcode_word(items);
@@ -152,7 +157,7 @@ fn word_of(labels: &[Option<u32>], group: &CellGroup) -> Option<Word18>
 fn set_cell(node: &mut Node, place: Place, word: Word18)
     requires { IsMemory place }
     ensures value { node.new ≡ with_value node.old place word }
-    ensures size { HasMemory node.old place }
+    ensures size { HasMemoryOfPlace node.old place }
 {
     let _before = node.get(place);
     node.set(place, word.get());
@@ -204,7 +209,7 @@ fn see_jump(
     ensures { OnOk result ((spot.slot < 3) × (reaches_to spot.p spot.slot (operand_value labels.now (Operand.Label label)) ≡ true)) }
 {
     let to = resolve(labels, Operand::Label(label));
-    if spot.slot < 3 && slot_reaches(spot.p, spot.slot, to) {
+    if spot.slot < 3 && slot_reaches_address(spot.p, spot.slot, to) {
         Ok(())
     } else {
         let cause = SourceCause::Reach {
@@ -222,24 +227,24 @@ fn write_item(
     labels: &[Option<u32>],
     line: u32,
     spot: PackingSpot,
-    item: Item,
+    item: AssemblyItem,
 ) -> Result<(), SourceFault<'static>>
     ensures rest { OnOk result (KeepsRest node.old node.new) }
     ensures elsewhere { OnOk result (KeepsOtherCells (item_uses_cell spot item) node.old node.new) }
     ensures has { OnOk result (HasRest node.new labels.now spot item) }
     ensures held { OnOk result (HoldsRest given.new spot item) }
     ensures kept { OnOk result (Keeps node.old given.old node.new given.new) }
-    ensures same { (value : ValueOf) → item ≡ Item.Cell value → given.new ≡ given.old }
-    ensures taken { (value : ValueOf) → item ≡ Item.Cell value → IsOk result }
+    ensures same { (value : ValueOf) → item ≡ AssemblyItem.Cell value → given.new ≡ given.old }
+    ensures taken { (value : ValueOf) → item ≡ AssemblyItem.Cell value → IsOk result }
 {
     match item {
-        Item::Literal(value) => match value_in(labels, value) {
+        AssemblyItem::Literal(value) => match value_in(labels, value) {
             Some(word) => write(node, given, line, spot.p, word),
             None => Err(fault_at(line, SourceCause::Missing)),
         },
-        Item::Back(_, label) => see_jump(labels, line, spot, label),
-        Item::Ahead(_, label) => see_jump(labels, line, spot, label),
-        Item::Opcode(_) | Item::Cell(_) => Ok(()),
+        AssemblyItem::Back(_, label) => see_jump(labels, line, spot, label),
+        AssemblyItem::Ahead(_, label) => see_jump(labels, line, spot, label),
+        AssemblyItem::Opcode(_) | AssemblyItem::Cell(_) => Ok(()),
     }
 }
 
@@ -324,7 +329,7 @@ fn is_past(fault: Option<SourceFault<'_>>) -> bool {
 fn next_cell_of(group: &CellGroup) -> u32 {
     let mut p = advance_p(group.address);
     for item in &group.items {
-        if let Item::Literal(_) = item {
+        if let AssemblyItem::Literal(_) = item {
             p = advance_p(p);
         }
     }

@@ -1,7 +1,7 @@
 //! Where a node begins among words of which some are at fault.
 
 ghost use Rattle.std.specs.Prelude.{◌≡◌, ◌≤◌, ◌<◌, length, drop, IfOk, IfErr};
-ghost use Rattle.ga_grid.specs.Grid.{optional_number};
+ghost use Rattle.ga_grid.specs.Grid.{optional_node_number};
 ghost use Rattle.ga_parser.specs.Saying.{token_content, token_contents, is_word};
 ghost use Rattle.ga_source.specs.Recovery.{is_node_token, node_of_token, misplaced_word_fault as misplaced_at};
 ghost use Rattle.ga_source.specs.inner.{head_of, left_of, Skips, IsBegun};
@@ -19,7 +19,7 @@ fn begins(word: &Token<'_>) -> bool
 
 /// The node that a word names.
 fn node_of(name: Token<'_>) -> Option<NodeId>
-    ensures { optional_number result ≡ node_of_token (token_content name.entry) }
+    ensures { optional_node_number result ≡ node_of_token (token_content name.entry) }
 {
     match name.kind {
         TokenKind::Word => node_named(name.text),

@@ -5,7 +5,7 @@ ghost use Rattle.ga_parser.specs.declared.fault.SourceCause.TheVariants.{Memory}
 ghost use Rattle.ga_parser.specs.Saying.{token_contents};
 ghost use Rattle.ga_parser.specs.Words.{source_tokens};
 ghost use Rattle.ga_source.specs.Made.{IsSoundSource};
-ghost use Rattle.ga_source.specs.Recovery.{with_line, with_numbers, IsAssemblyOfWords, line_of_number, fault_at_line, faults_by_line};
+ghost use Rattle.ga_source.specs.Recovery.{token_with_line, tokens_with_numbers, IsAssemblyOfWords, line_of_numbered_word, fault_at_line, faults_by_line};
 
 use super::program::{AssembledChip, assemble_words};
 use ga_parser::{SourceCause, SourceFault, Token};
@@ -16,7 +16,7 @@ pub(crate) fn number_words<'s>(
     alloc: Global,
     words: &[Token<'s>],
 ) -> Result<Vec<Token<'s>>, AllocError>
-    ensures { IfOk result (λ all. all.items ≡ with_numbers 1 words.now) }
+    ensures { IfOk result (λ all. all.items ≡ tokens_with_numbers 1 words.now) }
 {
     let mut all = Vec::new(alloc);
     let mut number = 1u32;
@@ -29,7 +29,7 @@ pub(crate) fn number_words<'s>(
 
 /// A word with its number in place of its line.
 fn with_number<'s>(word: &Token<'s>, number: u32) -> Token<'s>
-    ensures { result ≡ with_line word.now number }
+    ensures { result ≡ token_with_line word.now number }
 {
     Token {
         line: number,
@@ -48,7 +48,7 @@ pub fn assemble_by_word_number<'s>(
     alloc: Global,
     words: &[Token<'s>],
 ) -> Result<AssembledChip<'s>, SourceFault<'s>>
-    ensures assembled { IfOk result (IsAssemblyOfWords (with_numbers 1 words.now)) }
+    ensures assembled { IfOk result (IsAssemblyOfWords (tokens_with_numbers 1 words.now)) }
 
     // All words of a source of plain words that give each cell once are refused only if memory runs out.
     ensures refused { IfErr result (λ fault. (source : List ℕ) → token_contents words.now ≡ source_tokens source → IsSoundSource source → fault.cause ≡ Memory) }
@@ -58,8 +58,8 @@ pub fn assemble_by_word_number<'s>(
 }
 
 /// The line of the word with a number, 0 if there is none.
-pub fn line_of_number(words: &[Token<'_>], number: u32) -> u32
-    ensures { result ≡ line_of_number words.now number }
+pub fn line_of_numbered_word(words: &[Token<'_>], number: u32) -> u32
+    ensures { result ≡ line_of_numbered_word words.now number }
 {
     match words.get((number as usize).saturating_sub(1)) {
         Some(word) => word.line,
@@ -71,11 +71,11 @@ pub fn line_of_number(words: &[Token<'_>], number: u32) -> u32
 pub fn fault_on_line<'s>(words: &[Token<'_>], fault: SourceFault<'s>) -> SourceFault<'s>
     ensures { result ≡ fault_at_line words.now fault.entry }
 {
-    let line = line_of_number(words, fault.line);
+    let line = line_of_numbered_word(words, fault.line);
     let cause = match fault.cause {
         SourceCause::CellTwice { cell, line } => SourceCause::CellTwice {
             cell,
-            line: line_of_number(words, line),
+            line: line_of_numbered_word(words, line),
         },
         cause => cause,
     };

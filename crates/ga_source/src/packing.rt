@@ -2,19 +2,20 @@
 
 ghost use Rattle.std.specs.Prelude.{◌≡◌, ℕ, [], ◌∷◌, ◌++◌, List, IsTrue, true, IfOk, IfErr, OnOk, map, slice_index_or};
 ghost use Rattle.ga_parser.specs.declared.item.LocatedRequest.{LocatedRequest};
-ghost use Rattle.ga_source.specs.Reading.{spot_after_request, item_fits as fits_of, first_spot_of_cell as begin_of};
+ghost use Rattle.ga_source.specs.Reading.{spot_after_request, item_fits_at_spot as fits_of, first_spot_of_cell as begin_of};
 ghost use Rattle.ga_parser.specs.declared.fault.SourceCause.TheVariants.{Memory};
 ghost use Rattle.ga_parser.specs.declared.item.Operand.TheVariants.{Number};
 ghost use Rattle.ga_parser.specs.declared.item.AssemblyRequest.{AssemblyRequest as RequestOf};
 ghost use Rattle.ga_source.specs.Made.{requested_cells};
-ghost use Rattle.ga_source.specs.Cells.{cell_group_content, groups_of};
+ghost use Rattle.ga_source.specs.Cells.{cell_group_content, groups_of_requests};
 ghost use Rattle.ga_source.specs.inner.{IsGathered, IsGrouped, IsPutting, IsClosed, IsFilling, IsInCell, IsKnown, IsLaidOut, IsPending, IsWalked, TakesOn, requests_of, IsPlainRequest, ArePlain, AreCellGroups, IsPackedPlain};
 
 use super::group::{CellGroup, PackingSpot};
-use super::reading::{first_spot_of_cell, item_fits, next_cell_spot, spot_after_item};
+use super::reading::{first_spot_of_cell, item_fits_at_spot, next_cell_spot, spot_after_item};
 use arrayvec::ArrayVec;
 use ga_parser::{
-    AssemblyRequest, Item, LocatedRequest, SourceCause, SourceFault, fault_at, with_carry_bit,
+    AssemblyItem, AssemblyRequest, LocatedRequest, SourceCause, SourceFault, fault_at,
+    with_carry_bit,
 };
 use ga_slots::Op;
 use std::alloc::{AllocError, Global};
@@ -32,7 +33,7 @@ pub(crate) struct PackedNode {
 struct Packer {
     groups: Vec<CellGroup>,
     labels: Vec<Option<u32>>,
-    filling: ArrayVec<Item, 4>,
+    filling: ArrayVec<AssemblyItem, 4>,
     /// The line of each item of that cell.
     lines: ArrayVec<u32, 4>,
     /// The line of an `unext` in that cell that can't stand there.
@@ -63,12 +64,12 @@ impl Packer {
     }
 
     /// Whether the item is no jump back to a label whose address isn't known.
-    fn is_known(&self, item: Item) -> bool
+    fn is_known(&self, item: AssemblyItem) -> bool
         ensures known { IsTrue result → IsKnown self.now.labels.items item }
-        ensures data { (n : ℕ) → item ≡ Item.Cell (Number n) → IsTrue result }
+        ensures data { (n : ℕ) → item ≡ AssemblyItem.Cell (Number n) → IsTrue result }
     {
         match item {
-            Item::Back(_, label) => self.address(label).is_some(),
+            AssemblyItem::Back(_, label) => self.address(label).is_some(),
             _ => true,
         }
     }
@@ -78,7 +79,7 @@ impl Packer {
         ensures closed { OnOk result (IsClosed self.old self.new) }
         ensures gathered { OnOk result (IsGathered self.old self.new) }
         ensures stays { self.old.filling.items ≡ [] → self.old.broken ≡ None → self.new ≡ self.old }
-        ensures cell { OnOk result ((n : ℕ) (cells : List (ℕ × ℕ)) → self.old.filling.items ≡ Item.Cell (Number n) ∷ [] → self.old.broken ≡ None →
+        ensures cell { OnOk result ((n : ℕ) (cells : List (ℕ × ℕ)) → self.old.filling.items ≡ AssemblyItem.Cell (Number n) ∷ [] → self.old.broken ≡ None →
             AreCellGroups cells self.old.groups.items → AreCellGroups (cells ++ (self.old.spot.at, n) ∷ []) self.new.groups.items) }
     {
         if self.filling.is_empty() && self.broken.is_none() {
@@ -94,7 +95,7 @@ impl Packer {
     }
 
     /// Continues in the next cell if the item has no room in this one.
-    fn make_room(&mut self, item: Item) -> Result<(), AllocError>
+    fn make_room(&mut self, item: AssemblyItem) -> Result<(), AllocError>
         requires { IsInCell self.old }
         ensures cell { OnOk result (IsInCell self.new) }
         ensures stays { fits_of self.old.labels.items self.old.spot item ≡ true → self.new ≡ self.old }
@@ -103,7 +104,7 @@ impl Packer {
         ensures putting { OnOk result ((before : List LocatedRequest) (line : ℕ) → IsKnown self.old.labels.items item → IsWalked self.old before → IsGrouped self.old before →
             IsPutting self.new (before ++ record { line = line; request = AssemblyRequest.Put item } ∷ []) item line) }
     {
-        if item_fits(self.labels.as_slice(), self.spot, item) {
+        if item_fits_at_spot(self.labels.as_slice(), self.spot, item) {
             return Ok(());
         }
         self.close()?;
@@ -113,12 +114,12 @@ impl Packer {
     }
 
     /// Puts an item at the spot, where it has room.
-    fn add(&mut self, line: u32, item: Item) -> Result<(), AllocError>
+    fn add(&mut self, line: u32, item: AssemblyItem) -> Result<(), AllocError>
         requires { IsInCell self.old }
         ensures cell { OnOk result (IsInCell self.new) }
         ensures walked { OnOk result ((asked : List LocatedRequest) → IsPending self.old asked item → IsWalked self.new asked) }
         ensures grouped { OnOk result ((asked : List LocatedRequest) → IsPutting self.old asked item line → IsGrouped self.new asked) }
-        ensures packed { OnOk result ((n : ℕ) (requests : List RequestOf) → item ≡ Item.Cell (Number n) → IsPackedPlain self.old requests →
+        ensures packed { OnOk result ((n : ℕ) (requests : List RequestOf) → item ≡ AssemblyItem.Cell (Number n) → IsPackedPlain self.old requests →
             IsPackedPlain self.new (requests ++ AssemblyRequest.Put item ∷ [])) }
     {
         self.filling.push(item);
@@ -138,7 +139,7 @@ impl Packer {
         ensures { IsTrue result → slice_index_or self.now.labels.items label None ≡ Some self.now.spot.at }
     {
         for item in self.filling.as_slice() {
-            if let Item::Literal(_) = item {
+            if let AssemblyItem::Literal(_) = item {
                 return false;
             }
         }
@@ -146,13 +147,13 @@ impl Packer {
     }
 
     /// Takes an item.
-    fn put(&mut self, asked: LocatedRequest, item: Item) -> Result<(), SourceFault<'static>>
+    fn put(&mut self, asked: LocatedRequest, item: AssemblyItem) -> Result<(), SourceFault<'static>>
         requires cell { IsInCell self.old }
         requires put { asked.request ≡ AssemblyRequest.Put item }
         ensures taken { OnOk result (TakesOn self.old self.new asked) }
-        ensures packed { OnOk result ((n : ℕ) (requests : List RequestOf) → item ≡ Item.Cell (Number n) → IsPackedPlain self.old requests →
+        ensures packed { OnOk result ((n : ℕ) (requests : List RequestOf) → item ≡ AssemblyItem.Cell (Number n) → IsPackedPlain self.old requests →
             IsPackedPlain self.new (requests ++ AssemblyRequest.Put item ∷ [])) }
-        ensures refused { IfErr result (λ fault. (n : ℕ) → item ≡ Item.Cell (Number n) → fault.cause ≡ Memory) }
+        ensures refused { IfErr result (λ fault. (n : ℕ) → item ≡ AssemblyItem.Cell (Number n) → fault.cause ≡ Memory) }
     {
         if !self.is_known(item) {
             return Err(fault_at(asked.line, SourceCause::Unmatched));
@@ -171,7 +172,7 @@ impl Packer {
         let is_loop = self.is_loop(label);
         let broken = broken_by(self.broken, asked.line, is_loop);
         self.broken = broken;
-        self.add(asked.line, Item::Opcode(Op::Unext))?;
+        self.add(asked.line, AssemblyItem::Opcode(Op::Unext))?;
         Ok(())
     }
 
@@ -239,7 +240,7 @@ pub(crate) fn pack(
     labels: usize,
 ) -> Result<PackedNode, SourceFault<'static>>
     ensures laid_out { IfOk result (λ packed. IsLaidOut packed asked.now) }
-    ensures groups { IfOk result (λ packed. map cell_group_content packed.groups.items ≡ groups_of packed.labels.items asked.now) }
+    ensures groups { IfOk result (λ packed. map cell_group_content packed.groups.items ≡ groups_of_requests packed.labels.items asked.now) }
     ensures cells { IfOk result (λ packed. ArePlain (requests_of asked.now) → AreCellGroups (requested_cells 0 (requests_of asked.now)) packed.groups.items) }
     ensures refused { IfErr result (λ fault. ArePlain (requests_of asked.now) → fault.cause ≡ Memory) }
 {

@@ -3,10 +3,10 @@
 ghost use Rattle.std.specs.Prelude.{ℕ, ◌≡◌, ◌≤◌, ◌<◌, true, false, List, [], ◌∷◌, length, replicate, take, drop, codes, position, Some, IfOk, IfErr, OnOk, OnErr, IfSome};
 ghost use Rattle.std.specs.List.{All};
 ghost use Rattle.ga_grid.specs.Chip.{records_of, HaveConsistentWaits};
-ghost use Rattle.ga_source.specs.Programs.{given_register_value, with_registers, has_cells as has_cells_of, is_item_request as is_item_of, default_start as start, is_named, at_load, HasProgram, IsAssembledChip, ArePlainProgramsOf, ArePlainProgramsOfSource, body_tokens, body_token_lists, HasRequestsOfWords, AreProgramsOfBodies, AreProgramsOfSource};
+ghost use Rattle.ga_source.specs.Programs.{given_register_value, with_registers, has_cells as has_cells_of, is_item_request as is_item_of, default_start as start, is_label_named, values_at_load, HasProgram, IsAssembledChip, ArePlainProgramsOf, ArePlainProgramsOfSource, body_tokens, body_token_lists, HasRequestsOfWords, AreProgramsOfBodies, AreProgramsOfSource};
 ghost use Rattle.ga_source.specs.Cells.{AreUnusedCellsZero, HasRequestedGroups};
-ghost use Rattle.ga_grid.specs.Grid.{optional_number};
-ghost use Rattle.ga_parser.specs.Plain.{Plain, is_node_keyword as is_node_word, body_words, body_word_lists, named_node_number, token_texts, plain_requests_of, value_in, as_plain_requests};
+ghost use Rattle.ga_grid.specs.Grid.{optional_node_number};
+ghost use Rattle.ga_parser.specs.Plain.{Plain, is_node_keyword as is_node_word, body_words, body_word_lists, named_node_number, token_texts, plain_requests_of, optional_register_operand, as_plain_requests};
 ghost use Rattle.ga_parser.specs.Requests.{word_refusal};
 ghost use Rattle.ga_parser.specs.Saying.{token_contents, TokenContent};
 ghost use Rattle.ga_source.specs.Recovery.{operand_name, register_value_refusals};
@@ -32,7 +32,7 @@ use std::alloc::Global;
 
 /// The node of a name of three digits.
 pub(crate) fn node_named(text: &[u8]) -> Option<NodeId>
-    ensures { optional_number result ≡ named_node_number text.now }
+    ensures { optional_node_number result ≡ named_node_number text.now }
 {
     NodeId::from_yxx(parse_node_name(text)?)
 }
@@ -80,14 +80,14 @@ fn is_item_request(request: AssemblyRequest) -> bool
 
 /// Whether the label's name is `main`.
 fn is_main(label: &Label<'_>) -> bool
-    ensures { result ≡ is_named (codes "main") label.now }
+    ensures { result ≡ is_label_named (codes "main") label.now }
 {
     label.name == b"main".as_slice()
 }
 
 /// The first label `main`.
 fn main_among(labels: &[Label<'_>]) -> Option<usize>
-    ensures { result ≡ position (is_named (codes "main")) labels.now }
+    ensures { result ≡ position (is_label_named (codes "main")) labels.now }
 {
     labels.iter().position(|label| is_main(label))
 }
@@ -104,7 +104,7 @@ fn default_start(labels: &[Label<'_>]) -> Operand
 
 /// The registers of a program at load, where it gives these.
 fn registers_of(given: InitialRegisters, labels: &[Label<'_>], has_cells: bool) -> InitialRegisters
-    ensures { result ≡ at_load given labels.now has_cells }
+    ensures { result ≡ values_at_load given labels.now has_cells }
 {
     let mut registers = given;
     if registers.p.is_none() && has_cells {
@@ -140,7 +140,7 @@ pub(crate) fn value_given<'s>(
     ensures value { IfOk result (λ found. found ≡ given_register_value labels.now given) }
     ensures right { IfOk result (λ _. register_value_refusals labels.now names.now register given ≡ []) }
     ensures wrong { IfErr result (λ fault. register_value_refusals labels.now names.now register given ≡ word_refusal fault ∷ []) }
-    ensures refused { OnErr result (IsNumber (register_bound register) (value_in given) → ⊥) }
+    ensures refused { OnErr result (IsNumber (register_bound register) (optional_register_operand given) → ⊥) }
 {
     let Some(given) = given else {
         return Ok(None);
@@ -162,7 +162,7 @@ fn set_registers<'s>(
     registers: InitialRegisters,
 ) -> Result<(), SourceFault<'s>>
     ensures set { OnOk result (node.new ≡ with_registers node.old labels.now registers) }
-    ensures refused { OnErr result (AreNumbers (value_in registers.p) (value_in registers.a) (value_in registers.b) → ⊥) }
+    ensures refused { OnErr result (AreNumbers (optional_register_operand registers.p) (optional_register_operand registers.a) (optional_register_operand registers.b) → ⊥) }
 {
     if let Some(value) = value_given(labels, names, registers.p, Register::P)? {
         node.set(Place::P, value);

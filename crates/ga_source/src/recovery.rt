@@ -3,7 +3,7 @@
 ghost use Rattle.std.specs.Prelude.{◌≡◌, ◌≤◌, ◌<◌, ◌++◌, ◌∷◌, [], true, length, drop, IfOk, IfErr, OnOk};
 ghost use Rattle.ga_parser.specs.declared.fault.SourceCause.TheVariants.{Memory};
 ghost use Rattle.ga_parser.specs.Saying.{token_contents};
-ghost use Rattle.ga_source.specs.Recovery.{with_numbers, register_value_refusals, register_refusals, AreFaultsOfRequests, AreFaultsOfNode, AreFaultsOfWords, AreFaultsOfSource, faults_or_first as or_this};
+ghost use Rattle.ga_source.specs.Recovery.{tokens_with_numbers, register_value_refusals, register_refusals, AreFaultsOfRequests, AreFaultsOfNode, AreFaultsOfWords, AreFaultsOfSource, faults_or_first as or_this};
 ghost use Rattle.ga_source.specs.inner.{Adds, AreRefused, IsBegun, Recovers};
 
 use super::group::CellGroup;
@@ -247,7 +247,7 @@ pub fn recover_words<'s>(
     alloc: Global,
     words: &[Token<'s>],
 ) -> Result<RecoveredPrograms<'s>, SourceFault<'s>>
-    ensures faults { IfOk result (λ all. AreFaultsOfWords (token_contents (with_numbers 1 words.now)) all.faults.items) }
+    ensures faults { IfOk result (λ all. AreFaultsOfWords (token_contents (tokens_with_numbers 1 words.now)) all.faults.items) }
     ensures refused { IfErr result (λ fault. fault.cause ≡ Memory) }
 {
     let numbered = number_words(alloc, words)?;

@@ -3,12 +3,12 @@
 ghost use Rattle.std.specs.Prelude.{◌≡◌, ◌<◌, [], ◌++◌, length, if◌then◌else◌, IfOk, OnOk};
 ghost use Rattle.ga_source.specs.Reading.{is_data_cell};
 ghost use Rattle.ga_source.specs.Reading.{p_after_item as p_behind_of};
-ghost use Rattle.ga_source.specs.Stores.{cell_index, with_code_line, with_literal, with_code_word, code_lines as code_lines_of, store_address, known_after_opcode, known_after_loop, is_unnamed_label as is_nameless_by, known_after_request, code_store_at, code_store_of_request, with_optional_store, stores_of_program};
+ghost use Rattle.ga_source.specs.Stores.{cell_index, code_lines_with_line, code_lines_with_literal, code_lines_with_word, code_lines as code_lines_of, store_address, known_registers_after_opcode, known_registers_after_loop, is_unnamed_label as is_nameless_by, known_registers_after_request, code_store_at, code_store_of_request, with_optional_store, stores_of_program};
 
 use super::group::CellGroup;
 use super::program::Program;
 use super::reading::resolve;
-use ga_parser::{AssemblyRequest, Item, Label, LocatedRequest};
+use ga_parser::{AssemblyItem, AssemblyRequest, Label, LocatedRequest};
 use ga_ports::advance_p;
 use ga_slots::Op;
 use std::alloc::{AllocError, Global};
@@ -53,7 +53,7 @@ impl Known {
 
     /// What is known after an opcode.
     fn after(self, op: Op) -> Self
-        ensures { result ≡ known_after_opcode self op }
+        ensures { result ≡ known_registers_after_opcode self op }
     {
         let Known { a, b, literal } = self;
         let (a, b) = match op {
@@ -73,7 +73,7 @@ impl Known {
 
     /// What is known after the end of a loop, which may move A more than once.
     fn past_loop(self, op: Op) -> Self
-        ensures { result ≡ known_after_loop self op }
+        ensures { result ≡ known_registers_after_loop self op }
     {
         Known {
             a: None,
@@ -84,17 +84,17 @@ impl Known {
 
     /// What is known after a request. A named label may be reached from elsewhere.
     fn behind(self, program: &Program<'_>, request: AssemblyRequest) -> Self
-        ensures { result ≡ known_after_request program.now self request }
+        ensures { result ≡ known_registers_after_request program.now self request }
     {
         match request {
-            AssemblyRequest::Put(Item::Literal(value)) => Known {
+            AssemblyRequest::Put(AssemblyItem::Literal(value)) => Known {
                 a: self.a,
                 b: self.b,
                 literal: resolve(program.labels.as_slice(), value),
             },
-            AssemblyRequest::Put(Item::Opcode(op)) | AssemblyRequest::Put(Item::Ahead(op, _)) =>
-                self.after(op),
-            AssemblyRequest::Put(Item::Back(op, _)) => self.past_loop(op),
+            AssemblyRequest::Put(AssemblyItem::Opcode(op))
+            | AssemblyRequest::Put(AssemblyItem::Ahead(op, _)) => self.after(op),
+            AssemblyRequest::Put(AssemblyItem::Back(op, _)) => self.past_loop(op),
             AssemblyRequest::Unext(_) => self.past_loop(Op::Unext),
             AssemblyRequest::Mark(label) => {
                 if is_unnamed_label(program.names.as_slice(), label) {
@@ -130,29 +130,29 @@ fn index_of(address: u32) -> usize
 /// Notes that a cell holds code of a line.
 fn note_line(code: &mut [u32], address: u32, line: u32)
     requires { length code.old ≡ 192 }
-    ensures noted { code.new ≡ with_code_line code.old address line }
+    ensures noted { code.new ≡ code_lines_with_line code.old address line }
     ensures size { length code.new ≡ 192 }
 {
     code[index_of(address)] = line;
 }
 
 /// Notes the line of an item, where it is a literal: its cell is at P.
-fn note_literal(code: &mut [u32], p: u32, line: u32, item: Item)
+fn note_literal(code: &mut [u32], p: u32, line: u32, item: AssemblyItem)
     requires { length code.old ≡ 192 }
-    ensures noted { code.new ≡ with_literal code.old p line item }
+    ensures noted { code.new ≡ code_lines_with_literal code.old p line item }
     ensures size { length code.new ≡ 192 }
 {
-    if let Item::Literal(_) = item {
+    if let AssemblyItem::Literal(_) = item {
         note_line(code, p, line);
     }
 }
 
 /// P after the literal of an item.
-fn p_after_item(p: u32, item: Item) -> u32
+fn p_after_item(p: u32, item: AssemblyItem) -> u32
     ensures { result ≡ p_behind_of p item }
 {
     match item {
-        Item::Literal(_) => advance_p(p),
+        AssemblyItem::Literal(_) => advance_p(p),
         _ => p,
     }
 }
@@ -161,7 +161,7 @@ fn p_after_item(p: u32, item: Item) -> u32
 #[tactic(auto, using(crate::proofs::Storing::literals_more))]
 fn note_code(code: &mut [u32], group: &CellGroup)
     requires { length code.old ≡ 192 }
-    ensures noted { code.new ≡ with_code_word code.old group.now }
+    ensures noted { code.new ≡ code_lines_with_word code.old group.now }
     ensures size { length code.new ≡ 192 }
 {
     note_line(code, group.address, group.line());
@@ -175,7 +175,7 @@ fn note_code(code: &mut [u32], group: &CellGroup)
 /// Notes the lines of the cells of a group, where it holds code.
 fn note_group(code: &mut [u32], group: &CellGroup)
     requires { length code.old ≡ 192 }
-    ensures noted { code.new ≡ (if is_data_cell group.now.items.items then code.old else with_code_word code.old group.now) }
+    ensures noted { code.new ≡ (if is_data_cell group.now.items.items then code.old else code_lines_with_word code.old group.now) }
     ensures size { length code.new ≡ 192 }
 {
     if !group.is_data() {
@@ -219,7 +219,7 @@ fn code_store_of_request(code: &[u32], known: Known, asked: LocatedRequest) -> O
     ensures { result ≡ code_store_of_request code.now known asked.line asked.request }
 {
     match asked.request {
-        AssemblyRequest::Put(Item::Opcode(op)) => match known.store_address(op) {
+        AssemblyRequest::Put(AssemblyItem::Opcode(op)) => match known.store_address(op) {
             Some(address) => code_store_at(code, asked.line, address),
             None => None,
         },

@@ -43,8 +43,8 @@ AreStackChanges registers [] = Unit {0}
 AreStackChanges registers (saved ∷ rest) = HasStackPlace registers saved.0 × FitsStackPlace saved.0 saved.1 × AreStackChanges registers rest
 
 -- some places, each with its value in the stack
-abbrev pub old_words : Ring → List StackPlace → List (StackPlace × ℕ)
-old_words ring places = map (λ place. (place, word_at_place ring place)) places
+abbrev pub old_stack_words : Ring → List StackPlace → List (StackPlace × ℕ)
+old_stack_words ring places = map (λ place. (place, word_at_place ring place)) places
 
 -- whether no place of a stack is twice in the list
 abbrev pub HasDistinctPlaces : List (StackPlace × ℕ) → Type 0

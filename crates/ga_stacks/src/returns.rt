@@ -3,7 +3,7 @@
 ghost use Rattle.std.specs.Prelude.{◌≡◌, ◌<◌, ◌≤◌, ◌+◌, ◌%◌, [], ◌∷◌, slice_index, length};
 ghost use Rattle.ga_stacks.specs.declared.place.StackPlace.TheVariants.{Pointer, Top, Cell};
 ghost use Rattle.ga_stacks.specs.Ring.{fresh_ring, words_of_stack, words_after_push, return_after_pop, with_top};
-ghost use Rattle.ga_stacks.specs.Stack.{word_at_place, old_words, with_stack_word, with_restored_words, HasStackPlace, FitsStackPlace, AreStackChanges, HasDistinctPlaces};
+ghost use Rattle.ga_stacks.specs.Stack.{word_at_place, old_stack_words, with_stack_word, with_restored_words, HasStackPlace, FitsStackPlace, AreStackChanges, HasDistinctPlaces};
 
 use crate::place::{CELLS, FRESH_WORD, OverwrittenPlaces, StackPlace};
 use arrayvec::ArrayVec;
@@ -88,7 +88,7 @@ impl ReturnStack {
     pub fn push(&mut self, word: Word18) -> OverwrittenPlaces
         ensures words_after_push { words_of_stack self.new ≡ words_after_push word (words_of_stack self.old) }
         ensures state_after_undo { with_restored_words self.new result.items ≡ self.old }
-        ensures overwritten { result.items ≡ old_words self.old (Pointer ∷ Cell ((self.old.pointer + 7) % 8) ∷ Top ∷ []) }
+        ensures overwritten { result.items ≡ old_stack_words self.old (Pointer ∷ Cell ((self.old.pointer + 7) % 8) ∷ Top ∷ []) }
         ensures fit { AreStackChanges 1 result.items }
         ensures once { HasDistinctPlaces result.items }
         ensures count { length result.items ≤ 3 }
@@ -111,7 +111,7 @@ impl ReturnStack {
     pub fn pop(&mut self) -> OverwrittenPlaces
         ensures words_after_pop { words_of_stack self.new ≡ return_after_pop (words_of_stack self.old) }
         ensures state_after_undo { with_restored_words self.new result.items ≡ self.old }
-        ensures overwritten { result.items ≡ old_words self.old (Pointer ∷ Top ∷ []) }
+        ensures overwritten { result.items ≡ old_stack_words self.old (Pointer ∷ Top ∷ []) }
         ensures fit { AreStackChanges 1 result.items }
         ensures once { HasDistinctPlaces result.items }
         ensures count { length result.items ≤ 2 }
@@ -128,7 +128,7 @@ impl ReturnStack {
     pub fn replace_top(&mut self, word: Word18) -> OverwrittenPlaces
         ensures with_top { words_of_stack self.new ≡ with_top word (words_of_stack self.old) }
         ensures state_after_undo { with_restored_words self.new result.items ≡ self.old }
-        ensures overwritten { result.items ≡ old_words self.old (Top ∷ []) }
+        ensures overwritten { result.items ≡ old_stack_words self.old (Top ∷ []) }
         ensures fit { AreStackChanges 1 result.items }
         ensures once { HasDistinctPlaces result.items }
         ensures count { length result.items ≤ 1 }

@@ -7,7 +7,7 @@ use Rattle.ga_text.specs.Parsing.{split_at_space, parse_node}
 use Rattle.ga_grid.specs.declared.node_id.NodeId.{NodeId}
 use Rattle.ga_debug_info.specs.declared.notes.DebugInfo.{DebugInfo}
 use Rattle.ga_scheduler.specs.declared.condition.Condition.{Condition}
-use Rattle.ga_conditions.specs.Conditions.{condition_in, split_first_condition, condition_limit}
+use Rattle.ga_conditions.specs.Conditions.{parsed_run_condition, split_first_condition, condition_limit}
 use Rattle.ga_state_conditions.specs.declared.condition.StateCondition.{StateCondition}
 use Rattle.ga_state_conditions.specs.declared.condition.StateCondition.TheVariants.{After, Stuck}
 use Rattle.ga_state_conditions.specs.declared.asked.ConditionFault.{ConditionFault}
@@ -15,9 +15,9 @@ use Rattle.ga_state_conditions.specs.declared.asked.ConditionFault.TheVariants.{
 use Rattle.ga_state_conditions.specs.Held.{counts_steps, counts_words}
 
 -- a condition of a run, unless it counts
-abbrev pub uncounting_condition : Option Condition → Result StateCondition ConditionFault
-uncounting_condition None = Err Syntax
-uncounting_condition (Some condition) =
+abbrev pub condition_without_counts : Option Condition → Result StateCondition ConditionFault
+condition_without_counts None = Err Syntax
+condition_without_counts (Some condition) =
     if counts_steps condition then Err CountsSteps else if counts_words condition then Err CountsWords else Ok (After condition)
 
 -- the node that is to be stuck
@@ -26,13 +26,13 @@ stuck_condition None = Err Syntax
 stuck_condition (Some node) = Ok (Stuck node)
 
 abbrev pub state_condition_from_split : Option DebugInfo → Option (Line × Line) → Line → Result StateCondition ConditionFault
-state_condition_from_split notes None text = uncounting_condition (condition_in notes text)
+state_condition_from_split notes None text = condition_without_counts (parsed_run_condition notes text)
 state_condition_from_split notes (Some parts) text =
-    if pointwise nat_eq parts.0 (codes "stuck") then stuck_condition (parse_node parts.1) else uncounting_condition (condition_in notes text)
+    if pointwise nat_eq parts.0 (codes "stuck") then stuck_condition (parse_node parts.1) else condition_without_counts (parsed_run_condition notes text)
 
 -- one condition
-abbrev pub state_condition_in : Option DebugInfo → Line → Result StateCondition ConditionFault
-state_condition_in notes text = state_condition_from_split notes (split_at_space text) text
+abbrev pub parsed_state_condition : Option DebugInfo → Line → Result StateCondition ConditionFault
+parsed_state_condition notes text = state_condition_from_split notes (split_at_space text) text
 
 abbrev pub prepended_state_condition : StateCondition → Result (List StateCondition) ConditionFault → Result (List StateCondition) ConditionFault
 prepended_state_condition one (Err why) = Err why
@@ -48,11 +48,11 @@ joined_state_conditions (Err why) others = Err why
 joined_state_conditions (Ok one) others = prepended_state_condition one others
 
 -- conditions with ` or ` between them, at most this number; or the first fault
-unfoldable pub state_conditions_within : Option DebugInfo → ℕ → Line → Result (List StateCondition) ConditionFault
-state_conditions_within notes zero text = Err TooMany
-state_conditions_within notes (suc more) text =
-    joined_state_conditions (state_condition_in notes (split_first_condition text).0)
-    (remaining_state_conditions (state_conditions_within notes more) (split_first_condition text).1)
+unfoldable pub parsed_state_conditions_within : Option DebugInfo → ℕ → Line → Result (List StateCondition) ConditionFault
+parsed_state_conditions_within notes zero text = Err TooMany
+parsed_state_conditions_within notes (suc more) text =
+    joined_state_conditions (parsed_state_condition notes (split_first_condition text).0)
+    (remaining_state_conditions (parsed_state_conditions_within notes more) (split_first_condition text).1)
 
-abbrev pub state_conditions_in : Option DebugInfo → Line → Result (List StateCondition) ConditionFault
-state_conditions_in notes text = state_conditions_within notes condition_limit text
+abbrev pub parsed_state_conditions : Option DebugInfo → Line → Result (List StateCondition) ConditionFault
+parsed_state_conditions notes text = parsed_state_conditions_within notes condition_limit text

@@ -1,7 +1,7 @@
 //! What is looked for in the states of a program, as text.
 
 ghost use Rattle.std.specs.Prelude.{◌≡◌, ◌≤◌, length, Ok, Err, IfOk, MatchResult};
-ghost use Rattle.ga_state_conditions.specs.Asked.{uncounting_condition, stuck_condition, state_condition_in, state_conditions_in};
+ghost use Rattle.ga_state_conditions.specs.Asked.{condition_without_counts, stuck_condition, parsed_state_condition, parsed_state_conditions};
 
 use crate::condition::{StateCondition, counts_steps, counts_words};
 use arrayvec::ArrayVec;
@@ -28,8 +28,8 @@ pub enum ConditionFault {
 pub type StateConditions = ArrayVec<StateCondition, MAX_CONDITIONS>;
 
 /// A condition of a run, unless it counts.
-fn uncounting_condition(condition: Option<Condition>) -> Result<StateCondition, ConditionFault>
-    ensures { result ≡ uncounting_condition condition }
+fn condition_without_counts(condition: Option<Condition>) -> Result<StateCondition, ConditionFault>
+    ensures { result ≡ condition_without_counts condition }
 {
     match condition {
         Some(condition) => {
@@ -60,17 +60,17 @@ fn parse_state_condition(
     notes: &Option<DebugInfo>,
     text: &[u8],
 ) -> Result<StateCondition, ConditionFault>
-    ensures { result ≡ state_condition_in notes.now text.now }
+    ensures { result ≡ parsed_state_condition notes.now text.now }
 {
     match split_at_space(text) {
         Some((name, rest)) => {
             if name == b"stuck".as_slice() {
                 stuck_condition(parse_node(rest))
             } else {
-                uncounting_condition(parse_run_condition(notes, text))
+                condition_without_counts(parse_run_condition(notes, text))
             }
         }
-        None => uncounting_condition(parse_run_condition(notes, text)),
+        None => condition_without_counts(parse_run_condition(notes, text)),
     }
 }
 
@@ -82,8 +82,8 @@ pub fn parse_state_conditions(
     notes: &Option<DebugInfo>,
     text: &[u8],
 ) -> Result<StateConditions, ConditionFault>
-    ensures conditions { MatchResult result (λ parsed. state_conditions_in notes.now text.now ≡ Ok parsed.items)
-        (λ fault. state_conditions_in notes.now text.now ≡ Err fault) }
+    ensures conditions { MatchResult result (λ parsed. parsed_state_conditions notes.now text.now ≡ Ok parsed.items)
+        (λ fault. parsed_state_conditions notes.now text.now ≡ Err fault) }
     ensures few { IfOk result (λ parsed. length parsed.items ≤ 8) }
 {
     let mut conditions = ArrayVec::new();

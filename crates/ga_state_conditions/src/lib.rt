@@ -11,8 +11,8 @@ mod session;
 
 pub use asked::{ConditionFault, StateConditions, parse_state_conditions};
 pub use condition::StateCondition;
-pub use finding::{ReachedEvent, find_event};
-pub use session::find_session;
+pub use finding::{ReachedEvent, find_reached_event};
+pub use session::find_session_reaching;
 
 #[cfg(test)]
 mod tests;

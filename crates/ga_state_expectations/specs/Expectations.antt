@@ -6,7 +6,7 @@ use Rattle.ga_node.specs.declared.wait.Wait.{Wait}
 use Rattle.ga_node.specs.declared.wait.Wait.TheVariants.{Nothing, Fetch, Read, Write}
 use Rattle.ga_grid.specs.Chip.{record_at}
 use Rattle.ga_event.specs.Apply.{waits_to_write_side}
-use Rattle.ga_scheduler.specs.Values.{passes, is_step_count}
+use Rattle.ga_scheduler.specs.Values.{is_passed_by_node, is_step_count}
 use Rattle.ga_scheduler.specs.declared.value_test.ValueTest.{ValueTest}
 use Rattle.ga_state_expectations.specs.declared.expectation.NodeExpectation.{NodeExpectation}
 use Rattle.ga_state_expectations.specs.declared.expectation.NodeRequirement.{NodeRequirement}
@@ -30,21 +30,21 @@ abbrev pub is_stopped_with : ℕ → ℕ → Bool
 is_stopped_with stop number = not (number == 0) && (stop == number)
 
 -- a value of the node, which isn't the number of its steps, passes the test
-abbrev pub holds_value : NodeRecord → ValueTest → Bool
-holds_value node test = not (is_step_count test.value) && passes test node 0
+abbrev pub node_passes_value_test : NodeRecord → ValueTest → Bool
+node_passes_value_test node test = not (is_step_count test.value) && is_passed_by_node test node 0
 
 -- the node has what is required
-abbrev pub has_required : NodeRequirement → NodeRecord → Bool
-has_required (Holds test) node = holds_value node test
-has_required (Reads sides) node = awaits_word_from node.wait sides
-has_required (Writes side) node = waits_to_write_side node.wait side
-has_required AwaitsCode node = waits_for_code node.wait
-has_required (Stopped number) node = is_stopped_with node.stop number
+abbrev pub meets_requirement : NodeRequirement → NodeRecord → Bool
+meets_requirement (Holds test) node = node_passes_value_test node test
+meets_requirement (Reads sides) node = awaits_word_from node.wait sides
+meets_requirement (Writes side) node = waits_to_write_side node.wait side
+meets_requirement AwaitsCode node = waits_for_code node.wait
+meets_requirement (Stopped number) node = is_stopped_with node.stop number
 
 -- a node with this record satisfies the expectation
-abbrev pub is_satisfied : NodeExpectation → NodeRecord → Bool
-is_satisfied expectation node = has_required expectation.requirement node
+abbrev pub is_expectation_satisfied : NodeExpectation → NodeRecord → Bool
+is_expectation_satisfied expectation node = meets_requirement expectation.requirement node
 
 -- its node does on the chip
-abbrev pub is_met_on : NodeExpectation → List NodeRecord → Bool
-is_met_on expectation chip = is_satisfied expectation (record_at chip expectation.node.number)
+abbrev pub is_met_on_chip : NodeExpectation → List NodeRecord → Bool
+is_met_on_chip expectation chip = is_expectation_satisfied expectation (record_at chip expectation.node.number)

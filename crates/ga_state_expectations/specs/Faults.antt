@@ -12,11 +12,11 @@ use Rattle.ga_state_expectations.specs.declared.cause.ExpectationsError.{Expecta
 use Rattle.ga_state_expectations.specs.declared.cause.ExpectationsError.TheVariants.{Memory, Faulty}
 
 -- of conditions after `never`
-abbrev pub never_text : ConditionFault → Text
-never_text Syntax = codes "no such condition: never NNN VALUE OP NUMBER, pass NNN MMM OP NUMBER, stop, stop NNN, wait NNN, stuck NNN, mem NNN HH = NUMBER, p NNN X, reach NNN X, change NNN HH [= NUMBER], or COND or COND"
-never_text CountsSteps = codes "a state counts no steps: compare another value of the node, or a word that passes"
-never_text CountsWords = codes "a state counts no words: give the word, as pass NNN MMM OP NUMBER does"
-never_text TooMany = codes "too many conditions: at most 8 after a never, others on a line of their own"
+abbrev pub never_fault_text : ConditionFault → Text
+never_fault_text Syntax = codes "no such condition: never NNN VALUE OP NUMBER, pass NNN MMM OP NUMBER, stop, stop NNN, wait NNN, stuck NNN, mem NNN HH = NUMBER, p NNN X, reach NNN X, change NNN HH [= NUMBER], or COND or COND"
+never_fault_text CountsSteps = codes "a state counts no steps: compare another value of the node, or a word that passes"
+never_fault_text CountsWords = codes "a state counts no words: give the word, as pass NNN MMM OP NUMBER does"
+never_fault_text TooMany = codes "too many conditions: at most 8 after a never, others on a line of their own"
 
 abbrev pub expectation_cause_text : ExpectationCause → Text
 expectation_cause_text cause.Nothing = codes "nothing is expected: [NNN] VALUE OP NUMBER, [NNN] reads SIDE .., [NNN] writes SIDE, [NNN] awaits code, [NNN] stops N, pass NNN MMM = NUMBERS [..], never COND or COND .., every order ends, or one end"
@@ -39,7 +39,7 @@ expectation_cause_text cause.NotNeighbours = codes "not neighbours: words pass b
 expectation_cause_text cause.NoLinkWords = codes "no words: pass NNN MMM = NUMBERS, or never pass NNN MMM >= 0 if none may come"
 expectation_cause_text cause.ManyLinkWords = codes "too many words: at most 64, then .. for any others"
 expectation_cause_text cause.WordsAfterEnd = codes "words after ..: it comes last, for any others"
-expectation_cause_text (cause.Never fault) = never_text fault
+expectation_cause_text (cause.Never fault) = never_fault_text fault
 
 -- a fault with its line
 abbrev pub expectation_fault_text : ExpectationFault → Text

@@ -12,111 +12,111 @@ use Rattle.ga_state_expectations.specs.declared.cause.ExpectationCause.{Expectat
 use Rattle.ga_state_expectations.specs.declared.cause.ExpectationFault.{ExpectationFault}
 use Rattle.ga_state_expectations.specs.declared.cause.ExpectationsError.{ExpectationsError}
 use Rattle.ga_state_expectations.specs.declared.cause.ExpectationsError.TheVariants.{Memory, Faulty}
-use Rattle.ga_state_expectations.specs.Spelling.{split_word, is_of_whole, begins_as_node, expectation_in}
+use Rattle.ga_state_expectations.specs.Spelling.{split_first_word, is_whole_chip_keyword, begins_with_digit, parsed_expectation}
 
 -- ---- of which nodes a line speaks
 
 -- the text says itself of what it speaks: a node, a link, or all nodes
-abbrev pub names_its_subject : Text → Bool
-names_its_subject text =
-    bytes_eq (split_word text).0 (codes "never")
-    || (bytes_eq (split_word text).0 (codes "pass") || (is_of_whole (split_word text).0 || begins_as_node (split_word text).0))
+abbrev pub names_expectation_subject : Text → Bool
+names_expectation_subject text =
+    bytes_eq (split_first_word text).0 (codes "never")
+    || (bytes_eq (split_first_word text).0 (codes "pass") || (is_whole_chip_keyword (split_first_word text).0 || begins_with_digit (split_first_word text).0))
 
-abbrev pub has_nodes : List NodeId → Bool
-has_nodes [] = false
-has_nodes (node ∷ nodes) = true
+abbrev pub is_nonempty_node_list : List NodeId → Bool
+is_nonempty_node_list [] = false
+is_nonempty_node_list (node ∷ nodes) = true
 
 -- the line speaks of each node in whose program it is
-abbrev pub speaks_of_program : ExpectationLine → Bool
-speaks_of_program line = has_nodes line.nodes.items && not (names_its_subject line.text.items)
+abbrev pub applies_to_program_nodes : ExpectationLine → Bool
+applies_to_program_nodes line = is_nonempty_node_list line.nodes.items && not (names_expectation_subject line.text.items)
 
 -- ---- faults
 
-abbrev pub parsed_cause : Result Expectation ExpectationCause → Option ExpectationCause
-parsed_cause (Ok expectation) = None
-parsed_cause (Err cause) = Some cause
+abbrev pub expectation_parse_cause : Result Expectation ExpectationCause → Option ExpectationCause
+expectation_parse_cause (Ok expectation) = None
+expectation_parse_cause (Err cause) = Some cause
 
-abbrev pub node_cause : Option DebugInfo → Text → NodeId → Option ExpectationCause
-node_cause notes text node = parsed_cause (expectation_in notes (Some node) text)
+abbrev pub node_expectation_cause : Option DebugInfo → Text → NodeId → Option ExpectationCause
+node_expectation_cause notes text node = expectation_parse_cause (parsed_expectation notes (Some node) text)
 
 -- the text says nothing of the node
-abbrev pub is_faulty_for : Option DebugInfo → Text → NodeId → Bool
-is_faulty_for notes text node = is_some (node_cause notes text node)
+abbrev pub is_expectation_faulty_for : Option DebugInfo → Text → NodeId → Bool
+is_expectation_faulty_for notes text node = is_some (node_expectation_cause notes text node)
 
-abbrev pub optional_node_cause : Option DebugInfo → Text → Option NodeId → Option ExpectationCause
-optional_node_cause notes text None = None
-optional_node_cause notes text (Some node) = node_cause notes text node
+abbrev pub optional_node_expectation_cause : Option DebugInfo → Text → Option NodeId → Option ExpectationCause
+optional_node_expectation_cause notes text None = None
+optional_node_expectation_cause notes text (Some node) = node_expectation_cause notes text node
 
 -- what is wrong with what a text says of the first node of which it says nothing
-abbrev pub first_cause : Option DebugInfo → Text → List NodeId → Option ExpectationCause
-first_cause notes text nodes = optional_node_cause notes text (option_and_then (slice_get nodes) (position (is_faulty_for notes text) nodes))
+abbrev pub first_node_expectation_cause : Option DebugInfo → Text → List NodeId → Option ExpectationCause
+first_node_expectation_cause notes text nodes = optional_node_expectation_cause notes text (option_and_then (slice_get nodes) (position (is_expectation_faulty_for notes text) nodes))
 
-abbrev pub line_cause : Option DebugInfo → ExpectationLine → Option ExpectationCause
-line_cause notes line =
-    if speaks_of_program line then first_cause notes line.text.items line.nodes.items else parsed_cause (expectation_in notes None line.text.items)
+abbrev pub line_expectation_cause : Option DebugInfo → ExpectationLine → Option ExpectationCause
+line_expectation_cause notes line =
+    if applies_to_program_nodes line then first_node_expectation_cause notes line.text.items line.nodes.items else expectation_parse_cause (parsed_expectation notes None line.text.items)
 
-abbrev pub faults_at : ℕ → Option ExpectationCause → List ExpectationFault
-faults_at line None = []
-faults_at line (Some cause) = record { line = line; cause = cause } ∷ []
+abbrev pub expectation_faults_at_line : ℕ → Option ExpectationCause → List ExpectationFault
+expectation_faults_at_line line None = []
+expectation_faults_at_line line (Some cause) = record { line = line; cause = cause } ∷ []
 
 -- the fault of a line, if it has one
-abbrev pub line_faults : Option DebugInfo → ExpectationLine → List ExpectationFault
-line_faults notes line = faults_at line.line (line_cause notes line)
+abbrev pub expectation_faults_of_line : Option DebugInfo → ExpectationLine → List ExpectationFault
+expectation_faults_of_line notes line = expectation_faults_at_line line.line (line_expectation_cause notes line)
 
-abbrev pub faults_of_lines : Option DebugInfo → List ExpectationLine → List ExpectationFault
-faults_of_lines notes lines = flat_map (line_faults notes) lines
+abbrev pub expectation_faults_of_lines : Option DebugInfo → List ExpectationLine → List ExpectationFault
+expectation_faults_of_lines notes lines = flat_map (expectation_faults_of_line notes) lines
 
 -- ---- expectations
 
 -- an expectation with its line and how it is written
-pub record ExpectedContent : Type 0 where
+pub record LineExpectationContent : Type 0 where
   pub line : ℕ
   pub text : Text
   pub expectation : Expectation
 
-abbrev pub expected_content : LineExpectation → ExpectedContent
-expected_content one = record { line = one.line; text = one.text.items; expectation = one.expectation }
+abbrev pub line_expectation_content : LineExpectation → LineExpectationContent
+line_expectation_content one = record { line = one.line; text = one.text.items; expectation = one.expectation }
 
 -- a text with the name of a node in front
-abbrev pub named_text : NodeId → Text → Text
-named_text node text = name_of_node node ++ 32 ∷ text
+abbrev pub text_with_node_name : NodeId → Text → Text
+text_with_node_name node text = name_of_node node ++ 32 ∷ text
 
-abbrev pub one_expected : ℕ → Text → Result Expectation ExpectationCause → List ExpectedContent
-one_expected line text (Ok expectation) = record { line = line; text = text; expectation = expectation } ∷ []
-one_expected line text (Err cause) = []
+abbrev pub line_expectation_if_parsed : ℕ → Text → Result Expectation ExpectationCause → List LineExpectationContent
+line_expectation_if_parsed line text (Ok expectation) = record { line = line; text = text; expectation = expectation } ∷ []
+line_expectation_if_parsed line text (Err cause) = []
 
 -- what a line expects of a node of its program
-abbrev pub node_expectations : Option DebugInfo → ExpectationLine → NodeId → List ExpectedContent
+abbrev pub node_expectations : Option DebugInfo → ExpectationLine → NodeId → List LineExpectationContent
 node_expectations notes line node =
-    one_expected line.line (named_text node line.text.items) (expectation_in notes (Some node) line.text.items)
+    line_expectation_if_parsed line.line (text_with_node_name node line.text.items) (parsed_expectation notes (Some node) line.text.items)
 
-abbrev pub line_expectations : Option DebugInfo → ExpectationLine → List ExpectedContent
+abbrev pub line_expectations : Option DebugInfo → ExpectationLine → List LineExpectationContent
 line_expectations notes line =
-    if speaks_of_program line then flat_map (node_expectations notes line) line.nodes.items
-    else one_expected line.line line.text.items (expectation_in notes None line.text.items)
+    if applies_to_program_nodes line then flat_map (node_expectations notes line) line.nodes.items
+    else line_expectation_if_parsed line.line line.text.items (parsed_expectation notes None line.text.items)
 
-abbrev pub expected_of_lines : Option DebugInfo → List ExpectationLine → List ExpectedContent
-expected_of_lines notes lines = flat_map (line_expectations notes) lines
+abbrev pub expectations_of_source_lines : Option DebugInfo → List ExpectationLine → List LineExpectationContent
+expectations_of_source_lines notes lines = flat_map (line_expectations notes) lines
 
 -- the expectations, unless a line is at fault
-abbrev pub unless_faulty : List ExpectedContent → List ExpectationFault → Result (List ExpectedContent) (List ExpectationFault)
-unless_faulty expectations [] = Ok expectations
-unless_faulty expectations (fault ∷ faults) = Err (fault ∷ faults)
+abbrev pub expectations_unless_faulty : List LineExpectationContent → List ExpectationFault → Result (List LineExpectationContent) (List ExpectationFault)
+expectations_unless_faulty expectations [] = Ok expectations
+expectations_unless_faulty expectations (fault ∷ faults) = Err (fault ∷ faults)
 
 -- what lines expect, or the fault of each line that has one
-abbrev pub expectations_in : Option DebugInfo → List ExpectationLine → Result (List ExpectedContent) (List ExpectationFault)
-expectations_in notes lines = unless_faulty (expected_of_lines notes lines) (faults_of_lines notes lines)
+abbrev pub expectations_or_faults_of_lines : Option DebugInfo → List ExpectationLine → Result (List LineExpectationContent) (List ExpectationFault)
+expectations_or_faults_of_lines notes lines = expectations_unless_faulty (expectations_of_source_lines notes lines) (expectation_faults_of_lines notes lines)
 
 -- the lines that say what is expected, where there is source
-abbrev pub lines_in : Option DebugInfo → List ExpectationLine
-lines_in None = []
-lines_in (Some notes) = notes.expectations.items
+abbrev pub expectation_lines_of_source : Option DebugInfo → List ExpectationLine
+expectation_lines_of_source None = []
+expectation_lines_of_source (Some notes) = notes.expectations.items
 
 -- what a source expects, or the faults of its lines
-abbrev pub expectations_of : Option DebugInfo → Result (List ExpectedContent) (List ExpectationFault)
-expectations_of notes = expectations_in notes (lines_in notes)
+abbrev pub source_expectations : Option DebugInfo → Result (List LineExpectationContent) (List ExpectationFault)
+source_expectations notes = expectations_or_faults_of_lines notes (expectation_lines_of_source notes)
 
 -- what is so of the faults, if memory sufficed
-abbrev pub IfFaulty : ExpectationsError → (List ExpectationFault → Type 0) → Type 0
-IfFaulty Memory P = Unit {0}
-IfFaulty (Faulty faults) P = P faults.items
+abbrev pub IfExpectationsFaulty : ExpectationsError → (List ExpectationFault → Type 0) → Type 0
+IfExpectationsFaulty Memory P = Unit {0}
+IfExpectationsFaulty (Faulty faults) P = P faults.items

@@ -8,7 +8,7 @@ use Rattle.ga_source.specs.Made.{IsSoundSource}
 use Rattle.ga_debug_info.specs.declared.notes.DebugInfo.{DebugInfo}
 use Rattle.ga_debug_info.specs.Notes.{IsDebugInfoOfSource}
 use Rattle.ga_state_expectations.specs.declared.cause.ExpectationFault.{ExpectationFault}
-use Rattle.ga_state_expectations.specs.Lines.{ExpectedContent, expectations_of}
+use Rattle.ga_state_expectations.specs.Lines.{LineExpectationContent, source_expectations}
 
 -- The source has programs, and some of its lines that say what is expected are at fault.
 pub record HasFaultyExpectations (source : Text) (faults : List ExpectationFault) : Type 0 where
@@ -16,16 +16,16 @@ pub record HasFaultyExpectations (source : Text) (faults : List ExpectationFault
   pub notes : DebugInfo
   pub asked : AreProgramsOfSource source programs
   pub says : IsDebugInfoOfSource source programs notes
-  pub faulty : expectations_of (Some notes) ≡ Err faults
+  pub faulty : source_expectations (Some notes) ≡ Err faults
 
 -- The source has programs, and this is expected of them.
 pub record HasExpectations (source : Text) : Type 0 where
   pub programs : List Program
   pub notes : DebugInfo
-  pub all : List ExpectedContent
+  pub all : List LineExpectationContent
   pub asked : AreProgramsOfSource source programs
   pub says : IsDebugInfoOfSource source programs notes
-  pub expected : expectations_of (Some notes) ≡ Ok all
+  pub expected : source_expectations (Some notes) ≡ Ok all
 
 -- the source expects nothing, or has another fault, or expects what it says without a fault
 abbrev pub HasNoFaultyExpectation : Text → Type 0

@@ -1,7 +1,7 @@
 //! Whether what a source expects of its programs has a fault.
 
 ghost use Rattle.std.specs.Prelude.{IfOk, IfErr};
-ghost use Rattle.ga_state_expectations.specs.Lines.{IfFaulty};
+ghost use Rattle.ga_state_expectations.specs.Lines.{IfExpectationsFaulty};
 ghost use Rattle.ga_state_expectations.specs.Sources.{HasFaultyExpectations, HasNoFaultyExpectation};
 
 use crate::cause::ExpectationsError;
@@ -13,7 +13,7 @@ use std::alloc::Global;
 /// Checks what a source expects that has no other fault.
 fn check_assembled(alloc: Global, source: &[u8]) -> Result<(), ExpectationsError>
     ensures ok { IfOk result (λ done. HasNoFaultyExpectation source.now) }
-    ensures err { IfErr result (λ why. IfFaulty why (HasFaultyExpectations source.now)) }
+    ensures err { IfErr result (λ why. IfExpectationsFaulty why (HasFaultyExpectations source.now)) }
 {
     match assemble(alloc, source) {
         Ok(assembled) => {
@@ -39,7 +39,7 @@ fn check_assembled(alloc: Global, source: &[u8]) -> Result<(), ExpectationsError
 /// The fault of each line that says what is expected and has one, if the source has no other fault; or out of memory.
 pub fn check_source_expectations(alloc: Global, source: &[u8]) -> Result<(), ExpectationsError>
     ensures ok { IfOk result (λ done. HasNoFaultyExpectation source.now) }
-    ensures err { IfErr result (λ why. IfFaulty why (HasFaultyExpectations source.now)) }
+    ensures err { IfErr result (λ why. IfExpectationsFaulty why (HasFaultyExpectations source.now)) }
 {
     let lines = expectation_lines(alloc, source)?;
     if lines.is_empty() {

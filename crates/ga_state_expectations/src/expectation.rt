@@ -4,9 +4,9 @@ ghost use Rattle.std.specs.Prelude.{◌≡◌};
 ghost use Rattle.ga_node.specs.Record.{record_of};
 ghost use Rattle.ga_grid.specs.Chip.{records_of};
 ghost use Rattle.ga_scheduler.specs.Values.{is_step_count};
-ghost use Rattle.ga_state_expectations.specs.Expectations.{awaits_word_from, waits_for_code, is_stopped_with, holds_value, has_required, is_satisfied, is_met_on};
+ghost use Rattle.ga_state_expectations.specs.Expectations.{awaits_word_from, waits_for_code, is_stopped_with, node_passes_value_test, meets_requirement, is_expectation_satisfied, is_met_on_chip};
 
-use ga_event::is_writing;
+use ga_event::is_waiting_to_write;
 use ga_grid::{Chip, NodeId};
 use ga_node::{Node, Wait};
 use ga_ports::{PortSet, Side};
@@ -68,10 +68,10 @@ fn is_stopped_with(stop: u8, number: u8) -> bool
 }
 
 /// Whether a value of the node passes the test, which is of no number of steps.
-fn holds_value(node: &Node, test: &ValueTest) -> bool
-    ensures { result ≡ holds_value (record_of node.now) test.now }
+fn node_passes_value_test(node: &Node, test: &ValueTest) -> bool
+    ensures { result ≡ node_passes_value_test (record_of node.now) test.now }
 {
-    !is_step_count(test.value) && test.passes(node, 0)
+    !is_step_count(test.value) && test.is_passed_by_node(node, 0)
 }
 
 /// Whether the value is the number of steps.
@@ -84,12 +84,12 @@ pub(crate) fn is_step_count(value: NodeValue) -> bool
 impl NodeRequirement {
     /// Whether the node has what is required.
     pub fn is_met_by(&self, node: &Node) -> bool
-        ensures { result ≡ has_required self.now (record_of node.now) }
+        ensures { result ≡ meets_requirement self.now (record_of node.now) }
     {
         match self {
-            NodeRequirement::Holds(test) => holds_value(node, test),
+            NodeRequirement::Holds(test) => node_passes_value_test(node, test),
             NodeRequirement::Reads(sides) => awaits_word_from(node.wait(), *sides),
-            NodeRequirement::Writes(side) => is_writing(&node.wait(), *side),
+            NodeRequirement::Writes(side) => is_waiting_to_write(&node.wait(), *side),
             NodeRequirement::AwaitsCode => waits_for_code(node.wait()),
             NodeRequirement::Stopped(number) => is_stopped_with(node.stop(), *number),
         }
@@ -99,14 +99,14 @@ impl NodeRequirement {
 impl NodeExpectation {
     /// Whether a node that is as this one satisfies the expectation.
     pub fn is_satisfied_by(&self, node: &Node) -> bool
-        ensures { result ≡ is_satisfied self.now (record_of node.now) }
+        ensures { result ≡ is_expectation_satisfied self.now (record_of node.now) }
     {
         self.requirement.is_met_by(node)
     }
 
     /// Whether its node satisfies the expectation on the chip.
-    pub fn is_met_on(&self, chip: &Chip) -> bool
-        ensures { result ≡ is_met_on self.now (records_of chip.now) }
+    pub fn is_met_on_chip(&self, chip: &Chip) -> bool
+        ensures { result ≡ is_met_on_chip self.now (records_of chip.now) }
     {
         self.is_satisfied_by(chip.node(self.node))
     }

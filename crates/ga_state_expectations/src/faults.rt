@@ -3,9 +3,9 @@
 ghost use Rattle.std.specs.Prelude.{◌≡◌, ◌⊎◌, ◌++◌, [], decimal, Some, OnOk, IfOk};
 ghost use Rattle.std.specs.List.{flat_map};
 ghost use Rattle.ga_text.specs.Lines.{Bytes};
-ghost use Rattle.ga_text.specs.Output.{IsWrittenOrTruncated};
+ghost use Rattle.ga_text.specs.Output.{IsTextWrittenOrTruncated};
 ghost use Rattle.ga_debug_info.specs.Faults.{prefixed_line, more_faults_text, out_of_memory_text};
-ghost use Rattle.ga_state_expectations.specs.Faults.{never_text, expectation_cause_text, expectation_fault_text, expectation_faults_text, expectations_error_text};
+ghost use Rattle.ga_state_expectations.specs.Faults.{never_fault_text, expectation_cause_text, expectation_fault_text, expectation_faults_text, expectations_error_text};
 
 use crate::cause::{ExpectationCause, ExpectationFault, ExpectationsError};
 use ga_debug_info::report_out_of_memory;
@@ -18,8 +18,8 @@ use std::io::Write;
 const MAX_REPORTED: usize = 20;
 
 /// What is wrong with the conditions after `never`, and what would be right.
-fn never_text(fault: ConditionFault) -> &'static [u8]
-    ensures { result.now ≡ never_text fault }
+fn never_fault_text(fault: ConditionFault) -> &'static [u8]
+    ensures { result.now ≡ never_fault_text fault }
 {
     match fault {
         ConditionFault::Syntax => {
@@ -77,7 +77,7 @@ fn expectation_cause_text(cause: ExpectationCause) -> &'static [u8]
         }
         ExpectationCause::ManyLinkWords => { b"too many words: at most 64, then .. for any others" }
         ExpectationCause::WordsAfterEnd => { b"words after ..: it comes last, for any others" }
-        ExpectationCause::Never(fault) => never_text(fault),
+        ExpectationCause::Never(fault) => never_fault_text(fault),
     }
 }
 
@@ -154,8 +154,8 @@ pub fn report_expectations_error<E: Write>(
     why: &ExpectationsError,
 ) -> WriteResult
     ensures { (before : Bytes) → E.contents errors.old ≡ Some before →
-        IsWrittenOrTruncated result (E.contents errors.new) before out_of_memory_text []
-        ⊎ IsWrittenOrTruncated result (E.contents errors.new) before (expectations_error_text why.now) [] }
+        IsTextWrittenOrTruncated result (E.contents errors.new) before out_of_memory_text []
+        ⊎ IsTextWrittenOrTruncated result (E.contents errors.new) before (expectations_error_text why.now) [] }
 {
     match why {
         ExpectationsError::Memory => report_out_of_memory(errors),

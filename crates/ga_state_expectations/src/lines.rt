@@ -2,12 +2,12 @@
 
 ghost use Rattle.std.specs.Prelude.{◌≡◌, ◌++◌, map, flat_map, position, Ok, Err, IfOk, OnOk, MatchResult};
 ghost use Rattle.ga_text.specs.Digits.{name_of_node};
-ghost use Rattle.ga_state_expectations.specs.Spelling.{split_word, expectation_in};
-ghost use Rattle.ga_state_expectations.specs.Lines.{lines_in, expectations_of, names_its_subject, speaks_of_program, is_faulty_for, parsed_cause, first_cause, line_cause, line_faults, faults_of_lines, named_text, expected_content, one_expected, node_expectations, line_expectations, expected_of_lines, expectations_in, IfFaulty};
+ghost use Rattle.ga_state_expectations.specs.Spelling.{split_first_word, parsed_expectation};
+ghost use Rattle.ga_state_expectations.specs.Lines.{expectation_lines_of_source, source_expectations, names_expectation_subject, applies_to_program_nodes, is_expectation_faulty_for, expectation_parse_cause, first_node_expectation_cause, line_expectation_cause, expectation_faults_of_line, expectation_faults_of_lines, text_with_node_name, line_expectation_content, line_expectation_if_parsed, node_expectations, line_expectations, expectations_of_source_lines, expectations_or_faults_of_lines, IfExpectationsFaulty};
 
 use crate::cause::{ExpectationCause, ExpectationFault, ExpectationsError};
-use crate::parsing::{begins_as_node, is_of_whole, parse_expectation};
-use crate::requirement::split_word;
+use crate::parsing::{begins_with_digit, is_whole_chip_keyword, parse_expectation};
+use crate::requirement::split_first_word;
 use crate::source::{Expectation, LineExpectation};
 use arrayvec::ArrayVec;
 use ga_debug_info::DebugInfo;
@@ -17,26 +17,28 @@ use ga_text::{NODE_NAME_BYTES, push_node};
 use std::alloc::{AllocError, Global};
 
 /// Whether a text says itself of what it speaks: a node, or all of them.
-fn names_its_subject(text: &[u8]) -> bool
-    ensures { result ≡ names_its_subject text.now }
+fn names_expectation_subject(text: &[u8]) -> bool
+    ensures { result ≡ names_expectation_subject text.now }
 {
-    let (word, _) = split_word(text);
+    let (word, _) = split_first_word(text);
     word == b"never".as_slice()
         || word == b"pass".as_slice()
-        || is_of_whole(word)
-        || begins_as_node(word)
+        || is_whole_chip_keyword(word)
+        || begins_with_digit(word)
 }
 
 /// Whether a line speaks of each node in whose program it is.
-fn speaks_of_program(line: &ExpectationLine) -> bool
-    ensures { result ≡ speaks_of_program line.now }
+fn applies_to_program_nodes(line: &ExpectationLine) -> bool
+    ensures { result ≡ applies_to_program_nodes line.now }
 {
-    !line.nodes.is_empty() && !names_its_subject(line.text.as_slice())
+    !line.nodes.is_empty() && !names_expectation_subject(line.text.as_slice())
 }
 
 /// What is wrong with an expectation.
-fn parsed_cause(parsed: Result<Expectation, ExpectationCause>) -> Option<ExpectationCause>
-    ensures { result ≡ parsed_cause parsed }
+fn expectation_parse_cause(
+    parsed: Result<Expectation, ExpectationCause>,
+) -> Option<ExpectationCause>
+    ensures { result ≡ expectation_parse_cause parsed }
 {
     match parsed {
         Ok(_) => None,
@@ -45,40 +47,40 @@ fn parsed_cause(parsed: Result<Expectation, ExpectationCause>) -> Option<Expecta
 }
 
 /// Whether a text says nothing of a node.
-fn is_faulty_for(notes: &Option<DebugInfo>, text: &[u8], node: NodeId) -> bool
-    ensures { result ≡ is_faulty_for notes.now text.now node }
+fn is_expectation_faulty_for(notes: &Option<DebugInfo>, text: &[u8], node: NodeId) -> bool
+    ensures { result ≡ is_expectation_faulty_for notes.now text.now node }
 {
-    parsed_cause(parse_expectation(notes, Some(node), text)).is_some()
+    expectation_parse_cause(parse_expectation(notes, Some(node), text)).is_some()
 }
 
 /// The place of the first node of which a text says nothing.
 fn faulty_place(notes: &Option<DebugInfo>, text: &[u8], nodes: &[NodeId]) -> Option<usize>
-    ensures { result ≡ position (is_faulty_for notes.now text.now) nodes.now }
+    ensures { result ≡ position (is_expectation_faulty_for notes.now text.now) nodes.now }
 {
     nodes
         .iter()
-        .position(|node| is_faulty_for(notes, text, *node))
+        .position(|node| is_expectation_faulty_for(notes, text, *node))
 }
 
 /// What is wrong with what a text says of some nodes: of the first of which it says nothing.
 fn find_cause(notes: &Option<DebugInfo>, text: &[u8], nodes: &[NodeId]) -> Option<ExpectationCause>
-    ensures { result ≡ first_cause notes.now text.now nodes.now }
+    ensures { result ≡ first_node_expectation_cause notes.now text.now nodes.now }
 {
     let place = faulty_place(notes, text, nodes)?;
     match nodes.get(place) {
-        Some(node) => parsed_cause(parse_expectation(notes, Some(*node), text)),
+        Some(node) => expectation_parse_cause(parse_expectation(notes, Some(*node), text)),
         None => None,
     }
 }
 
 /// What is wrong with a line.
 fn find_line_cause(notes: &Option<DebugInfo>, line: &ExpectationLine) -> Option<ExpectationCause>
-    ensures { result ≡ line_cause notes.now line.now }
+    ensures { result ≡ line_expectation_cause notes.now line.now }
 {
-    if speaks_of_program(line) {
+    if applies_to_program_nodes(line) {
         find_cause(notes, line.text.as_slice(), line.nodes.as_slice())
     } else {
-        parsed_cause(parse_expectation(notes, None, line.text.as_slice()))
+        expectation_parse_cause(parse_expectation(notes, None, line.text.as_slice()))
     }
 }
 
@@ -88,7 +90,7 @@ fn add_fault(
     faults: &mut Vec<ExpectationFault>,
     line: &ExpectationLine,
 ) -> Result<(), AllocError>
-    ensures { OnOk result (faults.new.items ≡ faults.old.items ++ line_faults notes.now line.now) }
+    ensures { OnOk result (faults.new.items ≡ faults.old.items ++ expectation_faults_of_line notes.now line.now) }
 {
     if let Some(cause) = find_line_cause(notes, line) {
         faults.push(ExpectationFault {
@@ -105,7 +107,7 @@ fn find_faults(
     notes: &Option<DebugInfo>,
     lines: &[ExpectationLine],
 ) -> Result<Vec<ExpectationFault>, AllocError>
-    ensures { IfOk result (λ faults. faults.items ≡ faults_of_lines notes.now lines.now) }
+    ensures { IfOk result (λ faults. faults.items ≡ expectation_faults_of_lines notes.now lines.now) }
 {
     let mut faults = Vec::new(alloc);
     for line in lines {
@@ -124,8 +126,8 @@ fn copy_of(alloc: Global, text: &[u8]) -> Result<Vec<u8>, AllocError>
 }
 
 /// A text with the name of a node in front.
-fn named_text(alloc: Global, node: NodeId, text: &[u8]) -> Result<Vec<u8>, AllocError>
-    ensures { IfOk result (λ named. named.items ≡ named_text node text.now) }
+fn text_with_node_name(alloc: Global, node: NodeId, text: &[u8]) -> Result<Vec<u8>, AllocError>
+    ensures { IfOk result (λ named. named.items ≡ text_with_node_name node text.now) }
 {
     let mut name: ArrayVec<u8, NODE_NAME_BYTES> = ArrayVec::new();
     push_node(&mut name, node);
@@ -142,7 +144,7 @@ fn add_parsed(
     text: Vec<u8>,
     parsed: Result<Expectation, ExpectationCause>,
 ) -> Result<(), AllocError>
-    ensures { OnOk result (map expected_content expectations.new.items ≡ map expected_content expectations.old.items ++ one_expected line text.items parsed) }
+    ensures { OnOk result (map line_expectation_content expectations.new.items ≡ map line_expectation_content expectations.old.items ++ line_expectation_if_parsed line text.items parsed) }
 {
     if let Ok(expectation) = parsed {
         expectations.push(LineExpectation {
@@ -162,9 +164,9 @@ fn add_of_node(
     line: &ExpectationLine,
     node: NodeId,
 ) -> Result<(), AllocError>
-    ensures { OnOk result (map expected_content expectations.new.items ≡ map expected_content expectations.old.items ++ node_expectations notes.now line.now node) }
+    ensures { OnOk result (map line_expectation_content expectations.new.items ≡ map line_expectation_content expectations.old.items ++ node_expectations notes.now line.now node) }
 {
-    let text = named_text(alloc, node, line.text.as_slice())?;
+    let text = text_with_node_name(alloc, node, line.text.as_slice())?;
     let parsed = parse_expectation(notes, Some(node), line.text.as_slice());
     add_parsed(expectations, line.line, text, parsed)
 }
@@ -177,7 +179,7 @@ fn add_of_nodes(
     line: &ExpectationLine,
     nodes: &[NodeId],
 ) -> Result<(), AllocError>
-    ensures { OnOk result (map expected_content expectations.new.items ≡ map expected_content expectations.old.items ++ flat_map (node_expectations notes.now line.now) nodes.now) }
+    ensures { OnOk result (map line_expectation_content expectations.new.items ≡ map line_expectation_content expectations.old.items ++ flat_map (node_expectations notes.now line.now) nodes.now) }
 {
     for node in nodes {
         add_of_node(alloc, notes, expectations, line, *node)?;
@@ -192,9 +194,9 @@ fn add_line(
     expectations: &mut Vec<LineExpectation>,
     line: &ExpectationLine,
 ) -> Result<(), AllocError>
-    ensures { OnOk result (map expected_content expectations.new.items ≡ map expected_content expectations.old.items ++ line_expectations notes.now line.now) }
+    ensures { OnOk result (map line_expectation_content expectations.new.items ≡ map line_expectation_content expectations.old.items ++ line_expectations notes.now line.now) }
 {
-    if speaks_of_program(line) {
+    if applies_to_program_nodes(line) {
         return add_of_nodes(alloc, notes, expectations, line, line.nodes.as_slice());
     }
     let text = copy_of(alloc, line.text.as_slice())?;
@@ -208,7 +210,7 @@ fn collect_expectations(
     notes: &Option<DebugInfo>,
     lines: &[ExpectationLine],
 ) -> Result<Vec<LineExpectation>, AllocError>
-    ensures { IfOk result (λ all. map expected_content all.items ≡ expected_of_lines notes.now lines.now) }
+    ensures { IfOk result (λ all. map line_expectation_content all.items ≡ expectations_of_source_lines notes.now lines.now) }
 {
     let mut expectations = Vec::new(alloc);
     for line in lines {
@@ -226,8 +228,8 @@ fn parse_lines(
     notes: &Option<DebugInfo>,
     lines: &[ExpectationLine],
 ) -> Result<Vec<LineExpectation>, ExpectationsError>
-    ensures { MatchResult result (λ all. expectations_in notes.now lines.now ≡ Ok (map expected_content all.items))
-        (λ why. IfFaulty why (λ faults. expectations_in notes.now lines.now ≡ Err faults)) }
+    ensures { MatchResult result (λ all. expectations_or_faults_of_lines notes.now lines.now ≡ Ok (map line_expectation_content all.items))
+        (λ why. IfExpectationsFaulty why (λ faults. expectations_or_faults_of_lines notes.now lines.now ≡ Err faults)) }
 {
     let faults = find_faults(alloc, notes, lines)?;
     if !faults.is_empty() {
@@ -238,8 +240,8 @@ fn parse_lines(
 }
 
 /// The lines of the source that say what is expected, where there is source.
-fn lines_in(notes: &Option<DebugInfo>) -> &[ExpectationLine]
-    ensures { result.now ≡ lines_in notes.now }
+fn expectation_lines_of_source(notes: &Option<DebugInfo>) -> &[ExpectationLine]
+    ensures { result.now ≡ expectation_lines_of_source notes.now }
 {
     match notes {
         Some(notes) => notes.expectations.as_slice(),
@@ -256,8 +258,8 @@ pub fn parse_expectations(
     alloc: Global,
     notes: &Option<DebugInfo>,
 ) -> Result<Vec<LineExpectation>, ExpectationsError>
-    ensures { MatchResult result (λ all. expectations_of notes.now ≡ Ok (map expected_content all.items))
-        (λ why. IfFaulty why (λ faults. expectations_of notes.now ≡ Err faults)) }
+    ensures { MatchResult result (λ all. source_expectations notes.now ≡ Ok (map line_expectation_content all.items))
+        (λ why. IfExpectationsFaulty why (λ faults. source_expectations notes.now ≡ Err faults)) }
 {
-    parse_lines(alloc, notes, lines_in(notes))
+    parse_lines(alloc, notes, expectation_lines_of_source(notes))
 }

@@ -1,10 +1,10 @@
 //! What is expected of the words over a link, as text.
 
 ghost use Rattle.std.specs.Prelude.{◌≡◌, codes, bytes_eq};
-ghost use Rattle.ga_state_expectations.specs.Spelling.{fitting_number, link_word_in, open_words, link_words_within, no_link_words, link_words_in, link_between, link_of_words, link_in};
+ghost use Rattle.ga_state_expectations.specs.Spelling.{word_number_or_cause, parsed_link_word, open_link_words, parsed_link_words_within, no_link_words, parsed_link_words, link_expectation_between, link_expectation_of_words, parsed_link_expectation};
 
 use crate::cause::ExpectationCause;
-use crate::requirement::{has_no_words, split_word};
+use crate::requirement::{has_no_words, split_first_word};
 use arrayvec::ArrayVec;
 use ga_conditions::parse_operand;
 use ga_debug_info::LabelAddress;
@@ -17,8 +17,8 @@ use ga_text::parse_node;
 const WORDS: u32 = 1 << 18;
 
 /// The number, if there is one and it is one of a word.
-fn fitting_number(number: Option<u32>) -> Result<u32, ExpectationCause>
-    ensures { result ≡ fitting_number number }
+fn word_number_or_cause(number: Option<u32>) -> Result<u32, ExpectationCause>
+    ensures { result ≡ word_number_or_cause number }
 {
     match number {
         Some(number) => {
@@ -38,9 +38,9 @@ fn parse_link_word(
     giver: NodeId,
     word: &[u8],
 ) -> Result<u32, ExpectationCause>
-    ensures { result ≡ link_word_in names.now giver word.now }
+    ensures { result ≡ parsed_link_word names.now giver word.now }
 {
-    fitting_number(parse_operand(names, giver, word))
+    word_number_or_cause(parse_operand(names, giver, word))
 }
 
 /// Whether the word says that others may come.
@@ -51,8 +51,11 @@ fn is_open_end(word: &[u8]) -> bool
 }
 
 /// The expectation with `..`, after which these words come.
-fn open_words(expected: LinkExpectation, rest: &[u8]) -> Result<LinkExpectation, ExpectationCause>
-    ensures { result ≡ open_words expected rest.now }
+fn open_link_words(
+    expected: LinkExpectation,
+    rest: &[u8],
+) -> Result<LinkExpectation, ExpectationCause>
+    ensures { result ≡ open_link_words expected rest.now }
 {
     if has_no_words(rest) {
         Ok(LinkExpectation {
@@ -83,14 +86,14 @@ fn parse_words_within(
     to: NodeId,
     text: &[u8],
 ) -> Result<LinkExpectation, ExpectationCause>
-    ensures { result ≡ link_words_within names.now 64 (no_link_words from to) text.now }
+    ensures { result ≡ parsed_link_words_within names.now 64 (no_link_words from to) text.now }
 {
     let mut expected = no_link_words(from, to);
     let mut left = text;
     'words: for _place in 0..MAX_LINK_WORDS {
-        let (word, rest) = split_word(left);
+        let (word, rest) = split_first_word(left);
         if is_open_end(word) {
-            return open_words(expected, rest);
+            return open_link_words(expected, rest);
         }
         match parse_link_word(names, expected.from, word) {
             Ok(number) => expected.words.push(number),
@@ -101,9 +104,9 @@ fn parse_words_within(
         }
         left = rest;
     }
-    let (word, rest) = split_word(left);
+    let (word, rest) = split_first_word(left);
     if is_open_end(word) {
-        open_words(expected, rest)
+        open_link_words(expected, rest)
     } else {
         Err(ExpectationCause::ManyLinkWords)
     }
@@ -116,7 +119,7 @@ fn parse_link_words(
     to: NodeId,
     text: &[u8],
 ) -> Result<LinkExpectation, ExpectationCause>
-    ensures { result ≡ link_words_in names.now from to text.now }
+    ensures { result ≡ parsed_link_words names.now from to text.now }
 {
     if has_no_words(text) {
         return Err(ExpectationCause::NoLinkWords);
@@ -131,7 +134,7 @@ fn parse_between(
     to: Option<NodeId>,
     text: &[u8],
 ) -> Result<LinkExpectation, ExpectationCause>
-    ensures { result ≡ link_between names.now from to text.now }
+    ensures { result ≡ link_expectation_between names.now from to text.now }
 {
     let Some(from) = from else {
         return Err(ExpectationCause::NoSuchNode);
@@ -154,7 +157,7 @@ fn parse_link_of_words(
     sign: &[u8],
     text: &[u8],
 ) -> Result<LinkExpectation, ExpectationCause>
-    ensures { result ≡ link_of_words names.now from.now to.now sign.now text.now }
+    ensures { result ≡ link_expectation_of_words names.now from.now to.now sign.now text.now }
 {
     if sign == b"=".as_slice() {
         parse_between(names, parse_node(from), parse_node(to), text)
@@ -164,15 +167,15 @@ fn parse_link_of_words(
 }
 
 /// `NNN MMM = NUMBER ..`, with the labels of a program: words that pass over a link, and `..` last if others may come after them.
-#[tactic(auto, unfolding(crate::specs::Spelling::link_in))]
+#[tactic(auto, unfolding(crate::specs::Spelling::parsed_link_expectation))]
 pub(crate) fn parse_link(
     names: &[LabelAddress],
     text: &[u8],
 ) -> Result<LinkExpectation, ExpectationCause>
-    ensures { result ≡ link_in names.now text.now }
+    ensures { result ≡ parsed_link_expectation names.now text.now }
 {
-    let (from, rest) = split_word(text);
-    let (to, rest) = split_word(rest);
-    let (sign, words) = split_word(rest);
+    let (from, rest) = split_first_word(text);
+    let (to, rest) = split_first_word(rest);
+    let (sign, words) = split_first_word(rest);
     parse_link_of_words(names, from, to, sign, words)
 }

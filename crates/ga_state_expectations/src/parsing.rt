@@ -1,14 +1,14 @@
 //! What a line of source expects of a program, as text.
 
 ghost use Rattle.std.specs.Prelude.{◌≡◌};
-ghost use Rattle.ga_conditions.specs.Conditions.{labels_in};
-ghost use Rattle.ga_state_conditions.specs.Asked.{state_conditions_in};
-ghost use Rattle.ga_state_expectations.specs.Spelling.{node_expectation_in, expected_never, link_in, expected_passes, whole_expectation_in, is_of_whole, begins_as_node, expectation_of_words, expectation_in};
+ghost use Rattle.ga_conditions.specs.Conditions.{labels_of_debug_info};
+ghost use Rattle.ga_state_conditions.specs.Asked.{parsed_state_conditions};
+ghost use Rattle.ga_state_expectations.specs.Spelling.{parsed_node_expectation, never_expectation, parsed_link_expectation, passes_expectation, parsed_whole_chip_expectation, is_whole_chip_keyword, begins_with_digit, expectation_of_words, parsed_expectation};
 
 use crate::cause::ExpectationCause;
 use crate::expectation::NodeExpectation;
 use crate::link::parse_link;
-use crate::requirement::{has_no_words, parse_requirement, split_word};
+use crate::requirement::{has_no_words, parse_requirement, split_first_word};
 use crate::source::Expectation;
 use ga_debug_info::{DebugInfo, LabelAddress};
 use ga_grid::NodeId;
@@ -17,7 +17,7 @@ use ga_text::parse_node;
 
 /// The labels of a program, where there is source.
 fn labels_of(notes: &Option<DebugInfo>) -> &[LabelAddress]
-    ensures { result.now ≡ labels_in notes.now }
+    ensures { result.now ≡ labels_of_debug_info notes.now }
 {
     match notes {
         Some(notes) => notes.names.as_slice(),
@@ -32,7 +32,7 @@ fn parse_node_expectation(
     cause: ExpectationCause,
     text: &[u8],
 ) -> Result<Expectation, ExpectationCause>
-    ensures { result ≡ node_expectation_in notes.now node cause text.now }
+    ensures { result ≡ parsed_node_expectation notes.now node cause text.now }
 {
     let Some(node) = node else {
         return Err(cause);
@@ -45,7 +45,7 @@ fn parse_node_expectation(
 
 /// `COND or COND ..` after `never`.
 fn parse_never(notes: &Option<DebugInfo>, text: &[u8]) -> Result<Expectation, ExpectationCause>
-    ensures { result ≡ expected_never (state_conditions_in notes.now text.now) }
+    ensures { result ≡ never_expectation (parsed_state_conditions notes.now text.now) }
 {
     match parse_state_conditions(notes, text) {
         Ok(conditions) => Ok(Expectation::Never(conditions)),
@@ -55,7 +55,7 @@ fn parse_never(notes: &Option<DebugInfo>, text: &[u8]) -> Result<Expectation, Ex
 
 /// `NNN MMM = NUMBER ..` after `pass`.
 fn parse_passes(notes: &Option<DebugInfo>, text: &[u8]) -> Result<Expectation, ExpectationCause>
-    ensures { result ≡ expected_passes (link_in (labels_in notes.now) text.now) }
+    ensures { result ≡ passes_expectation (parsed_link_expectation (labels_of_debug_info notes.now) text.now) }
 {
     match parse_link(labels_of(notes), text) {
         Ok(expected) => Ok(Expectation::Passes(expected)),
@@ -65,7 +65,7 @@ fn parse_passes(notes: &Option<DebugInfo>, text: &[u8]) -> Result<Expectation, E
 
 /// `every order ends` and `one end`.
 fn parse_whole_expectation(text: &[u8]) -> Result<Expectation, ExpectationCause>
-    ensures { result ≡ whole_expectation_in text.now }
+    ensures { result ≡ parsed_whole_chip_expectation text.now }
 {
     if text == b"every order ends".as_slice() {
         Ok(Expectation::EveryOrderEnds)
@@ -77,15 +77,15 @@ fn parse_whole_expectation(text: &[u8]) -> Result<Expectation, ExpectationCause>
 }
 
 /// Whether the word is that of an expectation of all nodes together.
-pub(crate) fn is_of_whole(word: &[u8]) -> bool
-    ensures { result ≡ is_of_whole word.now }
+pub(crate) fn is_whole_chip_keyword(word: &[u8]) -> bool
+    ensures { result ≡ is_whole_chip_keyword word.now }
 {
     word == b"every".as_slice() || word == b"one".as_slice()
 }
 
 /// Whether the word begins with a digit, as a node's name and no value does.
-pub(crate) fn begins_as_node(word: &[u8]) -> bool
-    ensures { result ≡ begins_as_node word.now }
+pub(crate) fn begins_with_digit(word: &[u8]) -> bool
+    ensures { result ≡ begins_with_digit word.now }
 {
     match word {
         [byte, ..] => *byte >= b'0' && *byte <= b'9',
@@ -107,9 +107,9 @@ fn parse_words(
         parse_never(notes, rest)
     } else if word == b"pass".as_slice() {
         parse_passes(notes, rest)
-    } else if is_of_whole(word) {
+    } else if is_whole_chip_keyword(word) {
         parse_whole_expectation(text)
-    } else if begins_as_node(word) {
+    } else if begins_with_digit(word) {
         parse_node_expectation(notes, parse_node(word), ExpectationCause::NoSuchNode, rest)
     } else {
         parse_node_expectation(notes, node, ExpectationCause::NoNode, text)
@@ -120,17 +120,17 @@ fn parse_words(
 ///
 /// # Errors
 /// What is wrong with them.
-#[tactic(auto, unfolding(crate::specs::Spelling::expectation_in))]
+#[tactic(auto, unfolding(crate::specs::Spelling::parsed_expectation))]
 pub fn parse_expectation(
     notes: &Option<DebugInfo>,
     node: Option<NodeId>,
     text: &[u8],
 ) -> Result<Expectation, ExpectationCause>
-    ensures { result ≡ expectation_in notes.now node text.now }
+    ensures { result ≡ parsed_expectation notes.now node text.now }
 {
     if has_no_words(text) {
         return Err(ExpectationCause::Nothing);
     }
-    let (word, rest) = split_word(text);
+    let (word, rest) = split_first_word(text);
     parse_words(notes, node, text, word, rest)
 }

@@ -2,11 +2,11 @@
 
 ghost use Rattle.std.specs.Prelude.{◌≡◌, ◌<◌};
 ghost use Rattle.ga_ports.specs.Address.{has_side};
-ghost use Rattle.ga_state_expectations.specs.Spelling.{split_word, has_no_words, side_in, with_side, sides_in, write_in, wait_in, stop_in, possible_test, number_in, comparison_after, requirement_of_words, requirement_in};
+ghost use Rattle.ga_state_expectations.specs.Spelling.{split_first_word, has_no_words, parsed_side_name, side_set_with_side, parsed_sides, parsed_writes_requirement, parsed_awaits_requirement, parsed_stops_requirement, requirement_of_value_test, requirement_of_number_text, requirement_of_comparison_text, requirement_of_words, parsed_requirement};
 
 use crate::cause::ExpectationCause;
 use crate::expectation::{NodeRequirement, is_step_count};
-use ga_conditions::{parse_comparison, parse_operand, parse_value};
+use ga_conditions::{parse_comparison, parse_node_value, parse_operand};
 use ga_debug_info::LabelAddress;
 use ga_grid::NodeId;
 use ga_ports::{PortSet, Side};
@@ -17,8 +17,8 @@ use ga_text::split_at_space;
 const MAX_SIDES: usize = 4;
 
 /// The first word of a text, and those after it.
-pub(crate) fn split_word(text: &[u8]) -> (&[u8], &[u8])
-    ensures { (result.0.now, result.1.now) ≡ split_word text.now }
+pub(crate) fn split_first_word(text: &[u8]) -> (&[u8], &[u8])
+    ensures { (result.0.now, result.1.now) ≡ split_first_word text.now }
 {
     match split_at_space(text) {
         Some(parts) => parts,
@@ -35,7 +35,7 @@ pub(crate) fn has_no_words(text: &[u8]) -> bool
 
 /// The side of this name.
 fn parse_side(word: &[u8]) -> Option<Side>
-    ensures { result ≡ side_in word.now }
+    ensures { result ≡ parsed_side_name word.now }
 {
     if word == b"right".as_slice() {
         Some(Side::Right)
@@ -63,9 +63,9 @@ fn has_side(sides: u8, side: Side) -> bool
 }
 
 /// A set of sides, or of none, with one more.
-fn with_side(sides: u8, side: Side) -> u8
+fn side_set_with_side(sides: u8, side: Side) -> u8
     requires { sides < 16 }
-    ensures value { result ≡ with_side sides side }
+    ensures value { result ≡ side_set_with_side sides side }
     ensures in_range { (0 < result) × (result < 16) }
 {
     if has_side(sides, side) {
@@ -77,7 +77,7 @@ fn with_side(sides: u8, side: Side) -> u8
 
 /// The sides that a text names.
 fn parse_sides(text: &[u8]) -> Result<PortSet, ExpectationCause>
-    ensures { result ≡ sides_in text.now }
+    ensures { result ≡ parsed_sides text.now }
 {
     if has_no_words(text) {
         return Err(ExpectationCause::NoSide);
@@ -85,9 +85,9 @@ fn parse_sides(text: &[u8]) -> Result<PortSet, ExpectationCause>
     let mut sides = 0;
     let mut left = text;
     'words: for _place in 0..MAX_SIDES {
-        let (word, rest) = split_word(left);
+        let (word, rest) = split_first_word(left);
         match parse_side(word) {
-            Some(side) => sides = with_side(sides, side),
+            Some(side) => sides = side_set_with_side(sides, side),
             None => return Err(ExpectationCause::NoSuchSide),
         }
         if has_no_words(rest) {
@@ -100,12 +100,12 @@ fn parse_sides(text: &[u8]) -> Result<PortSet, ExpectationCause>
 
 /// `SIDE` after `writes`.
 fn parse_write(text: &[u8]) -> Result<NodeRequirement, ExpectationCause>
-    ensures { result ≡ write_in text.now }
+    ensures { result ≡ parsed_writes_requirement text.now }
 {
     if has_no_words(text) {
         return Err(ExpectationCause::NoSide);
     }
-    let (word, rest) = split_word(text);
+    let (word, rest) = split_first_word(text);
     if !has_no_words(rest) {
         return Err(ExpectationCause::ManySides);
     }
@@ -117,7 +117,7 @@ fn parse_write(text: &[u8]) -> Result<NodeRequirement, ExpectationCause>
 
 /// `code` after `awaits`.
 fn parse_wait(text: &[u8]) -> Result<NodeRequirement, ExpectationCause>
-    ensures { result ≡ wait_in text.now }
+    ensures { result ≡ parsed_awaits_requirement text.now }
 {
     if text == b"code".as_slice() {
         Ok(NodeRequirement::AwaitsCode)
@@ -128,7 +128,7 @@ fn parse_wait(text: &[u8]) -> Result<NodeRequirement, ExpectationCause>
 
 /// `N` after `stops`.
 fn parse_stop(text: &[u8]) -> Result<NodeRequirement, ExpectationCause>
-    ensures { result ≡ stop_in text.now }
+    ensures { result ≡ parsed_stops_requirement text.now }
 {
     if text == b"1".as_slice() {
         Ok(NodeRequirement::Stopped(1))
@@ -142,10 +142,10 @@ fn parse_stop(text: &[u8]) -> Result<NodeRequirement, ExpectationCause>
 }
 
 /// The test, if its number is a word.
-fn possible_test(test: ValueTest) -> Result<NodeRequirement, ExpectationCause>
-    ensures { result ≡ possible_test test }
+fn requirement_of_value_test(test: ValueTest) -> Result<NodeRequirement, ExpectationCause>
+    ensures { result ≡ requirement_of_value_test test }
 {
-    if test.is_possible() {
+    if test.can_be_passed() {
         Ok(NodeRequirement::Holds(test))
     } else {
         Err(ExpectationCause::OutOfRange)
@@ -160,7 +160,7 @@ fn parse_number(
     comparison: Option<Comparison>,
     text: &[u8],
 ) -> Result<NodeRequirement, ExpectationCause>
-    ensures { result ≡ number_in names.now node value comparison text.now }
+    ensures { result ≡ requirement_of_number_text names.now node value comparison text.now }
 {
     let Some(comparison) = comparison else {
         return Err(ExpectationCause::NoSuchComparison);
@@ -169,7 +169,7 @@ fn parse_number(
         return Err(ExpectationCause::NoNumber);
     }
     match parse_operand(names, node, text) {
-        Some(number) => possible_test(ValueTest {
+        Some(number) => requirement_of_value_test(ValueTest {
             value,
             comparison,
             number,
@@ -185,7 +185,7 @@ fn parse_comparison_after(
     value: Option<NodeValue>,
     text: &[u8],
 ) -> Result<NodeRequirement, ExpectationCause>
-    ensures { result ≡ comparison_after names.now node value text.now }
+    ensures { result ≡ requirement_of_comparison_text names.now node value text.now }
 {
     let Some(value) = value else {
         return Err(ExpectationCause::NoSuchValue);
@@ -193,7 +193,7 @@ fn parse_comparison_after(
     if is_step_count(value) {
         return Err(ExpectationCause::CountsSteps);
     }
-    let (sign, number) = split_word(text);
+    let (sign, number) = split_first_word(text);
     parse_number(names, node, value, parse_comparison(sign), number)
 }
 
@@ -218,22 +218,22 @@ fn parse_words(
     } else if word == b"stops".as_slice() {
         parse_stop(text)
     } else {
-        parse_comparison_after(names, node, parse_value(word), text)
+        parse_comparison_after(names, node, parse_node_value(word), text)
     }
 }
 
 /// What a text requires of a node, with the labels of a program.
-#[tactic(auto, unfolding(crate::specs::Spelling::requirement_in))]
+#[tactic(auto, unfolding(crate::specs::Spelling::parsed_requirement))]
 pub(crate) fn parse_requirement(
     names: &[LabelAddress],
     node: NodeId,
     text: &[u8],
 ) -> Result<NodeRequirement, ExpectationCause>
-    ensures { result ≡ requirement_in names.now node text.now }
+    ensures { result ≡ parsed_requirement names.now node text.now }
 {
     if has_no_words(text) {
         return Err(ExpectationCause::Nothing);
     }
-    let (word, rest) = split_word(text);
+    let (word, rest) = split_first_word(text);
     parse_words(names, node, word, rest)
 }

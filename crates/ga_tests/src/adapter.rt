@@ -1,6 +1,6 @@
 //! What a client of the Debug Adapter Protocol is shown, byte for byte, with the names that its schema has.
 
-use crate::common::{CALLS_PROGRAM, lab_after_steps, lab_of_image, same};
+use crate::common::{CALLS_PROGRAM, assert_same, lab_after_steps, lab_of_image};
 use ga_dap_queries::{evaluate, exception_info, parse_variable};
 use ga_dap_views::{
     Scope, SlotAddress, SourceFile, cell_at_chip_address, chip_address, disassemble_body, frame_id,
@@ -31,16 +31,16 @@ const WRITER: &[u8] =
 #[test]
 fn numbers_mean_something(rt: HostRuntime) {
     let node = NodeId::new(127);
-    same(&rt, &thread_id(node), &1701);
-    same(&rt, &node_of_thread(1701), &Some(node));
-    same(&rt, &node_of_thread(1018), &None);
-    same(&rt, &frame_id(node, 2), &2035);
-    same(&rt, &node_of_frame(2035), &Some((node, 2)));
-    same(&rt, &variables_reference(node, Scope::Rom), &1022);
-    same(&rt, &resolve_reference(1022), &Some((node, Scope::Rom)));
-    same(&rt, &chip_address(node, 5), &0x701005);
-    same(&rt, &cell_at_chip_address(0x701005), &Some((node, 5)));
-    same(&rt, &cell_at_chip_address(0x0a1005), &None);
+    assert_same(&rt, &thread_id(node), &1701);
+    assert_same(&rt, &node_of_thread(1701), &Some(node));
+    assert_same(&rt, &node_of_thread(1018), &None);
+    assert_same(&rt, &frame_id(node, 2), &2035);
+    assert_same(&rt, &node_of_frame(2035), &Some((node, 2)));
+    assert_same(&rt, &variables_reference(node, Scope::Rom), &1022);
+    assert_same(&rt, &resolve_reference(1022), &Some((node, Scope::Rom)));
+    assert_same(&rt, &chip_address(node, 5), &0x701005);
+    assert_same(&rt, &cell_at_chip_address(0x701005), &Some((node, 5)));
+    assert_same(&rt, &cell_at_chip_address(0x0a1005), &None);
 }
 
 #[test]
@@ -107,7 +107,7 @@ fn a_register_is_asked_for(rt: HostRuntime) -> Result<(), Fail> {
         ),
         None => assert!(&rt; false),
     }
-    same(&rt, &parse_variable(alloc, "[0g]")?.is_some(), &false);
+    assert_same(&rt, &parse_variable(alloc, "[0g]")?.is_some(), &false);
     Ok(())
 }
 
@@ -138,23 +138,23 @@ fn frames_are_shown(rt: HostRuntime) -> Result<(), Fail> {
 fn returned_calls_are_closed(rt: HostRuntime) -> Result<(), Fail> {
     let node = NodeId::new(0);
     let (lab, _) = lab_after_steps(&rt, rt.alloc(), CALLS_PROGRAM, 14)?;
-    same(
+    assert_same(
         &rt,
         &slot_address_after(&lab, node, 0),
         &Some(SlotAddress { cell: 0, slot: 0 }),
     );
     let calls = open_calls(&lab, node);
-    same(&rt, &calls.len(), &1);
+    assert_same(&rt, &calls.len(), &1);
     match calls.first() {
         Some(call) => {
-            same(&rt, &call.step, &3);
+            assert_same(&rt, &call.step, &3);
             // `call` is in slot 1 of cell 0.
-            same(&rt, &call.at, &Some(SlotAddress { cell: 0, slot: 1 }));
+            assert_same(&rt, &call.at, &Some(SlotAddress { cell: 0, slot: 1 }));
         }
         None => assert!(&rt; false),
     }
     let (lab, _) = lab_after_steps(&rt, rt.alloc(), CALLS_PROGRAM, 15)?;
-    same(&rt, &open_calls(&lab, node).len(), &0);
+    assert_same(&rt, &open_calls(&lab, node).len(), &0);
     Ok(())
 }
 

@@ -13,7 +13,7 @@ use std::process::Abort;
 use std::test::Fail;
 
 /// A value is the one wanted.
-pub fn same<T: PartialEq + Debug>(rt: &impl Abort, got: &T, wanted: &T) {
+pub fn assert_same<T: PartialEq + Debug>(rt: &impl Abort, got: &T, wanted: &T) {
     assert_eq!(rt; got, wanted);
 }
 

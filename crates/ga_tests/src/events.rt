@@ -2,7 +2,7 @@
 
 ghost use Rattle.std.specs.Prelude.{◌<◌};
 
-use crate::common::{PAIR_PROGRAM, assert_each_equal, assert_each_text, lab_of_image, same};
+use crate::common::{PAIR_PROGRAM, assert_each_equal, assert_each_text, assert_same, lab_of_image};
 use ga_causal::{Cause, Chain, Link, find_chain, is_chain};
 use ga_event::Event;
 use ga_grid::NodeId;
@@ -51,8 +51,8 @@ fn links_are(
     match find_chain(alloc, &events, from, to)? {
         Some(chain) => {
             assert_each_equal(rt, chain.links(), wanted);
-            same(rt, &chain.get(0), &Some(link(from, 0)));
-            same(rt, &is_chain(&events, &chain), &true);
+            assert_same(rt, &chain.get(0), &Some(link(from, 0)));
+            assert_same(rt, &is_chain(&events, &chain), &true);
         }
         None => assert_each_equal(rt, &[], wanted),
     }
@@ -70,7 +70,7 @@ fn chains_are_found(rt: HostRuntime) -> Result<(), Fail> {
 // Whether these links are a chain of the events.
 fn checked(rt: &impl Abort, alloc: Global, links: &[Link], wanted: bool) -> Result<(), Fail> {
     let chain = Chain::new(links.to_vec(alloc)?);
-    same(rt, &is_chain(&events(), &chain), &wanted);
+    assert_same(rt, &is_chain(&events(), &chain), &wanted);
     Ok(())
 }
 
@@ -112,9 +112,9 @@ fn is_ticked(
     let mut lab = passed_beside(alloc, others)?;
     let mut ticks = Ticks::new();
     let removed = lab.rewind_counting_ticks(at.0, at.1, &mut ticks);
-    same(rt, &removed, &Ok(wanted.0));
+    assert_same(rt, &removed, &Ok(wanted.0));
     let counts = (lab.counts().kept, ticks.count(), ticks.failed_searches());
-    same(rt, &counts, &(wanted.1, wanted.2, 0));
+    assert_same(rt, &counts, &(wanted.1, wanted.2, 0));
     Ok(())
 }
 

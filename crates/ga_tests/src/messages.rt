@@ -1,8 +1,9 @@
 //! Requests, read from content parts, and messages that are written, byte for byte.
 
-use crate::common::{assert_each_text, same};
+use crate::common::{assert_each_text, assert_same};
 use ga_dap_protocol::{
-    ClientRequest, Inbox, Next, Outbox, RequestError, member_number, member_text, read_request,
+    ClientRequest, Inbox, NextMessage, Outbox, RequestError, member_number, member_text,
+    read_request,
 };
 use serde_json::{Value, json};
 use std::alloc::{AllocError, Global};
@@ -65,25 +66,25 @@ fn requests_are_read(rt: HostRuntime) -> Result<(), Fail> {
     let content =
         b"{\n  \"arguments\": {\"threadId\": 1701, \"granularity\": \"instruction\"},\n  \"command\": \"next\", \"seq\": 0, \"type\": \"request\" }";
     let request = read_request(rt.alloc(), content)?;
-    same(&rt, &request.seq, &0);
+    assert_same(&rt, &request.seq, &0);
     assert_eq!(rt; request.command.as_str(), "next");
-    same(
+    assert_same(
         &rt,
         &member_number(&request.arguments, "threadId"),
         &Some(1701),
     );
-    same(
+    assert_same(
         &rt,
         &member_text(&request.arguments, "granularity"),
         &Some("instruction"),
     );
-    same(&rt, &member_text(&request.arguments, "threadId"), &None);
-    same(&rt, &member_number(&request.arguments, "frameId"), &None);
+    assert_same(&rt, &member_text(&request.arguments, "threadId"), &None);
+    assert_same(&rt, &member_number(&request.arguments, "frameId"), &None);
     let bare = read_request(
         rt.alloc(),
         b"{\"seq\":18446744073709551615,\"type\":\"request\",\"command\":\"\"}",
     )?;
-    same(&rt, &bare.seq, &u64::MAX);
+    assert_same(&rt, &bare.seq, &u64::MAX);
     assert!(rt; bare.arguments.is_null());
     Ok(())
 }
@@ -172,7 +173,7 @@ fn what_is_written_is_read_back(rt: HostRuntime) -> Result<(), Fail> {
     let mut reader = outbox.bytes();
     let mut seqs = 0u64;
     for _ in 0..2 {
-        let Next::Message(content) = inbox.next(&mut reader)? else {
+        let NextMessage::Message(content) = inbox.next(&mut reader)? else {
             return Ok(());
         };
         let value = Value::from_slice(rt.alloc(), &content)?;
@@ -184,6 +185,6 @@ fn what_is_written_is_read_back(rt: HostRuntime) -> Result<(), Fail> {
         }
     }
     assert_eq!(rt; seqs, 3);
-    assert!(rt; matches!(inbox.next(&mut reader)?, Next::End));
+    assert!(rt; matches!(inbox.next(&mut reader)?, NextMessage::End));
     Ok(())
 }

@@ -1,10 +1,10 @@
 //! The moves of an editor, over a program with calls and one that stores, and where the words of a line are.
 
-use crate::common::{CALLS_PROGRAM, assert_each_equal, lab_after_steps, same};
+use crate::common::{CALLS_PROGRAM, assert_each_equal, assert_same, lab_after_steps};
 use ga_dap_breakpoints::{
     Breakpoint, Granularity, HaltConditions, HaltReason, HitCondition, MoveResult, StepMove,
-    Watched, breakpoint_of_address, breakpoint_of_line, continue_run, continue_step, kept_hits,
-    reverse_to, step_back, step_back_line,
+    Watched, breakpoint_of_address, breakpoint_of_line, continue_run, continue_step,
+    count_kept_hits, reverse_to_breakpoint, step_back, step_back_line,
 };
 use ga_dap_views::SlotAddress;
 use ga_debug_info::{DebugInfo, SlotWord};
@@ -22,7 +22,7 @@ fn each_hit<'b>(lab: &Lab, breakpoints: &'b [Breakpoint]) -> HaltConditions<'b> 
     HaltConditions {
         breakpoints,
         stops: true,
-        tally: kept_hits(lab, &[]),
+        tally: count_kept_hits(lab, &[]),
     }
 }
 
@@ -43,8 +43,8 @@ const SECOND_DUP: Watched = Watched::ArrivesAtSlot(SlotAddress { cell: 5, slot: 
 fn moves(rt: &impl Abort, lab: &mut Lab, notes: &DebugInfo, mut by: StepMove, wanted: u64) {
     let halts = each_hit(lab, &[]);
     let went = continue_step(lab, Schedule::round_robin(), &mut by, notes, halts, 100);
-    same(rt, &went.events, &wanted);
-    same(rt, &is_moved(went), &true);
+    assert_same(rt, &went.events, &wanted);
+    assert_same(rt, &is_moved(went), &true);
 }
 
 fn is_moved(went: MoveResult) -> bool {
@@ -72,7 +72,7 @@ fn lines_are_stepped_in(rt: HostRuntime) -> Result<(), Fail> {
         moves(&rt, &mut lab, &notes, line, wanted);
     }
     // The node is taken back over the call of `quad`.
-    same(&rt, &step_back_line(&mut lab, &notes, node), &9);
+    assert_same(&rt, &step_back_line(&mut lab, &notes, node), &9);
     let over = StepMove::next(&lab, node, Granularity::Line);
     moves(&rt, &mut lab, &notes, over, 9);
     let step = StepMove::step_in(&lab, node, Granularity::Instruction);
@@ -89,7 +89,7 @@ fn lines_are_stepped_in(rt: HostRuntime) -> Result<(), Fail> {
 fn calls_are_stepped_out_of(rt: HostRuntime) -> Result<(), Fail> {
     let node = NodeId::new(0);
     let (mut lab, notes) = lab_after_steps(&rt, rt.alloc(), CALLS_PROGRAM, 0)?;
-    same(&rt, &StepMove::step_out(&lab, node), &None);
+    assert_same(&rt, &StepMove::step_out(&lab, node), &None);
     for wanted in [3, 2] {
         let line = StepMove::step_in(&lab, node, Granularity::Line);
         moves(&rt, &mut lab, &notes, line, wanted);
@@ -108,17 +108,17 @@ fn slices_stop_at_a_breakpoint(rt: HostRuntime) -> Result<(), Fail> {
     let Some(on_line) = breakpoint_of_line(&notes, 10) else {
         panic!(&rt; "line 10 has code");
     };
-    same(&rt, &on_line.breakpoint, &watching(SECOND_DUP));
-    same(&rt, &on_line.line, &10);
+    assert_same(&rt, &on_line.breakpoint, &watching(SECOND_DUP));
+    assert_same(&rt, &on_line.line, &10);
     let breakpoints = [on_line.breakpoint];
     let halts = each_hit(&lab, &breakpoints);
     let slice = continue_run(&mut lab, Schedule::greedy(), halts, 5);
-    same(&rt, &slice.halt, &HaltReason::Cut);
+    assert_same(&rt, &slice.halt, &HaltReason::Cut);
     let hit = continue_run(&mut lab, slice.schedule, halts, 100);
-    same(&rt, &hit.events, &3);
-    same(&rt, &hit_by(hit), &Some(0));
+    assert_same(&rt, &hit.events, &3);
+    assert_same(&rt, &hit_by(hit), &Some(0));
     let again = continue_run(&mut lab, hit.schedule, halts, 100);
-    same(&rt, &again.events, &18);
+    assert_same(&rt, &again.events, &18);
     Ok(())
 }
 
@@ -139,13 +139,13 @@ fn each_third_hit_is_stopped_at(rt: HostRuntime) -> Result<(), Fail> {
     let mut halts = each_hit(&lab, &third);
     // The second `dup` is come to by event 8, and then by each 18th.
     let hit = continue_run(&mut lab, Schedule::greedy(), halts, 100);
-    same(&rt, &hit.events, &44);
+    assert_same(&rt, &hit.events, &44);
     halts.tally = hit.tally;
     let again = continue_run(&mut lab, hit.schedule, halts, 100);
-    same(&rt, &again.events, &54);
-    same(&rt, &reverse_to(&mut lab, node, &third), &54);
-    same(&rt, &kept_hits(&lab, &third).counts[0], &3);
-    same(&rt, &reverse_to(&mut lab, node, &third), &44);
+    assert_same(&rt, &again.events, &54);
+    assert_same(&rt, &reverse_to_breakpoint(&mut lab, node, &third), &54);
+    assert_same(&rt, &count_kept_hits(&lab, &third).counts[0], &3);
+    assert_same(&rt, &reverse_to_breakpoint(&mut lab, node, &third), &44);
     Ok(())
 }
 
@@ -160,12 +160,12 @@ fn a_store_is_stopped_at(rt: HostRuntime) -> Result<(), Fail> {
     let halts = each_hit(&lab, &breakpoints);
     // The node is at address 0 when loaded, and arrives there by its first fetch.
     let first = continue_run(&mut lab, Schedule::greedy(), halts, 100);
-    same(&rt, &first.events, &1);
-    same(&rt, &hit_by(first), &Some(1));
+    assert_same(&rt, &first.events, &1);
+    assert_same(&rt, &hit_by(first), &Some(1));
     let hit = continue_run(&mut lab, first.schedule, halts, 100);
-    same(&rt, &hit.events, &6);
-    same(&rt, &hit_by(hit), &Some(0));
-    same(&rt, &lab.memory(node, 9).get(), &7);
+    assert_same(&rt, &hit.events, &6);
+    assert_same(&rt, &hit_by(hit), &Some(0));
+    assert_same(&rt, &lab.memory(node, 9).get(), &7);
     Ok(())
 }
 
@@ -175,18 +175,18 @@ fn steps_are_taken_back(rt: HostRuntime) -> Result<(), Fail> {
     let node = NodeId::new(0);
     let (mut lab, notes) = lab_after_steps(&rt, alloc, CALLS_PROGRAM, 14)?;
     // To the fetch of `2* ;`, then over the call of `quad` to that of its line, then before the call of `double`.
-    same(&rt, &step_back_line(&mut lab, &notes, node), &2);
-    same(&rt, &step_back_line(&mut lab, &notes, node), &9);
-    same(&rt, &step_back(&mut lab, node), &1);
-    same(&rt, &lab.steps(node), &2);
+    assert_same(&rt, &step_back_line(&mut lab, &notes, node), &2);
+    assert_same(&rt, &step_back_line(&mut lab, &notes, node), &9);
+    assert_same(&rt, &step_back(&mut lab, node), &1);
+    assert_same(&rt, &lab.steps(node), &2);
     // Cell 05 has two lines: to its slot 2, and to the call of `quad`.
     let (mut lab, notes) = lab_after_steps(&rt, alloc, CALLS_PROGRAM, 10)?;
-    same(&rt, &step_back_line(&mut lab, &notes, node), &2);
-    same(&rt, &step_back_line(&mut lab, &notes, node), &3);
+    assert_same(&rt, &step_back_line(&mut lab, &notes, node), &2);
+    assert_same(&rt, &step_back_line(&mut lab, &notes, node), &3);
     let (mut lab, _) = lab_after_steps(&rt, alloc, CALLS_PROGRAM, 14)?;
     let double = watching(Watched::ArrivesAtSlot(SlotAddress { cell: 3, slot: 0 }));
-    same(&rt, &reverse_to(&mut lab, node, &[double]), &11);
-    same(&rt, &reverse_to(&mut lab, node, &[double]), &3);
+    assert_same(&rt, &reverse_to_breakpoint(&mut lab, node, &[double]), &11);
+    assert_same(&rt, &reverse_to_breakpoint(&mut lab, node, &[double]), &3);
     Ok(())
 }
 

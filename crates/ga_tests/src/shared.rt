@@ -2,7 +2,7 @@
 
 ghost use Rattle.std.specs.Prelude.{◌≡◌, ◌<◌, ◌^◌, All, IfOk, vec_len};
 
-use crate::common::{PAIR_PROGRAM, same};
+use crate::common::{PAIR_PROGRAM, assert_same};
 use ga_grid::NodeId;
 use ga_image::parse;
 use ga_shared::{
@@ -45,9 +45,9 @@ fn sixteen_lists(alloc: Global) -> Result<Vec<Vec<Call>>, Fail>
 
 /// How many calls are in the log, and how many events the lab keeps and has made.
 fn counts(rt: &impl Abort, closed: &ClosedLab, calls: usize, kept: u32, made: u64) {
-    same(rt, &closed.log.len(), &calls);
+    assert_same(rt, &closed.log.len(), &calls);
     let counts = closed.lab.counts();
-    same(rt, &(counts.kept, counts.made), &(kept, made));
+    assert_same(rt, &(counts.kept, counts.made), &(kept, made));
 }
 
 /// The race of two workers, each of whom makes four steps of its node, past a gate.
@@ -176,8 +176,8 @@ fn gates_are_told_of_each_call(rt: HostRuntime) -> Result<(), Fail> {
         &gate,
     )?;
     assert!(rt; !gate.has_failed.load(Ordering::SeqCst));
-    same(&rt, &gate.first.load(Ordering::SeqCst), &240);
-    same(&rt, &gate.last.load(Ordering::SeqCst), &240);
+    assert_same(&rt, &gate.first.load(Ordering::SeqCst), &240);
+    assert_same(&rt, &gate.last.load(Ordering::SeqCst), &240);
     Ok(())
 }
 
@@ -209,9 +209,9 @@ impl CallGate for OneFirst {
 
 /// The workers of a log, call by call.
 fn is_log_of(rt: &impl Abort, closed: &ClosedLab, workers: &[u32]) {
-    same(rt, &closed.log.len(), &workers.len());
+    assert_same(rt, &closed.log.len(), &workers.len());
     for (entry, worker) in closed.log.iter().zip(workers) {
-        same(rt, &entry.worker, worker);
+        assert_same(rt, &entry.worker, worker);
     }
 }
 

@@ -1,9 +1,9 @@
 //! What some bytes begin with; messages taken from inputs that come in pieces, end, and fail; a text that is written whole or
 //! not. Streams of the program that fail are in `.ci/io_faults` at the top.
 
-use crate::common::{assert_each_equal, assert_each_text, same};
+use crate::common::{assert_each_equal, assert_each_text, assert_same};
 use ga_dap_protocol::{
-    CONTENT_LIMIT, FrameError, FramePrefix, Inbox, Next, parse_frame_prefix, push_frame,
+    CONTENT_LIMIT, FrameError, FramePrefix, Inbox, NextMessage, parse_frame_prefix, push_frame,
 };
 use ga_text::write_all;
 use std::alloc::{AllocError, Global};
@@ -101,7 +101,7 @@ fn beginnings_ask_for_more(rt: HostRuntime) {
         let (part, _) = message.as_slice().split_at(count);
         assert_eq!(rt; parse_frame_prefix(part), FramePrefix::Part, "at {count}");
     }
-    same(
+    assert_same(
         &rt,
         &parse_frame_prefix(message),
         &FramePrefix::Message { start: 22, end: 34 },
@@ -119,11 +119,11 @@ fn the_bound_is_within(rt: HostRuntime) -> Result<(), Fail> {
         start: 26,
         end: 26 + 131_072,
     };
-    same(&rt, &parse_frame_prefix(&text), &whole);
+    assert_same(&rt, &parse_frame_prefix(&text), &whole);
     content.push(b' ')?;
     text.clear();
     push_frame(rt.alloc(), &mut text, &content)?;
-    same(
+    assert_same(
         &rt,
         &parse_frame_prefix(&text),
         &FramePrefix::Wrong(FrameError::TooLong),
@@ -200,13 +200,13 @@ fn taken(alloc: Global, mut reader: Pieces) -> Result<(Vec<u8>, Ending), AllocEr
     let mut contents = Vec::new(alloc);
     for _ in 0..1000 {
         match inbox.next(&mut reader)? {
-            Next::Message(content) => {
+            NextMessage::Message(content) => {
                 contents.extend_from_slice(&content)?;
                 contents.push(b'\n')?;
             }
-            Next::End => return Ok((contents, Ending::End)),
-            Next::Wrong(why) => return Ok((contents, Ending::Wrong(why))),
-            Next::Failed => return Ok((contents, Ending::Failed)),
+            NextMessage::End => return Ok((contents, Ending::End)),
+            NextMessage::Wrong(why) => return Ok((contents, Ending::Wrong(why))),
+            NextMessage::Failed => return Ok((contents, Ending::Failed)),
         }
     }
     Ok((contents, Ending::Failed))
@@ -223,7 +223,7 @@ fn assert_taken(
     for most in 1..=text.len() + 1 {
         let got = taken(alloc, in_pieces(text, most))?;
         assert_each_equal(rt, &got.0, contents);
-        same(rt, &got.1, &ending);
+        assert_same(rt, &got.1, &ending);
     }
     Ok(())
 }
@@ -272,8 +272,8 @@ fn a_failed_read_is_told(rt: HostRuntime) -> Result<(), Fail> {
         let mut failed = 0u32;
         for _ in 0..5 {
             match inbox.next(&mut reader)? {
-                Next::Message(content) => contents.extend_from_slice(&content)?,
-                Next::Failed => failed = failed.saturating_add(1),
+                NextMessage::Message(content) => contents.extend_from_slice(&content)?,
+                NextMessage::Failed => failed = failed.saturating_add(1),
                 _ => {}
             }
         }
@@ -291,7 +291,7 @@ fn what_was_read_is_known(rt: HostRuntime) -> Result<(), Fail> {
     let mut inbox = Inbox::new(rt.alloc());
     assert!(rt; !inbox.has_next());
     for left in [2u32, 1, 0] {
-        assert!(rt; matches!(inbox.next(&mut reader)?, Next::Message(_)));
+        assert!(rt; matches!(inbox.next(&mut reader)?, NextMessage::Message(_)));
         assert_eq!(rt; inbox.has_next(), left > 0);
     }
     Ok(())
@@ -336,7 +336,7 @@ fn a_write_or_the_flush_fails(rt: HostRuntime) {
         };
         let is_written = write_all(&mut writer, b"twelve bytes").is_ok();
         let wanted = (calls, taken, fails_at > 4);
-        same(&rt, &(writer.calls, writer.taken, is_written), &wanted);
+        assert_same(&rt, &(writer.calls, writer.taken, is_written), &wanted);
     }
 }
 
@@ -352,6 +352,6 @@ fn a_long_text_is_flushed(rt: HostRuntime) -> Result<(), Fail> {
     };
     let is_written = write_all(&mut writer, &text).is_ok();
     let wanted = (20_001, 100_000, true);
-    same(&rt, &(writer.calls, writer.taken, is_written), &wanted);
+    assert_same(&rt, &(writer.calls, writer.taken, is_written), &wanted);
     Ok(())
 }

@@ -1,7 +1,7 @@
 -- Digits and the numbers that they give, both ways.
 use Rattle.std.proofs.Common.{◌≡◌, ◌≢◌, ℕ, zero, suc, ◌+◌, ◌<◌, List, [], ◌∷◌, length, take, drop, get_or, arith, ap, refl, ◌∙◌, add-one, ◌-◌, ◌*◌, ◌/◌, ◌%◌, ◌^◌, ◌≤◌, ◌⊎◌, inl, inr, Bool, true, false, cond, ◌&&◌, Option, Some, None, sym}
 use Rattle.std.proofs.lemmas.Bool.{ne_eqb}
-use Rattle.ga_text.specs.Lines.{lines_of, with_byte}
+use Rattle.ga_text.specs.Lines.{lines_of, lines_with_first_byte}
 use Rattle.std.specs.Prelude.{nat_le, nat_lt, slice_index}
 use Rattle.std.specs.Char.{to_ascii_lowercase}
 use Rattle.std.specs.Str.{str_to_ascii_lowercase}
@@ -16,7 +16,7 @@ use Rattle.ga_ports.specs.Steps.{◌>>=◌}
 -- ---- the first line feed of a text ends its first line
 
 -- any other byte belongs to the line
-pub past_byte : (b : ℕ) (text : List ℕ) → b ≢ 10 → lines_of (b ∷ text) ≡ with_byte b (lines_of text)
+pub past_byte : (b : ℕ) (text : List ℕ) → b ≢ 10 → lines_of (b ∷ text) ≡ lines_with_first_byte b (lines_of text)
 past_byte b text other = rw (ne_eqb b 10 other) refl
 
 -- the first line ends before the first line feed
@@ -25,14 +25,14 @@ at_feed [] i within none feed = absurd (omega arith)
 at_feed (b ∷ text) zero within none feed = rw feed refl
 at_feed (b ∷ text) (suc i) within none feed =
     let again : lines_of text ≡ take i text ∷ lines_of (drop (i + 1) text) = at_feed text i (omega arith) (λ k below. none (suc k) (omega arith)) feed in
-    past_byte b text (none 0 (omega arith)) ∙ ap (with_byte b) again ∙ rw (add-one, add-one) refl
+    past_byte b text (none 0 (omega arith)) ∙ ap (lines_with_first_byte b) again ∙ rw (add-one, add-one) refl
 
 -- without one the text is a line
 pub no_feed : (text : List ℕ) → 0 < length text → ((k : ℕ) → k < length text → get_or text k 0 ≢ 10) → lines_of text ≡ text ∷ []
 no_feed [] some none = absurd (omega arith)
 no_feed (b ∷ []) some none = past_byte b [] (none 0 (omega arith))
 no_feed (b ∷ c ∷ text) some none =
-    past_byte b (c ∷ text) (none 0 (omega arith)) ∙ ap (with_byte b) (no_feed (c ∷ text) (omega arith) (λ k below. none (suc k) (omega arith)))
+    past_byte b (c ∷ text) (none 0 (omega arith)) ∙ ap (lines_with_first_byte b) (no_feed (c ∷ text) (omega arith) (λ k below. none (suc k) (omega arith)))
 
 -- a digit has the same value in either case
 same_value : (c : ℕ) → hex_digit_value c ≡ hex_digit_value (to_ascii_lowercase c)

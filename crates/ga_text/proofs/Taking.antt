@@ -3,7 +3,7 @@ use Rattle.std.specs.Prelude.{◌==◌, nat_le, nat_lt, option_map, slice_range}
 use Rattle.std.proofs.Common.{◌≡◌, ◌≢◌, ℕ, zero, suc, Bool, true, false, cond, ◌+◌, ◌<◌, List, [], ◌∷◌, ◌++◌, length, take, drop, get_or, Option, Some, None, arith, ap, refl, ◌∙◌, add-one, ◌-◌, ◌*◌, ◌/◌, ◌%◌, ◌^◌, ◌≤◌, ◌&&◌, decimal, sym, append_assoc, min, length-take, take-append-drop, drop-cons, Result, Ok, Err, rules}
 use Rattle.std.proofs.lemmas.Bool.{ne_eqb, eqb-true}
 use Rattle.std.specs.List.{AllByRecursion}
-use Rattle.ga_text.specs.Parsing.{split_at_space, with_prepended_byte, IsStepNumber, SpellsAddress, parse_node, u32_if_fits, with_digit, with_digits, parse_number}
+use Rattle.ga_text.specs.Parsing.{split_at_space, with_prepended_byte, IsStepNumber, SpellsAddress, parse_node, u32_if_fits, with_decimal_digit, with_decimal_digits, parse_number}
 use Rattle.std.specs.Str.{str_to_ascii_lowercase}
 use Rattle.std.specs.Char.{to_ascii_lowercase}
 use Rattle.std.proofs.lemmas.Bool.Decides.{nat_tests}
@@ -19,7 +19,7 @@ use Rattle.ga_text.proofs.Numbers.{cell_spelled, cell_read, node_spelled, node_r
 use Rattle.std.proofs.Math.Seq.{take-append-add, take-suc}
 use Rattle.std.proofs.lemmas.List.Elements.{All-from_get_or}
 use Rattle.std.specs.Result.{IsOk, OnOk, OnErr}
-use Rattle.ga_text.specs.Lines.{ends_line, HasNoLineFeed, ended}
+use Rattle.ga_text.specs.Lines.{is_line_end_byte, HasNoLineFeed, line_with_line_feed}
 
 -- ---- A text is cut at its first space
 
@@ -155,7 +155,7 @@ digit_last n digit m some small bound whole =
     decimal_step m (omega arith) (omega arith) ∙ rw (front, last) refl
 
 -- one digit more
-one_more : (n byte m : ℕ) → with_digit n byte ≡ Some m → (m < 2 ^ 32) × (decimal n ++ byte ∷ [] ≡ decimal m)
+one_more : (n byte m : ℕ) → with_decimal_digit n byte ≡ Some m → (m < 2 ^ 32) × (decimal n ++ byte ∷ [] ≡ decimal m)
 one_more n byte m e =
     let (test, found) = not_zero (n == 0) _ m e in
     let some : 0 < n = grind (arith, nat_tests) in
@@ -164,10 +164,10 @@ one_more n byte m e =
     let (bound, whole) = fits (10 * n + digit) m sum in
     (bound, ap (λ (c : ℕ). decimal n ++ c ∷ []) glyph ∙ sym (digit_last n digit m some small bound whole))
 
-digits_more : (n : ℕ) (text : List ℕ) (k : ℕ) → n < 2 ^ 32 → with_digits n text ≡ Some k → IsStepNumber k × (decimal n ++ text ≡ decimal k)
+digits_more : (n : ℕ) (text : List ℕ) (k : ℕ) → n < 2 ^ 32 → with_decimal_digits n text ≡ Some k → IsStepNumber k × (decimal n ++ text ≡ decimal k)
 digits_more n [] k small e = let same : n ≡ k = cc in (rw (← same) small, append-nil (decimal n) ∙ ap decimal same)
 digits_more n (byte ∷ text) k small e =
-    let (m, first, rest) = first_step (with_digit n byte) _ k e in
+    let (m, first, rest) = first_step (with_decimal_digit n byte) _ k e in
     let (bound, front) = one_more n byte m first in
     let (is, whole) = digits_more m text k bound rest in
     (is, sym (append_assoc (decimal n) (byte ∷ []) text) ∙ ap (λ (t : List ℕ). t ++ text) front ∙ whole)
@@ -185,19 +185,19 @@ kept : {A : Type 0} (o : Option A) → (o >>= λ x. Some x) ≡ o
 kept None = refl
 kept (Some x) = refl
 
-digits_behind : (n : ℕ) (text : List ℕ) (m byte : ℕ) → with_digits n text ≡ Some m → with_digits n (text ++ byte ∷ []) ≡ with_digit m byte
-digits_behind n [] m byte e = let same : n ≡ m = cc in rw (← same) (kept (with_digit n byte))
+digits_behind : (n : ℕ) (text : List ℕ) (m byte : ℕ) → with_decimal_digits n text ≡ Some m → with_decimal_digits n (text ++ byte ∷ []) ≡ with_decimal_digit m byte
+digits_behind n [] m byte e = let same : n ≡ m = cc in rw (← same) (kept (with_decimal_digit n byte))
 digits_behind n (b ∷ text) m byte e =
-    let (next, first, rest) = first_step (with_digit n b) _ m e in
+    let (next, first, rest) = first_step (with_decimal_digit n b) _ m e in
     rw first (digits_behind next text m byte rest)
 
-digit_behind : (word : List ℕ) (m byte : ℕ) → parse_number word ≡ Some m → parse_number (word ++ byte ∷ []) ≡ with_digit m byte
+digit_behind : (word : List ℕ) (m byte : ℕ) → parse_number word ≡ Some m → parse_number (word ++ byte ∷ []) ≡ with_decimal_digit m byte
 digit_behind [] m byte e = cc
 digit_behind (b ∷ text) m byte e =
     let (digit, first, rest) = first_step (digit_in b) _ m e in
     rw first (digits_behind digit text m byte rest)
 
-last_digit : (n : ℕ) → 10 ≤ n → n < 2 ^ 32 → with_digit (n / 10) (48 + n % 10) ≡ Some n
+last_digit : (n : ℕ) → 10 ≤ n → n < 2 ^ 32 → with_decimal_digit (n / 10) (48 + n % 10) ≡ Some n
 last_digit n big small =
     let some : n / 10 ≢ 0 = omega arith in
     let whole : 10 * (n / 10) + n % 10 ≡ n = omega arith in
@@ -249,12 +249,12 @@ address_byte (a ∷ b ∷ c ∷ word) address is =
 
 -- ---- parts of the input
 
-pub not_feed : (b : ℕ) → (b ≡ 10 → ⊥) → ends_line b ≡ false
+pub not_feed : (b : ℕ) → (b ≡ 10 → ⊥) → is_line_end_byte b ≡ false
 not_feed b h = grind (arith, nat_tests)
 
 -- bytes none of which is a line feed
 pub no_feed : (bytes : List ℕ) → ((k : ℕ) → k < length bytes → get_or bytes k 0 ≢ 10) → HasNoLineFeed bytes
-no_feed bytes h = All-from_get_or (λ b. ends_line b ≡ false) bytes 0 (λ k below. not_feed (get_or bytes k 0) (h k below))
+no_feed bytes h = All-from_get_or (λ b. is_line_end_byte b ≡ false) bytes 0 (λ k below. not_feed (get_or bytes k 0) (h k below))
 
 -- as many of the bytes as there is room for after a line
 pub kept_bytes : (line bytes : List ℕ) (room : ℕ) → room + length line ≡ 201 → line ++ take (min room (length bytes)) bytes ≡ take 201 (line ++ bytes)
@@ -291,7 +291,7 @@ range_at_feed block start stop count within below feed =
     ∙ ap (λ (t : List ℕ). take count whole ++ t) (drop-cons whole count 0 below ∙ ap (λ (b : ℕ). b ∷ drop (suc count) whole) feed ∙ ap (λ (t : List ℕ). 10 ∷ t) behind)
 
 -- the bytes up to a line feed and with it
-pub take_feed : (bytes : List ℕ) (count : ℕ) → count < length bytes → get_or bytes count 0 ≡ 10 → take (count + 1) bytes ≡ ended (take count bytes)
+pub take_feed : (bytes : List ℕ) (count : ℕ) → count < length bytes → get_or bytes count 0 ≡ 10 → take (count + 1) bytes ≡ line_with_line_feed (take count bytes)
 take_feed bytes count below feed =
     let next : count + 1 ≡ suc count = omega arith in
     ap (λ (n : ℕ). take n bytes) next ∙ take-suc bytes count 0 below ∙ ap (λ (b : ℕ). take count bytes ++ b ∷ []) feed

@@ -3,7 +3,7 @@ use Rattle.std.proofs.Common.{◌≡◌, ℕ, ◌+◌, ◌/◌, ◌%◌, ◌<◌
 use Rattle.std.specs.List.{AllByRecursion}
 use Rattle.std.proofs.lemmas.List.{append-nil, take_all, length-drop}
 use Rattle.std.proofs.lemmas.List.Elements.{recursion_from_All, All-append, All-nil}
-use Rattle.ga_text.specs.Lines.{lines_of, with_byte, ends_line, HasNoLineFeed, ended, text_of, with_byte_in_first_line, terminated_lines}
+use Rattle.ga_text.specs.Lines.{lines_of, lines_with_first_byte, is_line_end_byte, HasNoLineFeed, line_with_line_feed, text_of_lines, with_byte_in_first_line, terminated_lines}
 use Rattle.ga_grid.specs.Grid.{yxx_of}
 use Rattle.ga_grid.specs.declared.node_id.NodeId.{NodeId}
 use Rattle.ga_text.specs.Digits.{name_of_node}
@@ -13,11 +13,11 @@ use Rattle.ga_text.specs.Image.{IsBodyLine, end_line, HasNoEndLine}
 
 -- no line feed, byte by byte
 NoFeed : List ℕ → Type 0
-NoFeed bytes = AllByRecursion (λ b. ends_line b ≡ false) bytes
+NoFeed bytes = AllByRecursion (λ b. is_line_end_byte b ≡ false) bytes
 
 by_byte : (bytes : List ℕ) → HasNoLineFeed bytes → NoFeed bytes
 unfolding NoFeed
-by_byte bytes h = recursion_from_All (λ b. ends_line b ≡ false) bytes h
+by_byte bytes h = recursion_from_All (λ b. is_line_end_byte b ≡ false) bytes h
 
 otherwise : {A : Type 0} (b : Bool) (x y : A) → b ≡ false → cond b x y ≡ y
 otherwise b x y e = rw e refl
@@ -25,34 +25,34 @@ otherwise b x y e = rw e refl
 lines_at : (line more : List ℕ) → NoFeed line → lines_of (line ++ 10 ∷ more) ≡ line ∷ lines_of more
 unfolding NoFeed
 lines_at [] more h = refl
-lines_at (b ∷ line) more h = otherwise (ends_line b) _ _ h.0 ∙ ap (with_byte b) (lines_at line more h.1)
+lines_at (b ∷ line) more h = otherwise (is_line_end_byte b) _ _ h.0 ∙ ap (lines_with_first_byte b) (lines_at line more h.1)
 
 ended_at : (line more : List ℕ) → NoFeed line → terminated_lines (line ++ 10 ∷ more) ≡ line ∷ terminated_lines more
 unfolding NoFeed
 ended_at [] more h = refl
-ended_at (b ∷ line) more h = otherwise (ends_line b) _ _ h.0 ∙ ap (with_byte_in_first_line b) (ended_at line more h.1)
+ended_at (b ∷ line) more h = otherwise (is_line_end_byte b) _ _ h.0 ∙ ap (with_byte_in_first_line b) (ended_at line more h.1)
 
 ended_by_byte : (bytes : List ℕ) → NoFeed bytes → terminated_lines bytes ≡ []
 unfolding NoFeed
 ended_by_byte [] h = refl
-ended_by_byte (b ∷ bytes) h = otherwise (ends_line b) _ _ h.0 ∙ ap (with_byte_in_first_line b) (ended_by_byte bytes h.1)
+ended_by_byte (b ∷ bytes) h = otherwise (is_line_end_byte b) _ _ h.0 ∙ ap (with_byte_in_first_line b) (ended_by_byte bytes h.1)
 
 last_by_byte : (b : ℕ) (bytes : List ℕ) → NoFeed (b ∷ bytes) → lines_of (b ∷ bytes) ≡ (b ∷ bytes) ∷ []
 unfolding NoFeed
-last_by_byte b [] h = otherwise (ends_line b) _ _ h.0
-last_by_byte b (x ∷ bytes) h = otherwise (ends_line b) _ _ h.0 ∙ ap (with_byte b) (last_by_byte x bytes h.1)
+last_by_byte b [] h = otherwise (is_line_end_byte b) _ _ h.0
+last_by_byte b (x ∷ bytes) h = otherwise (is_line_end_byte b) _ _ h.0 ∙ ap (lines_with_first_byte b) (last_by_byte x bytes h.1)
 
-pub lines_front : (lines : List (List ℕ)) (tail : List ℕ) → AllByRecursion HasNoLineFeed lines → lines_of (text_of lines ++ tail) ≡ lines ++ lines_of tail
+pub lines_front : (lines : List (List ℕ)) (tail : List ℕ) → AllByRecursion HasNoLineFeed lines → lines_of (text_of_lines lines ++ tail) ≡ lines ++ lines_of tail
 lines_front [] tail h = refl
 lines_front (line ∷ lines) tail h =
-    ap lines_of (append_assoc (ended line) (text_of lines) tail ∙ append_assoc line (10 ∷ []) (text_of lines ++ tail))
-    ∙ lines_at line (text_of lines ++ tail) (by_byte line h.0) ∙ ap (λ (ls : List (List ℕ)). line ∷ ls) (lines_front lines tail h.1)
+    ap lines_of (append_assoc (line_with_line_feed line) (text_of_lines lines) tail ∙ append_assoc line (10 ∷ []) (text_of_lines lines ++ tail))
+    ∙ lines_at line (text_of_lines lines ++ tail) (by_byte line h.0) ∙ ap (λ (ls : List (List ℕ)). line ∷ ls) (lines_front lines tail h.1)
 
-pub ended_front : (lines : List (List ℕ)) (tail : List ℕ) → AllByRecursion HasNoLineFeed lines → terminated_lines (text_of lines ++ tail) ≡ lines ++ terminated_lines tail
+pub ended_front : (lines : List (List ℕ)) (tail : List ℕ) → AllByRecursion HasNoLineFeed lines → terminated_lines (text_of_lines lines ++ tail) ≡ lines ++ terminated_lines tail
 ended_front [] tail h = refl
 ended_front (line ∷ lines) tail h =
-    ap terminated_lines (append_assoc (ended line) (text_of lines) tail ∙ append_assoc line (10 ∷ []) (text_of lines ++ tail))
-    ∙ ended_at line (text_of lines ++ tail) (by_byte line h.0) ∙ ap (λ (ls : List (List ℕ)). line ∷ ls) (ended_front lines tail h.1)
+    ap terminated_lines (append_assoc (line_with_line_feed line) (text_of_lines lines) tail ∙ append_assoc line (10 ∷ []) (text_of_lines lines ++ tail))
+    ∙ ended_at line (text_of_lines lines ++ tail) (by_byte line h.0) ∙ ap (λ (ls : List (List ℕ)). line ∷ ls) (ended_front lines tail h.1)
 
 pub ended_none : (tail : List ℕ) → HasNoLineFeed tail → terminated_lines tail ≡ []
 ended_none tail h = ended_by_byte tail (by_byte tail h)
@@ -61,7 +61,7 @@ pub lines_last : (tail : List ℕ) → HasNoLineFeed tail → 0 < length tail �
 lines_last [] h some = absurd (omega arith)
 lines_last (b ∷ bytes) h some = last_by_byte b bytes (by_byte (b ∷ bytes) h)
 
-pub ended_whole : (lines : List (List ℕ)) (tail : List ℕ) → AllByRecursion HasNoLineFeed lines → HasNoLineFeed tail → terminated_lines (text_of lines ++ tail) ≡ lines
+pub ended_whole : (lines : List (List ℕ)) (tail : List ℕ) → AllByRecursion HasNoLineFeed lines → HasNoLineFeed tail → terminated_lines (text_of_lines lines ++ tail) ≡ lines
 ended_whole lines tail h none = ended_front lines tail h ∙ ap (λ (ls : List (List ℕ)). lines ++ ls) (ended_none tail none) ∙ append-nil lines
 
 -- The lines are those that a line feed ends, and at most one more.
@@ -69,12 +69,12 @@ pub record MoreLines (text : List ℕ) : Type 0 where
   pub more : List (List ℕ)
   pub same : lines_of text ≡ terminated_lines text ++ more
 
-with_byte_more : (b : ℕ) (all first more : List (List ℕ)) → all ≡ first ++ more → (rest : List (List ℕ)) × (with_byte b all ≡ with_byte_in_first_line b first ++ rest)
-with_byte_more b all [] more e = (with_byte b all, refl)
-with_byte_more b all (l ∷ ls) more e = (more, ap (with_byte b) e)
+with_byte_more : (b : ℕ) (all first more : List (List ℕ)) → all ≡ first ++ more → (rest : List (List ℕ)) × (lines_with_first_byte b all ≡ with_byte_in_first_line b first ++ rest)
+with_byte_more b all [] more e = (lines_with_first_byte b all, refl)
+with_byte_more b all (l ∷ ls) more e = (more, ap (lines_with_first_byte b) e)
 
 more_by_byte : (b : ℕ) (feed : Bool) (all first : List (List ℕ)) (more : List (List ℕ)) → all ≡ first ++ more
-    → (rest : List (List ℕ)) × (cond feed ([] ∷ all) (with_byte b all) ≡ cond feed ([] ∷ first) (with_byte_in_first_line b first) ++ rest)
+    → (rest : List (List ℕ)) × (cond feed ([] ∷ all) (lines_with_first_byte b all) ≡ cond feed ([] ∷ first) (with_byte_in_first_line b first) ++ rest)
 more_by_byte b true all first more e = (more, ap (λ (ls : List (List ℕ)). [] ∷ ls) e)
 more_by_byte b false all first more e = with_byte_more b all first more e
 
@@ -82,7 +82,7 @@ pub more_lines : (text : List ℕ) → MoreLines text
 more_lines [] = record { more = []; same = refl }
 more_lines (b ∷ text) =
     let later = more_lines text in
-    let found = more_by_byte b (ends_line b) (lines_of text) (terminated_lines text) later.more later.same in
+    let found = more_by_byte b (is_line_end_byte b) (lines_of text) (terminated_lines text) later.more later.same in
     record { more = found.0; same = found.1 }
 
 -- ---- a node's name
@@ -104,11 +104,11 @@ pub record Body (text : List ℕ) (start : ℕ) : Type 0 where
   pub part : List ℕ
   pub before : AllByRecursion IsBodyLine lines
   pub no_feed : HasNoLineFeed part
-  pub splits : text ≡ text_of lines ++ part
-  pub starts : start ≡ length (text_of lines)
+  pub splits : text ≡ text_of_lines lines ++ part
+  pub starts : start ≡ length (text_of_lines lines)
 
 nothing : HasNoLineFeed []
-nothing = All-nil (λ b. ends_line b ≡ false)
+nothing = All-nil (λ b. is_line_end_byte b ≡ false)
 
 pub no_end : (text : List ℕ) (start : ℕ) → Body text start → HasNoEndLine text
 no_end text start b = record { lines = b.lines; part = b.part; before = b.before; no_feed = b.no_feed; splits = b.splits }
@@ -119,8 +119,8 @@ body_more text more start piece b none e = record {
   lines = b.lines;
   part = b.part ++ piece;
   before = b.before;
-  no_feed = All-append (λ y. ends_line y ≡ false) b.part piece b.no_feed none;
-  splits = e ∙ ap (λ (t : List ℕ). t ++ piece) b.splits ∙ append_assoc (text_of b.lines) b.part piece;
+  no_feed = All-append (λ y. is_line_end_byte y ≡ false) b.part piece b.no_feed none;
+  splits = e ∙ ap (λ (t : List ℕ). t ++ piece) b.splits ∙ append_assoc (text_of_lines b.lines) b.part piece;
   starts = b.starts;
 }
 
@@ -129,38 +129,38 @@ drop_seam [] ys = refl
 drop_seam (x ∷ xs) ys = drop_seam xs ys
 
 -- a line that ended
-pub line_splits : (text more : List ℕ) (start : ℕ) (piece : List ℕ) (b : Body text start) → more ≡ text ++ ended piece → more ≡ text_of b.lines ++ ended (b.part ++ piece)
+pub line_splits : (text more : List ℕ) (start : ℕ) (piece : List ℕ) (b : Body text start) → more ≡ text ++ line_with_line_feed piece → more ≡ text_of_lines b.lines ++ line_with_line_feed (b.part ++ piece)
 line_splits text more start piece b e =
-    e ∙ ap (λ (t : List ℕ). t ++ ended piece) b.splits ∙ append_assoc (text_of b.lines) b.part (ended piece)
-    ∙ ap (λ (t : List ℕ). text_of b.lines ++ t) (sym (append_assoc b.part piece (10 ∷ [])))
+    e ∙ ap (λ (t : List ℕ). t ++ line_with_line_feed piece) b.splits ∙ append_assoc (text_of_lines b.lines) b.part (line_with_line_feed piece)
+    ∙ ap (λ (t : List ℕ). text_of_lines b.lines ++ t) (sym (append_assoc b.part piece (10 ∷ [])))
 
 -- the text from a line's start on is the line with its line feed
-pub line_range : (text more : List ℕ) (start : ℕ) (piece : List ℕ) (b : Body text start) → more ≡ text ++ ended piece
-    → take (length more - start) (drop start more) ≡ ended (b.part ++ piece)
+pub line_range : (text more : List ℕ) (start : ℕ) (piece : List ℕ) (b : Body text start) → more ≡ text ++ line_with_line_feed piece
+    → take (length more - start) (drop start more) ≡ line_with_line_feed (b.part ++ piece)
 line_range text more start piece b e =
     take_all (length more - start) (drop start more) (omega (arith, length-drop start more))
     ∙ ap (λ (n : ℕ). drop n more) b.starts
-    ∙ ap (drop (length (text_of b.lines))) (line_splits text more start piece b e)
-    ∙ drop_seam (text_of b.lines) (ended (b.part ++ piece))
+    ∙ ap (drop (length (text_of_lines b.lines))) (line_splits text more start piece b e)
+    ∙ drop_seam (text_of_lines b.lines) (line_with_line_feed (b.part ++ piece))
 
 push_body : (lines : List (List ℕ)) (line : List ℕ) → AllByRecursion IsBodyLine lines → IsBodyLine line → AllByRecursion IsBodyLine (lines ++ line ∷ [])
 push_body [] line h p = (p, tt)
 push_body (l ∷ ls) line h p = (h.0, push_body ls line h.1 p)
 
-pub body_line : (text more : List ℕ) (start : ℕ) (piece : List ℕ) (b : Body text start) → HasNoLineFeed piece → more ≡ text ++ ended piece
-    → (ended (b.part ++ piece) ≡ ended end_line → ⊥) → Body more (length more)
+pub body_line : (text more : List ℕ) (start : ℕ) (piece : List ℕ) (b : Body text start) → HasNoLineFeed piece → more ≡ text ++ line_with_line_feed piece
+    → (line_with_line_feed (b.part ++ piece) ≡ line_with_line_feed end_line → ⊥) → Body more (length more)
 body_line text more start piece b none e other =
     let line : List ℕ = b.part ++ piece in
-    let whole : more ≡ text_of (b.lines ++ line ∷ []) =
+    let whole : more ≡ text_of_lines (b.lines ++ line ∷ []) =
     line_splits text more start piece b e
-    ∙ ap (λ (t : List ℕ). text_of b.lines ++ t) (sym (append-nil (ended line))) ∙ sym (flat_map-append ended b.lines (line ∷ [])) in
+    ∙ ap (λ (t : List ℕ). text_of_lines b.lines ++ t) (sym (append-nil (line_with_line_feed line))) ∙ sym (flat_map-append line_with_line_feed b.lines (line ∷ [])) in
     record {
       lines = b.lines ++ line ∷ [];
       part = [];
       before = push_body b.lines line b.before
-          (record { no_feed = All-append (λ y. ends_line y ≡ false) b.part piece b.no_feed none; not_end = λ q. other (ap ended q) });
+          (record { no_feed = All-append (λ y. is_line_end_byte y ≡ false) b.part piece b.no_feed none; not_end = λ q. other (ap line_with_line_feed q) });
       no_feed = nothing;
-      splits = whole ∙ sym (append-nil (text_of (b.lines ++ line ∷ [])));
+      splits = whole ∙ sym (append-nil (text_of_lines (b.lines ++ line ∷ [])));
       starts = ap length whole;
     }
 
@@ -171,7 +171,7 @@ over_piece whole text more piece old new rest e f g =
     ∙ sym (append_assoc text piece (new ++ rest)) ∙ ap (λ (t : List ℕ). t ++ (new ++ rest)) (sym g)
 
 -- a line feed after a part
-pub ended_piece : (old part new : List ℕ) → old ≡ part ++ 10 ∷ new → old ≡ ended part ++ new
+pub ended_piece : (old part new : List ℕ) → old ≡ part ++ 10 ∷ new → old ≡ line_with_line_feed part ++ new
 ended_piece old part new e = e ∙ sym (append_assoc part (10 ∷ []) new)
 
 -- all that was read

@@ -1,7 +1,7 @@
 -- The image part: what of the input it is (docs/REFERENCE.md, "Sessions"; this project's own).
 use Rattle.std.specs.Prelude.{◌≡◌, ◌≢◌, ℕ, ◌+◌, List, [], ◌∷◌, ◌++◌, length, codes}
 use Rattle.std.specs.List.{AllByRecursion}
-use Rattle.ga_text.specs.Lines.{Bytes, Text, Line, HasNoLineFeed, ended, text_of}
+use Rattle.ga_text.specs.Lines.{Bytes, Text, Line, HasNoLineFeed, line_with_line_feed, text_of_lines}
 use Rattle.ga_text.specs.Input.{UnreadInput, input_limit}
 use Rattle.ga_text.specs.declared.image.ImageEnd.{ImageEnd}
 use Rattle.ga_text.specs.declared.image.ImageEnd.TheVariants.{EndLine, Ended, Past, Failed}
@@ -18,7 +18,7 @@ pub record IsBodyLine (line : Line) : Type 0 where
 pub record EndsWithEndLine (text : Text) : Type 0 where
   pub lines : List Line
   pub before : AllByRecursion IsBodyLine lines
-  pub splits : text ≡ text_of lines ++ ended end_line
+  pub splits : text ≡ text_of_lines lines ++ line_with_line_feed end_line
 
 -- no line of the text that a line feed ends is `end`
 pub record HasNoEndLine (text : Text) : Type 0 where
@@ -26,22 +26,22 @@ pub record HasNoEndLine (text : Text) : Type 0 where
   pub part : Bytes
   pub before : AllByRecursion IsBodyLine lines
   pub no_feed : HasNoLineFeed part
-  pub splits : text ≡ text_of lines ++ part
+  pub splits : text ≡ text_of_lines lines ++ part
 
 -- whether this text was taken from the input, where `left` is unread before and `more` after
-pub record TakesText (old : UnreadInput) (left : Bytes) (text : Text) (new : UnreadInput) (more : Bytes) : Type 0 where
+pub record TakesImageText (old : UnreadInput) (left : Bytes) (text : Text) (new : UnreadInput) (more : Bytes) : Type 0 where
   pub splits : old.bytes ++ left ≡ text ++ more
   pub counts : new.taken ≡ old.taken + length text
 
 -- the byte past the limit was read
-pub record TakesTextToLimit (old : UnreadInput) (left : Bytes) (text : Text) (new : UnreadInput) (rest : Bytes) : Type 0 where
+pub record TakesImageTextToLimit (old : UnreadInput) (left : Bytes) (text : Text) (new : UnreadInput) (rest : Bytes) : Type 0 where
   pub byte : ℕ
-  pub takes : TakesText old left text new (byte ∷ rest)
+  pub takes : TakesImageText old left text new (byte ∷ rest)
   pub full : new.taken ≡ input_limit
 
 -- What a call that reads the image may do: left is what the reader has left before it, rest what it has left afterwards.
 abbrev pub ReadsImage : UnreadInput → Bytes → Text → UnreadInput → Bytes → ImageEnd → Type 0
-ReadsImage old left text new rest EndLine = EndsWithEndLine text × TakesText old left text new (new.bytes ++ rest)
-ReadsImage old left text new rest Ended = HasNoEndLine text × TakesText old left text new [] × (new.bytes ≡ []) × (rest ≡ [])
-ReadsImage old left text new rest Past = HasNoEndLine text × TakesTextToLimit old left text new rest × (new.bytes ≡ [])
+ReadsImage old left text new rest EndLine = EndsWithEndLine text × TakesImageText old left text new (new.bytes ++ rest)
+ReadsImage old left text new rest Ended = HasNoEndLine text × TakesImageText old left text new [] × (new.bytes ≡ []) × (rest ≡ [])
+ReadsImage old left text new rest Past = HasNoEndLine text × TakesImageTextToLimit old left text new rest × (new.bytes ≡ [])
 ReadsImage old left text new rest Failed = HasNoEndLine text × (old.bytes ++ left ≡ text ++ rest)

@@ -15,8 +15,8 @@ abbrev pub input_limit : ℕ
 input_limit = 16777216
 
 -- the most bytes that one read brings
-abbrev pub block_size : ℕ
-block_size = 65536
+abbrev pub input_block_size : ℕ
+input_block_size = 65536
 
 -- no byte past the limit was read
 abbrev pub IsWithinInputLimit : UnreadInput → Type 0
@@ -31,28 +31,28 @@ pub record IsBoundedLine (whole line part more : Bytes) : Type 0 where
   pub kept : line ≡ take (max_input_line + 1) part
 
 -- whether a line was taken, with the line feed after it
-pub record TakesLine (old : UnreadInput) (input : Bytes) (line : Line) (new : UnreadInput) (rest : Bytes) : Type 0 where
+pub record TakesInputLine (old : UnreadInput) (input : Bytes) (line : Line) (new : UnreadInput) (rest : Bytes) : Type 0 where
   pub part : Bytes
   pub is_line : IsBoundedLine (old.bytes ++ input) line part (10 ∷ (new.bytes ++ rest))
   pub counts : new.taken ≡ old.taken + length part + 1
 
 -- all was taken that was read, and there is no line feed in it
-pub record TakesAllUnread (old : UnreadInput) (input : Bytes) (line : Line) (new : UnreadInput) (more : Bytes) : Type 0 where
+pub record TakesAllUnreadInput (old : UnreadInput) (input : Bytes) (line : Line) (new : UnreadInput) (more : Bytes) : Type 0 where
   pub part : Bytes
   pub is_line : IsBoundedLine (old.bytes ++ input) line part more
   pub counts : new.taken ≡ old.taken + length part
   pub none_left : new.bytes ≡ []
 
 -- the byte past the limit was read
-pub record TakesLineToLimit (old : UnreadInput) (input : Bytes) (line : Line) (new : UnreadInput) (rest : Bytes) : Type 0 where
+pub record TakesInputLineToLimit (old : UnreadInput) (input : Bytes) (line : Line) (new : UnreadInput) (rest : Bytes) : Type 0 where
   pub byte : ℕ
-  pub takes : TakesAllUnread old input line new (byte ∷ rest)
+  pub takes : TakesAllUnreadInput old input line new (byte ∷ rest)
   pub full : new.taken ≡ input_limit
 
 -- Input is what the reader has left before the call, rest what it has left afterwards.
 abbrev pub ReadsLine : UnreadInput → Bytes → Line → UnreadInput → Bytes → Result LineEnd WriteError → Type 0
-ReadsLine old input line new rest (Ok Feed) = TakesLine old input line new rest
-ReadsLine old input line new rest (Ok Last) = TakesAllUnread old input line new [] × (rest ≡ [])
-ReadsLine old input line new rest (Ok Past) = TakesLineToLimit old input line new rest
-ReadsLine old input line new rest (Ok ReadFailed) = TakesAllUnread old input line new rest
-ReadsLine old input line new rest (Err failed) = TakesAllUnread old input line new rest
+ReadsLine old input line new rest (Ok Feed) = TakesInputLine old input line new rest
+ReadsLine old input line new rest (Ok Last) = TakesAllUnreadInput old input line new [] × (rest ≡ [])
+ReadsLine old input line new rest (Ok Past) = TakesInputLineToLimit old input line new rest
+ReadsLine old input line new rest (Ok ReadFailed) = TakesAllUnreadInput old input line new rest
+ReadsLine old input line new rest (Err failed) = TakesAllUnreadInput old input line new rest

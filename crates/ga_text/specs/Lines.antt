@@ -14,14 +14,14 @@ abbrev pub Line : Type 0
 Line = Bytes
 
 -- the lines, with one byte more at the front of the first
-abbrev pub with_byte : ℕ → List Line → List Line
-with_byte byte [] = (byte ∷ []) ∷ []
-with_byte byte (line ∷ lines) = (byte ∷ line) ∷ lines
+abbrev pub lines_with_first_byte : ℕ → List Line → List Line
+lines_with_first_byte byte [] = (byte ∷ []) ∷ []
+lines_with_first_byte byte (line ∷ lines) = (byte ∷ line) ∷ lines
 
 -- Each line is ended by a line feed, which the last may lack. An empty text has no line.
 abbrev pub lines_of : Text → List Line
 lines_of [] = []
-lines_of (byte ∷ text) = if byte == 10 then [] ∷ lines_of text else with_byte byte (lines_of text)
+lines_of (byte ∷ text) = if byte == 10 then [] ∷ lines_of text else lines_with_first_byte byte (lines_of text)
 
 -- the most bytes of a line, without its line feed
 abbrev pub max_input_line : ℕ
@@ -29,19 +29,19 @@ max_input_line = 200
 
 -- ---- lines that a line feed ends
 
-abbrev pub ends_line : ℕ → Bool
-ends_line b = b == 10
+abbrev pub is_line_end_byte : ℕ → Bool
+is_line_end_byte b = b == 10
 
 abbrev pub HasNoLineFeed : Bytes → Type 0
-HasNoLineFeed part = All (λ b. ends_line b ≡ false) part
+HasNoLineFeed part = All (λ b. is_line_end_byte b ≡ false) part
 
 -- a line with its line feed
-abbrev pub ended : Line → Text
-ended line = line ++ 10 ∷ []
+abbrev pub line_with_line_feed : Line → Text
+line_with_line_feed line = line ++ 10 ∷ []
 
 -- the text of lines, each with its line feed
-abbrev pub text_of : List Line → Text
-text_of lines = flat_map ended lines
+abbrev pub text_of_lines : List Line → Text
+text_of_lines lines = flat_map line_with_line_feed lines
 
 -- a byte in front of the first line
 abbrev pub with_byte_in_first_line : ℕ → List Line → List Line
@@ -51,4 +51,4 @@ with_byte_in_first_line b (line ∷ lines) = (b ∷ line) ∷ lines
 -- The lines of a text that are ended by a line feed. The bytes after the last line feed are none of them.
 abbrev pub terminated_lines : Bytes → List Line
 terminated_lines [] = []
-terminated_lines (b ∷ text) = if ends_line b then [] ∷ terminated_lines text else with_byte_in_first_line b (terminated_lines text)
+terminated_lines (b ∷ text) = if is_line_end_byte b then [] ∷ terminated_lines text else with_byte_in_first_line b (terminated_lines text)

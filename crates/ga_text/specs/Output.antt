@@ -1,7 +1,7 @@
 -- The first output of a session, and a text that was written in part.
 use Rattle.std.specs.Prelude.{◌≡◌, ◌<◌, ◌⊎◌, [], ◌++◌, length, Option, Some, Result, Ok, Err, codes}
 use Rattle.ga_text.specs.Lines.{Bytes, Text}
-use Rattle.ga_text.specs.Input.{input_limit, block_size}
+use Rattle.ga_text.specs.Input.{input_limit, input_block_size}
 use Rattle.ga_text.specs.Image.{EndsWithEndLine, HasNoEndLine}
 use Rattle.ga_text.specs.declared.whole.WholeRead.{WholeRead}
 use Rattle.ga_text.specs.declared.whole.WholeRead.TheVariants.{Whole, TooLong, ReadFailed, NoMemory}
@@ -12,20 +12,20 @@ use Rattle.ga_text.specs.declared.output.Writer.{Writer}
 
 -- Whether the source ends with its line `end`, and after it only what the same read brought was read; or it is all of an input
 -- in which no line is `end`.
-abbrev pub IsReadWhole : Text → Bytes → Bytes → Type 0
-IsReadWhole source ahead rest = (EndsWithEndLine source × (length ahead < block_size)) ⊎ ((ahead ≡ []) × (rest ≡ []) × HasNoEndLine source)
+abbrev pub IsImageReadWhole : Text → Bytes → Bytes → Type 0
+IsImageReadWhole source ahead rest = (EndsWithEndLine source × (length ahead < input_block_size)) ⊎ ((ahead ≡ []) × (rest ≡ []) × HasNoEndLine source)
 
 -- whether the text is all that is within the limit, and the next byte was read after it
 abbrev pub IsInputTooLong : Text → Bytes → Type 0
 IsInputTooLong text ahead = (length text ≡ input_limit) × (length ahead ≡ 1) × HasNoEndLine text
 
 -- the text was read whole, where read was read of the input and rest is left of it
-abbrev pub IsWholeText : Bytes → Bytes → Text → Type 0
-IsWholeText read rest text = (ahead : Bytes) × (read ≡ text ++ ahead) × IsReadWhole text ahead rest
+abbrev pub IsWholeImageText : Bytes → Bytes → Text → Type 0
+IsWholeImageText read rest text = (ahead : Bytes) × (read ≡ text ++ ahead) × IsImageReadWhole text ahead rest
 
 -- What a call that reads a whole input may do: read was read of it, and rest is left.
 abbrev pub ReadsWholeInput : Bytes → Bytes → WholeRead → Type 0
-ReadsWholeInput read rest (Whole text) = IsWholeText read rest text.items
+ReadsWholeInput read rest (Whole text) = IsWholeImageText read rest text.items
 ReadsWholeInput read rest (TooLong text) = (ahead : Bytes) × (read ≡ text.items ++ ahead) × IsInputTooLong text.items ahead
 ReadsWholeInput read rest ReadFailed = HasNoEndLine read
 ReadsWholeInput read rest NoMemory = Unit {0}
@@ -39,21 +39,21 @@ abbrev pub TextHasPrefix : Text → Text → Type 0
 TextHasPrefix text front = (more : Text) × (text ≡ front ++ more)
 
 -- Whether the stream holds a prefix of the output after what it held before, and the rest of the output is pending.
-pub record IsWritten (contents : Option Bytes) (before said pending : Text) : Type 0 where
+pub record IsTextWritten (contents : Option Bytes) (before said pending : Text) : Type 0 where
   pub sent : Bytes
   pub held : contents ≡ Some (before ++ sent)
   pub splits : said ≡ sent ++ pending
 
 -- Whether the stream holds a prefix of the output after what it held before, and nothing more is written.
-pub record IsTruncated (contents : Option Bytes) (before said : Text) : Type 0 where
+pub record IsTextTruncated (contents : Option Bytes) (before said : Text) : Type 0 where
   pub sent : Bytes
   pub held : contents ≡ Some (before ++ sent)
   pub front : TextHasPrefix said sent
 
 -- by whether the writes succeeded: a text is written, of which the rest is pending, or it is cut short
-abbrev pub IsWrittenOrTruncated : {T : Type 0} → Result T WriteError → Option Bytes → Bytes → Text → Text → Type 0
-IsWrittenOrTruncated (Ok done) contents before said pending = IsWritten contents before said pending
-IsWrittenOrTruncated (Err failed) contents before said pending = IsTruncated contents before said
+abbrev pub IsTextWrittenOrTruncated : {T : Type 0} → Result T WriteError → Option Bytes → Bytes → Text → Text → Type 0
+IsTextWrittenOrTruncated (Ok done) contents before said pending = IsTextWritten contents before said pending
+IsTextWrittenOrTruncated (Err failed) contents before said pending = IsTextTruncated contents before said
 
 -- A writer writes to the stream that it wrote to before.
 abbrev pub IsSameStream : {W : Type 0} → Writer W → Writer W → Type 0
@@ -64,26 +64,26 @@ abbrev pub WritesNothing : {T W : Type 0} → Result T WriteError → (W → Opt
 WritesNothing result contents old new =
     IsSameStream old new
     × ((before said : Text)
-    → IsWritten (contents old.stream.now) before said old.pending.items
-    → IsWrittenOrTruncated result (contents new.stream.now) before said new.pending.items)
+    → IsTextWritten (contents old.stream.now) before said old.pending.items
+    → IsTextWrittenOrTruncated result (contents new.stream.now) before said new.pending.items)
 
 -- Whether exactly this text is written, or cut short by a failed write.
 abbrev pub WritesExactly : {T W : Type 0} → Result T WriteError → Text → (W → Option Bytes) → Writer W → Writer W → Type 0
 WritesExactly result text contents old new =
     IsSameStream old new
     × ((before said : Text)
-    → IsWritten (contents old.stream.now) before said old.pending.items
-    → IsWrittenOrTruncated result (contents new.stream.now) before (said ++ text) new.pending.items)
+    → IsTextWritten (contents old.stream.now) before said old.pending.items
+    → IsTextWrittenOrTruncated result (contents new.stream.now) before (said ++ text) new.pending.items)
 
 -- Whether a text of this kind is written, or cut short by a failed write.
-abbrev pub WritesSome : {T W : Type 0} → Result T WriteError → (Text → Type 0) → (W → Option Bytes) → Writer W → Writer W → Type 0
-WritesSome result IsText contents old new =
+abbrev pub WritesSomeText : {T W : Type 0} → Result T WriteError → (Text → Type 0) → (W → Option Bytes) → Writer W → Writer W → Type 0
+WritesSomeText result IsText contents old new =
     IsSameStream old new
     × ((before said : Text)
-    → IsWritten (contents old.stream.now) before said old.pending.items
+    → IsTextWritten (contents old.stream.now) before said old.pending.items
     → (text : Text)
     × IsText text
-    × IsWrittenOrTruncated result (contents new.stream.now) before (said ++ text) new.pending.items)
+    × IsTextWrittenOrTruncated result (contents new.stream.now) before (said ++ text) new.pending.items)
 
 -- ---- what a call does with streams that tell their bytes
 

@@ -29,26 +29,26 @@ abbrev pub u32_if_fits : ℕ → Option ℕ
 u32_if_fits n = if nat_lt n (2 ^ 32) then Some n else None
 
 -- a number with one decimal digit more; none after a leading zero
-abbrev pub with_digit : ℕ → ℕ → Option ℕ
-with_digit n byte =
+abbrev pub with_decimal_digit : ℕ → ℕ → Option ℕ
+with_decimal_digit n byte =
     if n == 0 then None
     else (do
       digit ← decimal_digit byte
       u32_if_fits (10 * n + digit))
 
 -- a number with all of these decimal digits more
-abbrev pub with_digits : ℕ → Text → Option ℕ
-with_digits n [] = Some n
-with_digits n (byte ∷ text) = do
-  more ← with_digit n byte
-  with_digits more text
+abbrev pub with_decimal_digits : ℕ → Text → Option ℕ
+with_decimal_digits n [] = Some n
+with_decimal_digits n (byte ∷ text) = do
+  more ← with_decimal_digit n byte
+  with_decimal_digits more text
 
 -- the number of decimal digits without leading zeros
 abbrev pub parse_number : Text → Option ℕ
 parse_number [] = None
 parse_number (byte ∷ text) = do
   digit ← decimal_digit byte
-  with_digits digit text
+  with_decimal_digits digit text
 
 -- the numbers of steps that can be named
 abbrev pub IsStepNumber : ℕ → Type 0

@@ -1,11 +1,11 @@
 -- What only private contracts and proofs name.
 use Rattle.std.specs.Prelude.{ℕ, ◌+◌, ◌/◌, ◌%◌, [], ◌∷◌, Bool, true, false, ◌≡◌, ◌<◌, length, ◌++◌, Option, Result}
-use Rattle.ga_text.specs.Lines.{Text, Line, ended, Bytes, HasNoLineFeed}
+use Rattle.ga_text.specs.Lines.{Text, Line, line_with_line_feed, Bytes, HasNoLineFeed}
 use Rattle.ga_text.specs.declared.input.ReadStatus.{ReadStatus}
 use Rattle.ga_text.specs.declared.input.ReadStatus.TheVariants.{More, End, Past, Failed}
 use Rattle.ga_text.specs.Input.{UnreadInput, input_limit}
 use Rattle.ga_text.specs.declared.output.WriteError.{WriteError}
-use Rattle.ga_text.specs.Output.{IsWritten, IsWrittenOrTruncated}
+use Rattle.ga_text.specs.Output.{IsTextWritten, IsTextWrittenOrTruncated}
 
 -- ---- numbers in two and in four digits
 
@@ -21,7 +21,7 @@ four_digits n = (48 + n / 1000 % 10) ∷ (48 + n / 100 % 10) ∷ (48 + n / 10 % 
 
 -- a part with its line feed, if it has one
 abbrev pub with_feed : Line → Bool → Text
-with_feed part true = ended part
+with_feed part true = line_with_line_feed part
 with_feed part false = part
 
 -- ---- what was read of an input and is not taken yet, and how more is read

@@ -1,7 +1,7 @@
 //! The image part of a session.
 ghost use Rattle.std.specs.Prelude.{◌≡◌, ◌<◌, ◌++◌, [], length, Some, Ok, IfOk, OnErr, IsTrue, ◌↔◌};
-ghost use Rattle.ga_text.specs.Lines.{Bytes, ended};
-ghost use Rattle.ga_text.specs.Input.{IsWithinInputLimit, block_size};
+ghost use Rattle.ga_text.specs.Lines.{Bytes, line_with_line_feed};
+ghost use Rattle.ga_text.specs.Input.{IsWithinInputLimit, input_block_size};
 ghost use Rattle.ga_text.specs.Image.{ReadsImage, end_line};
 
 use super::input::{Input, ReadStatus};
@@ -35,7 +35,7 @@ pub fn read_image<R: Read>(
     ensures err { OnErr result ((left : Bytes) → R.remaining reader.old ≡ Some left →
         (read : Bytes) × (rest : Bytes) × (R.remaining reader.new ≡ Some rest)
         × (input.old.bytes ++ left ≡ read ++ rest)) }
-    ensures behind { result ≡ Ok ImageEnd.EndLine → length input.new.bytes < block_size }
+    ensures behind { result ≡ Ok ImageEnd.EndLine → length input.new.bytes < input_block_size }
     ensures within { IsWithinInputLimit input.new }
 {
     let mut start = 0;
@@ -57,7 +57,7 @@ pub fn read_image<R: Read>(
 }
 
 fn is_end_line(line: &[u8]) -> bool
-    ensures { IsTrue result ↔ (line.now ≡ ended end_line) }
+    ensures { IsTrue result ↔ (line.now ≡ line_with_line_feed end_line) }
 {
     line == b"end\n".as_slice()
 }

@@ -1,7 +1,7 @@
 //! The input, block by block, up to its limit.
 ghost use Rattle.std.specs.Prelude.{◌≡◌, ◌+◌, ◌≤◌, ◌<◌, ◌++◌, ◌∷◌, true, [], length, take, drop, slice_index, Some, IfSome, IfNone, IfOk, OnErr};
 ghost use Rattle.ga_text.specs.Lines.{Bytes, HasNoLineFeed};
-ghost use Rattle.ga_text.specs.Input.{UnreadInput, IsWithinInputLimit, block_size};
+ghost use Rattle.ga_text.specs.Input.{UnreadInput, IsWithinInputLimit, input_block_size};
 ghost use Rattle.ga_text.specs.inner.{Fills, HasFilled, TakesPart, with_feed};
 
 use super::lines::{LineBuffer, append_bounded};
@@ -141,7 +141,7 @@ impl Input {
     pub(crate) fn take_text(&mut self, text: &mut Vec<u8>) -> Result<bool, AllocError>
         ensures takes { IfOk result (λ fed. (part : Bytes) × TakesPart self.old part self.new fed
             × (text.new.items ≡ text.old.items ++ with_feed part fed)) }
-        ensures behind { IfOk result (λ fed. fed ≡ true → length self.new.bytes < block_size) }
+        ensures behind { IfOk result (λ fed. fed ≡ true → length self.new.bytes < input_block_size) }
         ensures err { OnErr result ((self.new ≡ self.old) × (text.new.items ≡ text.old.items)) }
         ensures within { IsWithinInputLimit self.new }
     {

@@ -1,7 +1,7 @@
 //! The output to a stream, buffered before it is written.
 ghost use Rattle.std.specs.Prelude.{◌≡◌, ◌++◌, ◌+◌, ◌≤◌, length, ℕ, List, [], OnOk};
 ghost use Rattle.ga_text.specs.Lines.{Bytes};
-ghost use Rattle.ga_text.specs.Output.{IsWritten, IsWrittenOrTruncated, WritesExactly, WritesNothing, ready};
+ghost use Rattle.ga_text.specs.Output.{IsTextWritten, IsTextWrittenOrTruncated, WritesExactly, WritesNothing, ready};
 
 use arrayvec::ArrayVec;
 use std::io::Write;
@@ -134,8 +134,8 @@ fn forget(pending: &mut ArrayVec<u8, OUTPUT_CAPACITY>)
 /// # Errors
 /// A write failed.
 pub fn write_all<W: Write>(writer: &mut W, text: &[u8]) -> WriteResult
-    ensures { (before said : Bytes) → IsWritten (W.contents writer.old) before said text.now →
-        IsWrittenOrTruncated result (W.contents writer.new) before said [] }
+    ensures { (before said : Bytes) → IsTextWritten (W.contents writer.old) before said text.now →
+        IsTextWrittenOrTruncated result (W.contents writer.new) before said [] }
 {
     let mut rest = text;
     'bytes: while !rest.is_empty() {

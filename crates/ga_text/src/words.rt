@@ -3,7 +3,7 @@
 ghost use Rattle.std.specs.Prelude.{◌≡◌, ◌+◌, ◌*◌, ◌<◌, [], ◌∷◌, option_map};
 ghost use Rattle.ga_grid.specs.Grid.{number_of_yxx as node_numbered, node_id, decimal_digit};
 ghost use Rattle.ga_text.specs.Digits.{hex_byte_value};
-ghost use Rattle.ga_text.specs.Parsing.{split_at_space, parse_node, parse_number, with_digit};
+ghost use Rattle.ga_text.specs.Parsing.{split_at_space, parse_node, parse_number, with_decimal_digit};
 
 use ga_grid::{NodeId, decimal_digit};
 
@@ -63,14 +63,14 @@ pub fn parse_number(word: &[u8]) -> Option<u32>
     let (first, rest) = word.split_first()?;
     let mut number = decimal_digit(*first)?;
     'digits: for byte in rest {
-        number = with_digit(number, *byte)?;
+        number = with_decimal_digit(number, *byte)?;
     }
     Some(number)
 }
 
 /// A number with one digit more, where it had no leading zero and fits.
-fn with_digit(number: u32, byte: u8) -> Option<u32>
-    ensures { result ≡ with_digit number byte }
+fn with_decimal_digit(number: u32, byte: u8) -> Option<u32>
+    ensures { result ≡ with_decimal_digit number byte }
 {
     if number == 0 {
         return None;

@@ -11,7 +11,7 @@ use Rattle.ga_lab.specs.Machine.{State, causes_of, acting_node}
 use Rattle.ga_grid.specs.Chip.{records_of}
 use Rattle.ga_text.specs.Lines.{lines_of}
 use Rattle.ga_image.specs.Grammar.{IsImage}
-use Rattle.ga_picture.specs.Drawing.{AreShades}
+use Rattle.ga_picture.specs.Drawing.{AreShadesOfEvents}
 use Rattle.ga_picture.specs.declared.shade.Shade.{Shade}
 use Rattle.ga_picture.specs.declared.shade.Shade.TheVariants.{Black, Grey, Red}
 
@@ -66,5 +66,5 @@ pub record AreCodes (image nodes : List ℕ) (place : ℕ) (codes : List ℕ) : 
   pub shades : List Shade
   pub accepted : IsImage (lines_of image) chip
   pub made : MakesAll (records_of chip) nodes causes last
-  pub shaded : AreShades causes (Some place) (Some place) shades
+  pub shaded : AreShadesOfEvents causes (Some place) (Some place) shades
   pub told : codes ≡ map code_of shades

@@ -6,13 +6,13 @@ use Rattle.std.proofs.lemmas.Bool.{ne_eqb, eqb-false}
 use Rattle.hex.specs.declared.error.FromHexError.{FromHexError}
 use Rattle.hex.specs.declared.error.FromHexError.TheVariants.{OddLength, InvalidStringLength}
 use Rattle.hex.specs.Hex.{encode_with, encode_lower, lower_digits, decode_pairs, decode_sized, digit_or_error, hex_digit_value, ◌>>=◌}
-use Rattle.ga_word.specs.Word.{words, hex6_of, hex6_value, digits_value}
+use Rattle.ga_word.specs.Word.{word_modulus, hex6_of, hex6_value, digits_value}
 
 -- six digits from equal places
 pub six_same : (a b c d e f a' b' c' d' e' f' : ℕ) → a ≡ a' → b ≡ b' → c ≡ c' → d ≡ d' → e ≡ e' → f ≡ f' → (a ∷ b ∷ c ∷ d ∷ e ∷ f ∷ []) ≡ (a' ∷ b' ∷ c' ∷ d' ∷ e' ∷ f' ∷ [])
 six_same a b c d e f a' b' c' d' e' f' p q r s t u = cc
 
-pub hex6_of_bytes : (n : ℕ) → n < words → encode_lower (n / 65536 ∷ n / 256 % 256 ∷ n % 256 ∷ []) ≡ hex6_of n
+pub hex6_of_bytes : (n : ℕ) → n < word_modulus → encode_lower (n / 65536 ∷ n / 256 % 256 ∷ n % 256 ∷ []) ≡ hex6_of n
 unfolding encode_with
 hex6_of_bytes n h =
     six_same _ _ _ _ _ _ _ _ _ _ _ _

@@ -2,7 +2,7 @@
 #![tactic(auto)]
 
 ghost use Rattle.std.specs.Prelude.{◌≡◌, ◌+◌, ◌*◌, ◌%◌, ◌^◌, ◌<◌, ◌↔◌, nat_le, IsSome, IfSome};
-ghost use Rattle.ga_word.specs.Word.{words, carry_value, signed_of, doubled_word, halved_word, multiply_step_sum, multiply_step_t, multiply_step_a, hex6_of, hex6_value};
+ghost use Rattle.ga_word.specs.Word.{word_modulus, carry_value, signed_value_of, doubled_word, halved_word, multiply_step_sum, multiply_step_t, multiply_step_a, hex6_of, hex6_value};
 
 use std::fmt;
 use std::marker::Model;
@@ -21,13 +21,13 @@ pub struct Word18 {
 
 impl Model for Word18 {
     ghost use Rattle.std.specs.Prelude.{ℕ, ◌<◌};
-    ghost use Rattle.ga_word.specs.Word.{words};
+    ghost use Rattle.ga_word.specs.Word.{word_modulus};
 
     ghost Value = { ℕ };
 
     ghost view = { λ w. w.bits };
 
-    ghost invariant = { λ w. w.bits < words };
+    ghost invariant = { λ w. w.bits < word_modulus };
 
     ghost inverse = { λ n. record { bits = n } };
 }
@@ -35,7 +35,7 @@ impl Model for Word18 {
 impl Word18 {
     /// The word of a number, where it is small enough.
     pub fn new(value: u32) -> Option<Self>
-        ensures valid { IsSome result ↔ (value < words) }
+        ensures valid { IsSome result ↔ (value < word_modulus) }
         ensures value { IfSome result (λ w. w ≡ value) }
     {
         if value < WORDS {
@@ -47,7 +47,7 @@ impl Word18 {
 
     /// The lowest 18 bits of a number.
     pub fn from_low_bits(value: u32) -> Self
-        ensures { result ≡ value % words }
+        ensures { result ≡ value % word_modulus }
     {
         Word18 {
             bits: value % WORDS,
@@ -57,22 +57,22 @@ impl Word18 {
     /// The word as a number below 2^18.
     pub fn get(self) -> u32
         ensures value { result ≡ self }
-        ensures in_range { result < words }
+        ensures in_range { result < word_modulus }
     {
         self.bits
     }
 
     /// The sum modulo 2^18.
     pub fn add(self, other: Self) -> Self
-        ensures { result ≡ (self + other) % words }
+        ensures { result ≡ (self + other) % word_modulus }
     {
         Word18::from_low_bits(self.bits + other.bits)
     }
 
     /// The sum with a carry, and whether it passes the greatest word.
     pub fn add_carry(self, other: Self, carry: bool) -> (Self, bool)
-        ensures sum { result.0 ≡ (self + other + carry_value carry) % words }
-        ensures carry { result.1 ≡ nat_le words (self + other + carry_value carry) }
+        ensures sum { result.0 ≡ (self + other + carry_value carry) % word_modulus }
+        ensures carry { result.1 ≡ nat_le word_modulus (self + other + carry_value carry) }
     {
         let sum = self.bits + other.bits + u32::from(carry);
         (Word18::from_low_bits(sum), sum >= WORDS)
@@ -80,7 +80,7 @@ impl Word18 {
 
     /// The value of the word in two's complement: -2^17 to 2^17 - 1.
     pub fn signed(self) -> i32
-        ensures { result ≡ signed_of self }
+        ensures { result ≡ signed_value_of self }
     {
         if self.bits < SIGN {
             self.bits as i32

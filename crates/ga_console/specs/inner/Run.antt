@@ -3,7 +3,7 @@ use Rattle.std.specs.Prelude.{Option, Some, None, ◌≡◌, ◌≢◌, ◌≤�
 use Rattle.ga_text.specs.Lines.{Bytes, Line, max_input_line, HasNoLineFeed, Text}
 use Rattle.ga_text.specs.Parsing.{IsStepNumber}
 use Rattle.ga_console.specs.Commands.{SpellsCommand}
-use Rattle.ga_console.specs.Session.{quit_line, AnswerRelation, AnswersLine, ServesCommands, IsWrittenOrPrefix}
+use Rattle.ga_console.specs.Session.{quit_line, AnswerRelation, AnswersLine, ServesCommands, IsWholeOrPrefixOnWriteError}
 use Rattle.ga_console.specs.declared.responder.LineAction.{LineAction}
 use Rattle.ga_console.specs.declared.responder.LineAction.TheVariants as turn
 use Rattle.ga_console.specs.declared.commands.CommandsEnd.TheVariants as end
@@ -19,7 +19,7 @@ use Rattle.ga_image.specs.declared.fault.ImageFault.{ImageFault}
 use Rattle.ga_text.specs.Input.{input_limit}
 use Rattle.ga_lab.specs.Machine.{State}
 use Rattle.ga_console.specs.declared.commands.CommandsEnd.{CommandsEnd}
-use Rattle.ga_console.specs.Run.{status_of, WritesImageRefusal, IsOpenedOnImage, IsFaultOfImage}
+use Rattle.ga_console.specs.Run.{status_of_commands_end, WritesImageRefusal, IsOpenedOnImage, IsFaultOfImage}
 
 -- ---- A line that was read whole and is not taken yet
 
@@ -103,6 +103,6 @@ Races limit workers calls image text CommandRefused = ⊥
 -- is refused, no more is read.
 abbrev pub AfterImage : {M : Type 0} → AnswerRelation M → AnswerRelation M → (State → M) → ℕ → Text → ℕ → Bytes → Bytes → Bytes → Text → Status → Type 0
 AfterImage {M} A R begin limit image taken ahead read rest text status =
-    ((machine : State) × IsOpenedOnImage image limit machine × (ending : Result CommandsEnd WriteError) × (status ≡ status_of ending)
-    × (said : Text) × (last : M) × ServesCommands A R (input_limit - taken) (begin machine) read rest said last ending × IsWrittenOrPrefix ending (ready ++ said) text)
+    ((machine : State) × IsOpenedOnImage image limit machine × (ending : Result CommandsEnd WriteError) × (status ≡ status_of_commands_end ending)
+    × (said : Text) × (last : M) × ServesCommands A R (input_limit - taken) (begin machine) read rest said last ending × IsWholeOrPrefixOnWriteError ending (ready ++ said) text)
     ⊎ ((fault : ImageFault) × IsFaultOfImage image fault × WritesImageRefusal fault text status × (read ≡ ahead))

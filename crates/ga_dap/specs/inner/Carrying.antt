@@ -1,7 +1,7 @@
 -- How a call ends that answers: with messages that were sent, or memory was refused to it.
 use Rattle.std.specs.Prelude.{Option, Some, None, Result, Ok, Err}
 use Rattle.ga_dap_protocol.specs.Sent.{SentMessages}
-use Rattle.ga_dap_queries.specs.Sending.{Messages, SendsAll}
+use Rattle.ga_dap_queries.specs.Sending.{Messages, SendsMessages}
 use Rattle.ga_explorer.specs.declared.forms.CommandClass.{CommandClass}
 use Rattle.ga_explorer.specs.declared.forms.CommandClass.TheVariants.{Query, Change}
 use Rattle.ga_dap.specs.declared.unanswered.NoResponse.{NoResponse}
@@ -10,7 +10,7 @@ use Rattle.ga_dap.specs.declared.unanswered.NoResponse.TheVariants.{Memory, Unto
 -- messages were sent for which this holds; or an allocation failed before anything changed, for which that holds; or for what
 -- had to be reported of a change
 abbrev pub Carries : Result (Unit {0}) NoResponse → (Messages → Type 0) → Type 0 → SentMessages → SentMessages → Type 0
-Carries (Ok done) IsCommandReply Stays old new = (messages : Messages) × IsCommandReply messages × SendsAll old messages new
+Carries (Ok done) IsCommandReply Stays old new = (messages : Messages) × IsCommandReply messages × SendsMessages old messages new
 Carries (Err Memory) IsCommandReply Stays old new = Stays
 Carries (Err Untold) IsCommandReply Stays old new = Unit {0}
 

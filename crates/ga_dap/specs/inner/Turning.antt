@@ -6,7 +6,7 @@ use Rattle.ga_dap_protocol.specs.Inbox.{IsInputError}
 use Rattle.ga_dap_protocol.specs.Sent.{SentMessages}
 use Rattle.ga_dap_protocol.specs.declared.request.ClientRequest.{ClientRequest}
 use Rattle.ga_dap_protocol.specs.declared.request.RequestError.{RequestError}
-use Rattle.ga_dap_queries.specs.Sending.{Messages, SendsAll}
+use Rattle.ga_dap_queries.specs.Sending.{Messages, SendsMessages}
 use Rattle.ga_dap_control.specs.declared.launched.LaunchedProgram.{LaunchedProgram}
 use Rattle.ga_dap.specs.declared.session.Session.{Session}
 use Rattle.ga_dap.specs.declared.serving.SessionEnd.{SessionEnd}
@@ -14,21 +14,21 @@ use Rattle.ga_dap.specs.declared.serving.SessionEnd.TheVariants as end
 use Rattle.ga_dap.specs.declared.turn.Progress.{Progress}
 use Rattle.ga_dap.specs.declared.turn.Progress.TheVariants.{On, End}
 use Rattle.ga_dap.specs.Answering.{AnswersRequest}
-use Rattle.ga_dap.specs.Client.{ServerState, ArrivalRelation, AnswersContent, IsServerIteration, out_of_memory_messages, invalid_request_output, remaining_input}
-use Rattle.ga_dap.specs.Going.{ContinuesRun}
+use Rattle.ga_dap.specs.Client.{ServerState, RequestArrivalRelation, AnswersContent, IsServerIteration, out_of_memory_messages, invalid_request_output, remaining_input}
+use Rattle.ga_dap.specs.Going.{MakesRunSlice}
 use Rattle.ga_dap.specs.Launches.{FileReadRelation}
 
 abbrev pub AnswersOrEnds : {S : Type 0} → FileReadRelation S → S → Session → ClientRequest → SentMessages → Progress → SentMessages → S → Session → Type 0
 AnswersOrEnds G host s request old On new after t = (messages : Messages)
-    × (AnswersRequest G host s request messages after t ⊎ ((messages ≡ out_of_memory_messages request) × (t ≡ s))) × SendsAll old messages new
+    × (AnswersRequest G host s request messages after t ⊎ ((messages ≡ out_of_memory_messages request) × (t ≡ s))) × SendsMessages old messages new
 AnswersOrEnds G host s request old (End ending) new after t = ending ≡ end.Memory
 
 abbrev pub DeclinesOrEnds : RequestError → SentMessages → Progress → SentMessages → Type 0
-DeclinesOrEnds why old On new = SendsAll old (invalid_request_output why) new
+DeclinesOrEnds why old On new = SendsMessages old (invalid_request_output why) new
 DeclinesOrEnds why old (End ending) new = ending ≡ end.Memory
 
 abbrev pub ContentOrEnds : {S : Type 0} → FileReadRelation S → S → Session → Bytes → SentMessages → Progress → SentMessages → S → Session → Type 0
-ContentOrEnds G host s content old On new after t = (messages : Messages) × AnswersContent G host s content messages after t × SendsAll old messages new
+ContentOrEnds G host s content old On new after t = (messages : Messages) × AnswersContent G host s content messages after t × SendsMessages old messages new
 ContentOrEnds G host s content old (End ending) new after t = ending ≡ end.Memory
 
 -- why a session ends where a message was to be taken of all that is left of the input, and what is left then
@@ -40,12 +40,12 @@ EndsTaking end.StreamFault all rest = all ≡ rest
 
 abbrev pub TakesOrEnds : {S : Type 0} → FileReadRelation S → S → Session → Bytes → SentMessages → Progress → SentMessages → S → Session → Bytes → Type 0
 TakesOrEnds G host s all old On new after t rest = (content : Bytes) × (text : Bytes) × (messages : Messages) × IsMessage content text × (all ≡ text ++ rest)
-    × AnswersContent G host s content messages after t × SendsAll old messages new
+    × AnswersContent G host s content messages after t × SendsMessages old messages new
 TakesOrEnds G host s all old (End ending) new after t rest = EndsTaking ending all rest
 
 abbrev pub GoesOnOrEnds : Session → SentMessages → Progress → SentMessages → Session → Type 0
-GoesOnOrEnds s old On new t = (before : LaunchedProgram) × (after : LaunchedProgram) × (messages : Messages) × (s.launched ≡ Some before) × ContinuesRun before messages after
-    × (t ≡ record s { launched = Some after }) × SendsAll old messages new
+GoesOnOrEnds s old On new t = (before : LaunchedProgram) × (after : LaunchedProgram) × (messages : Messages) × (s.launched ≡ Some before) × MakesRunSlice before messages after
+    × (t ≡ record s { launched = Some after }) × SendsMessages old messages new
 GoesOnOrEnds s old (End ending) new t = ending ≡ end.Memory
 
 -- why a session that continues ends instead of a turn
@@ -55,7 +55,7 @@ EndsTurn s (end.Broken why) = IsInputError why (remaining_input s)
 EndsTurn s end.Memory = Unit {0}
 EndsTurn s end.StreamFault = Unit {0}
 
-abbrev pub TurnOrEnds : {S A : Type 0} → FileReadRelation S → ArrivalRelation A → ServerState S A → Progress → Bytes → ServerState S A → Type 0
+abbrev pub TurnOrEnds : {S A : Type 0} → FileReadRelation S → RequestArrivalRelation A → ServerState S A → Progress → Bytes → ServerState S A → Type 0
 TurnOrEnds G T s On sent t = IsServerIteration G T s sent t
 TurnOrEnds G T s (End ending) sent t = EndsTurn s ending × (read : Bytes) × (remaining_input s ≡ read ++ t.left)
 

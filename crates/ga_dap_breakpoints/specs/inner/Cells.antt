@@ -1,7 +1,7 @@
 -- The cells from which the nodes' words came, as far as they were looked back for (F18A Technology Reference DB001, instruction fetch): each is kept until its
 -- node may have taken another word. What is hit by them.
 use Rattle.ga_event.specs.declared.made.Made.TheVariants as made
-use Rattle.ga_scheduler.specs.declared.watched.WatchedEnd.TheVariants as the_end
+use Rattle.ga_scheduler.specs.declared.watched.WatchedRunEnd.TheVariants as the_end
 use Rattle.std.specs.Prelude.{ℕ, ◌+◌, ◌-◌, ◌==◌, Bool, ◌&&◌, ◌||◌, not, if◌then◌else◌, is_some, List, [], ◌∷◌, slice_set, slice_index_or, Option, Some, None}
 use Rattle.std.specs.List.{slice_get}
 use Rattle.ga_node.specs.Record.{NodeRecord}
@@ -11,7 +11,7 @@ use Rattle.ga_event.specs.declared.made.Made.{Made}
 use Rattle.ga_event.specs.Told.{count_steps}
 use Rattle.ga_lab.specs.Machine.{State, chip_of, history_of}
 use Rattle.ga_provenance.specs.Fetched.{fetched_cell}
-use Rattle.ga_scheduler.specs.Conditions.{is_step_of}
+use Rattle.ga_scheduler.specs.Conditions.{is_step_of_node}
 use Rattle.ga_dap_views.specs.declared.spots.SlotAddress.{SlotAddress}
 use Rattle.ga_dap_views.specs.Spots.{node_slot_address}
 use Rattle.ga_dap_breakpoints.specs.declared.back.Watched.{Watched}
@@ -20,9 +20,9 @@ use Rattle.ga_dap_breakpoints.specs.declared.breakpoint.Breakpoint.{Breakpoint}
 use Rattle.ga_dap_breakpoints.specs.declared.hits.HitTally.{HitTally}
 use Rattle.ga_dap_breakpoints.specs.Back.{can_reach_slot, is_at_slot_address}
 use Rattle.ga_dap_breakpoints.specs.Breakpoints.{is_watched_event, tally_with_hit, is_ending_stop}
-use Rattle.ga_dap_breakpoints.specs.Conditions.{meets_test}
+use Rattle.ga_dap_breakpoints.specs.Conditions.{meets_optional_test}
 use Rattle.ga_dap_breakpoints.specs.inner.Words.{keeps_kind}
-use Rattle.ga_scheduler.specs.declared.watched.WatchedEnd.{WatchedEnd}
+use Rattle.ga_scheduler.specs.declared.watched.WatchedRunEnd.{WatchedRunEnd}
 use Rattle.ga_dap_breakpoints.specs.declared.halts.HaltMonitor.{HaltMonitor}
 use Rattle.ga_dap_breakpoints.specs.declared.going.HaltReason.{HaltReason}
 use Rattle.ga_dap_breakpoints.specs.declared.going.HaltReason.TheVariants.{Hit, Stopped, Moved, Cut, Quiet, Refused}
@@ -62,16 +62,16 @@ comes_by s node at cell =
     can_reach_slot (slice_get (history_of s node.number) (count_steps node.number s.kept - 1)) && is_at_slot_address at (node_slot_address (record_at (chip_of s) node.number) cell)
 
 abbrev pub has_done_by : Watched → NodeId → Made → State → InstructionCells → Bool
-has_done_by (ArrivesAtSlot at) node told s cells = is_step_of node.number told && comes_by s node at (cell_in s cells node)
+has_done_by (ArrivesAtSlot at) node told s cells = is_step_of_node node.number told && comes_by s node at (cell_in s cells node)
 has_done_by (Writes address) node told s cells = is_watched_event (Writes address) node told s
 
 abbrev pub cells_done : Watched → NodeId → Made → State → InstructionCells → InstructionCells
-cells_done (ArrivesAtSlot at) node told s cells = cells_asked (is_step_of node.number told && asks_word at (record_at (chip_of s) node.number)) s node cells
+cells_done (ArrivesAtSlot at) node told s cells = cells_asked (is_step_of_node node.number told && asks_word at (record_at (chip_of s) node.number)) s node cells
 cells_done (Writes address) node told s cells = cells
 
 abbrev pub is_hit_by : Made → State → Breakpoint → InstructionCells → Bool
 is_hit_by told s one cells =
-    has_done_by one.watched one.node told s cells && meets_test one.condition (record_at (chip_of s) one.node.number) (count_steps one.node.number s.kept)
+    has_done_by one.watched one.node told s cells && meets_optional_test one.condition (record_at (chip_of s) one.node.number) (count_steps one.node.number s.kept)
 
 abbrev pub one_counted_by : Made → State → Breakpoint → ℕ → InstructionCells → HitTally → HitTally
 one_counted_by told s one place cells tally = if is_hit_by told s one cells then tally_with_hit one place tally else tally
@@ -107,7 +107,7 @@ abbrev pub halt_by : Option ℕ → Bool → Option NodeId → Made → HaltReas
 halt_by hit stops node told = halt_hit (is_ending_stop stops node told) told hit
 
 -- why a move ended by this end of its run, where the newest event hit the breakpoint at this place
-abbrev pub halt_of : Option ℕ → Bool → Option NodeId → WatchedEnd → HaltReason
+abbrev pub halt_of : Option ℕ → Bool → Option NodeId → WatchedRunEnd → HaltReason
 halt_of hit stops first (the_end.Seen told) = halt_by hit stops first told
 halt_of hit stops first the_end.Made = Cut
 halt_of hit stops first the_end.Quiet = Quiet

@@ -1,41 +1,41 @@
 //! What decides an event besides its opcode.
 
-use ga_ports::Target;
+use ga_ports::AddressTarget;
 
 /// What decides an event besides its opcode (DB001, opcodes).
 #[derive(Clone, Copy, PartialEq, Eq, Debug)]
-pub enum Choice {
+pub enum ActionChoice {
     /// Nothing besides the opcode.
     Plain,
     /// The result of a test.
     Test(bool),
     /// What an address names.
-    At(Target),
+    At(AddressTarget),
 }
 
-impl Choice {
+impl ActionChoice {
     ghost use Rattle.std.specs.Prelude.{◌≡◌};
-    ghost use Rattle.ga_ports.specs.Address.{IsTarget};
-    ghost use Rattle.ga_event.specs.Flow.{choice_target, test_holds};
+    ghost use Rattle.ga_ports.specs.Address.{IsValidTarget};
+    ghost use Rattle.ga_event.specs.Flow.{choice_target, choice_test_holds};
 
     /// What the address names; nothing where there is none.
-    pub(crate) fn target(self) -> Target
-        requires { IsTarget (choice_target self) }
+    pub(crate) fn target(self) -> AddressTarget
+        requires { IsValidTarget (choice_target self) }
         ensures value { result ≡ choice_target self }
-        ensures in_range { IsTarget result }
+        ensures in_range { IsValidTarget result }
     {
         match self {
-            Choice::At(target) => target,
-            _ => Target::Bad,
+            ActionChoice::At(target) => target,
+            _ => AddressTarget::Bad,
         }
     }
 
     /// Whether the test held.
     pub(crate) fn holds(self) -> bool
-        ensures { result ≡ test_holds self }
+        ensures { result ≡ choice_test_holds self }
     {
         match self {
-            Choice::Test(held) => held,
+            ActionChoice::Test(held) => held,
             _ => false,
         }
     }

@@ -1,17 +1,17 @@
 //! Where the values come from that an event leaves: the table of opcodes once more, its changes from the last to the first.
 
 ghost use Rattle.std.specs.Prelude.{◌≡◌, ◌≤◌, ◌∷◌, []};
-ghost use Rattle.ga_ports.specs.Address.{IsTarget};
+ghost use Rattle.ga_ports.specs.Address.{IsValidTarget};
 ghost use Rattle.ga_node.specs.Record.{record_of};
 ghost use Rattle.ga_node.specs.Table.{next_action_of};
 ghost use Rattle.ga_event.specs.declared.flow.part.NodePart.TheVariants.{P};
-ghost use Rattle.ga_event.specs.Flow.{Same, From, SetI, SetP, StartAgain, IsNodePart, choice, choice_target, moves_by_choice, fetch_moves, execute_moves, multiply_moves, send_moves, take_moves, flow_by_choice, own_flow, send_flow, take_flow, flow_of, HasValidSources, IsSource};
+ghost use Rattle.ga_event.specs.Flow.{Same, From, SetI, SetP, StartAgain, IsNodePart, choice, choice_target, moves_by_choice, fetch_moves, execute_moves, multiply_moves, send_moves, take_moves, flow_by_choice, flow_of_own_event, send_flow, take_flow, flow_of, HasValidSources, IsFlowSource};
 ghost use Rattle.ga_event.specs.inner.{sought_of, At, before_all, read_before, write_before, count_before, IsSought};
 
 use super::sought::TracedPart;
-use super::{Choice, Flow, NodePart, from_one, from_three, from_two};
+use super::{ActionChoice, Flow, NodePart, from_one, from_three, from_two};
 use ga_node::{NextAction, Node, Place, Wait};
-use ga_ports::{Target, classify_address};
+use ga_ports::{AddressTarget, classify_address};
 use ga_slots::{Op, opcode};
 use ga_word::Word18;
 
@@ -44,80 +44,80 @@ pub fn next_action_in(node: &Node) -> NextAction
 
 // What decides the next event besides its opcode.
 #[tactic(auto, unfolding(ga_node::specs::Record::record_of))]
-fn choice_of(node: &Node, due: NextAction) -> Choice
+fn choice_of(node: &Node, due: NextAction) -> ActionChoice
     ensures value { result ≡ choice due (record_of node.now) }
-    ensures in_range { IsTarget (choice_target result) }
+    ensures in_range { IsValidTarget (choice_target result) }
 {
     match due {
-        NextAction::Fetch => Choice::At(classify_address(node.get(Place::P))),
+        NextAction::Fetch => ActionChoice::At(classify_address(node.get(Place::P))),
         NextAction::Run(op) => choice_by(node, op),
     }
 }
 
 // What decides an opcode that comes next, besides the opcode itself.
 #[tactic(auto, unfolding(ga_node::specs::Record::record_of))]
-fn choice_by(node: &Node, op: Op) -> Choice
+fn choice_by(node: &Node, op: Op) -> ActionChoice
     ensures value { result ≡ choice (NextAction.Run op) (record_of node.now) }
-    ensures in_range { IsTarget (choice_target result) }
+    ensures in_range { IsValidTarget (choice_target result) }
 {
     match op {
-        Op::Unext | Op::Next => Choice::Test(node.r(0) == 0),
-        Op::If => Choice::Test(node.d(0) == 0),
-        Op::MinusIf => Choice::Test(node.d(0) / 131072 == 0),
-        Op::Plus => Choice::Test(node.get(Place::P) / 512 % 2 == 1),
-        Op::FetchP | Op::StoreP => Choice::At(classify_address(node.get(Place::P))),
-        Op::FetchPlus | Op::Fetch | Op::StorePlus | Op::Store => Choice::At(classify_address(
+        Op::Unext | Op::Next => ActionChoice::Test(node.r(0) == 0),
+        Op::If => ActionChoice::Test(node.d(0) == 0),
+        Op::MinusIf => ActionChoice::Test(node.d(0) / 131072 == 0),
+        Op::Plus => ActionChoice::Test(node.get(Place::P) / 512 % 2 == 1),
+        Op::FetchP | Op::StoreP => ActionChoice::At(classify_address(node.get(Place::P))),
+        Op::FetchPlus | Op::Fetch | Op::StorePlus | Op::Store => ActionChoice::At(classify_address(
             node.get(Place::A),
         )),
-        Op::FetchB | Op::StoreB => Choice::At(classify_address(node.get(Place::B))),
-        _ => Choice::Plain,
+        Op::FetchB | Op::StoreB => ActionChoice::At(classify_address(node.get(Place::B))),
+        _ => ActionChoice::Plain,
     }
 }
 
 // A part followed back over a word read at the address and pushed, where `later` is followed back over what came after it.
-fn before_read(choice: Choice, part: NodePart, later: TracedPart) -> TracedPart
-    requires choice { IsTarget (choice_target choice) }
+fn before_read(choice: ActionChoice, part: NodePart, later: TracedPart) -> TracedPart
+    requires choice { IsValidTarget (choice_target choice) }
     requires part { IsNodePart part }
     requires known { IsSought (sought_of later) }
     ensures value { sought_of result ≡ read_before (choice_target choice) part (sought_of later) }
     ensures known { IsSought (sought_of result) }
 {
     match choice.target() {
-        Target::Ram(k) => later.push_data(Flow::Same(NodePart::Ram(k))),
-        Target::Rom(k) => later.push_data(Flow::Same(NodePart::Rom(k))),
-        Target::Io => later.push_data(Flow::Same(NodePart::Outside)),
-        Target::Ports(_) => TracedPart::At(part).set_wait(),
-        Target::Bad => TracedPart::At(part).set_stop(),
+        AddressTarget::Ram(k) => later.push_data(Flow::Same(NodePart::Ram(k))),
+        AddressTarget::Rom(k) => later.push_data(Flow::Same(NodePart::Rom(k))),
+        AddressTarget::Io => later.push_data(Flow::Same(NodePart::Outside)),
+        AddressTarget::Ports(_) => TracedPart::At(part).set_wait(),
+        AddressTarget::Bad => TracedPart::At(part).set_stop(),
     }
 }
 
 // A part followed back over T written at the address, where `later` is followed back over what came after it.
-fn before_write(choice: Choice, part: NodePart, later: TracedPart) -> TracedPart
-    requires choice { IsTarget (choice_target choice) }
+fn before_write(choice: ActionChoice, part: NodePart, later: TracedPart) -> TracedPart
+    requires choice { IsValidTarget (choice_target choice) }
     requires part { IsNodePart part }
     requires known { IsSought (sought_of later) }
     ensures value { sought_of result ≡ write_before (choice_target choice) part (sought_of later) }
     ensures known { IsSought (sought_of result) }
 {
     match choice.target() {
-        Target::Ram(k) => later.set(NodePart::Ram(k), Flow::Same(NodePart::T)),
-        Target::Rom(_) => later,
-        Target::Io => later.set(NodePart::Io, Flow::Same(NodePart::T)),
-        Target::Ports(sides) => {
+        AddressTarget::Ram(k) => later.set(NodePart::Ram(k), Flow::Same(NodePart::T)),
+        AddressTarget::Rom(_) => later,
+        AddressTarget::Io => later.set(NodePart::Io, Flow::Same(NodePart::T)),
+        AddressTarget::Ports(sides) => {
             if sides.single().is_some() {
                 TracedPart::At(part).set_wait()
             } else {
                 TracedPart::At(part).set_stop()
             }
         }
-        Target::Bad => TracedPart::At(part).set_stop(),
+        AddressTarget::Bad => TracedPart::At(part).set_stop(),
     }
 }
 
 // A part followed back over an instruction word fetched from the source.
 fn before_word(part: NodePart, source: NodePart) -> TracedPart
     requires part { IsNodePart part }
-    requires source { IsSource source }
+    requires source { IsFlowSource source }
     ensures value { sought_of result ≡ before_all (SetI (Same source) ∷ SetP (From (P ∷ [])) ∷ StartAgain ∷ []) (At part) }
     ensures known { IsSought (sought_of result) }
 {
@@ -128,18 +128,18 @@ fn before_word(part: NodePart, source: NodePart) -> TracedPart
 }
 
 // A part followed back over a fetch.
-fn before_fetch(choice: Choice, part: NodePart) -> TracedPart
-    requires choice { IsTarget (choice_target choice) }
+fn before_fetch(choice: ActionChoice, part: NodePart) -> TracedPart
+    requires choice { IsValidTarget (choice_target choice) }
     requires part { IsNodePart part }
     ensures value { sought_of result ≡ before_all (fetch_moves (choice_target choice)) (At part) }
     ensures known { IsSought (sought_of result) }
 {
     match choice.target() {
-        Target::Ram(k) => before_word(part, NodePart::Ram(k)),
-        Target::Rom(k) => before_word(part, NodePart::Rom(k)),
-        Target::Io => before_word(part, NodePart::Outside),
-        Target::Ports(_) => TracedPart::At(part).set_wait(),
-        Target::Bad => TracedPart::At(part).set_stop(),
+        AddressTarget::Ram(k) => before_word(part, NodePart::Ram(k)),
+        AddressTarget::Rom(k) => before_word(part, NodePart::Rom(k)),
+        AddressTarget::Io => before_word(part, NodePart::Outside),
+        AddressTarget::Ports(_) => TracedPart::At(part).set_wait(),
+        AddressTarget::Bad => TracedPart::At(part).set_stop(),
     }
 }
 
@@ -202,8 +202,8 @@ fn before_take(wait: Wait, part: NodePart) -> TracedPart
 
 // A part followed back over the opcode.
 #[tactic(auto, using(crate::proofs::Following::read_found, crate::proofs::Following::write_found, crate::proofs::Following::count_found))]
-fn before_op(op: Op, choice: Choice, part: NodePart) -> TracedPart
-    requires choice { IsTarget (choice_target choice) }
+fn before_op(op: Op, choice: ActionChoice, part: NodePart) -> TracedPart
+    requires choice { IsValidTarget (choice_target choice) }
     requires part { IsNodePart part }
     ensures value { sought_of result ≡ before_all (moves_by_choice (NextAction.Run op) choice) (At part) }
     ensures known { IsSought (sought_of result) }
@@ -273,7 +273,7 @@ fn before_count(ends: bool, last: TracedPart, again: TracedPart) -> TracedPart
 }
 
 // A part followed back over `+`.
-fn before_plus(choice: Choice, at: TracedPart) -> TracedPart
+fn before_plus(choice: ActionChoice, at: TracedPart) -> TracedPart
     requires { IsSought (sought_of at) }
     ensures value { sought_of result ≡ before_all (moves_by_choice (NextAction.Run Op.Plus) choice) (sought_of at) }
     ensures known { IsSought (sought_of result) }
@@ -291,8 +291,8 @@ fn before_plus(choice: Choice, at: TracedPart) -> TracedPart
 }
 
 // A part followed back over what comes next in its node.
-fn before_due(due: NextAction, choice: Choice, part: NodePart) -> TracedPart
-    requires choice { IsTarget (choice_target choice) }
+fn before_due(due: NextAction, choice: ActionChoice, part: NodePart) -> TracedPart
+    requires choice { IsValidTarget (choice_target choice) }
     requires part { IsNodePart part }
     ensures value { sought_of result ≡ before_all (moves_by_choice due choice) (At part) }
     ensures known { IsSought (sought_of result) }
@@ -306,9 +306,9 @@ fn before_due(due: NextAction, choice: Choice, part: NodePart) -> TracedPart
 /// Where the value of a part comes from after the node's next event of its own, if it makes one (DB001, opcodes): from which
 /// parts of the node before. In two nodes in which the same is decided, as the opcode, its test and what its address names, and
 /// which have the same values in these parts, the event leaves the same value ([`crate::laws::flows`]).
-pub fn own_flow(node: &Node, part: NodePart) -> Flow
+pub fn flow_of_own_event(node: &Node, part: NodePart) -> Flow
     requires { IsNodePart part }
-    ensures value { flow_of result ≡ own_flow (record_of node.now) part }
+    ensures value { flow_of result ≡ flow_of_own_event (record_of node.now) part }
     ensures sources { HasValidSources (flow_of result) }
 {
     let due = next_action_in(node);
@@ -317,8 +317,8 @@ pub fn own_flow(node: &Node, part: NodePart) -> Flow
 
 /// Where the value of a part comes from after the next event of its node, where this decides it: by the opcode and the choice
 /// alone, whatever the node's other values are.
-pub fn flow_by_choice(due: NextAction, choice: Choice, part: NodePart) -> Flow
-    requires choice { IsTarget (choice_target choice) }
+pub fn flow_by_choice(due: NextAction, choice: ActionChoice, part: NodePart) -> Flow
+    requires choice { IsValidTarget (choice_target choice) }
     requires part { IsNodePart part }
     ensures value { flow_of result ≡ flow_by_choice due choice part }
     ensures sources { HasValidSources (flow_of result) }

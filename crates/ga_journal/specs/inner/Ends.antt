@@ -1,6 +1,6 @@
 -- The end of one history: the entry that an own event adds, and the one that is undone.
 use Rattle.ga_event.specs.declared.event.Event.TheVariants as event
-use Rattle.ga_journal.specs.declared.entry.Act.TheVariants as act
+use Rattle.ga_journal.specs.declared.entry.EntryAct.TheVariants as act
 use Rattle.ga_event.specs.declared.made.Made.TheVariants as made
 use Rattle.std.specs.Prelude.{◌≡◌, ℕ, List, [], ◌∷◌, ◌++◌, Some, slice_get, ◌+◌, length, Option, None}
 use Rattle.ga_node.specs.Record.{NodeState}
@@ -8,8 +8,8 @@ use Rattle.ga_node.specs.declared.place.Place.{Place}
 use Rattle.ga_grid.specs.Chip.{node_at}
 use Rattle.ga_grid.specs.declared.node_id.NodeId.{NodeId}
 use Rattle.ga_event.specs.declared.event.OwnOutcome.{OwnOutcome}
-use Rattle.ga_event.specs.Undo.{own_effect, IsApplied, CanRestore, with_restored_node, outcome_of_effect}
-use Rattle.ga_journal.specs.declared.entry.Act.{Act}
+use Rattle.ga_event.specs.Undo.{own_effect, IsEventApplied, CanRestoreNode, with_restored_node, outcome_of_effect}
+use Rattle.ga_journal.specs.declared.entry.EntryAct.{EntryAct}
 use Rattle.ga_journal.specs.declared.entry.Head.{Head}
 use Rattle.ga_journal.specs.Histories.{EntryRecord, past, history, histories_with_event}
 use Rattle.ga_event.specs.declared.event.Event.{Event}
@@ -29,17 +29,17 @@ pub record IsMadeAlone
     (old : List EntryRecord) (chip : List NodeState) (node : NodeId) (stamp : ℕ) (deed : OwnOutcome) (new : List EntryRecord) (now : List NodeState)
     : Type 0 where
   pub saved : List (Place × ℕ)
-  pub applied : IsApplied chip (event.Own node) (own_effect deed saved) now
+  pub applied : IsEventApplied chip (event.Own node) (own_effect deed saved) now
   pub added : new ≡ old ++ past stamp (act.Own deed) saved ∷ []
 
 -- the values of the last entry can be written back to node n
 abbrev pub CanGoBack : List EntryRecord → List NodeState → ℕ → Type 0
 CanGoBack history chip n =
-    (front : List EntryRecord) (e : EntryRecord) → history ≡ front ++ e ∷ [] → CanRestore (node_at chip n) e.saved
+    (front : List EntryRecord) (e : EntryRecord) → history ≡ front ++ e ∷ [] → CanRestoreNode (node_at chip n) e.saved
 
 -- the values of the last entry were written back to node n, and the entry is removed
 pub record IsGoneBack
-    (old : List EntryRecord) (chip : List NodeState) (n : ℕ) (new : List EntryRecord) (now : List NodeState) (act : Act)
+    (old : List EntryRecord) (chip : List NodeState) (n : ℕ) (new : List EntryRecord) (now : List NodeState) (act : EntryAct)
     : Type 0 where
   pub entry : EntryRecord
   pub last : old ≡ new ++ entry ∷ []
@@ -61,6 +61,6 @@ pub record IsAdded
     (hs : List (List EntryRecord)) (chip : List NodeState) (stamp : ℕ) (e : Event) (told : Made) (gs : List (List EntryRecord)) (now : List NodeState)
     : Type 0 where
   pub effect : Effect
-  pub applied : IsApplied chip e effect now
+  pub applied : IsEventApplied chip e effect now
   pub histories : gs ≡ histories_with_event hs stamp e effect
   pub told_is : made_over hs e (outcome_of_effect effect) ≡ Some told

@@ -4,9 +4,9 @@ use Rattle.std.specs.Global.{Global}
 use Rattle.ga_ports.specs.declared.side.Side.TheVariants.{Right}
 use Rattle.ga_grid.specs.Grid.{node_id}
 use Rattle.ga_event.specs.declared.event.OwnOutcome.{OwnOutcome}
-use Rattle.ga_journal.specs.declared.entry.Act.{Act}
-use Rattle.ga_journal.specs.declared.entry.Act.TheVariants.{Sent, Took}
-use Rattle.ga_journal.specs.declared.entry.Act.TheVariants as act
+use Rattle.ga_journal.specs.declared.entry.EntryAct.{EntryAct}
+use Rattle.ga_journal.specs.declared.entry.EntryAct.TheVariants.{Sent, Took}
+use Rattle.ga_journal.specs.declared.entry.EntryAct.TheVariants as act
 use Rattle.ga_journal.specs.declared.entry.Role.{Role}
 use Rattle.ga_journal.specs.declared.entry.Role.TheVariants.{Writer, Reader}
 use Rattle.ga_journal.specs.declared.entry.Part.{Part}
@@ -17,7 +17,7 @@ use Rattle.ga_journal.specs.Histories.{EntryRecord, past, own_outcome}
 use Rattle.ga_journal.specs.inner.Histories.{Held}
 
 -- an end of a pass as the part of its node
-abbrev pub act_with : Role → Pass → Act
+abbrev pub act_with : Role → Pass → EntryAct
 act_with Writer p = Sent p.partner p.side p.at p.word
 act_with Reader p = Took p.partner p.side p.at p.word
 
@@ -30,7 +30,7 @@ abbrev pub no_pass : Pass
 no_pass = record { partner = node_id 0; side = Right; at = 0; looked = 0; word = 0 }
 
 -- a node's part in an event; if it is an end of a pass, the pass is at this place of a list
-abbrev pub act_in : List Pass → Part → ℕ → Act
+abbrev pub act_in : List Pass → Part → ℕ → EntryAct
 act_in passes (Own kind) place = act.Own (own_outcome kind false)
 act_in passes (Look kind) place = act.Own (own_outcome kind true)
 act_in passes (Passed role) place = act_with role (slice_index_or passes place no_pass)

@@ -5,7 +5,7 @@ ghost use Rattle.ga_event.specs.Undo.{own_effect};
 
 use super::Histories;
 use super::recall::passed;
-use crate::entry::{Act, Pass, Role, Taken};
+use crate::entry::{EntryAct, Pass, Role, Taken};
 use ga_event::{Effect, Event, Made, OwnOutcome, apply_pass};
 use ga_grid::{Chip, NodeId};
 use ga_node::Saved;
@@ -77,7 +77,7 @@ impl Histories {
         requires room { has_entry_capacity (room_of self.old) node.number }
         requires fits { length (history (lists_of self.old) node.number) + 1 < 2 ^ 32 }
         ensures after { lists_of self.new
-            ≡ with_entry (lists_of self.old) node.number (past stamp (Act.Own deed) saved) }
+            ≡ with_entry (lists_of self.old) node.number (past stamp (EntryAct.Own deed) saved) }
         ensures size { length self.new ≡ 144 }
     {
         let history = self.at_mut(node);
@@ -122,7 +122,7 @@ impl Histories {
 
     /// Writes the values of a node's last entry back, and takes the entry out.
     #[inline(always)]
-    pub(crate) fn undo_last_entry(&mut self, chip: &mut Chip, node: NodeId) -> Act
+    pub(crate) fn undo_last_entry(&mut self, chip: &mut Chip, node: NodeId) -> EntryAct
         requires some { 0 < bound_of (history (lists_of self.old) node.number) }
         requires can { CanGoBack (history (lists_of self.old) node.number) chip.old node.number }
         ensures back { IsGoneBack (history (lists_of self.old) node.number) chip.old node.number
@@ -145,12 +145,12 @@ impl Histories {
     {
         let Taken { act, saved, .. } = self.take_last(node);
         match act {
-            Act::Own(deed) => (Event::Own(node), effect_of(deed, saved)),
-            Act::Sent { to, side, word, .. } => {
+            EntryAct::Own(deed) => (Event::Own(node), effect_of(deed, saved)),
+            EntryAct::Sent { to, side, word, .. } => {
                 let other = self.take_last(to);
                 pass_with((node, to), side, word, (saved, other.saved))
             }
-            Act::Took {
+            EntryAct::Took {
                 from,
                 side,
                 word,
@@ -238,7 +238,7 @@ impl Histories {
 
     /// Makes an own event on the chip, with its entry.
     #[inline(always)]
-    fn make_own(&mut self, chip: &mut Chip, node: NodeId, stamp: u64, before: NodeId) -> Made
+    fn make_own_event(&mut self, chip: &mut Chip, node: NodeId, stamp: u64, before: NodeId) -> Made
         requires ready { refusal (record_of (node_at chip.old node.number)) ≡ None }
         requires room { has_entry_capacity (room_of self.old) node.number }
         requires fits { length (history (lists_of self.old) node.number) + 1 < 2 ^ 32 }
@@ -248,7 +248,7 @@ impl Histories {
     {
         let step = self.count(node) + 1;
         let history = self.at_mut(node);
-        let deed = history.make_own(chip, node, stamp, before);
+        let deed = history.make_own_event(chip, node, stamp, before);
         Made::Own {
             node,
             step,
@@ -301,7 +301,7 @@ impl Histories {
         ensures size { length self.new ≡ 144 }
     {
         match event {
-            Event::Own(node) => self.make_own(chip, node, stamp, before),
+            Event::Own(node) => self.make_own_event(chip, node, stamp, before),
             Event::Pass {
                 writer,
                 reader,
@@ -318,8 +318,8 @@ impl Histories {
         ensures state_after_undo { IsTakenOut (lists_of self.old) chip.old result (lists_of self.new) chip.new }
     {
         match self.undo_last_entry(chip, node) {
-            Act::Own(_) => Event::Own(node),
-            Act::Sent { to, side, .. } => {
+            EntryAct::Own(_) => Event::Own(node),
+            EntryAct::Sent { to, side, .. } => {
                 let _ = self.undo_last_entry(chip, to);
                 Event::Pass {
                     writer: node,
@@ -327,7 +327,7 @@ impl Histories {
                     side,
                 }
             }
-            Act::Took { from, side, .. } => {
+            EntryAct::Took { from, side, .. } => {
                 let _ = self.undo_last_entry(chip, from);
                 Event::Pass {
                     writer: from,

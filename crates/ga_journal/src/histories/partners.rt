@@ -1,31 +1,31 @@
 //! The other entry of a pass.
 
 ghost use Rattle.std.specs.Prelude.{◌≡◌};
-ghost use Rattle.ga_journal.specs.Marks.{partner_of, numbers_of_position, counts_event};
+ghost use Rattle.ga_journal.specs.Marks.{pass_partner_of, numbers_of_position, counts_event};
 
 use super::Histories;
-use crate::entry::Act;
+use crate::entry::EntryAct;
 use ga_grid::NodeId;
 
 /// The node and the position that an act names.
-fn named_by(act: &Act) -> Option<(NodeId, u32)>
-    ensures { numbers_of_position result ≡ partner_of act.now }
+fn named_by(act: &EntryAct) -> Option<(NodeId, u32)>
+    ensures { numbers_of_position result ≡ pass_partner_of act.now }
 {
     match act {
-        Act::Own(_) => None,
-        Act::Sent { to, at, .. } => Some((*to, *at)),
-        Act::Took { from, at, .. } => Some((*from, *at)),
+        EntryAct::Own(_) => None,
+        EntryAct::Sent { to, at, .. } => Some((*to, *at)),
+        EntryAct::Took { from, at, .. } => Some((*from, *at)),
     }
 }
 
 /// Whether an event is counted by an act.
-fn counts(act: &Act) -> bool
+fn counts(act: &EntryAct) -> bool
     ensures { result ≡ counts_event act.now }
 {
     match act {
-        Act::Own(_) => true,
-        Act::Sent { .. } => true,
-        Act::Took { .. } => false,
+        EntryAct::Own(_) => true,
+        EntryAct::Sent { .. } => true,
+        EntryAct::Took { .. } => false,
     }
 }
 
@@ -33,13 +33,13 @@ impl Histories {
     ghost use Rattle.std.specs.Prelude.{◌≡◌, ◌<◌, ℕ, Some, length, nat_lt, slice_index};
     ghost use Rattle.ga_journal.specs.inner.Histories.{lists_of};
     ghost use Rattle.ga_journal.specs.Histories.{history};
-    ghost use Rattle.ga_journal.specs.Marks.{partner_of, numbers_of_position, partner_at, counts_event_at};
+    ghost use Rattle.ga_journal.specs.Marks.{pass_partner_of, numbers_of_position, pass_partner_at, counts_event_at};
     ghost use Rattle.ga_journal.specs.inner.Marks.{has_partner};
 
     /// The other entry of the pass of the entry at a position.
     pub(crate) fn partner(&self, node: NodeId, at: u32) -> Option<(NodeId, u32)>
         requires there { at < length (history (lists_of self.now) node.number) }
-        ensures { numbers_of_position result ≡ partner_at (lists_of self.now) node.number at }
+        ensures { numbers_of_position result ≡ pass_partner_at (lists_of self.now) node.number at }
     {
         let history = self.at(node);
         named_by(&history.head(at as usize).act)
@@ -63,13 +63,13 @@ impl Histories {
     }
 
     /// Whether the other entry of the pass that an act names is there.
-    pub(crate) fn has_partner(&self, act: &Act) -> bool
+    pub(crate) fn has_partner(&self, act: &EntryAct) -> bool
         ensures { result ≡ has_partner (lists_of self.now) act.now }
     {
         match act {
-            Act::Own(_) => false,
-            Act::Sent { to, at, .. } => self.is_past(*to, *at),
-            Act::Took { from, at, .. } => self.is_past(*from, *at),
+            EntryAct::Own(_) => false,
+            EntryAct::Sent { to, at, .. } => self.is_past(*to, *at),
+            EntryAct::Took { from, at, .. } => self.is_past(*from, *at),
         }
     }
 }

@@ -4,7 +4,7 @@ ghost use Rattle.std.specs.Prelude.{◌≡◌, ◌++◌, ◌∷◌, [], false, O
 
 use super::Histories;
 use super::bounds::{Firsts, newest};
-use crate::entry::{Act, Head};
+use crate::entry::{EntryAct, Head};
 use crate::fault::JournalFault;
 use crate::since::EventsSince;
 use ga_event::{Cause, Event, Made, OwnOutcome};
@@ -120,13 +120,13 @@ impl Histories {
         *hint = entry.before;
         let Head { act, .. } = entry;
         match act {
-            Act::Own(deed) => own(node, step, deed),
-            Act::Sent { to, side, word, .. } => {
+            EntryAct::Own(deed) => own(node, step, deed),
+            EntryAct::Sent { to, side, word, .. } => {
                 let reader_step = lengths[to.index()];
                 let _other = self.back_at(lengths, to);
                 passed((node, to), (step, reader_step), side, word)
             }
-            Act::Took {
+            EntryAct::Took {
                 from,
                 side,
                 word,

@@ -1,14 +1,14 @@
 //! What an event overwrote, by its entry in a node's history.
 
 ghost use Rattle.std.specs.Prelude.{◌≡◌, None};
-ghost use Rattle.ga_journal.specs.Walked.{old_value_or, among};
+ghost use Rattle.ga_journal.specs.Walked.{old_value_of_place_or, old_value_among};
 
 use super::History;
 use ga_node::{Place, Saved};
 
 /// The old value of a place, if this is the wanted place `what`.
 fn over(what: Place, place: Place, old: u32) -> Option<u32>
-    ensures { result ≡ old_value_or what place old None }
+    ensures { result ≡ old_value_of_place_or what place old None }
 {
     match (what, place) {
         (Place::P, Place::P) => Some(old),
@@ -21,8 +21,8 @@ fn over(what: Place, place: Place, old: u32) -> Option<u32>
 }
 
 /// The old value of the wanted place among the old values of an entry.
-fn among(what: Place, saved: &Saved) -> Option<u32>
-    ensures { result ≡ among what saved.now }
+fn old_value_among(what: Place, saved: &Saved) -> Option<u32>
+    ensures { result ≡ old_value_among what saved.now }
 {
     for k in 0..saved.len() {
         let (place, old) = saved.at(k);
@@ -46,6 +46,6 @@ impl History {
             return None;
         }
         let entry = &self.entries[at];
-        among(what, &entry.saved)
+        old_value_among(what, &entry.saved)
     }
 }

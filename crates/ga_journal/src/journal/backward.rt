@@ -31,7 +31,7 @@ impl<'j> Model for BackwardEvents<'j> {
 
 impl<'j> BackwardEvents<'j> {
     ghost use Rattle.std.specs.Prelude.{◌≡◌, ◌-◌, ◌≤◌, ◌↔◌, length, take, Some, IfSome, IsNone};
-    ghost use Rattle.ga_event.specs.Told.{count_steps, made_event_in};
+    ghost use Rattle.ga_event.specs.Told.{count_steps, made_event_at_place};
     ghost use Rattle.ga_journal.specs.Events.{kept_outcomes, journal_events};
     ghost use Rattle.ga_journal.specs.Histories.{backward_model_at};
 
@@ -52,7 +52,7 @@ impl<'j> BackwardEvents<'j> {
 
     /// Reads the newest event that is not read yet, and returns it as made; none if all are read.
     pub fn back(&mut self) -> Option<Made>
-        ensures some { IfSome result (λ made. made_event_in (kept_outcomes self.old.book) (self.old.place - 1) ≡ Some made) }
+        ensures some { IfSome result (λ made. made_event_at_place (kept_outcomes self.old.book) (self.old.place - 1) ≡ Some made) }
         ensures none { IsNone result ↔ (self.old.place ≡ 0) }
         ensures left { self.new ≡ backward_model_at self.old.book (self.old.place - 1) }
     {

@@ -16,7 +16,7 @@ impl Journal {
     ghost use Rattle.ga_journal.specs.Histories.{history};
     ghost use Rattle.ga_journal.specs.Walked.{node_before_entries, CanRestoreEntries, overwritten_value};
     ghost use Rattle.ga_journal.specs.Events.{kept_outcomes, journal_causes, journal_events};
-    ghost use Rattle.ga_event.specs.Told.{count_steps, made_events_of, made_event_in};
+    ghost use Rattle.ga_event.specs.Told.{count_steps, made_events_of_node, made_event_at_place};
     ghost use Rattle.ga_journal.specs.Logs.{AreConsistentHistories, AreEventsSince};
 
     /// The events of the history that touch a node, in order, each with its step numbers and outcome.
@@ -25,7 +25,7 @@ impl Journal {
     /// `Memory` alone.
     pub(crate) fn history(&self, node: NodeId) -> Result<Vec<Made>, JournalFault>
         requires { AreConsistentHistories self.now.histories self.now.made }
-        ensures ok { IfOk result (λ list. list.items ≡ made_events_of (kept_outcomes self.now) node.number) }
+        ensures ok { IfOk result (λ list. list.items ≡ made_events_of_node (kept_outcomes self.now) node.number) }
         ensures err { IfErr result (λ fault. fault ≡ JournalFault.Memory) }
     {
         self.histories.mades(node)
@@ -34,7 +34,7 @@ impl Journal {
     /// The event at a place of those that touch a node, from 0 on; none past their end.
     pub(crate) fn made_event_of_step(&self, node: NodeId, place: u32) -> Option<Made>
         requires { AreConsistentHistories self.now.histories self.now.made }
-        ensures { result ≡ slice_get (made_events_of (kept_outcomes self.now) node.number) place }
+        ensures { result ≡ slice_get (made_events_of_node (kept_outcomes self.now) node.number) place }
     {
         self.histories.made_of(node, place)
     }
@@ -64,7 +64,7 @@ impl Journal {
     fn recalled(&self, place: u32) -> Option<(Cause, Made)>
         requires { AreConsistentHistories self.now.histories self.now.made }
         ensures event { option_map (λ (told : Cause × Made). told.0.event) result ≡ slice_get (journal_events self.now) place }
-        ensures made { option_map (λ (told : Cause × Made). told.1) result ≡ made_event_in (kept_outcomes self.now) place }
+        ensures made { option_map (λ (told : Cause × Made). told.1) result ≡ made_event_at_place (kept_outcomes self.now) place }
         ensures past { IsNone result ↔ (length (kept_outcomes self.now) ≤ place) }
     {
         if place < self.kept {
@@ -89,7 +89,7 @@ impl Journal {
     /// the newest.
     pub(crate) fn made_event_at(&self, place: u32) -> Option<Made>
         requires { AreConsistentHistories self.now.histories self.now.made }
-        ensures value { result ≡ made_event_in (kept_outcomes self.now) place }
+        ensures value { result ≡ made_event_at_place (kept_outcomes self.now) place }
         ensures past { IsNone result ↔ (length (kept_outcomes self.now) ≤ place) }
     {
         let (_, made) = self.recalled(place)?;
@@ -105,7 +105,7 @@ impl Journal {
         requires whole { AreConsistentHistories self.now.histories self.now.made }
         requires rise { IsStrictlyIncreasing places.now }
         requires within { All (λ place. place < length (kept_outcomes self.now)) places.now }
-        ensures ok { IfOk result (λ list. map Some list.items ≡ map (made_event_in (kept_outcomes self.now)) places.now) }
+        ensures ok { IfOk result (λ list. map Some list.items ≡ map (made_event_at_place (kept_outcomes self.now)) places.now) }
         ensures err { IfErr result (λ fault. fault ≡ JournalFault.Memory) }
     {
         self.histories

@@ -6,8 +6,8 @@ use ga_grid::{Chip, NodeId};
 
 impl Journal {
     ghost use Rattle.std.specs.Prelude.{◌≡◌, ◌<◌, ◌+◌, ◌^◌, ℕ, Some, length, true, false, IfSome, IfNone};
-    ghost use Rattle.ga_journal.specs.Histories.{no_work, history};
-    ghost use Rattle.ga_journal.specs.Marks.{HasValidMarks, mark_of, entries_to_remove, is_pending, numbers_of_position, partner_at, counts_event_at, tick_counted, with_lowered_mark, with_raised_mark, with_dequeued_node, CanRestoreLastEntry, IsLastEntryRestored};
+    ghost use Rattle.ga_journal.specs.Histories.{no_rollback_work, history};
+    ghost use Rattle.ga_journal.specs.Marks.{HasValidMarks, mark_of, entries_to_remove, is_node_pending, numbers_of_position, pass_partner_at, counts_event_at, tick_counted, with_lowered_mark, with_raised_mark, with_dequeued_node, CanRestoreLastEntry, IsLastEntryRestored};
     ghost use Rattle.ga_journal.specs.Looks.{IsLookToRemove, HasNoLookToRemove, IsFailedLookSearch};
 
     /// The ticks that were counted.
@@ -19,7 +19,7 @@ impl Journal {
 
     /// Counts ticks from 0 on again.
     pub(crate) fn reset_ticks(&mut self)
-        ensures { self.new ≡ record self.old { ticks = no_work } }
+        ensures { self.new ≡ record self.old { ticks = no_rollback_work } }
     {
         self.ticks = Ticks::new();
     }
@@ -29,7 +29,7 @@ impl Journal {
     pub fn look(&mut self, node: NodeId, at: u32) -> Option<(NodeId, u32)>
         requires there { at < length (history self.old.histories node.number) }
         requires fits { self.old.ticks.count + 1 < 2 ^ 64 }
-        ensures value { numbers_of_position result ≡ partner_at self.old.histories node.number at }
+        ensures value { numbers_of_position result ≡ pass_partner_at self.old.histories node.number at }
         ensures ticks { self.new ≡ tick_counted self.old }
     {
         self.ticks.raise();
@@ -110,8 +110,8 @@ impl Journal {
     pub fn dequeue_node(&mut self) -> Option<NodeId>
         requires { self.old.ticks.count + 1 < 2 ^ 64 }
         ensures some { IfSome result (λ node.
-            (is_pending self.old node.number ≡ true) × (self.new ≡ with_dequeued_node self.old node.number)) }
-        ensures none { IfNone result (((n : ℕ) → is_pending self.old n ≡ false) × (self.new ≡ self.old)) }
+            (is_node_pending self.old node.number ≡ true) × (self.new ≡ with_dequeued_node self.old node.number)) }
+        ensures none { IfNone result (((n : ℕ) → is_node_pending self.old n ≡ false) × (self.new ≡ self.old)) }
     {
         let node = self.waiting.pop()?;
         self.ticks.raise();

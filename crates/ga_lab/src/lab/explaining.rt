@@ -10,7 +10,7 @@ impl Lab {
     ghost use Rattle.std.specs.Prelude.{◌≡◌, ◌⊎◌, ◌↔◌, ◌&&◌, false, List, map, Some, None, Ok, Err, IfOk, IfErr, IsOk, MatchOption};
     ghost use Rattle.ga_causal.specs.declared.chain.Link.{Link};
     ghost use Rattle.ga_causal.specs.Chains.{IsChain};
-    ghost use Rattle.ga_event.specs.Told.{made_event_in};
+    ghost use Rattle.ga_event.specs.Told.{made_event_at_place};
     ghost use Rattle.ga_lab.specs.Machine.{outcomes_of_kept, causes_of, has_step, why_answer};
 
     /// The chain that `why` returns, as events: of each link, in their order, what `made_event_at` returns for its place. None if the
@@ -26,7 +26,7 @@ impl Lab {
     ) -> Result<Option<Vec<Made>>, LabFault>
         ensures ok { let answer = why_answer self.now from.0.number from.1 to.0.number to.1 in
             IfOk result (λ told. MatchOption told (answer ≡ Ok None) (λ list. (links : List Link) × (answer ≡ Ok (Some links))
-            × (map Some list.items ≡ map (λ link. made_event_in (outcomes_of_kept self.now) link.place) links))) }
+            × (map Some list.items ≡ map (λ link. made_event_at_place (outcomes_of_kept self.now) link.place) links))) }
         ensures err { let answer = why_answer self.now from.0.number from.1 to.0.number to.1 in
             IfErr result (λ why. (answer ≡ Err why) ⊎ ((why ≡ LabFault.Memory) × IsOk answer)) }
         ensures refused { (result ≡ Err LabFault.NoStep)
@@ -46,7 +46,7 @@ impl Lab {
     fn tell(&self, chain: &Chain) -> Result<Vec<Made>, LabFault>
         requires { IsChain (causes_of self.now) chain.now }
         ensures ok { IfOk result (λ list.
-            map Some list.items ≡ map (λ link. made_event_in (outcomes_of_kept self.now) link.place) chain.now) }
+            map Some list.items ≡ map (λ link. made_event_at_place (outcomes_of_kept self.now) link.place) chain.now) }
         ensures err { IfErr result (λ why. why ≡ LabFault.Memory) }
     {
         match chain.places() {

@@ -33,7 +33,7 @@ impl<'l> NodeWalk<'l> {
     ghost use Rattle.ga_node.specs.Record.{record_of};
     ghost use Rattle.ga_grid.specs.Chip.{record_at};
     ghost use Rattle.ga_event.specs.Told.{count_steps};
-    ghost use Rattle.ga_lab.specs.Machine.{chip_of, earlier};
+    ghost use Rattle.ga_lab.specs.Machine.{chip_of, earlier_state};
 
     /// The number of steps that the node had made at this point of the walk.
     pub fn step(&self) -> u32
@@ -47,7 +47,7 @@ impl<'l> NodeWalk<'l> {
     /// is the node to which replaying the events before the place leads.
     pub fn node(&self) -> &Node
         ensures { (place : ℕ) → count_steps self.now.node.number (take place self.now.machine.kept) ≡ self.now.step
-            → record_of result.now ≡ record_at (chip_of (earlier self.now.machine place)) self.now.node.number }
+            → record_of result.now ≡ record_at (chip_of (earlier_state self.now.machine place)) self.now.node.number }
     {
         &self.node
     }
@@ -88,8 +88,8 @@ impl Lab {
     ghost use Rattle.std.specs.Prelude.{◌≡◌, ◌<◌, ◌≤◌, ◌+◌, ℕ, take, IfSome, IfNone};
     ghost use Rattle.ga_grid.specs.Chip.{record_at};
     ghost use Rattle.ga_event.specs.Told.{count_steps};
-    ghost use Rattle.ga_node.specs.State.{IsInRange};
-    ghost use Rattle.ga_lab.specs.Machine.{chip_of, earlier, node_at_step};
+    ghost use Rattle.ga_node.specs.State.{IsPlaceValueInRange};
+    ghost use Rattle.ga_lab.specs.Machine.{chip_of, earlier_state, node_at_step};
     ghost use Rattle.ga_lab.specs.Holding.{HoldsValue};
 
     /// A node as it was right after its step, or at load for step 0, to be walked back from there. Takes no memory, and time by how
@@ -116,13 +116,13 @@ impl Lab {
     /// is.
     pub fn overwritten_value(&self, node: NodeId, at: u32, what: Place) -> Option<u32>
         ensures value { IfSome result (λ old. (place : ℕ) → count_steps node.number (take place self.now.kept) ≡ at
-            → HoldsValue (record_at (chip_of (earlier self.now place)) node.number) what old) }
-        ensures in_range { IfSome result (λ old. IsInRange what old) }
+            → HoldsValue (record_at (chip_of (earlier_state self.now place)) node.number) what old) }
+        ensures in_range { IfSome result (λ old. IsPlaceValueInRange what old) }
         ensures within { IfSome result (λ old. at < count_steps node.number self.now.kept) }
         ensures left { IfNone result ((before behind value : ℕ) → count_steps node.number (take before self.now.kept) ≡ at
             → count_steps node.number (take behind self.now.kept) ≡ at + 1
-            → HoldsValue (record_at (chip_of (earlier self.now behind)) node.number) what value
-            → HoldsValue (record_at (chip_of (earlier self.now before)) node.number) what value) }
+            → HoldsValue (record_at (chip_of (earlier_state self.now behind)) node.number) what value
+            → HoldsValue (record_at (chip_of (earlier_state self.now before)) node.number) what value) }
     {
         self.chip.node(node).has_sizes();
         self.chronicle.overwritten_value(node, at, what)

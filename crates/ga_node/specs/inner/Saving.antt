@@ -6,8 +6,8 @@ use Rattle.ga_node.specs.declared.place.Place.TheVariants.{T, S, DataCell, DataP
 use Rattle.std.specs.Prelude.{◌≡◌, ℕ, List, ◌++◌, map, Result, Ok, Err}
 use Rattle.ga_node.specs.Record.{NodeState, record_of}
 use Rattle.ga_node.specs.State.{with_restored_values, AreValuesInRange}
-use Rattle.ga_node.specs.Changes.{Change, after_changes}
-use Rattle.ga_node.specs.Table.{Access, Plain, Reads, Writes, write_access_result}
+use Rattle.ga_node.specs.Changes.{Change, node_after_changes}
+use Rattle.ga_node.specs.Table.{AddressAccess, Plain, Reads, Writes, write_access_result}
 use Rattle.ga_node.specs.declared.kind.OwnEventKind.{OwnEventKind}
 use Rattle.ga_node.specs.Saving.{written_places, old_values, IsUndoLog}
 
@@ -27,7 +27,7 @@ return_place (stack.Cell cell) = ReturnCell cell
 
 -- These changes were made, and these values saved.
 pub record IsMade (changes : List Change) (old new : NodeState) (saved : List (Place × ℕ)) : Type 0 where
-  pub effect : record_of new ≡ after_changes changes (record_of old)
+  pub effect : record_of new ≡ node_after_changes changes (record_of old)
   pub saves : IsUndoLog changes old new saved
 
 -- Whether the outcome in the table was made: it has changes and is no other event.
@@ -41,13 +41,13 @@ IsEnded (Ok given) kind old new saved = ⊥
 IsEnded (Err event) kind old new saved = (event.0 ≡ kind) × IsMade event.1 old new saved
 
 -- What an event that reads nothing is for was made: its changes, those of its write first.
-abbrev pub IsDoneBy : Access → NodeState → NodeState → List (Place × ℕ) → Type 0
+abbrev pub IsDoneBy : AddressAccess → NodeState → NodeState → List (Place × ℕ) → Type 0
 IsDoneBy (Plain changes) old new saved = IsMade changes old new saved
 IsDoneBy (Reads address more) old new saved = ⊥
 IsDoneBy (Writes address more) old new saved = IsDone (write_access_result address more (record_of old)) old new saved
 
 -- The write that an event is for has become the whole event, of this kind.
-abbrev pub IsEndedBy : Access → OwnEventKind → NodeState → NodeState → List (Place × ℕ) → Type 0
+abbrev pub IsEndedBy : AddressAccess → OwnEventKind → NodeState → NodeState → List (Place × ℕ) → Type 0
 IsEndedBy (Plain changes) kind old new saved = ⊥
 IsEndedBy (Reads address more) kind old new saved = ⊥
 IsEndedBy (Writes address more) kind old new saved = IsEnded (write_access_result address more (record_of old)) kind old new saved

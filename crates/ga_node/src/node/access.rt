@@ -4,9 +4,9 @@ use super::Node;
 use crate::kind::OwnEventKind;
 use crate::place::Place;
 use crate::saved::Saved;
-use crate::seen::Seen;
+use crate::seen::SeenNeighbours;
 use crate::wait::{ReadKind, Wait};
-use ga_ports::{Target, classify_address};
+use ga_ports::{AddressTarget, classify_address};
 use ga_word::Word18;
 
 impl Node {
@@ -14,7 +14,7 @@ impl Node {
     ghost use Rattle.ga_ports.specs.Address.{address_target};
     ghost use Rattle.ga_node.specs.Record.{record_of};
     ghost use Rattle.ga_node.specs.inner.Saving.{IsMade, IsDone, IsEnded};
-    ghost use Rattle.ga_node.specs.Table.{found, stored, wait_effect, stop_effect};
+    ghost use Rattle.ga_node.specs.Table.{target_read_result, target_write_result, wait_effect, stop_effect};
     ghost use Rattle.ga_node.specs.Ready.{IsRunning};
 
     /// The node waits, in place of the event's whole effect.
@@ -47,63 +47,63 @@ impl Node {
     }
 
     /// What a read at an address gives: a word, or the kind of the event that it has become.
-    #[tactic(auto, unfolding(crate::specs::Record::record_of, crate::specs::Table::found))]
+    #[tactic(auto, unfolding(crate::specs::Record::record_of, crate::specs::Table::target_read_result))]
     #[inline(always)]
     pub(super) fn read(
         &mut self,
-        seen: Seen,
+        seen: SeenNeighbours,
         saved: &mut Saved,
         address: u32,
         reader: ReadKind,
     ) -> Result<Word18, OwnEventKind>
         requires running { IsRunning (record_of self.old) }
         requires empty { saved.old ≡ [] }
-        ensures word { IfOk result (λ word. found (address_target address) reader seen (record_of self.old) ≡ Ok word) }
+        ensures word { IfOk result (λ word. target_read_result (address_target address) reader seen (record_of self.old) ≡ Ok word) }
         ensures same { OnOk result (self.new ≡ self.old) }
         ensures unsaved { OnOk result (saved.new ≡ []) }
-        ensures ended { IfErr result (λ kind. IsEnded (found (address_target address) reader seen (record_of self.old)) kind self.old self.new saved.new) }
+        ensures ended { IfErr result (λ kind. IsEnded (target_read_result (address_target address) reader seen (record_of self.old)) kind self.old self.new saved.new) }
     {
         match classify_address(address) {
-            Target::Ram(k) => Ok(self.ram[k as usize]),
-            Target::Rom(k) => Ok(self.rom[k as usize]),
-            Target::Io => Ok(seen.io_word()),
-            Target::Ports(sides) => {
+            AddressTarget::Ram(k) => Ok(self.ram[k as usize]),
+            AddressTarget::Rom(k) => Ok(self.rom[k as usize]),
+            AddressTarget::Io => Ok(seen.io_word()),
+            AddressTarget::Ports(sides) => {
                 let wait = match reader {
                     ReadKind::Instruction => Wait::Fetch(sides),
                     ReadKind::Stack => Wait::Read(sides),
                 };
                 Err(self.wait_for(saved, wait))
             }
-            Target::Bad => Err(self.stop_with(saved, 2)),
+            AddressTarget::Bad => Err(self.stop_with(saved, 2)),
         }
     }
 
     /// Writes T at an address, or answers the kind of the event that this has become.
-    #[tactic(auto, using(crate::proofs::Saving::made_nothing), unfolding(crate::specs::Table::stored))]
+    #[tactic(auto, using(crate::proofs::Saving::made_nothing), unfolding(crate::specs::Table::target_write_result))]
     #[inline(always)]
     pub(super) fn write(&mut self, saved: &mut Saved, address: u32) -> Result<(), OwnEventKind>
         requires running { IsRunning (record_of self.old) }
         requires empty { saved.old ≡ [] }
-        ensures done { OnOk result (IsDone (stored (address_target address) (record_of self.old)) self.old self.new saved.new) }
+        ensures done { OnOk result (IsDone (target_write_result (address_target address) (record_of self.old)) self.old self.new saved.new) }
         ensures few { length saved.new ≤ 1 }
-        ensures ended { IfErr result (λ kind. IsEnded (stored (address_target address) (record_of self.old)) kind self.old self.new saved.new) }
+        ensures ended { IfErr result (λ kind. IsEnded (target_write_result (address_target address) (record_of self.old)) kind self.old self.new saved.new) }
     {
         let word = self.top();
         match classify_address(address) {
-            Target::Ram(k) => {
+            AddressTarget::Ram(k) => {
                 self.set_ram(saved, k, word);
                 Ok(())
             }
-            Target::Rom(_) => Ok(()),
-            Target::Io => {
+            AddressTarget::Rom(_) => Ok(()),
+            AddressTarget::Io => {
                 self.set_io(saved, word);
                 Ok(())
             }
-            Target::Ports(sides) => match sides.single() {
+            AddressTarget::Ports(sides) => match sides.single() {
                 Some(side) => Err(self.wait_for(saved, Wait::Write(side))),
                 None => Err(self.stop_with(saved, 1)),
             },
-            Target::Bad => Err(self.stop_with(saved, 2)),
+            AddressTarget::Bad => Err(self.stop_with(saved, 2)),
         }
     }
 }

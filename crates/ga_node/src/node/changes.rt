@@ -41,7 +41,7 @@ impl Node {
     ghost use Rattle.std.specs.Prelude.{◌≡◌, ◌+◌, ◌<◌, ◌≤◌, ◌^◌, [], ◌∷◌, length};
     ghost use Rattle.ga_node.specs.State.{HasAtMostOneStatus};
     ghost use Rattle.ga_node.specs.Record.{record_of};
-    ghost use Rattle.ga_node.specs.Changes.{after_changes, node_after_change, PushData, PopData, SetTop, PopTo, PushReturn, PopReturn, SetTopReturn, SetP, SetA, SetB, SetI, SetIo, SetCarry, SetRam, GoOn, Skip, StartAgain, SetWait, SetStop};
+    ghost use Rattle.ga_node.specs.Changes.{node_after_changes, node_after_change, PushData, PopData, SetTop, PopTo, PushReturn, PopReturn, SetTopReturn, SetP, SetA, SetB, SetI, SetIo, SetCarry, SetRam, GoOn, Skip, StartAgain, SetWait, SetStop};
     ghost use Rattle.ga_node.specs.inner.Saving.{Saves};
     ghost use Rattle.ga_node.specs.Ready.{IsRunning};
 
@@ -157,7 +157,7 @@ impl Node {
     pub(super) fn leave(&mut self, saved: &mut Saved, p: u32)
         requires in_range { p < 2 ^ 10 }
         requires room { length saved.old + 2 ≤ 6 }
-        ensures change { record_of self.new ≡ after_changes (SetP p ∷ Skip ∷ []) (record_of self.old) }
+        ensures change { record_of self.new ≡ node_after_changes (SetP p ∷ Skip ∷ []) (record_of self.old) }
         ensures saves { Saves (SetP p ∷ Skip ∷ []) self.old saved.old self.new saved.new }
         ensures count { length saved.new ≡ length saved.old + 2 }
     {
@@ -173,7 +173,7 @@ impl Node {
     pub(super) fn begin(&mut self, saved: &mut Saved, i: Word18, p: u32)
         requires in_range { p < 2 ^ 10 }
         requires room { length saved.old + 3 ≤ 6 }
-        ensures change { record_of self.new ≡ after_changes (SetI i ∷ SetP p ∷ StartAgain ∷ []) (record_of self.old) }
+        ensures change { record_of self.new ≡ node_after_changes (SetI i ∷ SetP p ∷ StartAgain ∷ []) (record_of self.old) }
         ensures saves { Saves (SetI i ∷ SetP p ∷ StartAgain ∷ []) self.old saved.old self.new saved.new }
     {
         saved.add(Place::I, self.i.get());

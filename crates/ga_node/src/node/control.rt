@@ -8,7 +8,7 @@ use ga_word::Word18;
 impl Node {
     ghost use Rattle.std.specs.Prelude.{◌≡◌, ◌+◌, ◌<◌, ◌≤◌, [], length};
     ghost use Rattle.ga_node.specs.Record.{record_of};
-    ghost use Rattle.ga_node.specs.Changes.{after_changes};
+    ghost use Rattle.ga_node.specs.Changes.{node_after_changes};
     ghost use Rattle.ga_node.specs.inner.Saving.{IsDoneBy, Saves, IsMade};
     ghost use Rattle.ga_node.specs.Table.{opcode_effect, jump_changes, jump_changes_if};
 
@@ -18,7 +18,7 @@ impl Node {
     fn jump(&mut self, saved: &mut Saved)
         requires slot { (record_of self.old).slot < 3 }
         requires room { length saved.old + 2 ≤ 6 }
-        ensures change { record_of self.new ≡ after_changes (jump_changes (record_of self.old)) (record_of self.old) }
+        ensures change { record_of self.new ≡ node_after_changes (jump_changes (record_of self.old)) (record_of self.old) }
         ensures saves { Saves (jump_changes (record_of self.old)) self.old saved.old self.new saved.new }
     {
         let p = self.p();

@@ -5,11 +5,11 @@ ghost use Rattle.ga_node.specs.inner.Saving.{kind_of};
 
 use super::Node;
 use crate::due::NextAction;
-use crate::kind::{NotReady, OwnEventKind};
+use crate::kind::{EventRefusal, OwnEventKind};
 use crate::saved::Saved;
-use crate::seen::Seen;
+use crate::seen::SeenNeighbours;
 use crate::wait::{ReadKind, Wait};
-use ga_ports::{Target, advance_p, classify_address};
+use ga_ports::{AddressTarget, advance_p, classify_address};
 use ga_slots::{Op, opcode};
 
 /// The kind of an event, which an access may have made another.
@@ -37,7 +37,7 @@ impl Node {
     #[inline(always)]
     pub(super) fn execute(
         &mut self,
-        seen: Seen,
+        seen: SeenNeighbours,
         saved: &mut Saved,
         op: Op,
     ) -> Result<(), OwnEventKind>
@@ -87,7 +87,7 @@ impl Node {
 
     /// Why the node has no event of its own.
     #[tactic(auto, unfolding(crate::specs::Record::record_of))]
-    pub fn not_ready(&self) -> Option<NotReady>
+    pub fn not_ready(&self) -> Option<EventRefusal>
         ensures reason { result ≡ refusal (record_of self.now) }
         ensures running { IfNone result (IsRunning (record_of self.now)) }
     {
@@ -96,16 +96,20 @@ impl Node {
                 if self.stop == 0 {
                     None
                 } else {
-                    Some(NotReady::Stopped)
+                    Some(EventRefusal::Stopped)
                 }
             }
-            _ => Some(NotReady::Waiting),
+            _ => Some(EventRefusal::Waiting),
         }
     }
 
     /// Fetches the word at P, or answers the kind of the event that this has become.
     #[inline(always)]
-    pub(super) fn fetch(&mut self, seen: Seen, saved: &mut Saved) -> Result<(), OwnEventKind>
+    pub(super) fn fetch(
+        &mut self,
+        seen: SeenNeighbours,
+        saved: &mut Saved,
+    ) -> Result<(), OwnEventKind>
         requires running { IsRunning (record_of self.old) }
         requires empty { saved.old ≡ [] }
         ensures done { OnOk result (IsDone (fetch_result seen (record_of self.old)) self.old self.new saved.new) }
@@ -134,7 +138,7 @@ impl Node {
             Op::Fetch => self.a().get(),
             _ => return false,
         };
-        classify_address(address) == Target::Io
+        classify_address(address) == AddressTarget::Io
     }
 
     /// What the node's next event of its own carries out, for [`Node::is_look_action`] and [`Node::execute_logged`].
@@ -157,7 +161,7 @@ impl Node {
         ensures { result ≡ is_look_action due (record_of self.now) }
     {
         match due {
-            NextAction::Fetch => classify_address(self.p()) == Target::Io,
+            NextAction::Fetch => classify_address(self.p()) == AddressTarget::Io,
             NextAction::Run(op) => self.opcode_reads_io(op),
         }
     }
@@ -179,7 +183,12 @@ impl Node {
     /// Makes the node's next event, which carries this out, as [`Node::own`] does, and puts the values that it overwrote
     /// into a list that the caller keeps, which is empty before.
     #[inline(always)]
-    pub fn execute_logged(&mut self, due: NextAction, seen: Seen, saved: &mut Saved) -> OwnEventKind
+    pub fn execute_logged(
+        &mut self,
+        due: NextAction,
+        seen: SeenNeighbours,
+        saved: &mut Saved,
+    ) -> OwnEventKind
         requires due { due ≡ next_action_of (record_of self.old) }
         requires can { CanExecute due (record_of self.old) }
         requires empty { saved.old ≡ [] }
@@ -205,7 +214,7 @@ impl Node {
     /// # Errors
     /// `Waiting` or `Stopped`, where the node waits or is stopped.
     #[tactic(auto, using(crate::proofs::Restoring::apart_from_ready))]
-    pub fn own(&mut self, seen: Seen) -> Result<(OwnEventKind, Saved), NotReady>
+    pub fn own(&mut self, seen: SeenNeighbours) -> Result<(OwnEventKind, Saved), EventRefusal>
         ensures ready { MatchResult result (λ _. refusal (record_of self.old) ≡ None) (λ reason. refusal (record_of self.old) ≡ Some reason) }
         ensures event { IfOk result (λ event. (event.0, record_of self.new) ≡ own seen (record_of self.old)) }
         ensures saves { IfOk result (λ event. IsUndoLog (own_event seen (record_of self.old)).1 self.old self.new event.1) }

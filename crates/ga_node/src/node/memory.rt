@@ -3,7 +3,7 @@
 use super::Node;
 use crate::kind::OwnEventKind;
 use crate::saved::Saved;
-use crate::seen::Seen;
+use crate::seen::SeenNeighbours;
 use crate::wait::ReadKind;
 use ga_ports::{advance_a, advance_p};
 use ga_slots::Op;
@@ -16,7 +16,11 @@ impl Node {
     ghost use Rattle.ga_node.specs.Ready.{IsRunning};
 
     /// `@p`, fetch p: the word at P is pushed, and P advances.
-    pub(super) fn run_fetch_p(&mut self, seen: Seen, saved: &mut Saved) -> Result<(), OwnEventKind>
+    pub(super) fn run_fetch_p(
+        &mut self,
+        seen: SeenNeighbours,
+        saved: &mut Saved,
+    ) -> Result<(), OwnEventKind>
         requires running { IsRunning (record_of self.old) }
         requires empty { saved.old ≡ [] }
         ensures done { OnOk result (IsDone (effect Op.FetchP seen (record_of self.old)) self.old self.new saved.new) }
@@ -33,7 +37,7 @@ impl Node {
     /// `@+`, fetch plus: the word at A is pushed, and A advances.
     pub(super) fn run_fetch_plus(
         &mut self,
-        seen: Seen,
+        seen: SeenNeighbours,
         saved: &mut Saved,
     ) -> Result<(), OwnEventKind>
         requires running { IsRunning (record_of self.old) }
@@ -50,7 +54,11 @@ impl Node {
     }
 
     /// `@b`, fetch b: the word at B is pushed.
-    pub(super) fn run_fetch_b(&mut self, seen: Seen, saved: &mut Saved) -> Result<(), OwnEventKind>
+    pub(super) fn run_fetch_b(
+        &mut self,
+        seen: SeenNeighbours,
+        saved: &mut Saved,
+    ) -> Result<(), OwnEventKind>
         requires running { IsRunning (record_of self.old) }
         requires empty { saved.old ≡ [] }
         ensures done { OnOk result (IsDone (effect Op.FetchB seen (record_of self.old)) self.old self.new saved.new) }
@@ -64,7 +72,11 @@ impl Node {
     }
 
     /// `@`, fetch: the word at A is pushed.
-    pub(super) fn run_fetch(&mut self, seen: Seen, saved: &mut Saved) -> Result<(), OwnEventKind>
+    pub(super) fn run_fetch(
+        &mut self,
+        seen: SeenNeighbours,
+        saved: &mut Saved,
+    ) -> Result<(), OwnEventKind>
         requires running { IsRunning (record_of self.old) }
         requires empty { saved.old ≡ [] }
         ensures done { OnOk result (IsDone (effect Op.Fetch seen (record_of self.old)) self.old self.new saved.new) }

@@ -8,13 +8,13 @@ use crate::wait::Wait;
 
 impl Node {
     ghost use Rattle.std.specs.Prelude.{◌≡◌, ◌≤◌, take};
-    ghost use Rattle.ga_node.specs.State.{with_value, with_restored_values, with_suspended_status, IsInRange, AreValuesInRange, HasAtMostOneStatus, HasClearedStatus};
+    ghost use Rattle.ga_node.specs.State.{with_value, with_restored_values, with_suspended_status, IsPlaceValueInRange, AreValuesInRange, HasAtMostOneStatus, HasClearedStatus};
 
     /// Writes one old value back, of a node whose wait and stop are set aside.
     #[tactic(auto, using(crate::proofs::Restoring::stays_apart))]
     #[inline(always)]
     pub(crate) fn put_back(&mut self, aside: &mut SuspendedStatus, place: Place, old: u32)
-        requires fit { IsInRange place old }
+        requires fit { IsPlaceValueInRange place old }
         requires cleared { HasClearedStatus self.old }
         requires in_range { aside.old.stop ≤ 3 }
         ensures back { with_suspended_status self.new aside.new ≡ with_value (with_suspended_status self.old aside.old) place old }

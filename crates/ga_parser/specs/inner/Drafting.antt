@@ -9,7 +9,7 @@ use Rattle.std.specs.List.{list_all}
 use Rattle.ga_parser.specs.Saying.{source_words, TokenContent, is_word, tokens_of_words}
 use Rattle.ga_parser.specs.declared.draft.RequestBuilder.{RequestBuilder}
 use Rattle.ga_parser.specs.declared.item.Operand.TheVariants.{Number}
-use Rattle.ga_parser.specs.declared.item.Item.TheVariants.{Cell}
+use Rattle.ga_parser.specs.declared.item.AssemblyItem.TheVariants.{Cell}
 use Rattle.ga_parser.specs.declared.item.AssemblyRequest.{AssemblyRequest}
 use Rattle.ga_parser.specs.declared.item.AssemblyRequest.TheVariants.{Put, Go}
 use Rattle.ga_parser.specs.declared.vocabulary.Directive.{Directive}
@@ -20,8 +20,8 @@ use Rattle.ga_parser.specs.declared.draft.Expect.{Expect}
 use Rattle.ga_parser.specs.declared.draft.Expect.TheVariants.{Word, Address, Name, Register, Nothing}
 use Rattle.ga_parser.specs.declared.scan.Token.{Token}
 use Rattle.ga_ports.specs.Steps.{◌>>=◌}
-use Rattle.ga_parser.specs.Vocabulary.{find_in_table, number_of_word, directive_words}
-use Rattle.ga_parser.specs.Plain.{Plain, no_request, with_request, if_number, value_if, is_cell_address, may_set_register, as_plain_requests}
+use Rattle.ga_parser.specs.Vocabulary.{find_in_table, number_spelled_by_word, directive_words}
+use Rattle.ga_parser.specs.Plain.{Plain, no_plain_requests, with_plain_request, and_then_number, some_value_if, is_cell_address, may_set_register, as_plain_requests}
 
 -- ---- what a call answers where words ask for something, or are refused
 
@@ -55,11 +55,11 @@ pub record Heard : Type 0 where
 
 -- what is heard before the first word
 abbrev pub nothing_heard : Heard
-nothing_heard = record { expect = Word; plain = no_request }
+nothing_heard = record { expect = Word; plain = no_plain_requests }
 
 -- one request more
 abbrev pub with_added_request : Heard → AssemblyRequest → Heard
-with_added_request heard request = record heard { plain = with_request heard.plain request }
+with_added_request heard request = record heard { plain = with_plain_request heard.plain request }
 
 -- a register is given
 abbrev pub with_register : Plain → RegisterName → ℕ → Plain
@@ -84,16 +84,16 @@ next_of (Carry _) = None
 -- a word where one is expected
 abbrev pub hear_word : Plain → List ℕ → List ℕ → Option Heard
 hear_word plain word next =
-    if bytes_eq next (codes ",") then if_number (number_of_word word) (λ n. Some (record { expect = Nothing; plain = with_request plain (Put (Cell (Number n))) }))
+    if bytes_eq next (codes ",") then and_then_number (number_spelled_by_word word) (λ n. Some (record { expect = Nothing; plain = with_plain_request plain (Put (Cell (Number n))) }))
     else (find_in_table directive_words word >>= next_of) >>= (λ e. Some (record { expect = e; plain = plain }))
 
 -- what is heard with one word more
 abbrev pub parse_one_word : Heard → List ℕ → List ℕ → Option Heard
 parse_one_word heard word next = elim heard.expect as (λ _. Option Heard) [
   | Word ↦ hear_word heard.plain word next
-  | Address ↦ if_number (number_of_word word) (λ n. value_if (is_cell_address n) (record { expect = Word; plain = with_request heard.plain (Go n) }))
+  | Address ↦ and_then_number (number_spelled_by_word word) (λ n. some_value_if (is_cell_address n) (record { expect = Word; plain = with_plain_request heard.plain (Go n) }))
   | Name ↦ None
-  | Register register ↦ if_number (number_of_word word) (λ n. value_if (may_give heard.plain register n) (record { expect = Word; plain = with_register heard.plain register n }))
+  | Register register ↦ and_then_number (number_spelled_by_word word) (λ n. some_value_if (may_give heard.plain register n) (record { expect = Word; plain = with_register heard.plain register n }))
   | Nothing ↦ Some (record { expect = Word; plain = heard.plain })
 ]
 

@@ -2,7 +2,7 @@
 use Rattle.std.specs.Prelude.{ℕ, nat_lt, ◌∷◌, List, [], if◌then◌else◌}
 use Rattle.ga_parser.specs.declared.expectations.NamedGroup.{NamedGroup}
 use Rattle.ga_parser.specs.declared.scan.Token.{Token}
-use Rattle.ga_parser.specs.Constants.{Names, resolved_word_text}
+use Rattle.ga_parser.specs.Constants.{ConstantAndLabelNames, resolved_word_text}
 use Rattle.ga_parser.specs.Expectations.{NodeGroup}
 use Rattle.ga_parser.specs.Saying.{PlacedToken}
 use Rattle.ga_parser.specs.inner.Grouping.{begun_of}
@@ -16,5 +16,5 @@ words_from line [] = []
 words_from line (one ∷ rest) = if nat_lt one.said.line line then words_from line rest else one ∷ rest
 
 -- a word after a blank, a constant as its number
-abbrev pub spaced_token : Names → Token → List ℕ
+abbrev pub spaced_token : ConstantAndLabelNames → Token → List ℕ
 spaced_token known token = 32 ∷ resolved_word_text known token.text.now

@@ -1,7 +1,7 @@
 -- Looks with the changes that race with them, as they are reported, except for the other word.
 use Rattle.std.specs.Prelude.{◌≡◌, ◌<◌, ◌≤◌, true, ℕ, List, length, take, slice_index, slice_index_or, ◌+◌, ◌^◌, [], Some, nat_lt, if◌then◌else◌, Contains, Option, None, IfSome}
 use Rattle.ga_node.specs.Io.{io_word}
-use Rattle.ga_node.specs.State.{wait_of, IsWaitCode}
+use Rattle.ga_node.specs.State.{wait_of_code, IsWaitCode}
 use Rattle.ga_grid.specs.declared.node_id.NodeId.{NodeId}
 use Rattle.ga_grid.specs.Chip.{record_at}
 use Rattle.ga_event.specs.declared.event.Event.{Event}
@@ -13,7 +13,7 @@ use Rattle.ga_causal.specs.Dependence.{event_at, events_after_rewind}
 use Rattle.ga_races.specs.declared.act.EventAccess.{EventAccess}
 use Rattle.ga_races.specs.HappensBefore.{actions, action_at, are_neighbours}
 use Rattle.ga_races.specs.Acts.{action_of_access}
-use Rattle.ga_lab.specs.Machine.{State, chip_of, causes_of, earlier, state_after_rewind}
+use Rattle.ga_lab.specs.Machine.{State, chip_of, causes_of, earlier_state, state_after_rewind}
 use Rattle.ga_race_detector.specs.declared.moments.StepCounts.{StepCounts}
 use Rattle.ga_ports.specs.declared.side.Side.{Side}
 use Rattle.ga_ports.specs.declared.side.Side.TheVariants.{Right, Down, Left, Up}
@@ -26,7 +26,7 @@ use Rattle.ga_race_detector.specs.declared.left.StepsLeft.{StepsLeft}
 use Rattle.ga_race_detector.specs.inner.Writers.{AreLeft, IsTaken}
 use Rattle.ga_races.specs.declared.racing_pairs.RacingPair.{RacingPair}
 use Rattle.ga_race_detector.specs.declared.readings.LookRace.{LookRace}
-use Rattle.ga_race_detector.specs.Races.{looks_next}
+use Rattle.ga_race_detector.specs.Races.{is_next_event_look}
 use Rattle.ga_race_detector.specs.Readings.{IsReportedLookRace}
 use Rattle.ga_race_detector.specs.declared.look_changes.LookChange.{LookChange}
 
@@ -34,7 +34,7 @@ use Rattle.ga_race_detector.specs.declared.look_changes.LookChange.{LookChange}
 
 -- before the place the node had this wait, by number, and had made `count` steps
 pub record StoodSo (s : State) (m place code count : ℕ) : Type 0 where
-  pub wait : (record_at (chip_of (earlier s place)) m).wait ≡ wait_of code
+  pub wait : (record_at (chip_of (earlier_state s place)) m).wait ≡ wait_of_code code
   pub valid : IsWaitCode code
   pub steps : count ≡ count_steps m (take place s.kept)
 
@@ -65,7 +65,7 @@ last_part (Pass w r side) = r
 pub record IsMoment (s : State) (place : ℕ) (cause : Cause) (moment : StepCounts) : Type 0 where
   pub first : moment.first ≡ count_steps (first_part cause.event).number (take place s.kept)
   pub last : moment.last ≡ count_steps (last_part cause.event).number (take place s.kept)
-  pub word : cause.look ≡ true → moment.word ≡ io_word (neighbour_states (chip_of (earlier s place)) (first_part cause.event).number)
+  pub word : cause.look ≡ true → moment.word ≡ io_word (neighbour_states (chip_of (earlier_state s place)) (first_part cause.event).number)
 
 -- the moment that is read past the end of a list of moments
 abbrev pub no_moment : StepCounts
@@ -168,7 +168,7 @@ pub record IsGlance (s : State) (near : RacingPair) (glance : LookChange) : Type
   pub change_at : near.change < length (causes_of s)
   pub looked : event_at (causes_of s) near.look ≡ record { event = Own glance.node; look = true }
   pub step : glance.step ≡ count_touching_events glance.node.number (take near.look (causes_of s)) + 1
-  pub word : glance.word ≡ io_word (neighbour_states (chip_of (earlier s near.look)) glance.node.number)
+  pub word : glance.word ≡ io_word (neighbour_states (chip_of (earlier_state s near.look)) glance.node.number)
   pub neighbour : glance.neighbour ≡ part_beside (event_at (causes_of s) near.change).event glance.node.number
   pub change : glance.change ≡ count_touching_events glance.neighbour.number (take near.change (causes_of s)) + 1
   pub is_look_first : glance.is_look_first ≡ nat_lt near.look near.change
@@ -202,7 +202,7 @@ AreKnown causes glances known =
 -- After a rollback of the one step, the look comes next and reads the word.
 pub record IsOtherWord (s : State) (glance : LookChange) (word : ℕ) : Type 0 where
   pub is : word ≡ io_word (neighbour_states (chip_of (state_after_rewind s (taken_of glance).0.number (taken_of glance).1)) glance.node.number)
-  pub next : looks_next (chip_of (state_after_rewind s (taken_of glance).0.number (taken_of glance).1)) glance.node.number ≡ true
+  pub next : is_next_event_look (chip_of (state_after_rewind s (taken_of glance).0.number (taken_of glance).1)) glance.node.number ≡ true
   pub step : count_steps glance.node.number (state_after_rewind s (taken_of glance).0.number (taken_of glance).1).kept + 1 ≡ glance.step
 
 -- no reading of these looks and changes that is to be reported is left out

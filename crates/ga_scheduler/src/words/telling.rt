@@ -2,7 +2,7 @@
 
 ghost use Rattle.std.specs.Prelude.{◌≡◌, ◌≤◌, option_to_list};
 ghost use Rattle.ga_lab.specs.Machine.{history_of};
-ghost use Rattle.ga_scheduler.specs.Words.{link_end_node, words_of, numbered_transfers, transfer_of_event, is_transfer_over, transfer_count_of_event, link_transfer_count};
+ghost use Rattle.ga_scheduler.specs.Words.{link_end_node, link_transfers, numbered_transfers, transfer_of_event, is_transfer_over_link, transfer_count_of_event, link_transfer_count};
 
 use super::{Transfer, TransferIter};
 use ga_grid::NodeId;
@@ -12,7 +12,7 @@ use ga_lab::{Lab, Made};
 #[tactic(auto, using(crate::proofs::WordCounts::by_either))]
 fn is_shorter(lab: &Lab, writer: NodeId, reader: NodeId) -> bool
     ensures { numbered_transfers writer.number reader.number 0 (history_of lab.now (link_end_node result writer reader))
-        ≡ words_of lab.now writer.number reader.number }
+        ≡ link_transfers lab.now writer.number reader.number }
 {
     lab.steps(reader) < lab.steps(writer)
 }
@@ -25,8 +25,8 @@ fn link_end_node(by_reader: bool, writer: NodeId, reader: NodeId) -> NodeId
 }
 
 // Whether the event carried a word over the link.
-pub(crate) fn is_transfer_over(made: &Made, writer: NodeId, reader: NodeId) -> bool
-    ensures { result ≡ is_transfer_over writer.number reader.number made.now }
+pub(crate) fn is_transfer_over_link(made: &Made, writer: NodeId, reader: NodeId) -> bool
+    ensures { result ≡ is_transfer_over_link writer.number reader.number made.now }
 {
     match made {
         Made::Own { .. } => false,
@@ -43,7 +43,7 @@ pub(crate) fn transfer_count_of_event(made: &Made, writer: NodeId, reader: NodeI
     ensures one { result ≡ transfer_count_of_event writer.number reader.number made.now }
     ensures most { result ≤ 1 }
 {
-    if is_transfer_over(made, writer, reader) {
+    if is_transfer_over_link(made, writer, reader) {
         1
     } else {
         0
@@ -95,11 +95,11 @@ fn sent_as(made: &Made, writer: NodeId, reader: NodeId, number: u32) -> Option<T
 impl TransferIter {
     ghost use Rattle.std.specs.Prelude.{◌≡◌, ◌++◌, [], option_to_list, IfNone};
     ghost use Rattle.ga_lab.specs.Machine.{State};
-    ghost use Rattle.ga_scheduler.specs.Words.{words_of, transfers_left};
+    ghost use Rattle.ga_scheduler.specs.Words.{link_transfers, transfers_left};
 
     /// All words from the writer to the reader, of which none is listed yet.
     pub fn new(writer: NodeId, reader: NodeId) -> Self
-        ensures { (s : State) → transfers_left s result ≡ words_of s writer.number reader.number }
+        ensures { (s : State) → transfers_left s result ≡ link_transfers s writer.number reader.number }
     {
         TransferIter {
             writer,

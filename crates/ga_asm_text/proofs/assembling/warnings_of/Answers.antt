@@ -1,6 +1,6 @@
 use Rattle.std.proofs.Common.{List, ℕ, [], Some, Result, ap, ◌∙◌, subst}
 use Rattle.std.proofs.lemmas.Option.{same_Some}
-use Rattle.ga_text.specs.Output.{IsWritten, IsWrittenOrTruncated}
+use Rattle.ga_text.specs.Output.{IsTextWritten, IsTextWrittenOrTruncated}
 use Rattle.ga_text.specs.declared.output.WriteError.{WriteError}
 use Rattle.ga_console.proofs.RunLemmas.{all_sent}
 use Rattle.ga_asm_text.specs.SourceJson.{warnings_text}
@@ -10,6 +10,6 @@ pub returns-in-Ok : goal.returns-in-Ok
 returns-in-Ok c =
     let text : List ℕ = warnings_text c.args.assembled.now.programs.items in
     let now : List ℕ = c.report_code_stores.new.errors.items in
-    let P : Result (Unit {0}) WriteError → Type 0 = λ written. IsWrittenOrTruncated written (Some now) [] text [] in
-    let done : IsWritten (Some now) [] text [] = subst P c.in-Ok.is (c.in_ok-report_code_stores.ensures.warnings [] (ap Some c.new-warnings.ensures.items)) in
+    let P : Result (Unit {0}) WriteError → Type 0 = λ written. IsTextWrittenOrTruncated written (Some now) [] text [] in
+    let done : IsTextWritten (Some now) [] text [] = subst P c.in-Ok.is (c.in_ok-report_code_stores.ensures.warnings [] (ap Some c.new-warnings.ensures.items)) in
     same_Some now done.sent done.held ∙ all_sent (Some now) [] text done

@@ -40,5 +40,5 @@ returns-in-ReadFailed g c = λ left before known held.
 pub returns-in-NoMemory : goal.returns-in-NoMemory
 returns-in-NoMemory g c = λ left before known held.
     let got = c.in-NoMemory.ensures left known in
-    let sent = c.refuse.ensures before held in
-    (got.0, got.1, sent.0, got.2, got.3, sent.1, disassembles_nothing got.0 got.1 sent.0 c.refuse.result sent.2)
+    let sent = c.write_image_refusal.ensures before held in
+    (got.0, got.1, sent.0, got.2, got.3, sent.1, disassembles_nothing got.0 got.1 sent.0 c.write_image_refusal.result sent.2)

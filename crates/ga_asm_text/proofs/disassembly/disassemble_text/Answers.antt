@@ -11,8 +11,8 @@ returns-in-Ok g c = λ before held.
 
 pub returns-in-Err : goal.returns-in-Err
 returns-in-Err g c = λ before held.
-    let done = c.refuse.ensures before held in (
+    let done = c.write_image_refusal.ensures before held in (
       done.0,
       done.1,
-      refusal_written c.args.image.items done.0 c.in-Err.fault c.refuse.result c.in-Err.ensures.err done.2,
+      refusal_written c.args.image.items done.0 c.in-Err.fault c.write_image_refusal.result c.in-Err.ensures.err done.2,
     )

@@ -3,7 +3,7 @@ use Rattle.std.proofs.lemmas.Option.{slice_get_within, slice_get-get_or}
 use Rattle.ga_state_ends.specs.Ends.{EndSearchResult, AreEndsOfChip}
 use Rattle.ga_state_expectations.specs.declared.source.LineExpectation.{LineExpectation}
 use Rattle.ga_check_report.specs.declared.outcome.ExpectationOutcome.{ExpectationOutcome}
-use Rattle.ga_check_report.specs.Outcomes.{IsOutcome}
+use Rattle.ga_check_report.specs.Outcomes.{IsExpectationOutcome}
 use Rattle.ga_check_report.specs.BreachDecisions.{IsBreachDecided}
 use Rattle.ga_check_report.proofs.BreachDecisions.{none_decided, decided_more}
 use Rattle.ga_check_report.proofs.breach_decisions.decide_breaches.Goals as goal
@@ -24,9 +24,9 @@ decide_breach-requires-clause-known c =
     let one : LineExpectation = c.index-expectations-place.result in
     let here : LineExpectation = get_or c.args.expectations.now c.expectations.place one in
     let at = slice_get-get_or c.args.expectations.now c.expectations.place one (omega arith) in
-    let known = subst (λ (o : ExpectationOutcome). IsOutcome s c.args.found.now here.expectation o) (sym c.outcome_at-outcome.ensures)
+    let known = subst (λ (o : ExpectationOutcome). IsExpectationOutcome s c.args.found.now here.expectation o) (sym c.outcome_at-outcome.ensures)
     (c.requires.known.1.known c.expectations.place here at) in
-    (s, subst (λ (f : EndSearchResult). IsOutcome s f here.expectation c.outcome_at-outcome.result) (sym c.expectations.invariant.same) known)
+    (s, subst (λ (f : EndSearchResult). IsExpectationOutcome s f here.expectation c.outcome_at-outcome.result) (sym c.expectations.invariant.same) known)
 
 pub expectations-preserved : goal.expectations-preserved
 expectations-preserved c =

@@ -1,7 +1,7 @@
 use Rattle.std.proofs.Common.{rules, ℕ, List, ◌++◌, [], refl, ap, arith}
 use Rattle.std.proofs.lemmas.List.{drop_all}
 use Rattle.ga_text.proofs.WriteLemmas.{truncated_here, written_pending}
-use Rattle.ga_check_report.specs.EndTexts.{kinds_text}
+use Rattle.ga_check_report.specs.EndTexts.{end_kinds_text}
 use Rattle.ga_explorer_text.proofs.Saying.{line_written, line_truncated, all_said}
 use Rattle.ga_check_report.proofs.EndsOut.{next_kind}
 use Rattle.ga_check_report.proofs.ends_text.write_kinds.Goals as goal
@@ -15,7 +15,7 @@ returns-in_err-write_decided_kind g c = (
   λ before said h.
       let found = c.args.found.now in
       let kinds = c.args.kinds.now in
-      let whole : List ℕ = kinds_text found.decisions 0 kinds in
+      let whole : List ℕ = end_kinds_text found.decisions 0 kinds in
       let done = c.kinds.invariant.1 before said h in
       truncated_here c.from_residual.result _ before (said ++ whole) _ c.from_residual.ensures.0
       (line_truncated _ before said whole _ _ _ done.front (next_kind found.decisions kinds c.kinds.place _ c.decision.result (omega arith) c.decision.ensures) done.splits
@@ -29,7 +29,7 @@ kinds-preserved g c = (
       let found = c.args.found.now in
       let kinds = c.args.kinds.now in
       let done = c.kinds.invariant.1 before said h in
-      line_written _ before said (kinds_text found.decisions 0 kinds) _ _ _ done.front _ (next_kind found.decisions kinds c.kinds.place _ c.decision.result (omega arith) c.decision.ensures) done.splits
+      line_written _ before said (end_kinds_text found.decisions 0 kinds) _ _ _ done.front _ (next_kind found.decisions kinds c.kinds.place _ c.decision.result (omega arith) c.decision.ensures) done.splits
       (c.in_ok-write_decided_kind.ensures.1 before (said ++ done.front) done.is_said),
 )
 
@@ -39,5 +39,5 @@ returns g c = (
   λ before said h.
       let found = c.args.found.now in
       let kinds = c.args.kinds.now in
-      all_said _ before said (kinds_text found.decisions 0 kinds) _ _ (ap (kinds_text found.decisions c.kinds.place) (drop_all c.kinds.place kinds (omega arith))) (c.kinds.invariant.1 before said h),
+      all_said _ before said (end_kinds_text found.decisions 0 kinds) _ _ (ap (end_kinds_text found.decisions c.kinds.place) (drop_all c.kinds.place kinds (omega arith))) (c.kinds.invariant.1 before said h),
 )

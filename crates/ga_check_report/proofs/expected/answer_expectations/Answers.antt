@@ -3,17 +3,17 @@ use Rattle.std.specs.Prelude.{map}
 use Rattle.ga_debug_info.specs.declared.notes.DebugInfo.{DebugInfo}
 use Rattle.ga_lab.specs.Machine.{State}
 use Rattle.ga_state_expectations.specs.declared.source.LineExpectation.{LineExpectation}
-use Rattle.ga_state_expectations.specs.Lines.{expectations_of, expected_content}
+use Rattle.ga_state_expectations.specs.Lines.{source_expectations, line_expectation_content}
 use Rattle.ga_check_report.specs.Expected.{WritesProgramReport}
-use Rattle.ga_check_report.specs.Expected.WritesForNotes.{parsed}
+use Rattle.ga_check_report.specs.Expected.WritesReportForDebugInfo.{parsed}
 use Rattle.ga_check_report.specs.Settled.{check_start}
 use Rattle.ga_check_report.proofs.expected.answer_expectations.Goals as goal
 
 pub returns-in-Ok : goal.returns-in-Ok
 returns-in-Ok g c = λ before held.
     let sent = c.settle_and_judge.ensures before held in
-    let spelled : expectations_of c.args.begun.notes ≡ Ok (map expected_content c.in-Ok.expectations.items) =
-    ap (λ (notes : Option DebugInfo). expectations_of notes) (sym c.notes.ensures) ∙ c.in-Ok.ensures in
+    let spelled : source_expectations c.args.begun.notes ≡ Ok (map line_expectation_content c.in-Ok.expectations.items) =
+    ap (λ (notes : Option DebugInfo). source_expectations notes) (sym c.notes.ensures) ∙ c.in-Ok.ensures in
     let Written : List LineExpectation → Type 0 =
     λ list. WritesProgramReport c.args.request list c.args.asked (check_start c.args.settles c.into_lab.result) sent.0 c.settle_and_judge.result in
     let Begun : State → Type 0 =

@@ -5,7 +5,7 @@ use Rattle.ga_state_conditions.specs.declared.condition.StateCondition.{StateCon
 use Rattle.ga_state_conditions.specs.Reached.{HasNoReachedEvent}
 use Rattle.ga_state_expectations.specs.declared.source.Expectation.{Expectation}
 use Rattle.ga_check_report.specs.declared.outcome.ExpectationOutcome.{ExpectationOutcome}
-use Rattle.ga_check_report.specs.Outcomes.{IsOutcomeBy, IsReachedBreach, IsOutcome}
+use Rattle.ga_check_report.specs.Outcomes.{IsOutcomeByFindings, IsReachedBreach, IsExpectationOutcome}
 use Rattle.ga_check_report.proofs.JudgingLemmas.{same_first, on_ok}
 use Rattle.ga_check_report.proofs.judging.judge.Goals as goal
 
@@ -14,13 +14,13 @@ returns-in-AtEnds-clause-led c = on_ok c.judge_ends.result ([], same_first c.arg
 
 pub returns-in-Never-clause-known : goal.returns-in-Never-clause-known
 returns-in-Never-clause-known c =
-    subst (λ (e : Expectation). IfOk c.judge_never.result (λ (o : ExpectationOutcome). IsOutcome c.args.lab.now c.args.found.now e o)) (sym c.in-Never.is)
-    (subst (λ (list : List StateCondition). IfOk c.judge_never.result (IsOutcomeBy c.args.found.now (HasNoReachedEvent c.args.found.now list) (IsReachedBreach c.args.lab.now list)))
+    subst (λ (e : Expectation). IfOk c.judge_never.result (λ (o : ExpectationOutcome). IsExpectationOutcome c.args.lab.now c.args.found.now e o)) (sym c.in-Never.is)
+    (subst (λ (list : List StateCondition). IfOk c.judge_never.result (IsOutcomeByFindings c.args.found.now (HasNoReachedEvent c.args.found.now list) (IsReachedBreach c.args.lab.now list)))
     c.as_slice.ensures.value c.judge_never.ensures.known)
 
 pub returns-in-Passes-clause-known : goal.returns-in-Passes-clause-known
 returns-in-Passes-clause-known c =
-    subst (λ (e : Expectation). IfOk c.judge_link.result (λ (o : ExpectationOutcome). IsOutcome c.args.lab.now c.args.found.now e o)) (sym c.in-Passes.is)
+    subst (λ (e : Expectation). IfOk c.judge_link.result (λ (o : ExpectationOutcome). IsExpectationOutcome c.args.lab.now c.args.found.now e o)) (sym c.in-Passes.is)
     (c.judge_link.ensures.known (chip_of c.args.lab.now) c.requires)
 
 pub returns-in-Passes-clause-led : goal.returns-in-Passes-clause-led
@@ -28,8 +28,8 @@ returns-in-Passes-clause-led c = on_ok c.judge_link.result ([], same_first c.arg
 
 pub returns-in-EveryOrderEnds-clause-known : goal.returns-in-EveryOrderEnds-clause-known
 returns-in-EveryOrderEnds-clause-known c =
-    subst (λ (e : Expectation). IsOutcome c.args.lab.now c.args.found.now e c.judge_endless.result) (sym c.in-EveryOrderEnds.is) (c.judge_endless.ensures c.args.lab.now)
+    subst (λ (e : Expectation). IsExpectationOutcome c.args.lab.now c.args.found.now e c.judge_endless.result) (sym c.in-EveryOrderEnds.is) (c.judge_endless.ensures c.args.lab.now)
 
 pub returns-in-OneEnd-clause-known : goal.returns-in-OneEnd-clause-known
 returns-in-OneEnd-clause-known c =
-    subst (λ (e : Expectation). IsOutcome c.args.lab.now c.args.found.now e c.judge_count.result) (sym c.in-OneEnd.is) (c.judge_count.ensures c.args.lab.now)
+    subst (λ (e : Expectation). IsExpectationOutcome c.args.lab.now c.args.found.now e c.judge_count.result) (sym c.in-OneEnd.is) (c.judge_count.ensures c.args.lab.now)

@@ -4,7 +4,7 @@ use Rattle.ga_node.specs.Record.{NodeRecord}
 use Rattle.ga_lab.specs.Machine.{State, chip_of}
 use Rattle.ga_state_ends.specs.Ends.{EndSearchResult, AreEndsOfChip}
 use Rattle.ga_state_expectations.specs.declared.source.LineExpectation.{LineExpectation}
-use Rattle.ga_check_report.specs.Outcomes.{IsOutcome}
+use Rattle.ga_check_report.specs.Outcomes.{IsExpectationOutcome}
 use Rattle.ga_check_report.proofs.JudgingLemmas.{same_first, none_known, known_more, chip_as, appended_as, outcome_as, listed}
 use Rattle.ga_check_report.proofs.judging.judge_all.Goals as goal
 
@@ -25,10 +25,10 @@ expectations-preserved c =
     let s : State = c.args.lab.now in
     let one : LineExpectation = c.index-expectations-place.result in
     let here : LineExpectation = get_or c.args.expectations.now c.expectations.place one in
-    let there : IsOutcome c.expectations.lab c.args.found.now here.expectation c.in_ok-outcome.outcome =
-    subst (λ (f : EndSearchResult). IsOutcome c.expectations.lab f here.expectation c.in_ok-outcome.outcome) c.expectations.invariant.same c.in_ok-outcome.ensures.known in
-    let known : IsOutcome c.expectations.lab c.args.found.now one.expectation c.in_ok-outcome.outcome =
-    subst (λ (x : LineExpectation). IsOutcome c.expectations.lab c.args.found.now x.expectation c.in_ok-outcome.outcome) (sym c.index-expectations-place.is) there in
+    let there : IsExpectationOutcome c.expectations.lab c.args.found.now here.expectation c.in_ok-outcome.outcome =
+    subst (λ (f : EndSearchResult). IsExpectationOutcome c.expectations.lab f here.expectation c.in_ok-outcome.outcome) c.expectations.invariant.same c.in_ok-outcome.ensures.known in
+    let known : IsExpectationOutcome c.expectations.lab c.args.found.now one.expectation c.in_ok-outcome.outcome =
+    subst (λ (x : LineExpectation). IsExpectationOutcome c.expectations.lab c.args.found.now x.expectation c.in_ok-outcome.outcome) (sym c.index-expectations-place.is) there in
     record {
       same = c.judge_and_undo.ensures.same ∙ c.expectations.invariant.same;
       kept = appended_as s c.expectations.lab c.judge_and_undo.new.lab [] c.expectations.invariant.kept c.in_ok-outcome.ensures.undone;

@@ -1,13 +1,13 @@
 use Rattle.std.proofs.Common.{rules, ℕ, List, ap, ◌∙◌, []}
 use Rattle.ga_console.proofs.RunLemmas.{written_fresh}
-use Rattle.ga_check_report.specs.Answers.{unreached_answer}
+use Rattle.ga_check_report.specs.Answers.{unreached_event_answer}
 use Rattle.ga_check_report.proofs.EndsOut.{out_as}
 use Rattle.ga_check_report.proofs.never.tell_unreached.Goals as goal
 
 pub returns : goal.returns
 returns g c = λ before held.
-    let text : List ℕ = unreached_answer c.args.request c.args.found.now in
+    let text : List ℕ = unreached_event_answer c.args.request c.args.found.now in
     let done = c.write_unreached-said.ensures.1 before [] (written_fresh _ before [] _ (ap g.W.Write.contents c.new-out.ensures.stream ∙ held) c.new-out.ensures.nothing) in
     let sent = c.sent.ensures.written before text done in
     let there = sent.1 in
-    (sent.0, search rules, out_as text sent.0 c.unreached_verdict.result _ c.sent.result c.unreached_verdict.ensures sent.2)
+    (sent.0, search rules, out_as text sent.0 c.unreached_event_verdict.result _ c.sent.result c.unreached_event_verdict.ensures sent.2)

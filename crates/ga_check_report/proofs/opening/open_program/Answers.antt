@@ -14,9 +14,9 @@ returns-in-Text g c = record {
 pub returns-in-Json : goal.returns-in-Json
 returns-in-Json g c = record {
   begun = λ left before known held.
-      let it = c.open_for_objects.ensures.begun left before known held in
-      let input = c.open_for_objects.new.input in
-      let result = c.open_for_objects.result in (
+      let it = c.open_for_json_output.ensures.begun left before known held in
+      let input = c.open_for_json_output.new.input in
+      let result = c.open_for_json_output.result in (
         it.0,
         it.1,
         it.2,

@@ -1,6 +1,6 @@
 use Rattle.std.proofs.Common.{rules, ℕ, List, ◌≡◌, ◌++◌, refl, ap, ◌∙◌}
 use Rattle.ga_text.proofs.WriteLemmas.{truncated_here, truncated_within, cut_assoc, said_assoc}
-use Rattle.ga_check_report.specs.ExpectationTexts.{expectation_front, outcome_text, expectation_line}
+use Rattle.ga_check_report.specs.ExpectationTexts.{expectation_line_start, outcome_text, expectation_line}
 use Rattle.ga_explorer_text.proofs.Saying.{text_as, joined_written}
 use Rattle.ga_check_report.proofs.outcome_text.write_expectation.Goals as goal
 
@@ -12,7 +12,7 @@ returns-in_err-write_blocks g c = (
       let words : List ℕ = c.args.one.now.text.items in
       let last : List ℕ = outcome_text c.args.whole c.args.number c.args.outcome in
       let line : List ℕ = expectation_line c.args.whole c.args.number c.args.one.now c.args.outcome in
-      let is : first ≡ expectation_front c.args.one.now.line = c.as_slice.ensures.value ∙ c.expectation_front.ensures in
+      let is : first ≡ expectation_line_start c.args.one.now.line = c.as_slice.ensures.value ∙ c.expectation_line_start.ensures in
       truncated_here c.from_residual.result _ before (said ++ line) _ c.from_residual.ensures.0
       (truncated_within _ before said (first ++ words) last line (ap (λ (z : List ℕ). z ++ words ++ last) is)
       (truncated_within _ before said first words (first ++ words) refl (c.in_err-write_blocks.ensures.1 before said h))),
@@ -26,10 +26,10 @@ returns-in_err-write_blocks-2 g c = (
       let words : List ℕ = c.as_slice-2.result.now in
       let last : List ℕ = outcome_text c.args.whole c.args.number c.args.outcome in
       let line : List ℕ = expectation_line c.args.whole c.args.number c.args.one.now c.args.outcome in
-      let is : first ≡ expectation_front c.args.one.now.line = c.as_slice.ensures.value ∙ c.expectation_front.ensures in
+      let is : first ≡ expectation_line_start c.args.one.now.line = c.as_slice.ensures.value ∙ c.expectation_line_start.ensures in
       truncated_here c.from_residual-in_err-write_blocks-2.result _ before (said ++ line) _ c.from_residual-in_err-write_blocks-2.ensures.0
       (truncated_within _ before said (first ++ words) last line
-      (ap (λ (z : List ℕ). z ++ words ++ last) is ∙ ap (λ (z : List ℕ). expectation_front c.args.one.now.line ++ z ++ last) c.as_slice-2.ensures.value)
+      (ap (λ (z : List ℕ). z ++ words ++ last) is ∙ ap (λ (z : List ℕ). expectation_line_start c.args.one.now.line ++ z ++ last) c.as_slice-2.ensures.value)
       (cut_assoc _ before said first words (c.in_err-write_blocks-2.ensures.1 before (said ++ first) (c.in_ok-write_blocks.ensures.1 before said h)))),
 )
 
@@ -40,11 +40,11 @@ returns g c = (
       let first : List ℕ = c.as_slice.result.now in
       let words : List ℕ = c.as_slice-2.result.now in
       let last : List ℕ = c.as_slice-3.result.now in
-      let is : first ≡ expectation_front c.args.one.now.line = c.as_slice.ensures.value ∙ c.expectation_front.ensures in
+      let is : first ≡ expectation_line_start c.args.one.now.line = c.as_slice.ensures.value ∙ c.expectation_line_start.ensures in
       let ends : last ≡ outcome_text c.args.whole c.args.number c.args.outcome = c.as_slice-3.ensures.value ∙ c.outcome_text.ensures in
       let done = said_assoc _ before said first words _ (c.in_ok-write_blocks-2.ensures.1 before (said ++ first) (c.in_ok-write_blocks.ensures.1 before said h)) in
       text_as c.write_blocks-3.result _ before said (first ++ words ++ last) (expectation_line c.args.whole c.args.number c.args.one.now c.args.outcome) _
-      (ap (λ (z : List ℕ). z ++ words ++ last) is ∙ ap (λ (z : List ℕ). expectation_front c.args.one.now.line ++ z ++ last) c.as_slice-2.ensures.value
-      ∙ ap (λ (z : List ℕ). expectation_front c.args.one.now.line ++ c.args.one.now.text.items ++ z) ends)
+      (ap (λ (z : List ℕ). z ++ words ++ last) is ∙ ap (λ (z : List ℕ). expectation_line_start c.args.one.now.line ++ z ++ last) c.as_slice-2.ensures.value
+      ∙ ap (λ (z : List ℕ). expectation_line_start c.args.one.now.line ++ c.args.one.now.text.items ++ z) ends)
       (joined_written c.write_blocks-3.result _ before said (first ++ words) last _ (c.write_blocks-3.ensures.1 before (said ++ (first ++ words)) done)),
 )

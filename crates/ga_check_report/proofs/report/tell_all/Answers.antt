@@ -10,4 +10,4 @@ returns g c = λ before held.
     let done = c.write_answer-said.ensures.1 before [] (written_fresh _ before [] _ (ap g.W.Write.contents c.new-out.ensures.stream ∙ held) c.new-out.ensures.nothing) in
     let sent = c.sent.ensures.written before text done in
     let there = sent.1 in
-    (sent.0, search rules, out_as text sent.0 c.verdict_of.result _ c.sent.result c.verdict_of.ensures sent.2)
+    (sent.0, search rules, out_as text sent.0 c.ends_verdict.result _ c.sent.result c.ends_verdict.ensures sent.2)

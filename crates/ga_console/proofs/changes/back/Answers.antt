@@ -1,5 +1,5 @@
 use Rattle.std.proofs.Common.{rules, refl}
-use Rattle.ga_display.specs.Texts.{removed_text}
+use Rattle.ga_display.specs.Texts.{removed_events_text}
 use Rattle.ga_console.proofs.ReplyLemmas.{back_done, back_refused}
 use Rattle.ga_console.proofs.changes.back.Goals as goal
 
@@ -7,9 +7,9 @@ pub returns-in-Ok : goal.returns-in-Ok
 returns-in-Ok g c = (
   search rules,
   λ before said h. (
-    removed_text 1 c.counts.result.kept,
+    removed_events_text 1 c.counts.result.kept,
     back_done c.args.wording c.args.lab.now _ c.undo.new.self c.counts.result.kept c.in-Ok.ensures.answer c.in-Ok.ensures.state c.counts.ensures.kept refl,
-    c.write_removed.ensures.1 before said h,
+    c.write_removed_events.ensures.1 before said h,
   ),
 )
 

@@ -1,7 +1,7 @@
 use Rattle.std.proofs.Common.{rules, refl, ap}
 use Rattle.ga_event.specs.Told.{count_steps}
 use Rattle.ga_lab.specs.Machine.{State}
-use Rattle.ga_display.specs.Texts.{removed_text, worded_step_refusal_text}
+use Rattle.ga_display.specs.Texts.{removed_events_text, worded_step_refusal_text}
 use Rattle.ga_console.proofs.ReplyLemmas.{rewind_done, rewind_refused}
 use Rattle.ga_console.proofs.changes.rewind.Goals as goal
 
@@ -9,10 +9,10 @@ pub returns-in-Ok : goal.returns-in-Ok
 returns-in-Ok g c = (
   search rules,
   λ before said h. (
-    removed_text c.in-Ok.removed c.counts.result.kept,
+    removed_events_text c.in-Ok.removed c.counts.result.kept,
     rewind_done c.args.wording c.args.lab.now c.args.node c.args.step c.in-Ok.removed c.counts.result.kept _ c.rewind.new.self c.in-Ok.ensures.answer c.in-Ok.ensures.state
         c.counts.ensures.kept refl,
-    c.write_removed.ensures.1 before said h,
+    c.write_removed_events.ensures.1 before said h,
   ),
 )
 

@@ -1,7 +1,7 @@
 use Rattle.std.proofs.Common.{◌≡◌, ℕ, ◌-◌, ◌++◌, List, sym, ap, ◌∙◌}
 use Rattle.std.specs.Prelude.{Result, Ok}
 use Rattle.std.proofs.lemmas.List.{append-nil}
-use Rattle.ga_console.specs.Session.{ServesCommandsBy, IsWrittenOrPrefix}
+use Rattle.ga_console.specs.Session.{ServesCommandsBy, IsWholeOrPrefixOnWriteError}
 use Rattle.ga_console.specs.declared.commands.CommandsEnd.{CommandsEnd}
 use Rattle.ga_text.specs.declared.output.WriteError.{WriteError}
 use Rattle.ga_console.proofs.Heard.{cut_short}
@@ -20,7 +20,7 @@ returns-in_err-ending-clause-serves g c = λ left before said known held.
       done.6.held,
       at_err (λ (r : Result CommandsEnd WriteError). ServesCommandsBy c.args.limit_refusal.now g.S.Responder.answers g.S.Responder.refuses (16777216 - c.args.input.now.taken) c.args.session.now done.0 done.1 done.2 c.answer_lines.new.session r) c.from_residual.result
           c.from_residual.ensures.0 (λ why. done.5),
-      at_err (λ (r : Result CommandsEnd WriteError). IsWrittenOrPrefix r (said ++ done.2) done.6.sent) c.from_residual.result c.from_residual.ensures.0 (λ why. done.6.front),
+      at_err (λ (r : Result CommandsEnd WriteError). IsWholeOrPrefixOnWriteError r (said ++ done.2) done.6.sent) c.from_residual.result c.from_residual.ensures.0 (λ why. done.6.front),
     )
 
 pub returns-in_err-flush-clause-serves : goal.returns-in_err-flush-clause-serves
@@ -37,7 +37,7 @@ returns-in_err-flush-clause-serves g c = λ left before said known held.
       told.held,
       at_err (λ (r : Result CommandsEnd WriteError). ServesCommandsBy c.args.limit_refusal.now g.S.Responder.answers g.S.Responder.refuses (16777216 - c.args.input.now.taken) c.args.session.now done.0 done.1 done.2 c.answer_lines.new.session r) c.from_residual-in_err-flush.result
           c.from_residual-in_err-flush.ensures.0 (λ why. cut),
-      at_err (λ (r : Result CommandsEnd WriteError). IsWrittenOrPrefix r (said ++ done.2) told.sent) c.from_residual-in_err-flush.result c.from_residual-in_err-flush.ensures.0 (λ why. told.front),
+      at_err (λ (r : Result CommandsEnd WriteError). IsWholeOrPrefixOnWriteError r (said ++ done.2) told.sent) c.from_residual-in_err-flush.result c.from_residual-in_err-flush.ensures.0 (λ why. told.front),
     )
 
 pub returns-clause-serves : goal.returns-clause-serves

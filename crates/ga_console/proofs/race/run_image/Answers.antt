@@ -20,10 +20,10 @@ returns-in-Some g c = λ before held.
 
 pub returns : goal.returns
 returns g c = λ before held.
-    let done = c.refuse.ensures before held in
+    let done = c.write_image_refusal.ensures before held in
     let other : c.in-Err.fault.cause ≢ Memory = λ e. same_false the_type c.in-Err.fault.cause Memory (sym c.eq.ensures ∙ c.if-eq.false) e in
     let first = subst (λ l. IsFirstFault (lines_of l) c.in-Err.fault) c.as_slice.ensures.value (first_fault c.as_slice.result.now c.in-Err.fault c.in-Err.ensures.refused other) in (
       done.0,
       done.1,
-      races_refused c.args.limit c.args.workers c.args.calls c.args.image.items done.0 c.in-Err.fault c.refuse.result first done.2,
+      races_refused c.args.limit c.args.workers c.args.calls c.args.image.items done.0 c.in-Err.fault c.write_image_refusal.result first done.2,
     )

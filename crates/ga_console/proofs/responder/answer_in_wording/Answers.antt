@@ -4,7 +4,7 @@ use Rattle.std.proofs.lemmas.List.{take_all}
 use Rattle.ga_lab.specs.Machine.{State}
 use Rattle.ga_display.specs.Texts.{worded_long_line_refusal, syntax_refusal}
 use Rattle.ga_console.specs.Commands.{SpellsCommand}
-use Rattle.ga_display.specs.declared.wording.Wording.{Wording}
+use Rattle.ga_display.specs.declared.wording.RefusalWording.{RefusalWording}
 use Rattle.ga_console.specs.Replies.{IsAnswerInWording, IsCommandReply}
 use Rattle.ga_console.specs.Session.{AnswersOrQuits, AnswersLine}
 use Rattle.ga_console.specs.Replies.IsAnswerInWording.{long, command, syntax}
@@ -22,22 +22,22 @@ whole : (line part : List ℕ) → line ≡ take 201 part → length line ≤ 20
 whole line part e h = sym (e ∙ take_all 201 part (omega (arith, ap length e, length-take 201 part)))
 
 -- a failed write changes nothing of what the answer is
-turns_err : (w : Wording) (s : State) (line answer : List ℕ) (new : State) (result : Result LineAction WriteError) → IsErr result
+turns_err : (w : RefusalWording) (s : State) (line answer : List ℕ) (new : State) (result : Result LineAction WriteError) → IsErr result
     → AnswersLine (IsAnswerInWording w) s line answer new → AnswersOrQuits (IsAnswerInWording w) s line new result answer
 turns_err w s line answer new (Ok turn) is h = absurd (search rules)
 turns_err w s line answer new (Err why) is h = h
 
-answers_long : (w : Wording) (s : State) (line text : List ℕ) → 200 < length line → text ≡ worded_long_line_refusal w → AnswersLine (IsAnswerInWording w) s line text s
+answers_long : (w : RefusalWording) (s : State) (line text : List ℕ) → 200 < length line → text ≡ worded_long_line_refusal w → AnswersLine (IsAnswerInWording w) s line text s
 answers_long w s line text past is = λ part kept.
     let long_part : 200 < length part = too_long line part kept past in
     (long long_part is refl, λ e. absurd (omega (arith, ap length e)))
 
-answers_none : (w : Wording) (s : State) (line : List ℕ) → length line ≤ 200 → ((d : Command) → ¬ SpellsCommand d line) → AnswersLine (IsAnswerInWording w) s line syntax_refusal s
+answers_none : (w : RefusalWording) (s : State) (line : List ℕ) → length line ≤ 200 → ((d : Command) → ¬ SpellsCommand d line) → AnswersLine (IsAnswerInWording w) s line syntax_refusal s
 answers_none w s line short none = λ part kept.
     let same : part ≡ line = whole line part kept short in
     (syntax (omega (arith, ap length same)) (λ d spelled. none d (subst (SpellsCommand d) same spelled)) refl refl, λ q. none Quit (sym same ∙ q))
 
-answers_done : (w : Wording) (s : State) (line answer : List ℕ) (new : State) (d : Command) → length line ≤ 200 → SpellsCommand d line
+answers_done : (w : RefusalWording) (s : State) (line answer : List ℕ) (new : State) (d : Command) → length line ≤ 200 → SpellsCommand d line
     → ((other : Command) → SpellsCommand other line → other ≡ d) → d ≢ Quit → IsCommandReply w s d answer new → AnswersLine (IsAnswerInWording w) s line answer new
 answers_done w s line answer new d short spelled only not_quit does = λ part kept.
     let same : part ≡ line = whole line part kept short in

@@ -13,10 +13,10 @@ returns-in-Ok g c = λ left before known held.
       done.4,
       done.5,
       search rules,
-      inl (c.in-Ok.lab, c.in-Ok.ensures.ok, c.serve_commands.result, c.status_of.ensures, done.2, c.serve_commands.new.session, serves_from _ _ _ _ _ _ _ _ _ _ c.open-session.ensures done.7, done.8),
+      inl (c.in-Ok.lab, c.in-Ok.ensures.ok, c.serve_commands.result, c.status_of_commands_end.ensures, done.2, c.serve_commands.new.session, serves_from _ _ _ _ _ _ _ _ _ _ c.open-session.ensures done.7, done.8),
     )
 
 pub returns-in-Err : goal.returns-in-Err
 returns-in-Err g c = λ left before known held.
-    let sent = c.refuse.ensures before held in
+    let sent = c.write_image_refusal.ensures before held in
     (c.args.input.now.bytes, left, sent.0, refl, known, sent.1, inr (c.in-Err.fault, c.in-Err.ensures.err, sent.2, refl))

@@ -16,14 +16,14 @@ taken_none u e = ap (λ (v : UnreadInput). v.taken) e
 pub returns-in-Err : goal.returns-in-Err
 returns-in-Err g c = λ left before known held.
     let got = c.in-Err.ensures.err left known in
-    let sent = c.refuse.ensures before held in (
+    let sent = c.write_image_refusal.ensures before held in (
       got.0,
       got.1,
       sent.0,
       from_start c.new-input.result left (got.0 ++ got.1) c.new-input.ensures got.3,
       got.2,
       sent.1,
-      runs_refused g.S.Responder.answers g.S.Responder.refuses g.S.Responder.begin c.args.limit got.0 got.1 sent.0 memory_fault c.refuse.result (inl refl) sent.2,
+      runs_refused g.S.Responder.answers g.S.Responder.refuses g.S.Responder.begin c.args.limit got.0 got.1 sent.0 memory_fault c.write_image_refusal.result (inl refl) sent.2,
     )
 
 pub returns-in-Ok-Failed : goal.returns-in-Ok-Failed

@@ -13,8 +13,8 @@ returns-in_default c = carries_so c.refuse.result _ _ _ _ _ _ c.refuse.ensures (
 
 pub returns : goal.returns
 returns c =
-    let before = is_marked c.thread_marks-before.result in
-    let shown = shown_so c.args.program.now c.as_slice.result.now before c.as_slice.ensures.value c.thread_marks-before.ensures.marks in
+    let before = is_marked c.has_thread_by_node-before.result in
+    let shown = shown_so c.args.program.now c.as_slice.result.now before c.as_slice.ensures.value c.has_thread_by_node-before.ensures.marks in
     carries_so c.emit_rollback_with_retry.result _ _ _ _ _ _ c.emit_rollback_with_retry.ensures
     (λ messages told. (
       Some c.in-Some.node,

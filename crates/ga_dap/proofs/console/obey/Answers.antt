@@ -2,7 +2,7 @@ use Rattle.std.proofs.Common.{◌≡◌, ◌∙◌, Bool, List, ℕ, Some, ap, s
 use Rattle.std.specs.Prelude.{Option}
 use Rattle.ga_causal.specs.Dependence.{is_marked}
 use Rattle.ga_text.specs.Lines.{Text}
-use Rattle.ga_explorer.specs.Classes.{class_of_line}
+use Rattle.ga_explorer.specs.Classes.{command_class_of_line}
 use Rattle.ga_explorer.specs.declared.forms.CommandClass.{CommandClass}
 use Rattle.ga_dap.specs.Evaluating.{Commands, AreAnswerMessagesSince}
 use Rattle.ga_dap.specs.Telling.{is_change_done}
@@ -11,15 +11,15 @@ use Rattle.ga_dap.proofs.console.obey.Goals as goal
 
 pub returns-in-Ok-Some : goal.returns-in-Ok-Some
 returns-in-Ok-Some c =
-    let before = is_marked c.thread_marks-before.result in
-    let shown = shown_so c.args.program.now c.as_slice.result.now before c.as_slice.ensures.value c.thread_marks-before.ensures.marks in
+    let before = is_marked c.has_thread_by_node-before.result in
+    let shown = shown_so c.args.program.now c.as_slice.result.now before c.as_slice.ensures.value c.has_thread_by_node-before.ensures.marks in
     let told = rw c.in-Ok-Some.field-0-is at c.in-Ok-Some.ensures.told in
     let answer : List ℕ = c.in-Ok-Some.answer.items in
     let line : List ℕ = c.args.line.now in
-    let moved : c.is_change_done-moved.result ≡ is_change_done (class_of_line line) answer =
+    let moved : c.is_change_done-moved.result ≡ is_change_done (command_class_of_line line) answer =
     c.is_change_done-moved.ensures
-    ∙ ap (λ (z : Option CommandClass). is_change_done z c.as_slice-text.result.now) (c.class_of_line-class.ensures ∙ ap class_of_line c.as_bytes-bytes.ensures.value)
-    ∙ ap (is_change_done (class_of_line line)) c.as_slice-text.ensures.value in
+    ∙ ap (λ (z : Option CommandClass). is_change_done z c.as_slice-text.result.now) (c.command_class_of_line-class.ensures ∙ ap command_class_of_line c.as_bytes-bytes.ensures.value)
+    ∙ ap (is_change_done (command_class_of_line line)) c.as_slice-text.ensures.value in
     carries_so c.emit_command_with_retry.result _ _ _ _ _ _ c.emit_command_with_retry.ensures
     (λ messages success_response. (
       Some answer,

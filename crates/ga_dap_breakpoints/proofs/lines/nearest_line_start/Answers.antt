@@ -12,14 +12,14 @@ going-preserved c =
     let node = c.args.node in
     let at = ap (λ (z : NodeAtStep). z.step) c.slot_address_at-there.ensures.walk in
     record {
-      walk = has_step_so s node c.previous_place-before.result c.slot_address_at-there.new.walk c.slot_address_at-there.ensures.walk;
+      walk = has_step_so s node c.previous_step_place-before.result c.slot_address_at-there.new.walk c.slot_address_at-there.ensures.walk;
       order = omega (arith, at);
-      within = omega (arith, c.previous_place-before.ensures.within, c.going.invariant.within);
+      within = omega (arith, c.previous_step_place-before.ensures.within, c.going.invariant.within);
       spot = c.slot_address_at-there.ensures.spot;
       same = c.going.invariant.same
           ∙ began_before c.args.notes.now s node c.going.place c.going.left c.slot_address_at-there.result c.going.spot c.executed_op-op.result c.enters_line.result (omega arith) (omega arith)
-          (c.slot_address_at-there.ensures.spot ∙ ap (slot_address_after s node) c.previous_place-before.ensures.value) c.going.invariant.spot (c.executed_op-op.ensures ∙ ap executed_op c.made_event_of_step-told.ensures) c.enters_line.ensures c.if-enters_line.false
-          ∙ ap (λ z. nearest_line_start c.args.notes.now s node z (c.going.left - 1)) (sym c.previous_place-before.ensures.value);
+          (c.slot_address_at-there.ensures.spot ∙ ap (slot_address_after s node) c.previous_step_place-before.ensures.value) c.going.invariant.spot (c.executed_op-op.ensures ∙ ap executed_op c.made_event_of_step-told.ensures) c.enters_line.ensures c.if-enters_line.false
+          ∙ ap (λ z. nearest_line_start c.args.notes.now s node z (c.going.left - 1)) (sym c.previous_step_place-before.ensures.value);
     }
 
 pub returns-then-place-eq0 : goal.returns-then-place-eq0
@@ -31,7 +31,7 @@ returns-then-enters_line c =
     let node = c.args.node in
     sym (c.going.invariant.same
     ∙ began_here c.args.notes.now s node c.going.place c.going.left c.slot_address_at-there.result c.going.spot c.executed_op-op.result c.enters_line.result (omega arith) (omega arith)
-    (c.slot_address_at-there.ensures.spot ∙ ap (slot_address_after s node) c.previous_place-before.ensures.value) c.going.invariant.spot (c.executed_op-op.ensures ∙ ap executed_op c.made_event_of_step-told.ensures) c.enters_line.ensures c.if-enters_line.true)
+    (c.slot_address_at-there.ensures.spot ∙ ap (slot_address_after s node) c.previous_step_place-before.ensures.value) c.going.invariant.spot (c.executed_op-op.ensures ∙ ap executed_op c.made_event_of_step-told.ensures) c.enters_line.ensures c.if-enters_line.true)
 
 pub returns : goal.returns
 returns c = sym (c.going.invariant.same ∙ none_looked_at c.args.notes.now c.args.lab.now c.args.node c.going.place c.going.left (omega arith))

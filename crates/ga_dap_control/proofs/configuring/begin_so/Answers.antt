@@ -2,7 +2,7 @@ use Rattle.std.proofs.Common.{Bool, true, Some, None, [], ◌∷◌, codes, refl
 use Rattle.ga_dap_queries.specs.Sending.{Message}
 use Rattle.ga_dap_queries.proofs.Sent.{sent_one}
 use Rattle.ga_dap_control.specs.declared.execution.Execution.{Execution}
-use Rattle.ga_dap_control.specs.declared.execution.Goal.TheVariants.{Continue}
+use Rattle.ga_dap_control.specs.declared.execution.RunGoal.TheVariants.{Continue}
 use Rattle.ga_dap_control.specs.Configuring.{StopsOnEntryOrRuns}
 use Rattle.ga_dap_control.specs.Stopping.{stopped_message}
 use Rattle.ga_dap_control.proofs.configuring.begin_so.Goals as goal

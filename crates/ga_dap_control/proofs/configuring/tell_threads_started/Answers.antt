@@ -1,7 +1,7 @@
 use Rattle.std.proofs.Common.{false, replicate, subst}
 use Rattle.ga_causal.specs.Dependence.{is_marked}
 use Rattle.ga_causal.proofs.Oldest.{none_marked}
-use Rattle.ga_dap_queries.specs.Sending.{Messages, SendsAll}
+use Rattle.ga_dap_queries.specs.Sending.{Messages, SendsMessages}
 use Rattle.ga_dap_queries.proofs.Sent.{ok_then}
 use Rattle.ga_dap_control.proofs.Answered.{changed_alike}
 use Rattle.ga_dap_control.proofs.configuring.tell_threads_started.Goals as goal
@@ -11,6 +11,6 @@ returns c = ok_then c.emit_thread_changes.result c.emit_thread_changes.ensures
     (λ sent. (
       c.acknowledge.new.self,
       c.in_ok-acknowledge.ensures.sent,
-      subst (λ (z : Messages). SendsAll c.acknowledge.new.self z c.emit_thread_changes.new.out)
+      subst (λ (z : Messages). SendsMessages c.acknowledge.new.self z c.emit_thread_changes.new.out)
           (changed_alike (is_marked (replicate 144 false)) (λ n. false) (is_marked c.args.now.now) (none_marked 144) 144) sent,
     ))

@@ -1,10 +1,10 @@
 use Rattle.std.proofs.Common.{◌≡◌, ◌++◌, map, drop, flat_map}
-use Rattle.ga_debug_info.specs.Source.{label_address_content, program_label_names, all_label_names, cell_source_content, program_cell_sources, debug_info_of}
+use Rattle.ga_debug_info.specs.Source.{label_address_content, program_label_names, all_label_addresses, cell_source_content, program_cell_sources, debug_info_of}
 use Rattle.ga_debug_info.proofs.building.debug_info_of.Given as goal
 
 abbrev pub invariant-loop-program : goal.invariant-loop-program
 invariant-loop-program l = record {
   same : l.lines ≡ l.source;
-  labels : map label_address_content l.names.items ++ flat_map program_label_names (drop l.program-index l.programs) ≡ all_label_names l.programs;
+  labels : map label_address_content l.names.items ++ flat_map program_label_names (drop l.program-index l.programs) ≡ all_label_addresses l.programs;
   cells : map cell_source_content l.notes.items ++ flat_map (program_cell_sources l.source) (drop l.program-index l.programs) ≡ debug_info_of l.source l.programs;
 }

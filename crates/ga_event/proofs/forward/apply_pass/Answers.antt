@@ -4,7 +4,7 @@ use Rattle.ga_node.specs.State.{HasAtMostOneStatus}
 use Rattle.ga_node.specs.Record.{record_of}
 use Rattle.ga_node.specs.Table.{t, sent, send_changes, taken, take_changes}
 use Rattle.ga_node.specs.Saving.{IsUndoLog}
-use Rattle.ga_grid.specs.Chip.{nowhere, node_at, records_of, record_at}
+use Rattle.ga_grid.specs.Chip.{default_node, node_at, records_of, record_at}
 use Rattle.ga_event.specs.Apply.{is_transfer_ready}
 use Rattle.ga_event.proofs.Applied.{pass_applied, open_apart}
 use Rattle.ga_event.proofs.forward.apply_pass.Goals as goal
@@ -20,7 +20,7 @@ returns c =
     let other : w ≢ r = open_apart w r c.args.side _ _ open_ in
     let at_w : c.node_mut.result.now ≡ node_at c.args.chip.now w = c.node_mut.ensures.value in
     let at_r : c.node_mut-2.result.now ≡ node_at c.args.chip.now r =
-    c.node_mut-2.ensures.value ∙ get_or-set_other c.args.chip.now w r c.send_half_into-word.new.self nowhere (λ e. other (sym e)) in
+    c.node_mut-2.ensures.value ∙ get_or-set_other c.args.chip.now w r c.send_half_into-word.new.self default_node (λ e. other (sym e)) in
     pass_applied c.args.chip.now c.args.writer c.args.reader c.args.side c.send_half_into-word.new.self c.take_half_into.new.self c.send_half_into-word.result
     c.send_half_into-word.new.saved c.take_half_into.new.saved lw lr other open_
     (subst (λ z. c.send_half_into-word.result ≡ t (record_of z)) at_w c.send_half_into-word.ensures.word)

@@ -17,7 +17,7 @@ taken_none u e = ap (λ (v : UnreadInput). v.taken) e
 pub returns-in-Err-clause-begun : goal.returns-in-Err-clause-begun
 returns-in-Err-clause-begun g c = λ left before known held.
     let got = c.in-Err.ensures.err left known in
-    let sent = c.refuse.ensures before held in (
+    let sent = c.write_image_refusal.ensures before held in (
       got.1,
       sent.0,
       got.2,

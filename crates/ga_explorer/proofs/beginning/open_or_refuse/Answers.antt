@@ -8,7 +8,7 @@ returns-in-Ok g c = λ before held. ([], held ∙ ap Some (sym (append-nil befor
 
 pub returns-in-Err-Image : goal.returns-in-Err-Image
 returns-in-Err-Image g c = λ before held.
-    let sent = c.refuse.ensures before held in
+    let sent = c.write_image_refusal.ensures before held in
     let unopened = rw c.in-Err-Image.field-0-is at c.in-Err-Image.ensures.err in
     (sent.0, sent.1, (Image c.in-Err-Image.fault, unopened, sent.2))
 

@@ -2,7 +2,7 @@ use Rattle.std.specs.Prelude.{true}
 use Rattle.std.proofs.Common.{◌≡◌, sym, ◌∙◌, ap, subst, inl}
 use Rattle.ga_lab.specs.Machine.{State}
 use Rattle.ga_console.specs.Run.{IsOpenedOnImage}
-use Rattle.ga_image.specs.Given.{ranges_of}
+use Rattle.ga_image.specs.Given.{ranges_of_given_words}
 use Rattle.ga_explorer.specs.Opening.{ExplorerState, begins_as_image}
 use Rattle.ga_explorer.proofs.opening.open_alone.Goals as goal
 
@@ -19,6 +19,6 @@ returns-in-Ok-clause-ok g c =
         cells = c.of_image.ensures.notes;
         slots = c.of_image.ensures.words;
         expected = c.of_image.ensures.expectations;
-        gives = ap ranges_of c.of_image.ensures.given ∙ c.in-Ok.ensures.given;
+        gives = ap ranges_of_given_words c.of_image.ensures.given ∙ c.in-Ok.ensures.given;
       },
     )

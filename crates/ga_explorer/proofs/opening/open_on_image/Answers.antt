@@ -2,7 +2,7 @@ use Rattle.std.proofs.Common.{map, sym, ◌∙◌, ap, subst}
 use Rattle.ga_lab.specs.Machine.{State}
 use Rattle.ga_debug_info.specs.declared.notes.DebugInfo.{DebugInfo}
 use Rattle.ga_console.specs.Run.{IsOpenedOnImage}
-use Rattle.ga_image.specs.Given.{ranges_of}
+use Rattle.ga_image.specs.Given.{ranges_of_given_words}
 use Rattle.ga_debug_info.specs.Source.{label_address_content, cell_source_content}
 use Rattle.ga_debug_info.specs.Notes.{AreSlotWords}
 use Rattle.ga_parser.specs.Expectations.{expectation_content}
@@ -29,5 +29,5 @@ returns-in-Ok-clause-ok g c = record {
       expected = ap (λ (notes : DebugInfo). map expectation_content notes.expectations.items) c.with_words.ensures ∙ known.says.expected;
     };
   };
-  gives = ap (λ (notes : DebugInfo). ranges_of notes.given) c.with_words.ensures ∙ c.in-Ok.ensures.given;
+  gives = ap (λ (notes : DebugInfo). ranges_of_given_words notes.given) c.with_words.ensures ∙ c.in-Ok.ensures.given;
 }

@@ -2,9 +2,9 @@ use Rattle.std.proofs.Common.{ℕ, ◌-◌, List, [], ◌++◌, refl}
 use Rattle.std.specs.Prelude.{Result}
 use Rattle.ga_text.specs.declared.output.WriteError.{WriteError}
 use Rattle.ga_text.proofs.WriteLemmas.{at_err}
-use Rattle.ga_console.specs.Session.{ServesCommands, IsWrittenOrPrefix}
+use Rattle.ga_console.specs.Session.{ServesCommands, IsWholeOrPrefixOnWriteError}
 use Rattle.ga_console.specs.declared.commands.CommandsEnd.{CommandsEnd}
-use Rattle.ga_explorer.specs.Session.{prompt, AnswersWithPrompt, AnswersLast}
+use Rattle.ga_explorer.specs.Session.{prompt, AnswersWithPrompt, AnswersAndEndsSession}
 use Rattle.ga_explorer.proofs.Prompted.{serves_prompted, nothing_served, written_on, prefix_on}
 use Rattle.ga_explorer.proofs.prompting.serve_explorer.Goals as goal
 
@@ -21,11 +21,11 @@ returns-in_err-write_prompt-clause-serves g c = λ left before said known held.
       refl,
       known,
       told.held,
-      at_err (λ (r : Result CommandsEnd WriteError). ServesCommands (AnswersWithPrompt session.is_prompted session.explorer.is_strict) (AnswersLast session.explorer.is_strict)
+      at_err (λ (r : Result CommandsEnd WriteError). ServesCommands (AnswersWithPrompt session.is_prompted session.explorer.is_strict) (AnswersAndEndsSession session.explorer.is_strict)
           (16777216 - c.args.input.now.taken) session.explorer.explorer read left [] session.explorer.explorer r)
           c.from_residual.result c.from_residual.ensures.0
           (λ why. nothing_served session.is_prompted session.explorer.is_strict (16777216 - c.args.input.now.taken) session.explorer.explorer read left),
-      at_err (λ (r : Result CommandsEnd WriteError). IsWrittenOrPrefix r (said ++ (first ++ [])) told.sent) c.from_residual.result c.from_residual.ensures.0
+      at_err (λ (r : Result CommandsEnd WriteError). IsWholeOrPrefixOnWriteError r (said ++ (first ++ [])) told.sent) c.from_residual.result c.from_residual.ensures.0
           (λ why. prefix_on said first told.sent told.front),
     )
 

@@ -3,8 +3,8 @@ use Rattle.std.proofs.lemmas.List.{append-nil}
 use Rattle.ga_text.specs.Output.{ready}
 use Rattle.ga_console.specs.Session.{ServesCommands}
 use Rattle.ga_console.proofs.RunLemmas.{written_fresh}
-use Rattle.ga_explorer.specs.Opening.{IsLeadingText, ExplorerState}
-use Rattle.ga_explorer.specs.Session.{AnswersWithPrompt, AnswersLast}
+use Rattle.ga_explorer.specs.Opening.{IsTextBeforeCommands, ExplorerState}
+use Rattle.ga_explorer.specs.Session.{AnswersWithPrompt, AnswersAndEndsSession}
 use Rattle.ga_explorer.specs.Session.RunsExplorer.{served, unbegun}
 use Rattle.ga_explorer.proofs.session.explore.Goals as goal
 
@@ -17,7 +17,7 @@ returns-in-Ok g c = λ left before known held.
     let there = done.6 in
     let last = c.serve_explorer-ending.new.session.explorer.explorer in
     let Q : Bool → ExplorerState → ℕ → Type 0 = λ b e n.
-    ServesCommands (AnswersWithPrompt c.args.is_prompted b) (AnswersLast b) (16777216 - n) e done.0 done.1 done.2 last c.serve_explorer-ending.result in
+    ServesCommands (AnswersWithPrompt c.args.is_prompted b) (AnswersAndEndsSession b) (16777216 - n) e done.0 done.1 done.2 last c.serve_explorer-ending.result in
     let serves = subst (λ n. Q c.new.result.is_strict c.new.result.explorer n) begun.4.3 done.7 in
     let served_here = subst (λ b. Q b c.in-Ok.begun (length text)) c.new.ensures.strict (subst (λ e. Q c.new.result.is_strict e (length text)) c.new.ensures.explorer serves) in (
       text ++ done.0,
@@ -32,7 +32,7 @@ returns-in-Ok g c = λ left before known held.
         begun = c.in-Ok.begun;
         said = done.2;
         splits = refl;
-        front = subst (IsLeadingText text) done.4 begun.4.4;
+        front = subst (IsTextBeforeCommands text) done.4 begun.4.4;
         opens = begun.4.5;
         last = last;
         serves = served_here;

@@ -7,7 +7,7 @@ use Rattle.ga_console.specs.declared.responder.LineAction.{LineAction}
 use Rattle.ga_console.proofs.RunLemmas.{written_fresh}
 use Rattle.ga_console.proofs.Ending.{only_obeys}
 use Rattle.ga_explorer.specs.Answers.{AnswersExplorerLine}
-use Rattle.ga_explorer.specs.Session.{AnswersOn, AnswersLast}
+use Rattle.ga_explorer.specs.Session.{AnswersAndContinues, AnswersAndEndsSession}
 use Rattle.ga_explorer.proofs.StrictLemmas.{command_fails, command_result}
 use Rattle.ga_explorer.proofs.strict.obey_strictly.Goals as goal
 
@@ -20,7 +20,7 @@ returns-in_err-obey g c = (
       let begun : c.new-held.result.stream.now.items ≡ [] = cc in
       let done = c.in_err-obey.ensures.1 [] [] (written_fresh _ [] [] _ (ap Some begun) c.new-held.ensures.nothing) in (
         done.0,
-        at_err (λ (r : Result LineAction WriteError). ObeysCommand (AnswersOn true) (AnswersLast true) c.args.explorer.now c.args.command c.obey.new.self r done.0) c.from_residual.result c.from_residual.ensures.0
+        at_err (λ (r : Result LineAction WriteError). ObeysCommand (AnswersAndContinues true) (AnswersAndEndsSession true) c.args.explorer.now c.args.command c.obey.new.self r done.0) c.from_residual.result c.from_residual.ensures.0
             (λ why. command_fails c.args.explorer.now c.obey.new.self c.args.command done.0 (only_obeys AnswersExplorerLine c.args.explorer.now c.obey.new.self done.0 c.args.command done.1)),
         truncated_here c.from_residual.result _ before (said ++ done.0) _ c.from_residual.ensures.0 (truncated_more _ before said done.0 (said_cut _ before said _ h)),
       ),

@@ -1,5 +1,5 @@
 use Rattle.std.proofs.Common.{refl, subst, codes}
-use Rattle.ga_text.specs.Output.{WritesSome}
+use Rattle.ga_text.specs.Output.{WritesSomeText}
 use Rattle.ga_explorer.specs.inner.{explorer_state}
 use Rattle.ga_explorer.specs.declared.commands.Query.{Query}
 use Rattle.ga_explorer.specs.declared.commands.Query.TheVariants as query
@@ -23,14 +23,14 @@ pub returns-in-Words-clause-said : goal.returns-in-Words-clause-said
 returns-in-Words-clause-said g c = record {
   meant = query.Words c.in-Words.from c.in-Words.to;
   is = c.in-Words.is;
-  said = line_is g.W.Write.contents c.write_words_json.result c.args.writer.now c.write_words_json.new.writer (words_json c.args.lab.now c.in-Words.from c.in-Words.to) c.write_words_json.ensures;
+  said = line_is g.W.Write.contents c.write_link_words_json.result c.args.writer.now c.write_link_words_json.new.writer (words_json c.args.lab.now c.in-Words.from c.in-Words.to) c.write_link_words_json.ensures;
 }
 
 pub returns-in-Writes-clause-said : goal.returns-in-Writes-clause-said
 returns-in-Writes-clause-said g c = record {
   meant = query.Writes c.in-Writes.node c.in-Writes.address;
   is = c.in-Writes.is;
-  said = line_is g.W.Write.contents c.write_writes_json.result c.args.writer.now c.write_writes_json.new.writer (writes_json c.args.lab.now c.in-Writes.node c.in-Writes.address) c.write_writes_json.ensures;
+  said = line_is g.W.Write.contents c.write_cell_writes_json.result c.args.writer.now c.write_cell_writes_json.new.writer (writes_json c.args.lab.now c.in-Writes.node c.in-Writes.address) c.write_cell_writes_json.ensures;
 }
 
 pub returns-in-At-clause-said : goal.returns-in-At-clause-said
@@ -59,7 +59,7 @@ returns-in-Chip-clause-said g c =
     let e = explorer_state c.args.lab.now c.args.notes.now in record {
       meant = query.Chip;
       is = c.in-Chip.is;
-      said = subst (λ (q : Query). WritesSome c.write_query_text.result (IsJsonLine (IsQueryText (codes "chip") e q)) g.W.Write.contents c.args.writer.now c.write_query_text.new.writer)
+      said = subst (λ (q : Query). WritesSomeText c.write_query_text.result (IsJsonLine (IsQueryText (codes "chip") e q)) g.W.Write.contents c.args.writer.now c.write_query_text.new.writer)
           c.in-Chip.is c.write_query_text.ensures.said;
     }
 
@@ -68,7 +68,7 @@ returns-in-Save-clause-said g c =
     let e = explorer_state c.args.lab.now c.args.notes.now in record {
       meant = query.Save;
       is = c.in-Save.is;
-      said = subst (λ (q : Query). WritesSome c.write_query_text-in-Save.result (IsJsonLine (IsQueryText (codes "save") e q)) g.W.Write.contents c.args.writer.now c.write_query_text-in-Save.new.writer)
+      said = subst (λ (q : Query). WritesSomeText c.write_query_text-in-Save.result (IsJsonLine (IsQueryText (codes "save") e q)) g.W.Write.contents c.args.writer.now c.write_query_text-in-Save.new.writer)
           c.in-Save.is c.write_query_text-in-Save.ensures.said;
     }
 
@@ -77,7 +77,7 @@ returns-in-Help-clause-said g c =
     let e = explorer_state c.args.lab.now c.args.notes.now in record {
       meant = query.Help;
       is = c.in-Help.is;
-      said = subst (λ (q : Query). WritesSome c.write_query_text-in-Help.result (IsJsonLine (IsQueryText (codes "help") e q)) g.W.Write.contents c.args.writer.now c.write_query_text-in-Help.new.writer)
+      said = subst (λ (q : Query). WritesSomeText c.write_query_text-in-Help.result (IsJsonLine (IsQueryText (codes "help") e q)) g.W.Write.contents c.args.writer.now c.write_query_text-in-Help.new.writer)
           c.in-Help.is c.write_query_text-in-Help.ensures.said;
     }
 
@@ -86,6 +86,6 @@ returns-in-HelpOf-clause-said g c =
     let e = explorer_state c.args.lab.now c.args.notes.now in record {
       meant = (query.HelpOf c.in-HelpOf.field-0);
       is = c.in-HelpOf.is;
-      said = subst (λ (q : Query). WritesSome c.write_query_text-in-HelpOf.result (IsJsonLine (IsQueryText (codes "help") e q)) g.W.Write.contents c.args.writer.now c.write_query_text-in-HelpOf.new.writer)
+      said = subst (λ (q : Query). WritesSomeText c.write_query_text-in-HelpOf.result (IsJsonLine (IsQueryText (codes "help") e q)) g.W.Write.contents c.args.writer.now c.write_query_text-in-HelpOf.new.writer)
           c.in-HelpOf.is c.write_query_text-in-HelpOf.ensures.said;
     }

@@ -1,10 +1,10 @@
 use Rattle.std.proofs.Common.{length, refl, codes, ap}
-use Rattle.ga_scheduler.specs.Backward.{find_newest_holding, removed_event_count}
+use Rattle.ga_scheduler.specs.Backward.{find_newest_matching_event, removed_event_count}
 use Rattle.ga_json.specs.Compact.{json_line}
 use Rattle.ga_explorer.specs.inner.{explorer_state}
 use Rattle.ga_explorer.specs.declared.commands.ExplorerCommand.TheVariants as command
 use Rattle.ga_explorer_json.specs.Answers.{AnswersExplorerJson}
-use Rattle.ga_explorer_json.specs.Changes.{run_json, removed_json}
+use Rattle.ga_explorer_json.specs.Changes.{run_json, removed_events_json}
 use Rattle.ga_explorer_json.proofs.Answering.{exact_as, explored_as, queried, run_told, back_told}
 use Rattle.ga_explorer_json.proofs.answers.explore_for_json.Goals as goal
 
@@ -30,7 +30,7 @@ returns-in-BackUntil g c =
     let meant = command.BackUntil only c.in-BackUntil.until in
     explored_as g.W.Write.contents c.write_back_until_json.result c.args.writer.now c.write_back_until_json.new.writer e c.args.asked meant now c.in-BackUntil.is
     (exact_as g.W.Write.contents c.write_back_until_json.result c.args.writer.now c.write_back_until_json.new.writer (λ text. AnswersExplorerJson e meant text now)
-    (json_line (removed_json (codes "back") (removed_event_count only s (find_newest_holding watched only s)) (length now.lab.kept)))
+    (json_line (removed_events_json (codes "back") (removed_event_count only s (find_newest_matching_event watched only s)) (length now.lab.kept)))
     (back_told s c.args.notes.now only c.in-BackUntil.until watched c.write_back_until_json.new.lab c.active_conditions.ensures.asked c.write_back_until_json.ensures.state)
     c.write_back_until_json.ensures.said)
 

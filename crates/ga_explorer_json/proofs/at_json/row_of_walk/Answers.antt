@@ -1,7 +1,7 @@
 use Rattle.std.proofs.Common.{Some, ap, ◌∙◌}
 use Rattle.std.specs.Prelude.{option_map}
 use Rattle.ga_node.specs.Record.{NodeRecord, record_of}
-use Rattle.ga_provenance.specs.Origins.{node_after}
+use Rattle.ga_provenance.specs.Origins.{node_after_steps}
 use Rattle.ga_provenance.proofs.Made.{stood_of}
 use Rattle.ga_explorer_json.specs.Around.{numbered_step_json}
 use Rattle.ga_explorer_json.proofs.at_json.row_of_walk.Goals as goal
@@ -15,8 +15,8 @@ returns-in-Some c =
     let after = stood_of s c.args.node c.args.there.now step (record_of c.node.result.now) c.requires.walk c.requires.within c.node.ensures in
     ap Some c.step_row.ensures
     ∙ ap (λ (z : NodeRecord). Some (numbered_step_json step z made)) after
-    ∙ ap (option_map (numbered_step_json step (node_after s n step))) c.in-Some.ensures
+    ∙ ap (option_map (numbered_step_json step (node_after_steps s n step))) c.in-Some.ensures
 
 pub returns-in-None : goal.returns-in-None
 returns-in-None c =
-    ap (option_map (numbered_step_json c.args.step (node_after c.args.lab.now c.args.node.number c.args.step))) c.in-None.ensures
+    ap (option_map (numbered_step_json c.args.step (node_after_steps c.args.lab.now c.args.node.number c.args.step))) c.in-None.ensures

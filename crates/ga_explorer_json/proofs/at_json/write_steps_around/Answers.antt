@@ -1,7 +1,7 @@
 use Rattle.std.proofs.Common.{◌≡◌, ℕ, ◌+◌, ◌-◌, min, ap, ◌∙◌, arith}
 use Rattle.ga_event.specs.Told.{count_steps}
 use Rattle.ga_lab.specs.Machine.{NodeAtStep}
-use Rattle.ga_explorer_json.specs.Around.{step_rows, at_fields, rows_around}
+use Rattle.ga_explorer_json.specs.Around.{step_rows, at_answer_fields, step_rows_around}
 use Rattle.ga_explorer_json.proofs.Writing.{report_as}
 use Rattle.ga_explorer_json.proofs.at_json.write_steps_around.Goals as goal
 
@@ -15,7 +15,7 @@ returns g c =
     let first : place ≡ c.args.step - 1 - c.args.around = omega (arith, c.saturating_sub.ensures) in
     let last : near.step ≡ min (c.args.step + c.args.around) count =
     ap (λ (z : NodeAtStep). z.step) c.walk.ensures ∙ omega (arith, c.saturating_add.ensures, c.min-last.ensures, c.steps.ensures.steps, c.steps.type_inv) in
-    report_as g.W.Write.contents c.write_report.result c.args.writer.now c.write_report.new.writer c.at_fields-head.result
-    (at_fields c.args.node c.args.step) (step_rows s n place (near.step - place)) (rows_around s c.args.node c.args.step c.args.around) c.at_fields-head.ensures
+    report_as g.W.Write.contents c.write_report.result c.args.writer.now c.write_report.new.writer c.at_answer_fields-head.result
+    (at_answer_fields c.args.node c.args.step) (step_rows s n place (near.step - place)) (step_rows_around s c.args.node c.args.step c.args.around) c.at_answer_fields-head.ensures
     (ap (λ (z : ℕ). step_rows s n z (near.step - z)) first ∙ ap (λ (z : ℕ). step_rows s n (c.args.step - 1 - c.args.around) (z - (c.args.step - 1 - c.args.around))) last)
     c.write_report.ensures

@@ -3,11 +3,11 @@ use Rattle.std.specs.Prelude.{Result}
 use Rattle.ga_text.specs.declared.output.WriteError.{WriteError}
 use Rattle.ga_text.proofs.WriteLemmas.{at_err}
 use Rattle.ga_json.specs.Compact.{json_line}
-use Rattle.ga_console.specs.Session.{ServesCommandsBy, IsWrittenOrPrefix}
+use Rattle.ga_console.specs.Session.{ServesCommandsBy, IsWholeOrPrefixOnWriteError}
 use Rattle.ga_console.specs.declared.commands.CommandsEnd.{CommandsEnd}
 use Rattle.ga_explorer.specs.inner.{explorer_state}
 use Rattle.ga_explorer.proofs.Prompted.{written_on, prefix_on}
-use Rattle.ga_explorer_json.specs.Session.{ready_json, limit_refusal_line, JsonOn, JsonLast}
+use Rattle.ga_explorer_json.specs.Session.{ready_json, limit_refusal_line, AnswersJsonAndContinues, AnswersJsonAndEndsSession}
 use Rattle.ga_explorer_json.proofs.Turns.{GoesOn, EndsThere, serves_objects, nothing_served}
 use Rattle.ga_explorer_json.proofs.session.serve_objects.Goals as goal
 
@@ -25,11 +25,11 @@ returns-in_err-write_ready-clause-serves g c = λ left before said known held.
       refl,
       known,
       told.held,
-      at_err (λ (r : Result CommandsEnd WriteError). ServesCommandsBy limit_refusal_line (JsonOn session.is_strict) (JsonLast session.is_strict)
+      at_err (λ (r : Result CommandsEnd WriteError). ServesCommandsBy limit_refusal_line (AnswersJsonAndContinues session.is_strict) (AnswersJsonAndEndsSession session.is_strict)
           (16777216 - c.args.input.now.taken) e read left [] e r)
           c.from_residual.result c.from_residual.ensures.0
           (λ why. nothing_served session.is_strict (16777216 - c.args.input.now.taken) e read left),
-      at_err (λ (r : Result CommandsEnd WriteError). IsWrittenOrPrefix r (said ++ (first ++ [])) told.sent) c.from_residual.result c.from_residual.ensures.0
+      at_err (λ (r : Result CommandsEnd WriteError). IsWholeOrPrefixOnWriteError r (said ++ (first ++ [])) told.sent) c.from_residual.result c.from_residual.ensures.0
           (λ why. prefix_on said first told.sent told.front),
     )
 

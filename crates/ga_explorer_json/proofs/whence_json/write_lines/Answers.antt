@@ -1,8 +1,8 @@
 use Rattle.std.proofs.Common.{◌≡◌, ◌≤◌, length, false, Some, codes, ◌∙◌, refl, inl, arith}
 use Rattle.ga_lab.specs.declared.fault.LabFault.TheVariants.{Memory}
-use Rattle.ga_explorer_text.specs.Whence.{most_lines}
+use Rattle.ga_explorer_text.specs.Whence.{last_written_line}
 use Rattle.ga_explorer_json.specs.Refusals.{lab_refusal_json}
-use Rattle.ga_explorer_json.specs.Whence.{lines_json, IsValueJson}
+use Rattle.ga_explorer_json.specs.Whence.{provenance_lines_json, IsValueJson}
 use Rattle.ga_explorer_json.proofs.Whence.{lines_found}
 use Rattle.ga_explorer_json.proofs.Writing.{line_of}
 use Rattle.ga_explorer_json.proofs.whence_json.write_lines.Goals as goal
@@ -13,11 +13,11 @@ returns-in-Ok g c =
     let query = c.args.query in
     let found = c.in-Ok.found in
     let lines = c.as_slice-lines.result.now in
-    let most : length found.lines.items ≤ most_lines query.first = omega (arith, c.in-Ok.ensures.most, c.most_lines-most.ensures) in
+    let most : length found.lines.items ≤ last_written_line query.first = omega (arith, c.in-Ok.ensures.most, c.last_written_line-most.ensures) in
     line_of g.W.Write.contents c.write_listed_lines.result c.args.writer.now c.write_listed_lines.new.writer (IsValueJson s query.node query.step query.first (Some c.args.value))
-    (lines_json s query.node query.step query.first c.args.value lines found.is_whole)
+    (provenance_lines_json s query.node query.step query.first c.args.value lines found.is_whole)
     (lines_found s query.node query.step query.first c.args.value found.lines.items lines found.is_whole c.as_slice-lines.ensures.value c.in-Ok.ensures.lines most
-    (λ (e : found.is_whole ≡ false). c.in-Ok.ensures.cut e ∙ c.most_lines-most.ensures))
+    (λ (e : found.is_whole ≡ false). c.in-Ok.ensures.cut e ∙ c.last_written_line-most.ensures))
     c.write_listed_lines.ensures
 
 pub returns-in-Err : goal.returns-in-Err

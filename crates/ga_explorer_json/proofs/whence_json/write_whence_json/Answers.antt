@@ -5,7 +5,7 @@ use Rattle.ga_lab.specs.declared.fault.LabFault.TheVariants.{NoStep}
 use Rattle.ga_provenance.proofs.Made.{has_step_so}
 use Rattle.ga_explorer_text.specs.Whence.{selected_value}
 use Rattle.ga_explorer_json.specs.Refusals.{step_refusal_json}
-use Rattle.ga_explorer_json.specs.Whence.{no_lines_json, IsValueJson, IsWhenceJson}
+use Rattle.ga_explorer_json.specs.Whence.{no_provenance_lines_json, IsValueJson, IsWhenceJson}
 use Rattle.ga_explorer_json.proofs.Refusals.{counted}
 use Rattle.ga_explorer_json.proofs.Whence.{whence_nowhere, whence_here}
 use Rattle.ga_explorer_json.proofs.Writing.{answer_as, line_of, line_as}
@@ -44,6 +44,6 @@ returns-in-None g c =
     let part = c.args.part in
     let first = c.args.first in
     let at : c.walk-near.result.step ≡ step = ap (λ (z : NodeAtStep). z.step) c.walk-near.ensures in
-    line_of g.W.Write.contents c.write_no_lines.result c.args.writer.now c.write_no_lines.new.writer (IsWhenceJson s node step part first) (no_lines_json node step first)
-    (whence_here s node step part first None (no_lines_json node step first) (sym c.has_step.ensures.value ∙ c.if-not-has_step.false)
+    line_of g.W.Write.contents c.write_no_lines.result c.args.writer.now c.write_no_lines.new.writer (IsWhenceJson s node step part first) (no_provenance_lines_json node step first)
+    (whence_here s node step part first None (no_provenance_lines_json node step first) (sym c.has_step.ensures.value ∙ c.if-not-has_step.false)
     (c.in-None.ensures.value ∙ ap (λ (k : ℕ). selected_value s node k part) at) refl) c.write_no_lines.ensures

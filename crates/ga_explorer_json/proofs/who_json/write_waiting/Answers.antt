@@ -17,5 +17,5 @@ returns g c =
     report_as g.W.Write.contents c.write_report.result c.args.writer.now c.write_report.new.writer c.who_fields-head.result
     (who_fields (node_count idle 144) (node_count (λ n. marks n && idle n) 144)) rows rows
     (c.who_fields-head.ensures
-    ∙ ap (λ (z : ℕ). who_fields z c.idle_among.result) c.idle_count.ensures
-    ∙ ap (who_fields (node_count idle 144)) c.idle_among.ensures) refl c.write_report.ensures
+    ∙ ap (λ (z : ℕ). who_fields z c.count_idle_marked_nodes.result) c.idle_count.ensures
+    ∙ ap (who_fields (node_count idle 144)) c.count_idle_marked_nodes.ensures) refl c.write_report.ensures

@@ -1,6 +1,6 @@
 use Rattle.ga_grid.specs.Chip.{records_of}
 use Rattle.ga_causal.specs.Dependence.{is_marked}
-use Rattle.ga_explorer_text.specs.Ended.{ended_but}
+use Rattle.ga_explorer_text.specs.Ended.{is_not_live}
 use Rattle.ga_explorer_json.specs.Who.{who_json, IsWhoJson}
 use Rattle.ga_explorer_json.proofs.Who.{who_found}
 use Rattle.ga_explorer_json.proofs.Writing.{line_of}
@@ -11,9 +11,9 @@ returns g c =
     let s = c.args.lab.now in
     let chip = records_of c.chip-chip.result.now in
     let marks = is_marked c.find_deadlocked-stuck.result in
-    let over = is_marked c.ended_among-ended.result in
-    let idle = is_marked c.find_idle-idle.result in
+    let over = is_marked c.find_ended_marked_nodes-ended.result in
+    let idle = is_marked c.find_idle_nodes-idle.result in
     line_of g.W.Write.contents c.write_waiting.result c.args.writer.now c.write_waiting.new.writer (IsWhoJson s) (who_json chip marks over idle)
-    (who_found s chip marks (ended_but c.find_live.result) over idle c.chip-chip.ensures.value c.find_deadlocked-stuck.ensures.stuck c.find_deadlocked-stuck.ensures.greatest
-    c.find_live.ensures.ended c.ended_among-ended.ensures c.find_idle-idle.ensures)
+    (who_found s chip marks (is_not_live c.find_live_nodes.result) over idle c.chip-chip.ensures.value c.find_deadlocked-stuck.ensures.stuck c.find_deadlocked-stuck.ensures.greatest
+    c.find_live_nodes.ensures.ended c.find_ended_marked_nodes-ended.ensures c.find_idle_nodes-idle.ensures)
     c.write_waiting.ensures

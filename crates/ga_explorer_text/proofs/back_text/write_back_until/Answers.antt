@@ -1,6 +1,6 @@
 use Rattle.std.proofs.Common.{rules, ap, ◌∙◌, length, ℕ}
 use Rattle.std.specs.Prelude.{Option, codes}
-use Rattle.ga_display.specs.Texts.{removed_text}
+use Rattle.ga_display.specs.Texts.{removed_events_text}
 use Rattle.ga_explorer_text.specs.Texts.{back_text}
 use Rattle.ga_explorer_text.proofs.back_text.write_back_until.Goals as goal
 
@@ -8,9 +8,9 @@ pub returns-in-Some-clause-said : goal.returns-in-Some-clause-said
 returns-in-Some-clause-said g c = (
   search rules,
   λ before said h. (
-    removed_text c.in-Some.gone c.counts.result.kept,
-    ap (λ (z : ℕ). removed_text c.in-Some.gone z) c.counts.ensures.kept ∙ ap (λ (o : Option ℕ). back_text o (length c.back_until.new.lab.kept)) c.in-Some.ensures.gone,
-    c.write_removed.ensures.1 before said h,
+    removed_events_text c.in-Some.gone c.counts.result.kept,
+    ap (λ (z : ℕ). removed_events_text c.in-Some.gone z) c.counts.ensures.kept ∙ ap (λ (o : Option ℕ). back_text o (length c.back_until.new.lab.kept)) c.in-Some.ensures.gone,
+    c.write_removed_events.ensures.1 before said h,
   ),
 )
 

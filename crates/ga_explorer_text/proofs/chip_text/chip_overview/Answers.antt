@@ -1,5 +1,5 @@
 use Rattle.std.proofs.Common.{◌-◌, ◌++◌, List, ℕ, ap, arith, rules}
-use Rattle.ga_explorer_text.specs.Texts.{rows_text}
+use Rattle.ga_explorer_text.specs.Texts.{chip_rows_text}
 use Rattle.ga_explorer_text.proofs.Rows.{next_row, all_rows}
 use Rattle.ga_explorer_text.proofs.chip_text.chip_overview.Goals as goal
 
@@ -7,7 +7,7 @@ pub rows-init : goal.rows-init
 rows-init c = record {
   row = search rules;
   len = search rules;
-  text = ap (λ (z : List ℕ). z ++ rows_text c.args.lab.now 8) c.new-out.ensures;
+  text = ap (λ (z : List ℕ). z ++ chip_rows_text c.args.lab.now 8) c.new-out.ensures;
 }
 
 pub rows-preserved : goal.rows-preserved

@@ -1,7 +1,7 @@
 use Rattle.std.proofs.Common.{rules, ℕ, List, ◌++◌, refl, ap, ◌∙◌, arith}
 use Rattle.std.specs.Prelude.{flat_map}
 use Rattle.ga_text.proofs.WriteLemmas.{truncated_here, truncated_within}
-use Rattle.ga_explorer_text.specs.Effects.{effect_text, effects_text}
+use Rattle.ga_explorer_text.specs.Effects.{rollback_effect_text, effects_text}
 use Rattle.ga_explorer_text.proofs.Saying.{line_written, line_truncated, all_said, rest_lines, no_lines}
 use Rattle.ga_explorer_text.proofs.effects_text.say_nodes.Goals as goal
 
@@ -14,8 +14,8 @@ returns-in_err-write_blocks g c = (
         whole,
         refl,
         truncated_here c.from_residual.result _ before (said ++ whole) _ c.from_residual.ensures.0
-            (truncated_within _ before said c.as_slice.result.now (flat_map (effect_text c.args.notes.now c.args.lab.now) nodes) whole
-            (ap (λ (z : List ℕ). z ++ flat_map (effect_text c.args.notes.now c.args.lab.now) nodes) (c.as_slice.ensures.value ∙ c.head_line.ensures)) (c.in_err-write_blocks.ensures.1 before said h)),
+            (truncated_within _ before said c.as_slice.result.now (flat_map (rollback_effect_text c.args.notes.now c.args.lab.now) nodes) whole
+            (ap (λ (z : List ℕ). z ++ flat_map (rollback_effect_text c.args.notes.now c.args.lab.now) nodes) (c.as_slice.ensures.value ∙ c.head_line.ensures)) (c.in_err-write_blocks.ensures.1 before said h)),
       ),
 )
 
@@ -25,7 +25,7 @@ nodes-init g c = (
   λ before said h.
       let nodes = c.args.nodes.now in record {
         front = c.as_slice.result.now;
-        splits = ap (λ (z : List ℕ). z ++ flat_map (effect_text c.args.notes.now c.args.lab.now) nodes) (c.as_slice.ensures.value ∙ c.head_line.ensures);
+        splits = ap (λ (z : List ℕ). z ++ flat_map (rollback_effect_text c.args.notes.now c.args.lab.now) nodes) (c.as_slice.ensures.value ∙ c.head_line.ensures);
         is_said = c.in_ok-write_blocks.ensures.1 before said h;
       },
 )
@@ -38,8 +38,8 @@ returns-in_err-say_effect g c = (
       let whole : List ℕ = effects_text c.args.notes.now c.args.lab.now c.args.events nodes in
       let i : ℕ = c.nodes.effect-index in
       let done = c.nodes.invariant.1 before said h in
-      let text = effect_text c.args.notes.now c.args.lab.now c.effect-item.result in
-      let more = rest_lines (effect_text c.args.notes.now c.args.lab.now) nodes i c.effect-item.result text (omega arith) (ap (effect_text c.args.notes.now c.args.lab.now) c.effect-item.is) in (
+      let text = rollback_effect_text c.args.notes.now c.args.lab.now c.effect-item.result in
+      let more = rest_lines (rollback_effect_text c.args.notes.now c.args.lab.now) nodes i c.effect-item.result text (omega arith) (ap (rollback_effect_text c.args.notes.now c.args.lab.now) c.effect-item.is) in (
         whole,
         refl,
         truncated_here c.from_residual-in_err-say_effect.result _ before (said ++ whole) _ c.from_residual-in_err-say_effect.ensures.0
@@ -54,8 +54,8 @@ nodes-preserved g c = (
       let nodes = c.args.nodes.now in
       let i : ℕ = c.nodes.effect-index in
       let done = c.nodes.invariant.1 before said h in
-      let text = effect_text c.args.notes.now c.args.lab.now c.effect-item.result in
-      let more = rest_lines (effect_text c.args.notes.now c.args.lab.now) nodes i c.effect-item.result text (omega arith) (ap (effect_text c.args.notes.now c.args.lab.now) c.effect-item.is) in
+      let text = rollback_effect_text c.args.notes.now c.args.lab.now c.effect-item.result in
+      let more = rest_lines (rollback_effect_text c.args.notes.now c.args.lab.now) nodes i c.effect-item.result text (omega arith) (ap (rollback_effect_text c.args.notes.now c.args.lab.now) c.effect-item.is) in
       line_written _ before said (effects_text c.args.notes.now c.args.lab.now c.args.events nodes) _ text _ done.front _ more done.splits
       (c.in_ok-say_effect.ensures.1 before (said ++ done.front) done.is_said),
 )
@@ -68,6 +68,6 @@ returns g c = (
       let whole : List ℕ = effects_text c.args.notes.now c.args.lab.now c.args.events nodes in (
         whole,
         refl,
-        all_said _ before said whole _ _ (no_lines (effect_text c.args.notes.now c.args.lab.now) nodes c.nodes.effect-index (omega arith)) (c.nodes.invariant.1 before said h),
+        all_said _ before said whole _ _ (no_lines (rollback_effect_text c.args.notes.now c.args.lab.now) nodes c.nodes.effect-index (omega arith)) (c.nodes.invariant.1 before said h),
       ),
 )

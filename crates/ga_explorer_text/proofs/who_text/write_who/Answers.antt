@@ -2,7 +2,7 @@ use Rattle.std.proofs.Common.{rules, ℕ, List, ◌++◌, refl, ◌∙◌}
 use Rattle.ga_grid.specs.Chip.{records_of}
 use Rattle.ga_causal.specs.Dependence.{is_marked}
 use Rattle.ga_text.proofs.WriteLemmas.{truncated_here, truncated_within, cut_assoc, said_assoc}
-use Rattle.ga_explorer_text.specs.Ended.{ended_but}
+use Rattle.ga_explorer_text.specs.Ended.{is_not_live}
 use Rattle.ga_explorer_text.specs.Waiting.{stuck_text, wait_cycles_text, ended_and_idle_text}
 use Rattle.ga_explorer_text.proofs.Saying.{joined_written, who_told}
 use Rattle.ga_explorer_text.proofs.who_text.write_who.Goals as goal
@@ -14,14 +14,14 @@ returns-in_err-say_waiting g c = (
       let done = c.in_err-say_waiting.ensures.1 before said h in
       let chip = records_of c.chip-chip.result.now in
       let marks = is_marked c.find_deadlocked-stuck.result in
-      let over = is_marked c.ended_among-ended.result in
-      let idle = is_marked c.find_idle-idle.result in
+      let over = is_marked c.find_ended_marked_nodes-ended.result in
+      let idle = is_marked c.find_idle_nodes-idle.result in
       let second : List ℕ = stuck_text marks over idle in
       let third : List ℕ = wait_cycles_text chip marks in
       let last : List ℕ = ended_and_idle_text over idle in (
         done.0 ++ second ++ third ++ last,
-        who_told c.args.lab.now chip marks (ended_but c.find_live.result) over idle done.0 second third last c.chip-chip.ensures.value c.find_deadlocked-stuck.ensures.stuck c.find_deadlocked-stuck.ensures.greatest
-            c.find_live.ensures.ended c.ended_among-ended.ensures c.find_idle-idle.ensures done.1 refl refl refl,
+        who_told c.args.lab.now chip marks (is_not_live c.find_live_nodes.result) over idle done.0 second third last c.chip-chip.ensures.value c.find_deadlocked-stuck.ensures.stuck c.find_deadlocked-stuck.ensures.greatest
+            c.find_live_nodes.ensures.ended c.find_ended_marked_nodes-ended.ensures c.find_idle_nodes-idle.ensures done.1 refl refl refl,
         truncated_here c.from_residual.result _ before (said ++ (done.0 ++ second ++ third ++ last)) _ c.from_residual.ensures.0
             (truncated_within _ before said (done.0 ++ second ++ third) last (done.0 ++ second ++ third ++ last) refl
             (truncated_within _ before said (done.0 ++ second) third (done.0 ++ second ++ third) refl
@@ -36,14 +36,14 @@ returns-in_err-write_blocks g c = (
       let done = c.in_ok-say_waiting.ensures.1 before said h in
       let chip = records_of c.chip-chip.result.now in
       let marks = is_marked c.find_deadlocked-stuck.result in
-      let over = is_marked c.ended_among-ended.result in
-      let idle = is_marked c.find_idle-idle.result in
+      let over = is_marked c.find_ended_marked_nodes-ended.result in
+      let idle = is_marked c.find_idle_nodes-idle.result in
       let second = c.as_slice.result.now in
       let third : List ℕ = wait_cycles_text chip marks in
       let last : List ℕ = ended_and_idle_text over idle in (
         done.0 ++ second ++ third ++ last,
-        who_told c.args.lab.now chip marks (ended_but c.find_live.result) over idle done.0 second third last c.chip-chip.ensures.value c.find_deadlocked-stuck.ensures.stuck c.find_deadlocked-stuck.ensures.greatest
-            c.find_live.ensures.ended c.ended_among-ended.ensures c.find_idle-idle.ensures done.1 (c.as_slice.ensures.value ∙ c.stuck_line.ensures) refl refl,
+        who_told c.args.lab.now chip marks (is_not_live c.find_live_nodes.result) over idle done.0 second third last c.chip-chip.ensures.value c.find_deadlocked-stuck.ensures.stuck c.find_deadlocked-stuck.ensures.greatest
+            c.find_live_nodes.ensures.ended c.find_ended_marked_nodes-ended.ensures c.find_idle_nodes-idle.ensures done.1 (c.as_slice.ensures.value ∙ c.stuck_line.ensures) refl refl,
         truncated_here c.from_residual-in_err-write_blocks.result _ before (said ++ (done.0 ++ second ++ third ++ last)) _ c.from_residual-in_err-write_blocks.ensures.0
             (truncated_within _ before said (done.0 ++ second ++ third) last (done.0 ++ second ++ third ++ last) refl
             (truncated_within _ before said (done.0 ++ second) third (done.0 ++ second ++ third) refl
@@ -58,15 +58,15 @@ returns-in_err-write_wait_cycles g c = (
       let done = c.in_ok-say_waiting.ensures.1 before said h in
       let chip = records_of c.chip-chip.result.now in
       let marks = is_marked c.find_deadlocked-stuck.result in
-      let over = is_marked c.ended_among-ended.result in
-      let idle = is_marked c.find_idle-idle.result in
+      let over = is_marked c.find_ended_marked_nodes-ended.result in
+      let idle = is_marked c.find_idle_nodes-idle.result in
       let second = c.as_slice.result.now in
       let both = said_assoc _ before said done.0 second _ (c.in_ok-write_blocks.ensures.1 before (said ++ done.0) done.2) in
       let third = c.in_err-write_wait_cycles.ensures.1 before (said ++ (done.0 ++ second)) both in
       let last : List ℕ = ended_and_idle_text over idle in (
         done.0 ++ second ++ third.0 ++ last,
-        who_told c.args.lab.now chip marks (ended_but c.find_live.result) over idle done.0 second third.0 last c.chip-chip.ensures.value c.find_deadlocked-stuck.ensures.stuck c.find_deadlocked-stuck.ensures.greatest
-            c.find_live.ensures.ended c.ended_among-ended.ensures c.find_idle-idle.ensures done.1 (c.as_slice.ensures.value ∙ c.stuck_line.ensures) third.1 refl,
+        who_told c.args.lab.now chip marks (is_not_live c.find_live_nodes.result) over idle done.0 second third.0 last c.chip-chip.ensures.value c.find_deadlocked-stuck.ensures.stuck c.find_deadlocked-stuck.ensures.greatest
+            c.find_live_nodes.ensures.ended c.find_ended_marked_nodes-ended.ensures c.find_idle_nodes-idle.ensures done.1 (c.as_slice.ensures.value ∙ c.stuck_line.ensures) third.1 refl,
         truncated_here c.from_residual-in_err-write_wait_cycles.result _ before (said ++ (done.0 ++ second ++ third.0 ++ last)) _ c.from_residual-in_err-write_wait_cycles.ensures.0
             (truncated_within _ before said (done.0 ++ second ++ third.0) last (done.0 ++ second ++ third.0 ++ last) refl
             (cut_assoc _ before said (done.0 ++ second) third.0 third.2)),
@@ -80,16 +80,16 @@ returns g c = (
       let done = c.in_ok-say_waiting.ensures.1 before said h in
       let chip = records_of c.chip-chip.result.now in
       let marks = is_marked c.find_deadlocked-stuck.result in
-      let over = is_marked c.ended_among-ended.result in
-      let idle = is_marked c.find_idle-idle.result in
+      let over = is_marked c.find_ended_marked_nodes-ended.result in
+      let idle = is_marked c.find_idle_nodes-idle.result in
       let second = c.as_slice.result.now in
       let both = said_assoc _ before said done.0 second _ (c.in_ok-write_blocks.ensures.1 before (said ++ done.0) done.2) in
       let third = c.in_ok-write_wait_cycles.ensures.1 before (said ++ (done.0 ++ second)) both in
       let all = said_assoc _ before said (done.0 ++ second) third.0 _ third.2 in
       let last = c.as_slice-2.result.now in (
         done.0 ++ second ++ third.0 ++ last,
-        who_told c.args.lab.now chip marks (ended_but c.find_live.result) over idle done.0 second third.0 last c.chip-chip.ensures.value c.find_deadlocked-stuck.ensures.stuck c.find_deadlocked-stuck.ensures.greatest
-            c.find_live.ensures.ended c.ended_among-ended.ensures c.find_idle-idle.ensures done.1 (c.as_slice.ensures.value ∙ c.stuck_line.ensures) third.1 (c.as_slice-2.ensures.value ∙ c.rest_lines.ensures),
+        who_told c.args.lab.now chip marks (is_not_live c.find_live_nodes.result) over idle done.0 second third.0 last c.chip-chip.ensures.value c.find_deadlocked-stuck.ensures.stuck c.find_deadlocked-stuck.ensures.greatest
+            c.find_live_nodes.ensures.ended c.find_ended_marked_nodes-ended.ensures c.find_idle_nodes-idle.ensures done.1 (c.as_slice.ensures.value ∙ c.stuck_line.ensures) third.1 (c.as_slice-2.ensures.value ∙ c.rest_lines.ensures),
         joined_written c.write_blocks-2.result _ before said (done.0 ++ second ++ third.0) last _ (c.write_blocks-2.ensures.1 before (said ++ (done.0 ++ second ++ third.0)) all),
       ),
 )

@@ -1,7 +1,7 @@
 use Rattle.std.proofs.Common.{rules, ◌≡◌, ℕ, List, ◌++◌, length, refl, sym, ap, ◌∙◌, arith}
 use Rattle.std.specs.Prelude.{flat_map}
 use Rattle.ga_text.proofs.WriteLemmas.{truncated_here, truncated_within}
-use Rattle.ga_scheduler.specs.Words.{words_of, transfers_left}
+use Rattle.ga_scheduler.specs.Words.{link_transfers, transfers_left}
 use Rattle.ga_explorer_text.specs.Texts.{transfer_line_text, words_head, transfers_text}
 use Rattle.ga_explorer_text.proofs.Saying.{line_written, line_truncated, all_said, none_left}
 use Rattle.ga_explorer_text.proofs.words_text.say_linked.Goals as goal
@@ -11,7 +11,7 @@ returns-in_err-write_blocks g c = (
   search rules,
   λ before said h.
       let s = c.args.lab.now in
-      let lines : List ℕ = flat_map (transfer_line_text c.args.from c.args.to) (words_of s c.args.from.number c.args.to.number) in
+      let lines : List ℕ = flat_map (transfer_line_text c.args.from c.args.to) (link_transfers s c.args.from.number c.args.to.number) in
       let whole : List ℕ = transfers_text s c.args.from c.args.to in (
         whole,
         refl,
@@ -31,7 +31,7 @@ telling-init g c =
         front = c.as_slice.result.now;
         splits = ap (λ (z : List ℕ). z ++ flat_map line (transfers_left s c.new-words.result))
             (c.as_slice.ensures.value ∙ c.head_line.ensures ∙ ap (words_head c.args.from c.args.to) c.count_transfers-count.ensures)
-            ∙ ap (λ z. words_head c.args.from c.args.to (length (words_of s c.args.from.number c.args.to.number)) ++ flat_map line z) (c.new-words.ensures s);
+            ∙ ap (λ z. words_head c.args.from c.args.to (length (link_transfers s c.args.from.number c.args.to.number)) ++ flat_map line z) (c.new-words.ensures s);
         is_said = c.in_ok-write_blocks.ensures.1 before said h;
       };
       left = let all : length (transfers_left s c.new-words.result) ≡ c.count_transfers-count.result = ap length (c.new-words.ensures s) ∙ sym c.count_transfers-count.ensures in omega (arith, all);

@@ -3,13 +3,13 @@ use Rattle.ga_event.specs.Told.{count_steps}
 use Rattle.ga_text.proofs.WriteLemmas.{truncated_here, written_pending}
 use Rattle.ga_explorer_text.specs.Writing.{cell_writes}
 use Rattle.ga_explorer_text.proofs.Saying.{line_written, line_truncated, all_said, next_write, no_write}
-use Rattle.ga_provenance.specs.Writes.{CellWriteSearch, search, newest_cell_write}
+use Rattle.ga_provenance.specs.Writes.{CellWriteSearch, cell_write_search, newest_cell_write}
 use Rattle.ga_provenance.proofs.Keeping.{newest_within}
 use Rattle.ga_explorer_text.proofs.writes_text.say_cell.Goals as goal
 
 pub going-init : goal.going-init
 going-init g c = record {
-  writes = c.new-writes.ensures ∙ ap (search c.args.lab.now c.args.node c.args.cell) (sym (ap (λ (w : CellWriteSearch). w.step) c.new-writes.ensures));
+  writes = c.new-writes.ensures ∙ ap (cell_write_search c.args.lab.now c.args.node c.args.cell) (sym (ap (λ (w : CellWriteSearch). w.step) c.new-writes.ensures));
   same = refl;
   said = λ before said h. record {
     front = [];
@@ -37,7 +37,7 @@ returns-in_err-write_blocks g c = (
 
 pub going-preserved : goal.going-preserved
 going-preserved g c = record {
-  writes = c.in-Some.ensures.same ∙ ap (λ (w : CellWriteSearch). search w.machine w.node w.cell c.next.new.self.step) c.going.invariant.writes;
+  writes = c.in-Some.ensures.same ∙ ap (λ (w : CellWriteSearch). cell_write_search w.machine w.node w.cell c.next.new.self.step) c.going.invariant.writes;
   same = c.in_ok-write_blocks.ensures.0 ∙ c.going.invariant.same;
   said = λ before said h.
       let s = c.args.lab.now in

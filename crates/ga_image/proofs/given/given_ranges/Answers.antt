@@ -6,11 +6,11 @@ use Rattle.std.proofs.lemmas.List.{nil_from_length}
 use Rattle.ga_grid.specs.declared.node_id.NodeId.{NodeId}
 use Rattle.ga_text.specs.Lines.{Line, lines_of}
 use Rattle.ga_image.specs.declared.given.GivenRange.{GivenRange}
-use Rattle.ga_image.specs.Spelling.{form, Form}
+use Rattle.ga_image.specs.Spelling.{line_form, LineForm}
 use Rattle.ga_image.specs.Given.{line_ranges, block_node, given_ranges}
 use Rattle.ga_image.proofs.given.given_ranges.Goals as goal
 
-next : (block : Option NodeId) (text : Line) (texts : List Line) → given_ranges block (text ∷ texts) ≡ line_ranges block (form text) ++ given_ranges (block_node block (form text)) texts
+next : (block : Option NodeId) (text : Line) (texts : List Line) → given_ranges block (text ∷ texts) ≡ line_ranges block (line_form text) ++ given_ranges (block_node block (line_form text)) texts
 unfolding given_ranges
 next block text texts = refl
 
@@ -18,7 +18,7 @@ none_left : (block : Option NodeId) (all : List GivenRange) → all ++ given_ran
 unfolding given_ranges
 none_left block all = append-nil all
 
-one_more : (before after all : List GivenRange) (block behind : Option NodeId) (read : Option Form) (text : Line) (rest more : List ℕ) → lines_of rest ≡ text ∷ lines_of more → read ≡ form text
+one_more : (before after all : List GivenRange) (block behind : Option NodeId) (read : Option LineForm) (text : Line) (rest more : List ℕ) → lines_of rest ≡ text ∷ lines_of more → read ≡ line_form text
     → after ≡ before ++ line_ranges block read → behind ≡ block_node block read → before ++ given_ranges block (lines_of rest) ≡ all → after ++ given_ranges behind (lines_of more) ≡ all
 one_more before after all block behind read text rest more splits spelled added next_block kept =
     ap (λ z. z ++ given_ranges behind (lines_of more)) added

@@ -3,12 +3,12 @@ use Rattle.std.proofs.lemmas.Result.{on_ok_weaker}
 use Rattle.ga_node.specs.Record.{record_of, fresh_record}
 use Rattle.ga_grid.specs.Grid.{load_p_of}
 use Rattle.ga_image.specs.declared.field.Field.TheVariants.{Ram, Rom}
-use Rattle.ga_image.specs.Printing.{register_lines, state_lines, memory_lines, lines_at}
+use Rattle.ga_image.specs.Printing.{register_lines, state_lines, memory_lines, changed_lines_of_node}
 use Rattle.ga_image.proofs.Pieces.{lines_grown}
 use Rattle.ga_image.proofs.printing.push_fields.Goals as goal
 
 pub returns-clause-text : goal.returns-clause-text
-unfolding lines_at
+unfolding changed_lines_of_node
 returns-clause-text c =
     let node = record_of c.args.at.now in
     let fresh = fresh_record (load_p_of c.args.node.number) in

@@ -2,7 +2,7 @@ use Rattle.std.proofs.Common.{ℕ, ◌≡◌, ◌*◌, ◌<◌, List, ◌++◌, 
 use Rattle.ga_node.specs.Record.{record_of}
 use Rattle.ga_image.specs.declared.field.Field.{Field}
 use Rattle.ga_image.specs.inner.{field_in, fields_text, words_in}
-use Rattle.ga_image.specs.Printing.{AreWords, line_unless_default, row_of_words, row_start_cells}
+use Rattle.ga_image.specs.Printing.{AreEighteenBitWords, line_unless_default, row_of_words, row_start_cells}
 use Rattle.ga_image.proofs.Pieces.{lines_grown, rows_more, row_cell}
 use Rattle.ga_image.proofs.PrintedFields.{rows_words, memory_words}
 use Rattle.ga_image.proofs.printing.push_memory.Goals as goal
@@ -28,7 +28,7 @@ rows-preserved c =
     ∙ ap (λ found. old ++ fields_text found) (sym (rows_more lines row_start_cells number within)) in
     record {
       text = more;
-      words = rows_words memory number c.rows.invariant.words (subst AreWords c.row.ensures.items c.row.ensures.words);
+      words = rows_words memory number c.rows.invariant.words (subst AreEighteenBitWords c.row.ensures.items c.row.ensures.words);
       size = λ _. c.row.ensures.size ∙ c.requires;
     }
 

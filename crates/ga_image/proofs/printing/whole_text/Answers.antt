@@ -1,10 +1,10 @@
 use Rattle.std.proofs.Common.{ℕ, ◌≡◌, ◌<◌, ◌≤◌, List, ◌++◌, length, sym, ap, ◌∙◌, subst, arith}
 use Rattle.std.proofs.lemmas.List.{length-map}
 use Rattle.ga_node.specs.Record.{NodeRecord, record_of}
-use Rattle.ga_grid.specs.Chip.{nowhere, node_at, records_of, record_at}
+use Rattle.ga_grid.specs.Chip.{default_node, node_at, records_of, record_at}
 use Rattle.ga_grid.proofs.Chips.{record_at-records_of}
 use Rattle.ga_image.specs.inner.{blocks_text}
-use Rattle.ga_image.specs.Printing.{block_unless_empty, lines_at, IsSoundRecord}
+use Rattle.ga_image.specs.Printing.{block_unless_empty, changed_lines_of_node, IsSoundRecord}
 use Rattle.ga_image.proofs.Pieces.{next_block, finished}
 use Rattle.ga_image.proofs.PrintedFields.{all_more, all_whole}
 use Rattle.ga_image.proofs.printing.whole_text.Goals as goal
@@ -16,15 +16,15 @@ loop-number-preserved c =
     let n = c.loop-number.number in
     let text : List ℕ = c.loop-number.text.items in
     let new : List ℕ = c.push_block.new.text.items in
-    let found : ℕ → NodeRecord → List ℕ = λ number node. text ++ blocks_text (block_unless_empty number (lines_at number node)) in
+    let found : ℕ → NodeRecord → List ℕ = λ number node. text ++ blocks_text (block_unless_empty number (changed_lines_of_node number node)) in
     let number : c.new-node.result.number ≡ n = c.new-node.ensures in
     let node : record_of c.node.result.now ≡ record_at nodes n = ap record_of (c.node.ensures.value ∙ ap (node_at chip) number) ∙ sym (record_at-records_of chip n) in
     let piece : new ≡ found n (record_at nodes n) = c.in_ok-push_block.ensures.text ∙ ap (λ (k : ℕ). found k (record_of c.node.result.now)) number ∙ ap (found n) node in
     let within : n < length nodes = omega (arith, length-map chip record_of, c.node.ensures.size) in
     record {
-      whole = next_block nodes n (record_of nowhere) text new _ within c.loop-number.invariant.whole piece;
+      whole = next_block nodes n (record_of default_node) text new _ within c.loop-number.invariant.whole piece;
       size = λ _. c.node.ensures.size;
-      sound = all_more IsSoundRecord nodes n (record_of nowhere) within c.loop-number.invariant.sound (subst IsSoundRecord node c.in_ok-push_block.ensures.sound);
+      sound = all_more IsSoundRecord nodes n (record_of default_node) within c.loop-number.invariant.sound (subst IsSoundRecord node c.in_ok-push_block.ensures.sound);
     }
 
 pub returns-clause-text : goal.returns-clause-text

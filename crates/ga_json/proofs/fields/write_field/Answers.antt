@@ -1,6 +1,6 @@
 use Rattle.std.proofs.Common.{[], ◌∷◌, ◌++◌, refl}
-use Rattle.ga_json.specs.Compact.{optional_comma, compact}
-use Rattle.ga_json.specs.FieldValues.{value_json}
+use Rattle.ga_json.specs.Compact.{optional_comma, compact_json_text}
+use Rattle.ga_json.specs.FieldValues.{field_value_json}
 use Rattle.ga_json.specs.inner.{field_text}
 use Rattle.ga_json.proofs.Says.{begins, keeps, goes_on, pushed, ends_with, cuts_here}
 use Rattle.ga_json.proofs.Texts.{field_splits}
@@ -15,7 +15,7 @@ pub returns : goal.returns
 returns g c =
     let field = c.args.field.now in
     let key = optional_comma c.args.later ++ (34 ∷ (field.name.now ++ 34 ∷ 58 ∷ [])) in
-    let value = compact (value_json field.value) in
+    let value = compact_json_text (field_value_json field.value) in
     let start = begins g.W.Write.contents c.args.writer.now (field_text c.args.later field) in
     let new = record c.make_room.new.self { pending = c.push_key.new.out } in
     ends_with c.write_value.result c.write_value.new.writer

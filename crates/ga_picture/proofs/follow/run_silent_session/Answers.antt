@@ -1,7 +1,7 @@
 use Rattle.std.proofs.Common.{ℕ, ◌-◌, List, ◌++◌, Some, sym, ap, subst, ◌∙◌, append_assoc}
 use Rattle.std.proofs.lemmas.List.{append-nil}
-use Rattle.ga_explorer.specs.Opening.{IsLeadingText, image_text_of}
-use Rattle.ga_picture.specs.Following.HasNoMachine.{unbegun}
+use Rattle.ga_explorer.specs.Opening.{IsTextBeforeCommands, image_text_of}
+use Rattle.ga_picture.specs.Following.IsSessionWithoutMachine.{unbegun}
 use Rattle.ga_picture.specs.inner.{Goes}
 use Rattle.ga_picture.proofs.Following.{reaches_after}
 use Rattle.ga_picture.proofs.follow.run_silent_session.Goals as goal
@@ -19,7 +19,7 @@ returns-in-Ok g c = λ left before known held.
       begun.4.2 ∙ ap (λ (l : List ℕ). text ++ l) done.3 ∙ sym (append_assoc text done.0 done.1),
       done.4,
       done.5,
-      reaches_after (image_text_of c.args.chip) c.args.limit text done.0 done.1 done.2 c.in-Ok.begun c.follow.result (subst (IsLeadingText text) done.3 begun.4.4) begun.4.5
+      reaches_after (image_text_of c.args.chip) c.args.limit text done.0 done.1 done.2 c.in-Ok.begun c.follow.result (subst (IsTextBeforeCommands text) done.3 begun.4.4) begun.4.5
           (subst P begun.4.3 done.6),
     )
 

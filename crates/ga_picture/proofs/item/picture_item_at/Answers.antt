@@ -3,7 +3,7 @@ use Rattle.std.proofs.lemmas.List.{get_or_default}
 use Rattle.ga_causal.specs.Dependence.{is_marked, event_at, default_cause}
 use Rattle.ga_event.specs.declared.event.Cause.{Cause}
 use Rattle.ga_picture.specs.declared.shade.Shade.TheVariants.{Black}
-use Rattle.ga_picture.specs.Items.{actor}
+use Rattle.ga_picture.specs.Items.{acting_node_of_event}
 use Rattle.ga_picture.proofs.Listed.{item_same}
 use Rattle.ga_picture.proofs.item.picture_item_at.Goals as goal
 
@@ -19,4 +19,4 @@ returns c = λ ready h.
     let there : event_at events place ≡ get_or events place e = get_or_default events place default_cause e within in
     c.picture_item.ensures ∙ item_same c.args.view _ _ _ _ _ _ _ _ _ _ (sym there) (get_or_default c.args.facts.shades.now place _ Black coloured)
     (get_or_default c.args.facts.plain.now place _ false flagged ∙ h) c.is_named-named.ensures
-    (c.has-silent.ensures ∙ ap idle c.actor.ensures ∙ ap (λ (z : Cause). idle (actor z.event)) (sym there))
+    (c.has-silent.ensures ∙ ap idle c.acting_node_of_event.ensures ∙ ap (λ (z : Cause). idle (acting_node_of_event z.event)) (sym there))

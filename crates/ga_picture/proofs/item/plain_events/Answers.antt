@@ -22,9 +22,9 @@ events-preserved c =
     let within : at < length events = omega arith in
     let before = subst (λ z. ArePlain (is_marked c.args.ready) events z c.events.flags.items (is_marked c.events.runs)) next c.events.invariant in
     let here : event_at events at ≡ e = get_or_default events at default_cause e within ∙ sym c.index-events-at.is in
-    subst (λ z. ArePlain (is_marked c.args.ready) events z (set c.events.flags.items at c.is_plain.result) (is_marked c.go_back.new.runs)) down
-    (plain_more (is_marked c.args.ready) events at c.events.flags.items (is_marked c.events.runs) (is_marked c.go_back.new.runs) e c.is_plain.result within before here
-    c.is_plain.ensures c.go_back.ensures)
+    subst (λ z. ArePlain (is_marked c.args.ready) events z (set c.events.flags.items at c.is_plain_event.result) (is_marked c.go_back.new.runs)) down
+    (plain_more (is_marked c.args.ready) events at c.events.flags.items (is_marked c.events.runs) (is_marked c.go_back.new.runs) e c.is_plain_event.result within before here
+    c.is_plain_event.ensures c.go_back.ensures)
 
 pub returns-clause-exact : goal.returns-clause-exact
 returns-clause-exact c = λ place k. c.events.invariant.done place (omega arith) k

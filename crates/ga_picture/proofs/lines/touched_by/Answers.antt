@@ -1,7 +1,7 @@
 use Rattle.std.proofs.Common.{◌≡◌, ◌+◌, false, true, length, sym, ◌∙◌, subst, arith}
 use Rattle.std.proofs.lemmas.List.{get_or_default}
 use Rattle.ga_causal.specs.Dependence.{is_marked}
-use Rattle.ga_picture.specs.Items.{item_at_place, no_item}
+use Rattle.ga_picture.specs.Items.{item_at_place, default_picture_item}
 use Rattle.ga_picture.proofs.Listed.{AreUsed, used_none, used_more, used_same}
 use Rattle.ga_picture.proofs.lines.touched_by.Goals.{then-not-item, else-not-item}
 use Rattle.ga_picture.proofs.lines.touched_by.Goals as goal
@@ -14,7 +14,7 @@ items-preserved c =
     let items = c.args.items.now in
     let item = c.item-item.result in
     let place = c.items.item-index in
-    let here : item_at_place items place ≡ item = get_or_default items place no_item item c.items-test.true ∙ sym c.item-item.is in
+    let here : item_at_place items place ≡ item = get_or_default items place default_picture_item item c.items-test.true ∙ sym c.item-item.is in
     elim c.if-not-item.branch [
       | then-not-item w ↦ (
           let in_it : item.out ≡ false = w.if-not-item.true in

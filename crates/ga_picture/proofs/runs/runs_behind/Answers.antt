@@ -1,6 +1,6 @@
 use Rattle.std.proofs.Common.{◌≡◌, ◌+◌, ◌-◌, ◌<◌, length, ap, sym, ◌∙◌, subst, set, arith}
 use Rattle.std.proofs.lemmas.List.{get_or_default, length-replicate}
-use Rattle.ga_picture.specs.Items.{item_at_place, no_item, IsPlainOwnEvent}
+use Rattle.ga_picture.specs.Items.{item_at_place, default_picture_item, IsPlainOwnEvent}
 use Rattle.ga_picture.specs.inner.{count_in}
 use Rattle.ga_picture.proofs.Running.{AreBehind, behind_first, behind_more}
 use Rattle.ga_picture.proofs.runs.runs_behind.Goals as goal
@@ -30,10 +30,10 @@ items-preserved c =
     let down : at ≡ length items - (c.items.back + 1) = omega arith in
     let within : at < length items = omega arith in
     let before = subst (λ z. AreBehind items z c.items.counts.items c.items.runs) next c.items.invariant in
-    let here : item_at_place items at ≡ item = get_or_default items at no_item item within ∙ sym c.index-items-at.is in
+    let here : item_at_place items at ≡ item = get_or_default items at default_picture_item item within ∙ sym c.index-items-at.is in
     subst (λ z. AreBehind items z (set c.items.counts.items at c.count.result) c.pass.new.self) down
     (behind_more items at c.items.counts.items c.items.runs c.pass.new.self item c.count.result within before here
-    (c.count.ensures ∙ ap (λ z. count_in c.items.runs z item.shade) c.actor.ensures) (subst (λ z. z < 144) c.actor.ensures c.actor.result.in_range) c.pass.ensures.sizes
+    (c.count.ensures ∙ ap (λ z. count_in c.items.runs z item.shade) c.acting_node_of_event.ensures) (subst (λ z. z < 144) c.acting_node_of_event.ensures c.acting_node_of_event.result.in_range) c.pass.ensures.sizes
     (λ n. omega (arith, c.pass.ensures.within (length items - (at + 1)) before.within n)) c.pass.ensures.counts)
 
 pub returns-clause-exact : goal.returns-clause-exact

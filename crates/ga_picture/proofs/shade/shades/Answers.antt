@@ -1,6 +1,6 @@
 use Rattle.std.proofs.Common.{◌≡◌, ◌+◌, ◌<◌, ◌↔◌, IsTrue, false, slice_index_or, length, sym, ◌∙◌, subst, arith}
 use Rattle.std.proofs.lemmas.List.{get_or_default}
-use Rattle.ga_picture.specs.Drawing.{Goes, IsCauseOfStep}
+use Rattle.ga_picture.specs.Drawing.{IsRemovedByRollback, IsCauseOfStep}
 use Rattle.ga_picture.proofs.Shaded.{AreSome, is_shade, shades_none, shades_more}
 use Rattle.ga_picture.proofs.shade.shades.Goals as goal
 
@@ -18,7 +18,7 @@ events-preserved c =
     subst (λ z. AreSome c.args.events.now c.args.cause c.args.rewind (c.events.place + 1) z) (sym c.in_ok-push.ensures.items)
     (shades_more c.args.events.now c.args.cause c.args.rewind c.events.place c.events.shades.items c.shade_for.result c.events.invariant
     (is_shade c.args.events.now c.args.cause c.args.rewind c.events.place c.index.result.now c.index-in-events.result.now c.shade_for.result
-    (subst (λ z. IsTrue z ↔ Goes c.args.events.now c.args.rewind c.events.place) goes (c.in_ok-goes.ensures.exact c.events.place here))
+    (subst (λ z. IsTrue z ↔ IsRemovedByRollback c.args.events.now c.args.rewind c.events.place) goes (c.in_ok-goes.ensures.exact c.events.place here))
     (subst (λ z. IsTrue z ↔ IsCauseOfStep c.args.events.now c.args.cause c.events.place) leads (c.in_ok-leads.ensures.exact c.events.place here))
     c.shade_for.ensures.red c.shade_for.ensures.black c.shade_for.ensures.grey))
 

@@ -1,13 +1,13 @@
 use Rattle.std.proofs.Common.{◌<◌, ◌≤◌, ◌++◌, List, ℕ, length, take, sym, ◌∙◌, ap, subst, arith}
 use Rattle.std.specs.Prelude.{string_bytes}
 use Rattle.ga_picture.specs.declared.placing.PictureRow.{PictureRow}
-use Rattle.ga_picture.specs.Drawing.{shade_of}
+use Rattle.ga_picture.specs.Drawing.{shade_of_shape}
 use Rattle.ga_picture.specs.Picture.{shade_group_tag, row_group_tags}
 use Rattle.ga_picture.proofs.Laid.{AreBehind, behind_more, classes_next, classes_all}
 use Rattle.ga_picture.proofs.text.events.Goals as goal
 
 abbrev class_at : PictureRow → List ℕ
-class_at row = shade_group_tag (shade_of row.shape)
+class_at row = shade_group_tag (shade_of_shape row.shape)
 
 pub rows-preserved : goal.rows-preserved
 rows-preserved c =

@@ -4,7 +4,7 @@ use Rattle.std.specs.List.{All}
 use Rattle.std.proofs.lemmas.Result.{IfOk-weaker}
 use Rattle.ga_causal.specs.Dependence.{is_marked}
 use Rattle.ga_picture.specs.Drawing.{IsDrawing}
-use Rattle.ga_picture.specs.Picture.{IsPictureOf, is_ready}
+use Rattle.ga_picture.specs.Picture.{IsPictureOf, is_node_ready}
 use Rattle.ga_picture.specs.Items.{IsPlainOwnEvent}
 use Rattle.ga_picture.proofs.Listed.{drawn_simple}
 use Rattle.ga_picture.proofs.view.drawn.Goals as goal
@@ -16,7 +16,7 @@ both_ok (Err y) P Q p q = p
 pub layout-requires : goal.layout-requires
 layout-requires c = record {
   simple = subst (λ z. All IsPlainOwnEvent z) (sym c.as_slice-2.ensures.value)
-      (drawn_simple c.as_slice.result.now (is_marked c.ready_nodes-ready.result) (is_marked c.find_idle-idle.result) c.args.view _ _ c.in_ok-items.ensures);
+      (drawn_simple c.as_slice.result.now (is_marked c.ready_nodes-ready.result) (is_marked c.find_idle_nodes-idle.result) c.args.view _ _ c.in_ok-items.ensures);
 }
 
 pub returns : goal.returns
@@ -25,10 +25,10 @@ returns c =
     IfOk-weaker c.layout.result _ _
     (λ drawing d. record {
       ready = is_marked c.ready_nodes-ready.result;
-      are_ready = λ n l. c.ready_nodes-ready.ensures n l ∙ ap (λ z. is_ready z n) c.chip.ensures.value;
-      idle = is_marked c.find_idle-idle.result;
-      are_idle = c.find_idle-idle.ensures;
-      drawn = subst (λ z. IsPictureOf z (is_marked c.ready_nodes-ready.result) (is_marked c.find_idle-idle.result) c.args.view drawing)
+      are_ready = λ n l. c.ready_nodes-ready.ensures n l ∙ ap (λ z. is_node_ready z n) c.chip.ensures.value;
+      idle = is_marked c.find_idle_nodes-idle.result;
+      are_idle = c.find_idle_nodes-idle.ensures;
+      drawn = subst (λ z. IsPictureOf z (is_marked c.ready_nodes-ready.result) (is_marked c.find_idle_nodes-idle.result) c.args.view drawing)
           (c.as_slice.ensures.value ∙ c.in_ok-causes.ensures.kept) (record {
             shades = a.shades;
             shaded = a.shaded;

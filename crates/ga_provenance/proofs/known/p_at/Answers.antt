@@ -1,7 +1,7 @@
 use Rattle.std.proofs.Common.{◌+◌, ◌≤◌, ◌∙◌, refl, sym, arith}
 use Rattle.ga_event.specs.Told.{count_steps}
 use Rattle.ga_node.specs.declared.place.Place.TheVariants as place
-use Rattle.ga_provenance.specs.Origins.{node_after}
+use Rattle.ga_provenance.specs.Origins.{node_after_steps}
 use Rattle.ga_provenance.proofs.Resting.{held_old, held_left}
 use Rattle.ga_provenance.proofs.known.p_at.Goals as goal
 
@@ -16,5 +16,5 @@ looking-preserved c =
     let within : c.looking.at + 1 ≤ count_steps n s.kept = omega (arith, c.looking-test.true, c.steps-steps.ensures.steps) in
     record {
       order = omega (arith, c.looking.invariant.order);
-      same = sym (held_left s n c.looking.at (node_after s n (c.looking.at + 1)).p place.P within c.in_default.ensures.left refl) ∙ c.looking.invariant.same;
+      same = sym (held_left s n c.looking.at (node_after_steps s n (c.looking.at + 1)).p place.P within c.in_default.ensures.left refl) ∙ c.looking.invariant.same;
     }

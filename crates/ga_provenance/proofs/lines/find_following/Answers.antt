@@ -6,6 +6,6 @@ use Rattle.ga_provenance.proofs.lines.find_following.Goals as goal
 
 pub follows_in_run-requires : goal.follows_in_run-requires
 follows_in_run-requires c =
-    let next = is_next c.args.search.lab.now c.args.oldest.now.value c.in-Some.next.value (sym c.next_in_run-found.ensures.next ∙ ap (option_map traced_value) c.in-Some.is) in
+    let next = is_next c.args.search.lab.now c.args.oldest.now.value c.in-Some.next.value (sym c.next_value_in_run-found.ensures.next ∙ ap (option_map traced_value) c.in-Some.is) in
     let earlier = next.earlier in
     omega (arith, earlier)

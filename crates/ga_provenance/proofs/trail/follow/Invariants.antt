@@ -1,6 +1,6 @@
 use Rattle.std.proofs.Common.{◌≡◌, ◌≤◌, true}
 use Rattle.ga_event.specs.Flow.{IsNodePart}
-use Rattle.ga_provenance.specs.Origins.{origin_of}
+use Rattle.ga_provenance.specs.Origins.{origin_of_value}
 use Rattle.ga_provenance.specs.inner.{AreHeld}
 use Rattle.ga_provenance.proofs.trail.follow.Given as goal
 
@@ -10,7 +10,7 @@ invariant-telling l = record {
   node : l.value.node ≡ l.initial.value.node;
   within : l.value.step ≤ l.initial.value.step;
   held : l.along ≡ true → AreHeld l.lab l.value.node.number l.value.step l.registers;
-  same : origin_of l.lab l.value ≡ origin_of l.lab l.initial.value;
+  same : origin_of_value l.lab l.value ≡ origin_of_value l.lab l.initial.value;
 }
 
 abbrev pub decreases-telling : goal.decreases-telling

@@ -1,6 +1,6 @@
 use Rattle.std.proofs.Common.{◌≡◌, ◌≤◌}
 use Rattle.ga_event.specs.Flow.{IsNodePart}
-use Rattle.ga_provenance.specs.Origins.{origin_of}
+use Rattle.ga_provenance.specs.Origins.{origin_of_value}
 use Rattle.ga_provenance.specs.inner.{AreHeld}
 use Rattle.ga_provenance.proofs.trail.follow_on.Given as goal
 
@@ -10,7 +10,7 @@ invariant-passing l = record {
   node : l.followed.value.node ≡ l.fn.value.node;
   within : l.followed.value.step ≤ l.fn.value.step;
   held : AreHeld l.lab l.followed.value.node.number l.followed.value.step l.followed.registers;
-  same : origin_of l.lab l.followed.value ≡ origin_of l.lab l.fn.value;
+  same : origin_of_value l.lab l.followed.value ≡ origin_of_value l.lab l.fn.value;
 }
 
 abbrev pub decreases-passing : goal.decreases-passing

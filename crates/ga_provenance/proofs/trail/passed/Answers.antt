@@ -1,5 +1,5 @@
 use Rattle.std.proofs.Common.{◌≡◌, suc, ◌-◌, refl, sym, ◌∙◌, arith}
-use Rattle.ga_provenance.specs.Origins.{origin_of}
+use Rattle.ga_provenance.specs.Origins.{origin_of_value}
 use Rattle.ga_provenance.proofs.Made.{back_on}
 use Rattle.ga_provenance.proofs.Keeping.{misses_stays}
 use Rattle.ga_provenance.proofs.trail.passed.Goals as goal
@@ -10,7 +10,7 @@ returns-clause-same c =
     let value = c.args.followed.value in
     let before = c.registers_before-registers in
     let is : suc (value.step - 1) ≡ value.step = omega (arith, c.if-step-eq0.false) in
-    back_on s value.node value.step (value.step - 1) value.part value.part (origin_of s value) is
+    back_on s value.node value.step (value.step - 1) value.part value.part (origin_of_value s value) is
     (sym (misses_stays s value.node.number (value.step - 1) value.part c.made_event_of_step-told.result before.result c.made_event_of_step-told.ensures before.ensures.a before.ensures.b
     (sym c.misses.ensures ∙ c.if-not-misses.false)))
     refl

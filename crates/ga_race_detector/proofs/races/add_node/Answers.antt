@@ -4,7 +4,7 @@ use Rattle.std.proofs.lemmas.List.{append-nil}
 use Rattle.ga_race_detector.specs.declared.races.Race.{Race}
 use Rattle.ga_event.specs.Told.{count_steps}
 use Rattle.ga_lab.specs.Machine.{State, history_of}
-use Rattle.ga_race_detector.specs.Races.{races_of_event, races_before}
+use Rattle.ga_race_detector.specs.Races.{races_of_event, races_of_steps_before}
 use Rattle.ga_race_detector.specs.inner.Writers.{IsBeside}
 use Rattle.ga_race_detector.proofs.Behind.{stands_within}
 use Rattle.ga_race_detector.proofs.Racing.{one_more, none_before, told_there}
@@ -43,4 +43,4 @@ returns-in-None-clause-ok c =
 pub returns-clause-ok : goal.returns-clause-ok
 returns-clause-ok c =
     c.steps.invariant.told
-    ∙ ap (λ (z : ℕ). c.args.list.now.items ++ races_before c.args.lab.now c.args.node z) (let q : c.steps.place ≡ count_steps c.args.node.number c.args.lab.now.kept = omega (arith, c.steps-test.false, c.steps-steps.ensures.steps) in q)
+    ∙ ap (λ (z : ℕ). c.args.list.now.items ++ races_of_steps_before c.args.lab.now c.args.node z) (let q : c.steps.place ≡ count_steps c.args.node.number c.args.lab.now.kept = omega (arith, c.steps-test.false, c.steps-steps.ensures.steps) in q)

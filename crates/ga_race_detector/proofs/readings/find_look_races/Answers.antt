@@ -3,7 +3,7 @@ use Rattle.std.specs.Prelude.{Result, Ok, Err, IfOk}
 use Rattle.ga_races.specs.declared.racing_pairs.RacingPair.{RacingPair}
 use Rattle.ga_races.specs.declared.act.EventAccess.{EventAccess}
 use Rattle.ga_races.specs.Acts.{IsRacingLook}
-use Rattle.ga_race_detector.specs.Races.{has_look}
+use Rattle.ga_race_detector.specs.Races.{has_look_event}
 use Rattle.ga_race_detector.specs.declared.look_changes.LookChange.{LookChange}
 use Rattle.ga_race_detector.proofs.NearReadings.{none_without_looks, is_near, at_near}
 use Rattle.ga_race_detector.proofs.readings.find_look_races.Goals as goal
@@ -14,7 +14,7 @@ if_ok (Err e) f h = h
 
 pub returns-then-not-looks-clause-found : goal.returns-then-not-looks-clause-found
 returns-then-not-looks-clause-found c = λ reading t n.
-    absurd (none_without_looks c.args.lab.now reading (ap has_look (sym c.requires.all) ∙ sym c.requires.looks ∙ c.if-not-looks.true) t.0)
+    absurd (none_without_looks c.args.lab.now reading (ap has_look_event (sym c.requires.all) ∙ sym c.requires.looks ∙ c.if-not-looks.true) t.0)
 
 pub returns-clause-found : goal.returns-clause-found
 returns-clause-found c =

@@ -1,7 +1,7 @@
 use Rattle.std.proofs.Common.{◌∙◌, ap, sym}
 use Rattle.std.specs.Prelude.{is_some}
 use Rattle.ga_node.specs.Record.{NodeRecord, record_of}
-use Rattle.ga_event.specs.Apply.{shown_state}
+use Rattle.ga_event.specs.Apply.{shown_wait_state}
 use Rattle.ga_lab.specs.Machine.{chip_of}
 use Rattle.ga_lab.proofs.Called.{runs_of}
 use Rattle.ga_race_detector.proofs.Posted.{last_stood, own_shows}
@@ -16,6 +16,6 @@ returns-in-Some-Own c = λ place count.
 pub returns-in-None : goal.returns-in-None
 returns-in-None c = λ place count.
     let s = c.args.lab.now in
-    c.shown_state.ensures ∙ ap (λ w. shown_state w c.args.side) (c.wait.ensures.value ∙ ap (λ (z : NodeRecord). z.wait)
+    c.shown_wait_state.ensures ∙ ap (λ w. shown_wait_state w c.args.side) (c.wait.ensures.value ∙ ap (λ (z : NodeRecord). z.wait)
     (last_stood s (chip_of s) c.args.node.number c.args.steps place (record_of c.node-now.result.now) c.node-now.ensures.replays
     (sym c.steps-many.ensures.told ∙ c.steps-many.ensures.steps) c.in-None.ensures c.node-now.ensures.value count))

@@ -17,8 +17,8 @@ back-init c =
     record {
       walk = is;
       silent = λ free. silent_last s node.number c.args.side w.step (step ∙ c.steps.ensures.steps)
-          (silent_here s node.number c.args.side w.step held c.is_writing-waits.result (at_walk w s node held is c.node.ensures)
-          (c.is_writing-waits.ensures ∙ ap (λ z. waits_to_write_side z c.args.side) c.wait.ensures.value) free);
+          (silent_here s node.number c.args.side w.step held c.is_waiting_to_write-waits.result (at_walk w s node held is c.node.ensures)
+          (c.is_waiting_to_write-waits.ensures ∙ ap (λ z. waits_to_write_side z c.args.side) c.wait.ensures.value) free);
     }
 
 pub back-preserved : goal.back-preserved
@@ -33,8 +33,8 @@ back-preserved c =
     record {
       walk = is;
       silent = λ free. silent_more s node.number c.args.side old.step new.step step (c.back.invariant.silent c.back-test.true)
-          (silent_here s node.number c.args.side new.step held c.is_writing-waits-in-back.result (at_walk new s node held is c.node-in-back.ensures)
-          (c.is_writing-waits-in-back.ensures ∙ ap (λ z. waits_to_write_side z c.args.side) c.wait-in-back.ensures.value) free);
+          (silent_here s node.number c.args.side new.step held c.is_waiting_to_write-waits-in-back.result (at_walk new s node held is c.node-in-back.ensures)
+          (c.is_waiting_to_write-waits-in-back.ensures ∙ ap (λ z. waits_to_write_side z c.args.side) c.wait-in-back.ensures.value) free);
     }
 
 pub returns-else-step-gt0 : goal.returns-else-step-gt0

@@ -10,6 +10,6 @@ pub returns-in-Some : goal.returns-in-Some
 returns-in-Some c =
     let s = c.args.lab.now in
     let n = c.args.node.number in
-    c.is_reading.ensures
+    c.is_waiting_to_read.ensures
     ∙ ap (λ w. waits_to_read_side w c.args.side) (c.wait.ensures.value ∙ ap (λ (z : NodeRecord). z.wait)
     (stood_then s (runs_of s (ap is_some c.node-stands.ensures.replays)) n c.args.step (record_of c.in-Some.then) c.requires c.in-Some.ensures.value))

@@ -11,10 +11,10 @@ back-preserved c = record {
   more = changes_next c.args.acts.now c.args.look c.back.place (c.back.place - 1) c.args.list.now.items c.back.list.items c.add_change.new.list.items (omega arith) c.back.invariant.more c.in_ok-add_change.ensures;
 }
 
-pub returns-then-is_look_of : goal.returns-then-is_look_of
-returns-then-is_look_of c =
+pub returns-then-is_look_of_node : goal.returns-then-is_look_of_node
+returns-then-is_look_of_node c =
     changes_stop c.args.acts.now c.args.look (c.back.place - 1) c.args.node.number c.args.list.now.items c.add_change.new.list.items (omega arith)
-    (sym c.is_look_of-in-back.ensures ∙ c.if-is_look_of.true) (sym c.is_look_of.ensures ∙ c.if-not-is_look_of.false)
+    (sym c.is_look_of_node-in-back.ensures ∙ c.if-is_look_of_node.true) (sym c.is_look_of_node.ensures ∙ c.if-not-is_look_of_node.false)
     (changes_next c.args.acts.now c.args.look c.back.place (c.back.place - 1) c.args.list.now.items c.back.list.items c.add_change.new.list.items (omega arith) c.back.invariant.more c.in_ok-add_change.ensures)
 
 pub returns : goal.returns

@@ -2,8 +2,8 @@ use Rattle.std.proofs.Common.{◌≡◌, ◌∙◌, ◌+◌, ◌-◌, ap, sym, s
 use Rattle.std.specs.Prelude.{is_some, IsSome}
 use Rattle.ga_grid.specs.declared.node_id.NodeId.{NodeId}
 use Rattle.ga_event.specs.Apply.{replay}
-use Rattle.ga_event.specs.Told.{count_steps, made_event_in}
-use Rattle.ga_lab.specs.Machine.{State, NodeAtStep, earlier, outcomes_of_kept, BackwardState, backward_state}
+use Rattle.ga_event.specs.Told.{count_steps, made_event_at_place}
+use Rattle.ga_lab.specs.Machine.{State, NodeAtStep, earlier_state, outcomes_of_kept, BackwardState, backward_state}
 use Rattle.ga_scheduler.specs.inner.{counted, counted_by, asked_node, held_upto, is_held}
 use Rattle.ga_scheduler.proofs.Newest.{whole_earlier, fewer_before, counted_back}
 use Rattle.ga_scheduler.proofs.Backing.{back_before, told_before, below, found, ended, steps_whole, stands_now}
@@ -23,7 +23,7 @@ loop-place-init c =
       machine = ap (λ (z : NodeAtStep). z.machine) c.walk-walk.ensures;
       node = ap (λ (z : NodeAtStep). z.node) c.walk-walk.ensures ∙ c.node_of-node.ensures;
       steps = omega (arith, w, all, same, c.steps.ensures.steps);
-      words = ap (λ (z : ℕ). counted c.args.until.now (earlier s z)) e ∙ ap (counted c.args.until.now) (whole_earlier s) ∙ sym c.count-words.ensures;
+      words = ap (λ (z : ℕ). counted c.args.until.now (earlier_state s z)) e ∙ ap (counted c.args.until.now) (whole_earlier s) ∙ sym c.count-words.ensures;
       same = ap (λ (z : ℕ). max c.args.least (held_upto c.args.until.now c.args.only s z)) e;
     }
 
@@ -36,14 +36,14 @@ loop-place-preserved c =
     let e : m + 1 ≡ c.loop-place.place = omega (arith, c.loop-place-test.true) in
     let et : c.back.new.self ≡ backward_state s m = back_before s c.loop-place.place _ _ c.loop-place.invariant.events c.in-Some.ensures.left in
     let some : IsSome (replay s.load s.kept) = ap is_some c.chip.ensures.replays in
-    let told : made_event_in (outcomes_of_kept s) m ≡ Some c.in-Some.made =
+    let told : made_event_at_place (outcomes_of_kept s) m ≡ Some c.in-Some.made =
     told_before s c.loop-place.place c.in-Some.made _ (omega (arith, c.loop-place-test.true)) c.loop-place.invariant.events c.in-Some.ensures.told in
     let behind : c.steps-in-loop-place.result ≡ count_steps n.number (take c.loop-place.place s.kept) =
     c.steps-in-loop-place.ensures ∙ ap (λ (z : BackwardState). count_steps c.node_of-node.result.number (take z.place z.machine.kept)) c.loop-place.invariant.events
     ∙ ap (λ (z : NodeId). count_steps z.number (take c.loop-place.place s.kept)) c.node_of-node.ensures in
     let step : c.walk_back_to.new.self.step ≡ c.steps-in-loop-place.result = ap (λ (z : NodeAtStep). z.step) c.walk_back_to.ensures in
-    let more : counted u (earlier s (m + 1)) ≡ counted u (earlier s m) + counted_by u c.in-Some.made = counted_back u s m c.in-Some.made some told in
-    let here : counted u (earlier s (m + 1)) ≡ c.loop-place.words = ap (λ (z : ℕ). counted u (earlier s z)) e ∙ c.loop-place.invariant.words in
+    let more : counted u (earlier_state s (m + 1)) ≡ counted u (earlier_state s m) + counted_by u c.in-Some.made = counted_back u s m c.in-Some.made some told in
+    let here : counted u (earlier_state s (m + 1)) ≡ c.loop-place.words = ap (λ (z : ℕ). counted u (earlier_state s z)) e ∙ c.loop-place.invariant.words in
     let held : is_held u c.args.only s m ≡ c.is_held.result = sym (c.is_held.ensures ∙ ap (λ (z : BackwardState). is_held u c.args.only z.machine z.place) et) in
     let few = fewer_before s n.number m c.in-Some.made some told in
     let same_steps : count_steps n.number (take (m + 1) s.kept) ≡ count_steps n.number (take c.loop-place.place s.kept) = ap (λ (z : ℕ). count_steps n.number (take z s.kept)) e in
@@ -70,9 +70,9 @@ is_held-requires-clause-told c =
     let s : State = c.args.lab.now in
     let m : ℕ = c.loop-place.place - 1 in
     let et : c.back.new.self ≡ backward_state s m = back_before s c.loop-place.place _ _ c.loop-place.invariant.events c.in-Some.ensures.left in
-    let told : made_event_in (outcomes_of_kept s) m ≡ Some c.in-Some.made =
+    let told : made_event_at_place (outcomes_of_kept s) m ≡ Some c.in-Some.made =
     told_before s c.loop-place.place c.in-Some.made _ (omega (arith, c.loop-place-test.true)) c.loop-place.invariant.events c.in-Some.ensures.told in
-    subst (λ (z : BackwardState). made_event_in (outcomes_of_kept z.machine) z.place ≡ Some c.in-Some.made) (sym et) told
+    subst (λ (z : BackwardState). made_event_at_place (outcomes_of_kept z.machine) z.place ≡ Some c.in-Some.made) (sym et) told
 
 pub is_held-requires-clause-stands : goal.is_held-requires-clause-stands
 is_held-requires-clause-stands c =
@@ -96,7 +96,7 @@ is_held-requires-clause-counted c =
     let m : ℕ = c.loop-place.place - 1 in
     let e : m + 1 ≡ c.loop-place.place = omega (arith, c.loop-place-test.true) in
     let et : c.back.new.self ≡ backward_state s m = back_before s c.loop-place.place _ _ c.loop-place.invariant.events c.in-Some.ensures.left in
-    subst (λ (z : BackwardState). counted u (earlier z.machine (z.place + 1)) ≡ c.loop-place.words) (sym et) (ap (λ (z : ℕ). counted u (earlier s z)) e ∙ c.loop-place.invariant.words)
+    subst (λ (z : BackwardState). counted u (earlier_state z.machine (z.place + 1)) ≡ c.loop-place.words) (sym et) (ap (λ (z : ℕ). counted u (earlier_state s z)) e ∙ c.loop-place.invariant.words)
 
 pub walk_back_to-requires : goal.walk_back_to-requires
 walk_back_to-requires c =
@@ -114,10 +114,10 @@ count_back-words-requires c =
     let m : ℕ = c.loop-place.place - 1 in
     let e : m + 1 ≡ c.loop-place.place = omega (arith, c.loop-place-test.true) in
     let some : IsSome (replay s.load s.kept) = ap is_some c.chip.ensures.replays in
-    let told : made_event_in (outcomes_of_kept s) m ≡ Some c.in-Some.made =
+    let told : made_event_at_place (outcomes_of_kept s) m ≡ Some c.in-Some.made =
     told_before s c.loop-place.place c.in-Some.made _ (omega (arith, c.loop-place-test.true)) c.loop-place.invariant.events c.in-Some.ensures.told in
-    let more : counted u (earlier s (m + 1)) ≡ counted u (earlier s m) + counted_by u c.in-Some.made = counted_back u s m c.in-Some.made some told in
-    let here : counted u (earlier s (m + 1)) ≡ c.loop-place.words = ap (λ (z : ℕ). counted u (earlier s z)) e ∙ c.loop-place.invariant.words in
+    let more : counted u (earlier_state s (m + 1)) ≡ counted u (earlier_state s m) + counted_by u c.in-Some.made = counted_back u s m c.in-Some.made some told in
+    let here : counted u (earlier_state s (m + 1)) ≡ c.loop-place.words = ap (λ (z : ℕ). counted u (earlier_state s z)) e ∙ c.loop-place.invariant.words in
     omega (arith, more, here)
 
 pub returns-then-is_held-clause-value : goal.returns-then-is_held-clause-value

@@ -1,6 +1,6 @@
 use Rattle.std.proofs.Common.{◌≡◌, ◌≤◌, max, take, length}
 use Rattle.ga_event.specs.Told.{count_steps}
-use Rattle.ga_lab.specs.Machine.{earlier, backward_state}
+use Rattle.ga_lab.specs.Machine.{earlier_state, backward_state}
 use Rattle.ga_scheduler.specs.inner.{counted, asked_node, held_upto}
 use Rattle.ga_scheduler.proofs.reverse_search.search_back.Given as goal
 
@@ -11,7 +11,7 @@ invariant-loop-place l = record {
   machine : l.walk.machine ≡ l.lab;
   node : l.walk.node ≡ asked_node l.until;
   steps : count_steps (asked_node l.until).number (take l.place l.lab.kept) ≤ l.walk.step;
-  words : counted l.until (earlier l.lab l.place) ≡ l.words;
+  words : counted l.until (earlier_state l.lab l.place) ≡ l.words;
   same : max l.least (held_upto l.until l.only l.lab l.place) ≡ max l.least (held_upto l.until l.only l.lab (length l.lab.kept));
 }
 

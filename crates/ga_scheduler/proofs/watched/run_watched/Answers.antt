@@ -2,7 +2,7 @@ use Rattle.std.proofs.Common.{◌≡◌, ◌∙◌, true, false, refl, ap, arith
 use Rattle.std.specs.Prelude.{is_some}
 use Rattle.ga_scheduler.specs.inner.{HoldsReady}
 use Rattle.ga_scheduler.specs.Running.{Running, running}
-use Rattle.ga_scheduler.specs.Watched.{watching, watch_ends_after}
+use Rattle.ga_scheduler.specs.Watched.{run_watch, watch_ends_after}
 use Rattle.ga_scheduler.proofs.Drawn.{nothing_known}
 use Rattle.ga_scheduler.proofs.Events.{gone_on_first, made_more_first, seen_more, ends_is, never_more_first, ended_seen, ended_halted_first}
 use Rattle.ga_scheduler.proofs.watched.run_watched.Goals as goal
@@ -10,7 +10,7 @@ use Rattle.ga_scheduler.proofs.watched.run_watched.Goals as goal
 pub loop-events-preserved : goal.loop-events-preserved
 loop-events-preserved g c =
     let i = c.loop-events.invariant in
-    let by = watching c.args.first g.W.StopCondition.ends g.W.StopCondition.seen in
+    let by = run_watch c.args.first g.W.StopCondition.ends g.W.StopCondition.seen in
     let start : Running = running c.args.lab.now c.args.schedule in
     let here : Running = running c.loop-events.lab c.loop-events.schedule in
     let next : Running = running c.go.new.lab c.go.new.schedule in
@@ -55,13 +55,13 @@ returns-then-sees-clause-made g c =
 pub returns-then-sees-clause-watch : goal.returns-then-sees-clause-watch
 returns-then-sees-clause-watch g c =
     let i = c.loop-events.invariant in
-    seen_more (watching c.args.first g.W.StopCondition.ends g.W.StopCondition.seen) c.args.watch.now c.loop-events.watch c.sees.new.self (running c.args.lab.now c.args.schedule)
+    seen_more (run_watch c.args.first g.W.StopCondition.ends g.W.StopCondition.seen) c.args.watch.now c.loop-events.watch c.sees.new.self (running c.args.lab.now c.args.schedule)
     (running c.loop-events.lab c.loop-events.schedule) (running c.go.new.lab c.go.new.schedule) c.loop-events.events c.in-Ok.made i.watch i.at c.in-Ok.ensures.told c.in-Ok.ensures.moved c.sees.ensures.behind
 
 pub returns-then-sees-clause-end : goal.returns-then-sees-clause-end
 returns-then-sees-clause-end g c =
     let i = c.loop-events.invariant in
-    let by = watching c.args.first g.W.StopCondition.ends g.W.StopCondition.seen in
+    let by = run_watch c.args.first g.W.StopCondition.ends g.W.StopCondition.seen in
     let start : Running = running c.args.lab.now c.args.schedule in
     let here : Running = running c.loop-events.lab c.loop-events.schedule in
     let next : Running = running c.go.new.lab c.go.new.schedule in
@@ -76,7 +76,7 @@ returns-in-Err-clause-state g c =
 
 pub returns-in-Err-clause-end : goal.returns-in-Err-clause-end
 returns-in-Err-clause-end g c =
-    ended_halted_first (watching c.args.first g.W.StopCondition.ends g.W.StopCondition.seen) c.args.watch.now (running c.args.lab.now c.args.schedule) (running c.loop-events.lab c.loop-events.schedule)
+    ended_halted_first (run_watch c.args.first g.W.StopCondition.ends g.W.StopCondition.seen) c.args.watch.now (running c.args.lab.now c.args.schedule) (running c.loop-events.lab c.loop-events.schedule)
     c.args.most c.loop-events.events c.in-Err.end c.loop-events.invariant.at c.loop-events-test.true c.loop-events.invariant.never c.in-Err.ensures.halted
 
 pub returns-clause-state : goal.returns-clause-state

@@ -4,15 +4,15 @@ use Rattle.ga_event.specs.Apply.{replay}
 use Rattle.ga_lab.specs.Machine.{chip_of}
 use Rattle.ga_scheduler.specs.inner.{HoldsReady, IsKnown, is_random}
 use Rattle.ga_scheduler.specs.Running.{running}
-use Rattle.ga_scheduler.specs.Watched.{precedence_run_after, HasNextPrecedenceEvents, watching, watch_after, HasNoWatchEnd}
+use Rattle.ga_scheduler.specs.Watched.{precedence_run_after, HasNextPrecedenceEvents, run_watch, watch_after, HasNoWatchEnd}
 use Rattle.ga_scheduler.proofs.watched.run_watched.Given as goal
 
 abbrev pub invariant-loop-events : goal.invariant-loop-events
 invariant-loop-events g l = record {
   at : running l.lab l.schedule ≡ precedence_run_after l.first (running l.initial.lab l.initial.schedule) l.events;
   made : HasNextPrecedenceEvents l.first (running l.initial.lab l.initial.schedule) l.events;
-  watch : l.watch ≡ watch_after (watching l.first g.W.StopCondition.ends g.W.StopCondition.seen) l.initial.watch (running l.initial.lab l.initial.schedule) l.events;
-  never : HasNoWatchEnd (watching l.first g.W.StopCondition.ends g.W.StopCondition.seen) l.initial.watch (running l.initial.lab l.initial.schedule) l.events;
+  watch : l.watch ≡ watch_after (run_watch l.first g.W.StopCondition.ends g.W.StopCondition.seen) l.initial.watch (running l.initial.lab l.initial.schedule) l.events;
+  never : HasNoWatchEnd (run_watch l.first g.W.StopCondition.ends g.W.StopCondition.seen) l.initial.watch (running l.initial.lab l.initial.schedule) l.events;
   ready : HoldsReady (chip_of l.lab) l.ready;
   known : IsKnown l.ready l.known;
   draws : l.draws ≡ is_random l.schedule.order;

@@ -1,5 +1,5 @@
 use Rattle.std.proofs.Common.{refl}
-use Rattle.ga_parser.specs.declared.item.Item.TheVariants.{Back, Ahead}
+use Rattle.ga_parser.specs.declared.item.AssemblyItem.TheVariants.{Back, Ahead}
 use Rattle.ga_source.proofs.Laying.{jump_item}
 use Rattle.ga_source.proofs.loading.with_last.Goals as goal
 

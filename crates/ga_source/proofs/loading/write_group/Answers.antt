@@ -1,5 +1,5 @@
 use Rattle.std.proofs.Common.{rules, ◌≡◌, ◌∙◌, ℕ, Option, ◌<◌, ◌≤◌, None, ap, subst, List, length, slice_index_or}
-use Rattle.ga_parser.specs.declared.item.Item.{Item}
+use Rattle.ga_parser.specs.declared.item.AssemblyItem.{AssemblyItem}
 use Rattle.ga_source.specs.inner.{nothing}
 use Rattle.ga_parser.specs.declared.item.Operand.TheVariants.{Number}
 use Rattle.ga_source.proofs.CellGroups.{given_set, cell_item}
@@ -22,17 +22,17 @@ loop-i-init c =
 pub spot_after_item-spot-requires : goal.spot_after_item-spot-requires
 spot_after_item-spot-requires c =
     let l : c.loop-i.i < length c.args.group.now.items.items = search rules in
-    let few = subst (λ (list : List Item). length list ≤ 4) c.as_slice-items.ensures.value c.as_slice-items.ensures.fits in
+    let few = subst (λ (list : List AssemblyItem). length list ≤ 4) c.as_slice-items.ensures.value c.as_slice-items.ensures.fits in
     slot_there c.args.node.now c.loop-i.node c.args.given.now c.loop-i.given c.args.labels.now c.args.group.now c.loop-i.spot c.loop-i.i c.loop-i.invariant.writing l few c.requires
 
 pub loop-i-preserved : goal.loop-i-preserved
 loop-i-preserved c =
     let l : c.loop-i.i < length c.args.group.now.items.items = search rules in
-    let few = subst (λ (list : List Item). length list ≤ 4) c.as_slice-items.ensures.value c.as_slice-items.ensures.fits in
+    let few = subst (λ (list : List AssemblyItem). length list ≤ 4) c.as_slice-items.ensures.value c.as_slice-items.ensures.fits in
     let done = c.in_ok-write_item.ensures in
     record {
       writing = written_step c.args.node.now c.loop-i.node c.write_item.new.node c.args.given.now c.loop-i.given c.write_item.new.given c.args.labels.now c.args.group.now c.loop-i.spot c.spot_after_item-spot.result c.loop-i.i
-          (slice_index_or c.as_slice-items.result.now c.loop-i.i nothing) (ap (λ (list : List Item). slice_index_or list c.loop-i.i nothing) c.as_slice-items.ensures.value)
+          (slice_index_or c.as_slice-items.result.now c.loop-i.i nothing) (ap (λ (list : List AssemblyItem). slice_index_or list c.loop-i.i nothing) c.as_slice-items.ensures.value)
           c.loop-i.invariant.writing l few c.requires done.rest done.elsewhere done.has done.held done.kept c.spot_after_item-spot.ensures.value;
       given = λ cell k is other.
           let same : c.write_item.new.given ≡ c.loop-i.given = done.same (Number cell.1) (cell_item c.as_slice-items.result.now cell.1 c.loop-i.i _ (c.as_slice-items.ensures.value ∙ is.items) c.loop-i-test.true) in
@@ -52,6 +52,6 @@ pub returns-clause-loaded : goal.returns-clause-loaded
 returns-clause-loaded c =
     let all : length c.args.group.now.items.items ≤ c.loop-i.i = search rules in
     let some : 0 < length c.args.group.now.items.items = search rules in
-    let few = subst (λ (list : List Item). length list ≤ 4) c.as_slice-items.ensures.value c.as_slice-items.ensures.fits in
+    let few = subst (λ (list : List AssemblyItem). length list ≤ 4) c.as_slice-items.ensures.value c.as_slice-items.ensures.fits in
     let whole : c.args.group.now.broken ≡ None = search rules in
     written_last c.args.node.now c.loop-i.node c.args.given.now c.loop-i.given c.args.labels.now c.args.group.now c.loop-i.spot c.loop-i.i c.loop-i.invariant.writing all some few c.requires whole

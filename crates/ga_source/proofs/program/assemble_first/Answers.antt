@@ -1,7 +1,7 @@
 use Rattle.std.proofs.Common.{rules, arith, ◌≡◌, ◌∙◌, sym, Some, ◌<◌, ◌++◌, ◌∷◌, [], false, length, slice_index_or, ap, subst}
 use Rattle.ga_grid.specs.declared.node_id.NodeId.{NodeId}
 use Rattle.std.specs.Prelude.{Err}
-use Rattle.ga_grid.specs.Grid.{optional_number}
+use Rattle.ga_grid.specs.Grid.{optional_node_number}
 use Rattle.ga_parser.specs.declared.fault.SourceCause.TheVariants.{Memory}
 use Rattle.ga_source.specs.Programs.{HasProgram}
 use Rattle.ga_source.proofs.Loaded.{one_more_at}
@@ -39,7 +39,7 @@ returns-then-words-lt2-clause-refused c = λ sound. absurd (too_few c.args.begun
 
 pub returns-in_default-clause-refused : goal.returns-in_default-clause-refused
 returns-in_default-clause-refused c = λ sound.
-    absurd (no_such c.args.begun.now c.args.words.now _ c.in_ok-word-2.field-0.now c.requires.many c.in_ok-word-2.ensures.told (sym c.node_named.ensures ∙ ap optional_number c.in_default.is) sound)
+    absurd (no_such c.args.begun.now c.args.words.now _ c.in_ok-word-2.field-0.now c.requires.many c.in_ok-word-2.ensures.told (sym c.node_named.ensures ∙ ap optional_node_number c.in_default.is) sound)
 
 pub returns-then-begun-index-clause-refused : goal.returns-then-begun-index-clause-refused
 returns-then-begun-index-clause-refused c = λ sound.

@@ -3,7 +3,7 @@ use Rattle.std.proofs.Common.{inl, inr, refl, rules, ◌≡◌, ◌∙◌, sym, 
 use Rattle.ga_parser.specs.declared.item.LocatedRequest.{LocatedRequest}
 use Rattle.ga_parser.specs.declared.item.AssemblyRequest.{AssemblyRequest}
 use Rattle.ga_parser.specs.declared.item.InitialRegisters.{InitialRegisters}
-use Rattle.ga_parser.specs.Plain.{Plain, value_in}
+use Rattle.ga_parser.specs.Plain.{Plain, optional_register_operand}
 use Rattle.ga_source.specs.Made.{requested_cells, AreDistinctCells}
 use Rattle.ga_parser.specs.inner.Drafting.{texts_of}
 use Rattle.ga_source.specs.inner.{requests_of, ArePlain, AreNumbers}
@@ -44,7 +44,7 @@ pub returns-in_err-set_registers-clause-refused : goal.returns-in_err-set_regist
 returns-in_err-set_registers-clause-refused c =
     let e : c.from_residual-in_err-set_registers.result ≡ Err c.in_err-set_registers.field-0.0 = search rules in
     rw e (λ plain kinds is free.
-    absurd (c.in_err-set_registers.ensures.refused (subst (λ (r : InitialRegisters). AreNumbers (value_in r.p) (value_in r.a) (value_in r.b)) (sym c.registers_of-registers.ensures)
+    absurd (c.in_err-set_registers.ensures.refused (subst (λ (r : InitialRegisters). AreNumbers (optional_register_operand r.p) (optional_register_operand r.a) (optional_register_operand r.b)) (sym c.registers_of-registers.ensures)
     (plain_registers (texts_of c.args.tokens.now) plain c.in_ok-asked.field-0.asked.items c.in_ok-asked.field-0.registers c.as_slice-2.result.now c.has_cells.result is (plain_told c.args.line c.args.tokens.now plain is c.in_ok-asked.field-0 c.in_ok-asked.ensures.asked).0
     (c.as_slice-2.ensures.value ∙ (plain_told c.args.line c.args.tokens.now plain is c.in_ok-asked.field-0 c.in_ok-asked.ensures.asked).1)))))
 

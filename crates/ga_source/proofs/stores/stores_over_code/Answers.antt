@@ -2,7 +2,7 @@ use Rattle.std.proofs.Common.{◌≡◌, ◌∙◌, ◌+◌, ◌++◌, ℕ, List
 use Rattle.std.proofs.lemmas.List.{drop_all, append-nil}
 use Rattle.ga_parser.specs.declared.item.LocatedRequest.{LocatedRequest}
 use Rattle.ga_source.specs.declared.stores.Store.{Store}
-use Rattle.ga_source.specs.Stores.{code_lines, stores_from, stores_of_program}
+use Rattle.ga_source.specs.Stores.{code_lines, stores_of_requests, stores_of_program}
 use Rattle.ga_source.proofs.Storing.{stores_all, store_step}
 use Rattle.ga_source.proofs.stores.stores_over_code.Goals as goal
 
@@ -14,15 +14,15 @@ loop-asked-preserved c =
     let known = c.loop-asked.known in
     let behind = c.behind-known.result in
     let code = c.code_lines-code.result in
-    let before : c.loop-asked.stores.items ++ stores_from program code known (drop i items) ≡ stores_of_program program =
-    ap (λ (lines : List ℕ). c.loop-asked.stores.items ++ stores_from program lines known (drop i items)) c.code_lines-code.ensures.lines
-    ∙ (ap (λ (list : List LocatedRequest). c.loop-asked.stores.items ++ stores_from program (code_lines program) known (drop i list)) c.deref-asked-items.ensures.value
+    let before : c.loop-asked.stores.items ++ stores_of_requests program code known (drop i items) ≡ stores_of_program program =
+    ap (λ (lines : List ℕ). c.loop-asked.stores.items ++ stores_of_requests program lines known (drop i items)) c.code_lines-code.ensures.lines
+    ∙ (ap (λ (list : List LocatedRequest). c.loop-asked.stores.items ++ stores_of_requests program (code_lines program) known (drop i list)) c.deref-asked-items.ensures.value
     ∙ c.loop-asked.invariant) in
-    let after : c.add_store.new.stores.items ++ stores_from program code behind (drop (i + 1) items) ≡ stores_of_program program =
+    let after : c.add_store.new.stores.items ++ stores_of_requests program code behind (drop (i + 1) items) ≡ stores_of_program program =
     store_step program code known behind items i _ c.loop-asked.stores.items c.add_store.new.stores.items (stores_of_program program) c.code_store_of_request.result c.loop-asked-test.true
     c.code_store_of_request.ensures c.in_ok-add_store.ensures c.behind-known.ensures before in
-    ap (λ (list : List LocatedRequest). c.add_store.new.stores.items ++ stores_from program (code_lines program) behind (drop (i + 1) list)) (sym c.deref-asked-items.ensures.value)
-    ∙ (ap (λ (lines : List ℕ). c.add_store.new.stores.items ++ stores_from program lines behind (drop (i + 1) items)) (sym c.code_lines-code.ensures.lines)
+    ap (λ (list : List LocatedRequest). c.add_store.new.stores.items ++ stores_of_requests program (code_lines program) behind (drop (i + 1) list)) (sym c.deref-asked-items.ensures.value)
+    ∙ (ap (λ (lines : List ℕ). c.add_store.new.stores.items ++ stores_of_requests program lines behind (drop (i + 1) items)) (sym c.code_lines-code.ensures.lines)
     ∙ after)
 
 pub returns : goal.returns

@@ -1,6 +1,6 @@
 use Rattle.std.proofs.Common.{◌≡◌, ◌++◌, drop}
-use Rattle.ga_state_expectations.specs.Lines.{faults_of_lines}
+use Rattle.ga_state_expectations.specs.Lines.{expectation_faults_of_lines}
 use Rattle.ga_state_expectations.proofs.lines.find_faults.Given as goal
 
 abbrev pub invariant-loop-line : goal.invariant-loop-line
-invariant-loop-line l = l.faults.items ++ faults_of_lines l.notes (drop l.line-index l.lines) ≡ faults_of_lines l.notes l.lines
+invariant-loop-line l = l.faults.items ++ expectation_faults_of_lines l.notes (drop l.line-index l.lines) ≡ expectation_faults_of_lines l.notes l.lines

@@ -1,7 +1,7 @@
 use Rattle.std.proofs.Common.{◌≡◌, ℕ, ◌-◌, Bool, true, false, List, [], ◌∷◌, ◌++◌, length, take, drop, sym, ap, ◌∙◌, subst, arith, length-append, append_assoc}
 use Rattle.ga_text.proofs.Taking.{where_err}
 use Rattle.std.proofs.lemmas.Bool.{false≢true}
-use Rattle.ga_text.specs.Lines.{ended}
+use Rattle.ga_text.specs.Lines.{line_with_line_feed}
 use Rattle.ga_text.specs.inner.{TakesPart, with_feed}
 use Rattle.ga_text.specs.Input.{UnreadInput}
 use Rattle.ga_text.specs.Image.{end_line}
@@ -32,18 +32,18 @@ parts-preserved-then-branch g c =
       within = c.in_ok-take_text.ensures.within;
       body =
           let text : List ℕ = c.take_text.new.text.items in
-          let range : take (length c.deref.result.now - c.parts.start) (drop c.parts.start c.deref.result.now) ≡ ended (body.part ++ fed.0) =
+          let range : take (length c.deref.result.now - c.parts.start) (drop c.parts.start c.deref.result.now) ≡ line_with_line_feed (body.part ++ fed.0) =
           ap (λ (t : List ℕ). take (length t - c.parts.start) (drop c.parts.start t)) c.deref.ensures.value
           ∙ line_range c.parts.text.items text c.parts.start fed.0 body fed.2 in
-          let other : ended (body.part ++ fed.0) ≡ ended end_line → ⊥ = λ e. false≢true (test.1 (range ∙ e)) in
+          let other : line_with_line_feed (body.part ++ fed.0) ≡ line_with_line_feed end_line → ⊥ = λ e. false≢true (test.1 (range ∙ e)) in
           let at : length text ≡ c.len-start.result = ap length (sym c.deref.ensures.value) ∙ c.deref.ensures.len ∙ sym c.len-start.ensures in
           subst (Body text) at (body_line c.parts.text.items text c.parts.start fed.0 body fed.1.0 fed.2 other);
-      counts = omega (arith, c.parts.invariant.counts, fed.1.2, ap length fed.2, length-append c.parts.text.items (ended fed.0), length-append fed.0 (10 ∷ []));
+      counts = omega (arith, c.parts.invariant.counts, fed.1.2, ap length fed.2, length-append c.parts.text.items (line_with_line_feed fed.0), length-append fed.0 (10 ∷ []));
       known = λ left known.
           let inv = c.parts.invariant.known left known in (
             inv.0,
             inv.1,
-            over_piece _ c.parts.text.items _ (ended fed.0) c.parts.input.bytes c.take_text.new.self.bytes inv.0 inv.2
+            over_piece _ c.parts.text.items _ (line_with_line_feed fed.0) c.parts.input.bytes c.take_text.new.self.bytes inv.0 inv.2
                 (ended_piece c.parts.input.bytes fed.0 c.take_text.new.self.bytes fed.1.1) fed.2,
           );
     }

@@ -3,7 +3,7 @@ use Rattle.ga_text.proofs.WriteLemmas.{at_err, truncated_here}
 use Rattle.ga_text.specs.declared.output.WriteError.{WriteError}
 use Rattle.std.specs.Prelude.{Result}
 use Rattle.ga_console.specs.inner.Run.{ObeysCommand}
-use Rattle.ga_console.specs.Session.{EndsAtNoAnswer}
+use Rattle.ga_console.specs.Session.{EndsSessionAtNoAnswer}
 use Rattle.ga_console.specs.Replies.{IsBriefAnswer}
 use Rattle.ga_console.specs.Replies.IsAnswerInWording.{command}
 use Rattle.ga_console.specs.declared.responder.LineAction.{LineAction}
@@ -15,7 +15,7 @@ returns-in_err-execute_in_wording g c = (
   λ before said h.
       let done = c.in_err-execute_in_wording.ensures.1 before said h in (
         done.0,
-        at_err (λ (r : Result LineAction WriteError). ObeysCommand IsBriefAnswer EndsAtNoAnswer c.args.self.now c.args.command c.execute_in_wording.new.lab r done.0) c.from_residual.result c.from_residual.ensures.0
+        at_err (λ (r : Result LineAction WriteError). ObeysCommand IsBriefAnswer EndsSessionAtNoAnswer c.args.self.now c.args.command c.execute_in_wording.new.lab r done.0) c.from_residual.result c.from_residual.ensures.0
             (λ why. inl (λ line short spelled. command c.args.command short spelled done.1)),
         truncated_here c.from_residual.result _ before (said ++ done.0) _ c.from_residual.ensures.0 done.2,
       ),

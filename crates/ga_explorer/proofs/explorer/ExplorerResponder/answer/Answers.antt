@@ -1,5 +1,5 @@
 use Rattle.std.proofs.Common.{rules, subst}
-use Rattle.ga_console.specs.Session.{AnswersOrQuits, EndsAtNoAnswer}
+use Rattle.ga_console.specs.Session.{AnswersOrQuits, EndsSessionAtNoAnswer}
 use Rattle.ga_console.proofs.Ending.{answers_or_ends}
 use Rattle.ga_explorer.specs.Answers.{AnswersExplorerLine}
 use Rattle.ga_explorer.specs.Opening.{ExplorerState}
@@ -13,7 +13,7 @@ returns g c = (
       let new = explorer_state c.answer_line.new.lab c.self.inside.notes in
       let done = c.answer_line.ensures.1 before said h in (
         done.0,
-        answers_or_ends AnswersExplorerLine EndsAtNoAnswer c.args.self.now new done.0 c.args.line.now c.answer_line.result
+        answers_or_ends AnswersExplorerLine EndsSessionAtNoAnswer c.args.self.now new done.0 c.args.line.now c.answer_line.result
             (subst (λ (s : ExplorerState). AnswersOrQuits AnswersExplorerLine s c.args.line.now new c.answer_line.result done.0) c.self.view_is done.1),
         done.2,
       ),

@@ -2,10 +2,10 @@ use Rattle.std.proofs.Common.{rules, ◌++◌, ap, subst, inl, inr}
 use Rattle.std.specs.Prelude.{Result}
 use Rattle.ga_text.proofs.WriteLemmas.{at_err, truncated_here}
 use Rattle.ga_text.specs.declared.output.WriteError.{WriteError}
-use Rattle.ga_display.specs.declared.wording.Wording.TheVariants.{Advised}
+use Rattle.ga_display.specs.declared.wording.RefusalWording.TheVariants.{Advised}
 use Rattle.ga_console.specs.Replies.{IsAnswerInWording}
 use Rattle.ga_console.specs.Replies.IsAnswerInWording.{command}
-use Rattle.ga_console.specs.Session.{EndsAtNoAnswer}
+use Rattle.ga_console.specs.Session.{EndsSessionAtNoAnswer}
 use Rattle.ga_console.specs.inner.Run.{ObeysCommand}
 use Rattle.ga_console.specs.declared.responder.LineAction.{LineAction}
 use Rattle.ga_explorer.specs.Answers.{AnswersExplorerLine}
@@ -22,7 +22,7 @@ returns-in_err-execute_in_wording g c = (
       let done = c.in_err-execute_in_wording.ensures.1 before said h in
       let new = explorer_state c.execute_in_wording.new.lab c.self.inside.notes in (
         done.0,
-        at_err (λ (r : Result LineAction WriteError). ObeysCommand AnswersExplorerLine EndsAtNoAnswer c.args.self.now c.args.command new r done.0) c.from_residual.result c.from_residual.ensures.0
+        at_err (λ (r : Result LineAction WriteError). ObeysCommand AnswersExplorerLine EndsSessionAtNoAnswer c.args.self.now c.args.command new r done.0) c.from_residual.result c.from_residual.ensures.0
             (λ why. inl (λ line short spelled. debugged (λ fits. debugger_alone c.args.self.now.notes c.args.command line spelled)
             (inl (inr (short, c.args.command, spelled), subst (λ (s : ExplorerState). IsAnswerInWording Advised s.lab line done.0 c.execute_in_wording.new.lab) c.self.view_is (command c.args.command short spelled done.1)))
             (ap (λ (s : ExplorerState). s.notes) c.self.view_is))),

@@ -3,7 +3,7 @@ use Rattle.std.specs.List.{slice_get}
 use Rattle.ga_node.specs.Record.{NodeRecord, record_of}
 use Rattle.ga_event.specs.Told.{count_steps}
 use Rattle.ga_lab.specs.Machine.{history_of}
-use Rattle.ga_provenance.specs.Origins.{node_after}
+use Rattle.ga_provenance.specs.Origins.{node_after_steps}
 use Rattle.ga_provenance.proofs.Made.{then_of}
 use Rattle.ga_explorer_text.specs.Around.{step_registers_text}
 use Rattle.ga_explorer_text.proofs.source_suffix.StepContext.place_line.Goals as goal
@@ -19,13 +19,13 @@ returns-in-Some c =
     c.step_registers_line.ensures
     ∙ ap (λ o. step_registers_text node k o (record_of c.node.result.now)) c.in-Some.ensures
     ∙ ap (λ (n : NodeRecord). step_registers_text node k (slice_get (history_of s node.number) (k - 1)) n) behind
-    ∙ ap (λ (n : ℕ). step_registers_text node n (slice_get (history_of s node.number) (n - 1)) (node_after s node.number near.step)) c.step-step.ensures.value
+    ∙ ap (λ (n : ℕ). step_registers_text node n (slice_get (history_of s node.number) (n - 1)) (node_after_steps s node.number near.step)) c.step-step.ensures.value
 
 pub returns-in-None : goal.returns-in-None
 returns-in-None c =
     let s = c.args.self.now.lab.now in
     let node = c.args.self.now.node in
-    let behind = node_after s node.number c.args.self.now.near.step in
+    let behind = node_after_steps s node.number c.args.self.now.near.step in
     c.new.ensures
     ∙ ap (λ o. step_registers_text node c.step-step.result o behind) c.in-None.ensures
     ∙ ap (λ (n : ℕ). step_registers_text node n (slice_get (history_of s node.number) (n - 1)) behind) c.step-step.ensures.value

@@ -6,8 +6,8 @@ use Rattle.ga_lab.specs.Machine.{State}
 use Rattle.ga_debug_info.specs.declared.notes.DebugInfo.{DebugInfo}
 use Rattle.ga_text.proofs.WriteLemmas.{truncated_here, truncated_within}
 use Rattle.ga_provenance.specs.declared.lines.ProvenanceLine.{ProvenanceLine}
-use Rattle.ga_provenance.specs.Lines.{IsMovedLine}
-use Rattle.ga_explorer_text.specs.Whence.{has_head, head_text, numbered_lines_text}
+use Rattle.ga_provenance.specs.Lines.{IsLineOfMovedValue}
+use Rattle.ga_explorer_text.specs.Whence.{has_queried_step_line, optional_queried_step_line, numbered_lines_text}
 use Rattle.ga_explorer_text.specs.inner.{is_first}
 use Rattle.ga_explorer_text.proofs.Saying.{joined_written}
 use Rattle.ga_explorer_text.proofs.source_suffix.StepContext.say_found.Goals as goal
@@ -27,7 +27,7 @@ returns-in_err-say_queried g c = (
       let done = c.in_err-say_queried.ensures.1 before said h in
       let last = numbered_lines_text notes s (not (is_first at lines)) (first - 1) (drop (first - 1) lines) in (
         done.0 ++ last,
-        ap (λ (z : List ℕ). z ++ last) (done.1 ∙ ap (λ (b : Bool). head_text notes s node at value b) (c.has_head.ensures ∙ ap (λ (b : Bool). has_head b first) made)),
+        ap (λ (z : List ℕ). z ++ last) (done.1 ∙ ap (λ (b : Bool). optional_queried_step_line notes s node at value b) (c.has_queried_step_line.ensures ∙ ap (λ (b : Bool). has_queried_step_line b first) made)),
         truncated_here c.from_residual.result _ before (said ++ (done.0 ++ last)) _ c.from_residual.ensures.0
             (truncated_within _ before said done.0 last (done.0 ++ last) refl done.2),
       ),
@@ -40,12 +40,12 @@ pub say_lines-requires-clause-notes : goal.say_lines-requires-clause-notes
 say_lines-requires-clause-notes g c = c.copy.ensures.notes ∙ sym c.root-root.ensures.notes
 
 pub say_lines-requires-clause-most : goal.say_lines-requires-clause-most
-say_lines-requires-clause-most g c = rw c.lines_after-written.ensures (omega (arith, c.requires.most, length-drop {A = ProvenanceLine}))
+say_lines-requires-clause-most g c = rw c.provenance_lines_after-written.ensures (omega (arith, c.requires.most, length-drop {A = ProvenanceLine}))
 
 pub say_lines-requires-clause-used : goal.say_lines-requires-clause-used
 say_lines-requires-clause-used g c =
-    subst (λ (s : State). All (IsMovedLine s) c.lines_after-written.result.now) (sym c.root-root.ensures.lab)
-    (subst (All (IsMovedLine c.args.self.now.lab.now)) (sym c.lines_after-written.ensures) (All-drop (IsMovedLine c.args.self.now.lab.now) c.saturating_sub-skipped.result c.args.lines.now c.requires.used))
+    subst (λ (s : State). All (IsLineOfMovedValue s) c.provenance_lines_after-written.result.now) (sym c.root-root.ensures.lab)
+    (subst (All (IsLineOfMovedValue c.args.self.now.lab.now)) (sym c.provenance_lines_after-written.ensures) (All-drop (IsLineOfMovedValue c.args.self.now.lab.now) c.saturating_sub-skipped.result c.args.lines.now c.requires.used))
 
 pub returns : goal.returns
 returns g c = (
@@ -60,7 +60,7 @@ returns g c = (
       let lines = c.args.lines.now in
       let root = c.root-root.result in
       let skipped = c.saturating_sub-skipped.result in
-      let written = c.lines_after-written.result.now in
+      let written = c.provenance_lines_after-written.result.now in
       let made : not c.is_first-is_moved.result ≡ not (is_first at lines) = ap not (c.is_first-is_moved.ensures ∙ ap (λ (k : ℕ). is_first k lines) c.step.ensures.value) in
       let done = c.in_ok-say_queried.ensures.1 before said h in
       let more = c.say_lines.ensures.1 before (said ++ done.0) done.2 in
@@ -69,11 +69,11 @@ returns g c = (
       ∙ ap (λ (n : Option DebugInfo). numbered_lines_text n root.lab.now (not c.is_first-is_moved.result) skipped written) c.root-root.ensures.notes
       ∙ ap (λ (t : State). numbered_lines_text notes t (not c.is_first-is_moved.result) skipped written) c.root-root.ensures.lab
       ∙ ap (λ (b : Bool). numbered_lines_text notes s b skipped written) made
-      ∙ ap (λ (z : List ProvenanceLine). numbered_lines_text notes s (not (is_first at lines)) skipped z) c.lines_after-written.ensures
+      ∙ ap (λ (z : List ProvenanceLine). numbered_lines_text notes s (not (is_first at lines)) skipped z) c.provenance_lines_after-written.ensures
       ∙ ap (λ (k : ℕ). numbered_lines_text notes s (not (is_first at lines)) k (drop k lines)) c.saturating_sub-skipped.ensures in (
         done.0 ++ more.0,
-        ap (λ (z : List ℕ). z ++ more.0) (done.1 ∙ ap (λ (b : Bool). head_text notes s node at value b) (c.has_head.ensures ∙ ap (λ (b : Bool). has_head b first) made))
-            ∙ ap (λ (z : List ℕ). head_text notes s node at value (has_head (not (is_first at lines)) first) ++ z) last,
+        ap (λ (z : List ℕ). z ++ more.0) (done.1 ∙ ap (λ (b : Bool). optional_queried_step_line notes s node at value b) (c.has_queried_step_line.ensures ∙ ap (λ (b : Bool). has_queried_step_line b first) made))
+            ∙ ap (λ (z : List ℕ). optional_queried_step_line notes s node at value (has_queried_step_line (not (is_first at lines)) first) ++ z) last,
         joined_written c.say_lines.result _ before said done.0 more.0 _ more.2,
       ),
 )

@@ -3,7 +3,7 @@ use Rattle.std.specs.Prelude.{Option}
 use Rattle.ga_text.proofs.WriteLemmas.{truncated_here, written_pending}
 use Rattle.ga_lab.specs.Machine.{State}
 use Rattle.ga_debug_info.specs.declared.notes.DebugInfo.{DebugInfo}
-use Rattle.ga_provenance.specs.Lines.{IsMovedLine}
+use Rattle.ga_provenance.specs.Lines.{IsLineOfMovedValue}
 use Rattle.ga_explorer_text.specs.Whence.{value_line_text, numbered_lines_text}
 use Rattle.ga_explorer_text.proofs.Saying.{line_written, line_truncated, all_said, rest_numbered, none_numbered}
 use Rattle.ga_explorer_text.proofs.source_suffix.StepContext.say_lines.Goals as goal
@@ -19,8 +19,8 @@ lines-init g c = record {
 
 pub write_line-requires : goal.write_line-requires
 write_line-requires g c =
-    subst (λ (s : State). IsMovedLine s c.line-item.result) (sym c.context_of_use-here.ensures.lab)
-    (subst (IsMovedLine c.args.self.now.lab.now) (sym c.line-item.is) (c.requires.used c.lines.line-index c.line-item.result (omega arith)))
+    subst (λ (s : State). IsLineOfMovedValue s c.line-item.result) (sym c.context_of_use-here.ensures.lab)
+    (subst (IsLineOfMovedValue c.args.self.now.lab.now) (sym c.line-item.is) (c.requires.used c.lines.line-index c.line-item.result (omega arith)))
 
 pub returns-in_err-write_line : goal.returns-in_err-write_line
 returns-in_err-write_line g c = (

@@ -6,11 +6,11 @@ use Rattle.ga_explorer_text.proofs.source_suffix.StepContext.words_of_used.Goals
 pub returns-then-has_no_word : goal.returns-then-has_no_word
 returns-then-has_no_word c = no_word c.args.self.now.lab.now c.args.value c.from_low_bits-none.result c.from_low_bits-none.result (sym c.has_no_word.ensures ∙ c.if-has_no_word.true)
 
-pub returns-then-is_made_with_t : goal.returns-then-is_made_with_t
-returns-then-is_made_with_t c = worded_as c.args.self.now.lab.now c.args.value c.words_of.result.word c.words_of.result.a c.words_of.ensures.word c.words_of.ensures.a
+pub returns-then-is_made_with_a_or_carry : goal.returns-then-is_made_with_a_or_carry
+returns-then-is_made_with_a_or_carry c = worded_as c.args.self.now.lab.now c.args.value c.words_of.result.word c.words_of.result.a c.words_of.ensures.word c.words_of.ensures.a
 
 pub word_of_use-requires-clause-apart : goal.word_of_use-requires-clause-apart
-word_of_use-requires-clause-apart c = apart_of c.args.self.now.lab.now c.args.value c.args.used c.requires.0 (sym c.is_made_with_t.ensures ∙ c.if-is_made_with_t.false)
+word_of_use-requires-clause-apart c = apart_of c.args.self.now.lab.now c.args.value c.args.used c.requires.0 (sym c.is_made_with_a_or_carry.ensures ∙ c.if-is_made_with_a_or_carry.false)
 
-pub returns-else-is_made_with_t : goal.returns-else-is_made_with_t
-returns-else-is_made_with_t c = used_line c.args.self.now.lab.now c.args.value c.args.used c.word_of_use.result c.from_low_bits-none.result (sym c.is_made_with_t.ensures ∙ c.if-is_made_with_t.false) c.requires.0 c.word_of_use.ensures
+pub returns-else-is_made_with_a_or_carry : goal.returns-else-is_made_with_a_or_carry
+returns-else-is_made_with_a_or_carry c = used_line c.args.self.now.lab.now c.args.value c.args.used c.word_of_use.result c.from_low_bits-none.result (sym c.is_made_with_a_or_carry.ensures ∙ c.if-is_made_with_a_or_carry.false) c.requires.0 c.word_of_use.ensures

@@ -19,7 +19,7 @@ loop-word-preserved c =
     let node : node_of_stage (stage_of c.loop-word.self.stage) ≡ c.args.node.number = ap (λ s. node_of_stage (stage_of s)) (c.loop-word.invariant.block ∙ c.requires.block) in
     record {
       fits = rw c.next-at.ensures (next_fits c.loop-word.at (length c.args.words.now - c.loop-word.word-index) _ (omega arith) c.loop-word.invariant.fits);
-      greatest = rw c.next-at.ensures (next_greatest c.loop-word.at ∙ c.loop-word.invariant.greatest);
+      greatest_field_word = rw c.next-at.ensures (next_greatest c.loop-word.at ∙ c.loop-word.invariant.greatest_field_word);
       codes = rw c.next-at.ensures (next_codes c.loop-word.at c.args.words.now c.loop-word.invariant.codes);
       block = c.loop-word.invariant.block;
       faults = rw (c.number-number.ensures.value, c.next-at.ensures)

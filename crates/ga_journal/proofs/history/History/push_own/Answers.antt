@@ -1,6 +1,6 @@
 use Rattle.std.proofs.Common.{◌∙◌, ◌++◌, ◌∷◌, [], length, map, refl, sym, ap, subst}
 use Rattle.ga_journal.specs.declared.entry.Entry.{Entry}
-use Rattle.ga_journal.specs.declared.entry.Act.TheVariants as act
+use Rattle.ga_journal.specs.declared.entry.EntryAct.TheVariants as act
 use Rattle.ga_journal.specs.inner.Histories.{Held}
 use Rattle.ga_journal.specs.Histories.{past}
 use Rattle.ga_journal.specs.inner.Stored.{IsHistory, past_in, looked_after}

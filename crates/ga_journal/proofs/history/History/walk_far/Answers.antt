@@ -3,7 +3,7 @@ use Rattle.std.specs.Prelude.{slice_get}
 use Rattle.std.proofs.lemmas.List.{drop_all, take_all}
 use Rattle.ga_node.specs.Record.{NodeState}
 use Rattle.ga_node.specs.State.{with_restored_values, AreValuesInRange, HasAtMostOneStatus}
-use Rattle.ga_event.specs.Undo.{CanRestore}
+use Rattle.ga_event.specs.Undo.{CanRestoreNode}
 use Rattle.ga_journal.specs.declared.entry.Entry.{Entry}
 use Rattle.ga_journal.specs.Histories.{EntryRecord}
 use Rattle.ga_journal.specs.inner.Histories.{Held}
@@ -50,7 +50,7 @@ loop-entry-preserved c =
     let long : length left ≡ length rest + 1 = longer left rest c.in-Some.entry.now c.in-Some.ensures.steps in
     let one = found (goal.at.loop-entry-preserved c).In-Some in
     let next : c.args.to + length left ≡ at + 1 = omega (arith, long) in
-    let can : CanRestore (node_before_entries c.args.node.now (drop (at + 1) h)) e.saved = can_one c.args.node.now h at e one (can_later c.args.node.now h c.args.to at (omega arith) c.requires.can) in
+    let can : CanRestoreNode (node_before_entries c.args.node.now (drop (at + 1) h)) e.saved = can_one c.args.node.now h at e one (can_later c.args.node.now h c.args.to at (omega arith) c.requires.can) in
     record {
       rest = left_before slice left rest c.in-Some.entry.now c.loop-entry.invariant.rest c.in-Some.ensures.steps;
       back = λ n. c.add.ensures.back n ∙ ap (λ (z : NodeState). with_restored_values z e.saved) (c.loop-entry.invariant.back n ∙ ap (λ k. node_before_entries n (drop k h)) next) ∙ sym (walked_one n h at e one);

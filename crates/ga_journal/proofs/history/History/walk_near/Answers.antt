@@ -3,7 +3,7 @@ use Rattle.std.specs.Prelude.{slice_get}
 use Rattle.std.proofs.lemmas.List.{drop_all, take_all}
 use Rattle.ga_node.specs.Record.{NodeState}
 use Rattle.ga_node.specs.State.{with_restored_values, with_suspended_status, HasAtMostOneStatus}
-use Rattle.ga_event.specs.Undo.{CanRestore}
+use Rattle.ga_event.specs.Undo.{CanRestoreNode}
 use Rattle.ga_journal.specs.declared.entry.Entry.{Entry}
 use Rattle.ga_journal.specs.Histories.{EntryRecord}
 use Rattle.ga_journal.specs.inner.Histories.{Held}
@@ -44,7 +44,7 @@ write_back-requires-clause-fit c =
     let h = take c.args.from c.args.self.now.items in
     let at : ℕ = c.args.to + length c.next.new.self.iter.rest.now in
     let e : EntryRecord = past_in c.self.inside.passes.items c.in-Some.entry.now in
-    let can : CanRestore (node_before_entries c.args.node.now (drop (at + 1) h)) e.saved = can_one c.args.node.now h at e (found (goal.at.write_back-requires-clause-fit c).In-Some) (can_later c.args.node.now h c.args.to at (omega arith) c.requires.can) in
+    let can : CanRestoreNode (node_before_entries c.args.node.now (drop (at + 1) h)) e.saved = can_one c.args.node.now h at e (found (goal.at.write_back-requires-clause-fit c).In-Some) (can_later c.args.node.now h c.args.to at (omega arith) c.requires.can) in
     can.fit
 
 pub loop-entry-preserved : goal.loop-entry-preserved

@@ -1,5 +1,5 @@
 use Rattle.std.proofs.Common.{◌≡◌, ◌∙◌, ◌<◌, ℕ, length, map, Some, All, IfOk, ap, sym, subst}
-use Rattle.ga_event.specs.Told.{made_event_in}
+use Rattle.ga_event.specs.Told.{made_event_at_place}
 use Rattle.ga_journal.specs.Histories.{JournalState}
 use Rattle.ga_journal.specs.inner.Histories.{lists_of}
 use Rattle.ga_journal.specs.Events.{kept_outcomes}
@@ -23,6 +23,6 @@ returns-clause-ok c =
     let whole : AreConsistentHistories (lists_of c.self.inside.histories) c.self.inside.made = subst (λ (b : JournalState). AreConsistentHistories b.histories b.made) (sym c.self.view_is) c.requires.whole in
     let w : WalkOf c.self.inside.histories c.self.inside.top c.self.inside.made c.self.inside.kept = walk_of c.self.inside.histories c.self.inside.top c.self.inside.made c.self.inside.kept c.self.inside.limit c.self.invariant.keeps whole in
     let count : length (kept_outcomes c.args.self.now) ≡ c.self.inside.kept = ap (λ (b : JournalState). length (kept_outcomes b)) (sym c.self.view_is) ∙ sym c.self.invariant.keeps.count in
-    subst (λ (b : JournalState). IfOk c.recall_all.result (λ list. map Some list.items ≡ map (made_event_in (kept_outcomes b)) c.args.places.now)) c.self.view_is
+    subst (λ (b : JournalState). IfOk c.recall_all.result (λ list. map Some list.items ≡ map (made_event_at_place (kept_outcomes b)) c.args.places.now)) c.self.view_is
     (placed c.recall_all.result c.self.inside.histories c.self.inside.top c.self.inside.made c.self.inside.kept c.args.places.now w
     (subst (λ (n : ℕ). All (λ (place : ℕ). place < n) c.args.places.now) count c.requires.within) c.recall_all.ensures.ok)

@@ -1,6 +1,6 @@
 use Rattle.std.proofs.Common.{◌≤◌, ◌↔◌, length, sym, ◌∙◌, ap, subst}
 use Rattle.std.specs.Prelude.{IsNone}
-use Rattle.ga_event.specs.Told.{made_event_in}
+use Rattle.ga_event.specs.Told.{made_event_at_place}
 use Rattle.ga_lab.specs.Machine.{State, outcomes_of_kept}
 use Rattle.ga_lab.proofs.Replays.{told_tied}
 use Rattle.ga_lab.proofs.Stepping.{kept_count}
@@ -8,8 +8,8 @@ use Rattle.ga_lab.proofs.lab.Lab.made_event_at.Goals as goal
 
 pub returns-clause-value : goal.returns-clause-value
 returns-clause-value c =
-    c.made_event_at.ensures.value ∙ ap (λ z. made_event_in z c.args.place) (sym (told_tied c.self.inside.chip c.self.inside.chronicle.journal c.self.invariant.tied))
-    ∙ ap (λ (s : State). made_event_in (outcomes_of_kept s) c.args.place) c.self.view_is
+    c.made_event_at.ensures.value ∙ ap (λ z. made_event_at_place z c.args.place) (sym (told_tied c.self.inside.chip c.self.inside.chronicle.journal c.self.invariant.tied))
+    ∙ ap (λ (s : State). made_event_at_place (outcomes_of_kept s) c.args.place) c.self.view_is
 
 pub returns-clause-past : goal.returns-clause-past
 returns-clause-past c =

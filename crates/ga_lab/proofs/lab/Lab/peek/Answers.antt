@@ -8,7 +8,7 @@ use Rattle.ga_event.specs.Apply.{replay}
 use Rattle.ga_journal.specs.Histories.{history}
 use Rattle.ga_event.specs.Told.{count_steps}
 use Rattle.ga_journal.specs.Walked.{node_before_entries, CanRestoreEntries}
-use Rattle.ga_lab.specs.Machine.{State, chip_of, earlier}
+use Rattle.ga_lab.specs.Machine.{State, chip_of, earlier_state}
 use Rattle.ga_lab.specs.inner.LabInvariant.{state_of}
 use Rattle.ga_lab.proofs.Stepping.{whole_of}
 use Rattle.ga_lab.proofs.Replays.{can_peek, replays_earlier, peeked, kept_steps, none_past, some_within}
@@ -22,7 +22,7 @@ walk_back-requires-clause-can c =
 
 pub returns-clause-value : goal.returns-clause-value
 returns-clause-value c =
-    subst (λ (s : State). (place : ℕ) → count_steps c.args.node.number (take place s.kept) ≡ c.args.step → record_of c.walk_back.new.now ≡ record_at (chip_of (earlier s place)) c.args.node.number) c.self.view_is
+    subst (λ (s : State). (place : ℕ) → count_steps c.args.node.number (take place s.kept) ≡ c.args.step → record_of c.walk_back.new.now ≡ record_at (chip_of (earlier_state s place)) c.args.node.number) c.self.view_is
     (λ place so_many. peeked c.self.inside.chip c.self.inside.chronicle.journal c.args.node.number place c.args.step c.walk_back.new.now c.self.invariant.tied so_many
     (c.walk_back.ensures
     ∙ ap (λ h. node_before_entries c.copy-then.result (drop c.args.step h)) (take_all c.count_steps-steps.result (history c.self.inside.chronicle.journal.histories c.args.node.number) (omega (arith, c.count_steps-steps.ensures.value)))
@@ -30,12 +30,12 @@ returns-clause-value c =
 
 pub returns-clause-replays : goal.returns-clause-replays
 returns-clause-replays c =
-    subst (λ (s : State). (place : ℕ) → replay s.load (take place s.kept) ≡ Some (chip_of (earlier s place))) c.self.view_is
+    subst (λ (s : State). (place : ℕ) → replay s.load (take place s.kept) ≡ Some (chip_of (earlier_state s place))) c.self.view_is
     (λ place. replays_earlier c.self.inside.chip c.self.inside.chronicle.journal place c.self.invariant.tied)
 
 pub returns-then-step-steps-clause-replays : goal.returns-then-step-steps-clause-replays
 returns-then-step-steps-clause-replays c =
-    subst (λ (s : State). (place : ℕ) → replay s.load (take place s.kept) ≡ Some (chip_of (earlier s place))) c.self.view_is
+    subst (λ (s : State). (place : ℕ) → replay s.load (take place s.kept) ≡ Some (chip_of (earlier_state s place))) c.self.view_is
     (λ place. replays_earlier c.self.inside.chip c.self.inside.chronicle.journal place c.self.invariant.tied)
 
 pub returns-then-step-steps-clause-past : goal.returns-then-step-steps-clause-past

@@ -2,7 +2,7 @@ use Rattle.std.proofs.Common.{◌≡◌, ◌+◌, ◌<◌, length, Ok, Err, sym,
 use Rattle.std.proofs.lemmas.Bool.{both_ways}
 use Rattle.ga_lab.specs.declared.fault.LabFault.TheVariants.{NoStep}
 use Rattle.std.specs.Prelude.{Result, ℕ, OnErr}
-use Rattle.ga_journal.specs.Histories.{RollbackWork, no_work, work_sum, JournalState}
+use Rattle.ga_journal.specs.Histories.{RollbackWork, no_rollback_work, rollback_work_sum, JournalState}
 use Rattle.ga_rollback.specs.declared.rollback.RollbackFault.{RollbackFault}
 use Rattle.ga_journal.specs.Events.{kept_outcomes}
 use Rattle.ga_lab.specs.Machine.{State, has_step, state_after_rewind, rewind_answer, HasBoundedTicks}
@@ -33,7 +33,7 @@ add-requires c =
     let lab = lab_anew c.self.inside.chip c.self.inside.chronicle.journal book c.reset_ticks.ensures c.self.invariant in
     let short : length (kept_outcomes c.self.inside.chronicle.journal) < 4294967296 = (let v = c.kept-kept.ensures.value in let r : c.kept-kept.result < 4294967296 = c.kept-kept.type_inv in omega arith) in
     let same : length (kept_outcomes book) ≡ length (kept_outcomes c.self.inside.chronicle.journal) = ap (λ (b : JournalState). length (kept_outcomes b)) c.reset_ticks.ensures in
-    let none : book.ticks ≡ no_work = ap (λ (b : JournalState). b.ticks) c.reset_ticks.ensures in
+    let none : book.ticks ≡ no_rollback_work = ap (λ (b : JournalState). b.ticks) c.reset_ticks.ensures in
     let a = ticks_within book c.rewind.new.journal c.in-Ok.ensures.tick_counted none (entries_fit c.self.inside.chip book lab (omega arith)) in
     let b : c.ticks.result.now.count ≡ c.rewind.new.journal.ticks.count = ap (λ (w : RollbackWork). w.count) c.ticks.ensures in
     let f = c.requires.fits in
@@ -101,13 +101,13 @@ returns-clause-tick_counted c =
     let view = state_anew c.self.inside.chip c.self.inside.chronicle.journal book c.reset_ticks.ensures ∙ c.self.view_is in
     let new = c.rewind.new.journal in
     let now = c.rewind.new.chip in
-    let none : book.ticks ≡ no_work = ap (λ (b : JournalState). b.ticks) c.reset_ticks.ensures in
+    let none : book.ticks ≡ no_rollback_work = ap (λ (b : JournalState). b.ticks) c.reset_ticks.ensures in
     let Bounded : State → Type 0 = λ s.
     (work vain : ℕ) × (c.match-rewind.ticks.count ≡ c.args.ticks.now.count + work) × (c.match-rewind.ticks.vain ≡ c.args.ticks.now.vain + vain) × HasBoundedTicks s.kept (state_of now new).kept work vain in
     elim c.match-rewind.branch [
       | in-Ok w ↦
           let after = lab_rolled c.self.inside.chip book c.args.node.number c.args.step new now w.in-Ok.removed w.in-Ok.ensures.ok in
-          let rise : c.match-rewind.ticks ≡ work_sum c.args.ticks.now new.ticks = w.ticks-is ∙ w.add.ensures ∙ ap (work_sum c.args.ticks.now) w.ticks.ensures in
+          let rise : c.match-rewind.ticks ≡ rollback_work_sum c.args.ticks.now new.ticks = w.ticks-is ∙ w.add.ensures ∙ ap (rollback_work_sum c.args.ticks.now) w.ticks.ensures in
           let is = bounded_by c.self.inside.chip now book new lab after w.in-Ok.ensures.tick_counted none in
           on_ok (Bounded c.args.self.now) _ w.in-Ok.removed w.result-is (subst Bounded view (new.ticks.count, new.ticks.vain, ap (λ (w : RollbackWork). w.count) rise, ap (λ (w : RollbackWork). w.vain) rise, is))
       | in-Err-NoStep w ↦ on_err (Bounded c.args.self.now) _ NoStep w.result-is

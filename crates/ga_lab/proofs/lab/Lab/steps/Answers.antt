@@ -1,5 +1,5 @@
 use Rattle.std.proofs.Common.{◌≡◌, length, sym, ◌∙◌, ap}
-use Rattle.ga_event.specs.Told.{count_steps, made_events_of}
+use Rattle.ga_event.specs.Told.{count_steps, made_events_of_node}
 use Rattle.ga_journal.specs.Histories.{history}
 use Rattle.ga_journal.proofs.Telling.{mades_log, entries_long}
 use Rattle.ga_lab.specs.Machine.{State, history_of}
@@ -20,5 +20,5 @@ returns-clause-told c =
     let book = c.self.inside.chronicle.journal in
     c.count_steps.ensures.value
     ∙ sym (entries_long c.args.node 0 (history book.histories c.args.node.number))
-    ∙ ap length (mades_log book c.args.node (whole_of chip book c.self.invariant.tied) ∙ ap (λ z. made_events_of z c.args.node.number) (sym (told_tied chip book c.self.invariant.tied)))
+    ∙ ap length (mades_log book c.args.node (whole_of chip book c.self.invariant.tied) ∙ ap (λ z. made_events_of_node z c.args.node.number) (sym (told_tied chip book c.self.invariant.tied)))
     ∙ ap (λ (s : State). length (history_of s c.args.node.number)) c.self.view_is

@@ -1,6 +1,6 @@
 use Rattle.std.proofs.Common.{◌∙◌, ◌<◌, ℕ, length, map, All, sym, ap, subst}
 use Rattle.std.specs.List.Sorted.{IsStrictlyIncreasing}
-use Rattle.ga_event.specs.Told.{made_event_in}
+use Rattle.ga_event.specs.Told.{made_event_at_place}
 use Rattle.ga_journal.specs.Events.{kept_outcomes}
 use Rattle.ga_lab.specs.Machine.{causes_of}
 use Rattle.ga_lab.proofs.Explaining.{places, chain_rises, chain_within, kept_long, told_links}
@@ -20,5 +20,5 @@ made_events_at-requires-clause-within c =
 pub returns-in-Ok-made_events_at-clause-ok : goal.returns-in-Ok-made_events_at-clause-ok
 returns-in-Ok-made_events_at-clause-ok c =
     let book = c.self.inside.chronicle.journal in
-    c.in-Ok-made_events_at.ensures.ok ∙ ap (λ z. map (made_event_in (kept_outcomes book)) z) (c.as_slice.ensures.value ∙ c.in-Ok.ensures)
+    c.in-Ok-made_events_at.ensures.ok ∙ ap (λ z. map (made_event_at_place (kept_outcomes book)) z) (c.as_slice.ensures.value ∙ c.in-Ok.ensures)
     ∙ told_links c.self.inside.chip book c.args.self.now c.args.chain.now c.self.invariant.tied c.self.view_is

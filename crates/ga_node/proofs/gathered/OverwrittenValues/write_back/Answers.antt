@@ -2,7 +2,7 @@ use Rattle.std.proofs.Common.{◌≡◌, ℕ, suc, ◌+◌, ◌-◌, ◌<◌, �
 use Rattle.std.proofs.lemmas.List.{drop_all}
 use Rattle.ga_node.specs.declared.place.Place.{Place}
 use Rattle.ga_node.specs.Record.{NodeState}
-use Rattle.ga_node.specs.State.{with_restored_values, with_value, with_suspended_status, AreValuesInRange, IsInRange}
+use Rattle.ga_node.specs.State.{with_restored_values, with_value, with_suspended_status, AreValuesInRange, IsPlaceValueInRange}
 use Rattle.ga_node.specs.inner.Packed.{pairs_of}
 use Rattle.ga_node.proofs.Restoring.{back_past_none, back_past_one, fit_of}
 use Rattle.ga_node.proofs.gathered.OverwrittenValues.write_back.Goals.{then-word-gt0, else-word-gt0}
@@ -25,7 +25,7 @@ one_more word l = omega (arith, l)
 pub put_back-requires-clause-fit : goal.put_back-requires-clause-fit
 put_back-requires-clause-fit c =
     let long = c.self.invariant.0 in
-    subst (λ (v : Place × ℕ). IsInRange v.0 v.1) (sym c.unpack-place.ensures)
+    subst (λ (v : Place × ℕ). IsPlaceValueInRange v.0 v.1) (sym c.unpack-place.ensures)
     (fit_of c.self.inside.words (248 - c.loop-k.k) (get_or c.self.inside.words (248 - c.loop-k.k) 0 - 1) (subst AreValuesInRange (sym c.self.view_is) c.requires.fit) (omega (arith, long)) (one_more (get_or c.self.inside.words (248 - c.loop-k.k) 0) c.if-word-gt0.true))
 
 pub loop-k-preserved : goal.loop-k-preserved

@@ -1,5 +1,5 @@
 use Rattle.std.proofs.Common.{◌≡◌, ◌-◌, ◌<◌, List, Some, subst, arith}
-use Rattle.ga_event.specs.Told.{made_event_in}
+use Rattle.ga_event.specs.Told.{made_event_at_place}
 use Rattle.ga_journal.specs.Histories.{JournalState, BackwardModel}
 use Rattle.ga_journal.specs.Logs.{StampedEvent}
 use Rattle.ga_journal.specs.Events.{kept_outcomes}
@@ -18,6 +18,6 @@ pub returns-clause-some : goal.returns-clause-some
 returns-clause-some c =
     let b = c.self.inside in
     let some : 0 < b.place = let h = c.if-self-eq0.false in omega (arith, h) in
-    subst (λ (u : BackwardModel). made_event_in (kept_outcomes u.book) (u.place - 1) ≡ Some c.back-made.result.1) c.self.view_is
+    subst (λ (u : BackwardModel). made_event_at_place (kept_outcomes u.book) (u.place - 1) ≡ Some c.back-made.result.1) c.self.view_is
     (told_next b.journal.now b.lengths b.top b.place c.back-made.result.0 c.back-made.result.1 some c.self.invariant
     (subst (λ (k : JournalState). (log : List StampedEvent) → WalksBack k.histories b.lengths b.top log → IsFirst log c.back-made.result.0 c.back-made.result.1) c.journal.view_is c.back-made.ensures.first))

@@ -1,8 +1,0 @@
-use Rattle.ga_explorer_json.specs.Changes.{removed_json}
-use Rattle.ga_explorer_json.proofs.Writing.{object_as}
-use Rattle.ga_explorer_json.proofs.changes_json.write_removed.Goals as goal
-
-pub returns : goal.returns
-returns g c =
-    object_as g.W.Write.contents c.write_object.result c.args.writer.now c.write_object.new.writer c.removed_fields.result
-    (removed_json c.args.command.now c.args.removed c.args.kept) c.removed_fields.ensures c.write_object.ensures
