@@ -8,7 +8,7 @@ ghost use Rattle.ga_causal.specs.Steps.{count_touching_events};
 ghost use Rattle.ga_lab.specs.Machine.{causes_of};
 ghost use Rattle.ga_race_detector.specs.Races.{requested_races};
 ghost use Rattle.ga_race_detector.specs.Readings.{IsReportedLookRace, HasAllNearLookRaces};
-ghost use Rattle.ga_picture.specs.Picture.{IsPicture, IsPictureText, AreRaceMarks, is_node_ready, has_requested_steps, has_optional_step, optional_step_place};
+ghost use Rattle.ga_picture.specs.Picture.{IsPicture, IsPictureText, AreRaceMarks, is_node_ready, has_requested_steps, has_optional_step, step_place, optional_step_place};
 ghost use Rattle.ga_picture.specs.Items.{picture_items};
 ghost use Rattle.ga_picture.specs.inner.{AreItemsOf, AreKnownBetween, AreListed, ArePlainAs, known_in};
 
@@ -278,11 +278,20 @@ fn place(events: &[Cause], step: Option<Step>) -> Option<u32>
     ensures within { IfSome result (λ place. place < length events.now) }
 {
     match step {
-        Some((node, StepSelector::Number(step))) => position_of_step(events, node, step),
-        Some((node, StepSelector::Last)) => {
-            position_of_step(events, node, count_touching(events, node) as u32)
-        }
+        Some((node, which)) => place_of(events, node, which),
         None => None,
+    }
+}
+
+/// The place of a step of the node.
+fn place_of(events: &[Cause], node: NodeId, which: StepSelector) -> Option<u32>
+    requires { length events.now < 2 ^ 32 }
+    ensures value { result ≡ step_place events.now node which }
+    ensures within { IfSome result (λ place. place < length events.now) }
+{
+    match which {
+        StepSelector::Number(step) => position_of_step(events, node, step),
+        StepSelector::Last => position_of_step(events, node, count_touching(events, node) as u32),
     }
 }
 
