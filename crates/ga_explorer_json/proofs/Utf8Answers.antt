@@ -33,7 +33,8 @@ use Rattle.ga_explorer.specs.Forms.{CommandForm}
 use Rattle.ga_explorer.specs.NoCommand.{form_of_command, form_of_similar_command, form_or_default, suggested_form, command_word, begins_with_byte_order_mark, ends_with_carriage_return, has_leading_or_trailing_blank, is_upper, command_suggestion}
 use Rattle.ga_explorer.specs.Commands.{command_table}
 use Rattle.ga_explorer.specs.Opening.{ExplorerState}
-use Rattle.ga_explorer.specs.Reading.{selected_step, part_of_node_value}
+use Rattle.ga_console.specs.Selectors.{selected_step}
+use Rattle.ga_explorer.specs.Reading.{part_of_node_value}
 use Rattle.ga_explorer.specs.declared.commands.ExplorerCommand.{ExplorerCommand}
 use Rattle.ga_explorer.specs.declared.commands.ExplorerCommand.TheVariants as asked
 use Rattle.ga_explorer.specs.declared.commands.Query.{Query}
