@@ -34,6 +34,7 @@ pub use races_text::write_races;
 pub use ring_text::awaited_neighbour;
 pub use run_text::run_result_text;
 pub use saved_text::write_save;
+pub use source_suffix::{cell_note_text, listed_place, part_cell, slot_note_text, walked_slot};
 pub use value_words::walked_word;
 pub use whence_text::{lines_after, selected_value, write_whence};
 pub use who_text::{idle_among, idle_count, write_who};

@@ -9,7 +9,7 @@ ghost use Rattle.ga_json.specs.FieldValues.{value_json};
 ghost use Rattle.ga_json.specs.inner.{field_text, fields_text};
 
 use crate::field::{Field, FieldValue};
-use crate::strings::write_string;
+use crate::strings::{write_joined_string, write_string};
 use arrayvec::ArrayVec;
 use ga_grid::NodeId;
 use ga_text::{
@@ -78,6 +78,7 @@ fn write_value<W: Write>(value: FieldValue<'_>, writer: &mut Writer<'_, W>) -> W
         FieldValue::Number(number) => push_number(&mut writer.pending, number),
         FieldValue::Node(node) => push_name(&mut writer.pending, node),
         FieldValue::Text(text) => return write_string(text, writer),
+        FieldValue::Joined(front, rest) => return write_joined_string(front, rest, writer),
         FieldValue::Flag(flag) => push_text(
             &mut writer.pending,
             if flag { b"true" } else { b"false" },
